@@ -17,8 +17,8 @@ that which `program=` names, or the variable PMEM_PROGRAM, or else the repositor
 from .errors import ExploreError
 from .program import Reply
 from .settings import Settings
-from .steps import Step, Traced
 from .trace import Command, Trace
+from .traced import Step, Traced
 from .tracing import Explored, open_trace
 
 __all__ = ["Command", "ExploreError", "Explored", "Reply", "Settings", "Step", "Trace", "Traced", "open_trace"]

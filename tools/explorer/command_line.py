@@ -3,14 +3,15 @@ import argparse
 import json
 import os
 import re
-import signal
 import sys
 from typing import Any, Callable, Dict, List, NoReturn, Optional, Sequence, Tuple
 
-from . import cuts, draw, importing, outcomes, settings, shell, steps, sweep
+from . import convert, cuts, draw, importing, outcomes, settings, shell, steps, sweep
+from .cluster import Cluster, ClusterTogether
 from .errors import CHECK_FAILED, DONE, FAILURE, INTERRUPTED, WRONG_WORDS, ExploreError, reason_of
 from .finding import default_program, found_program
-from .machines import MACHINE_NAMES
+from .fork_server import remove_temporary
+from .machines import MACHINE_NAMES, MACHINES
 from .orders import Orders, orders_text
 from .output import check_writable, put, write_file
 from .processes import INTERRUPTS, end_all
@@ -40,9 +41,9 @@ not at all."""
 
 STEPS_HELP = """\
 Prints each command with its reply (behind >) and under it each persist step that it took:
-a latch of the registers, or the device line written and what it holds. The steps are found
-by cutting the trace at each one and comparing the device line by line. With --as wear, txn
-or tree, which don't show their device: what a cut after each step of a command leaves."""
+a latch of the registers and what it does, or the device line written and what it holds. They
+are those that the program tells itself, with --log. With --as wear, txn or tree, which don't
+tell their steps: what a cut after each step of a command leaves."""
 
 CUTS_HELP = """\
 For each persist step of the trace: the trace is cut before it, power comes on again, and
@@ -68,8 +69,8 @@ All but the recovery are means over the trace."""
 DRAW_HELP = """\
 Draws the persist steps of a trace: a lane for each part of the device with a mark for each
 step, cuts, recoveries, tampering and what was refused. Of a file that `explore sweep --json`
-wrote it draws the curves instead. The name's ending, .svg or .png, says which kind of
-picture. Needs matplotlib (Debian: python3-matplotlib; else: pip install matplotlib)."""
+wrote it draws the curves instead, or with --trade-off a point for each setting: what recovery
+costs against what a write does. The name's ending, .svg, .png or .pdf, says which kind of picture. Needs matplotlib (Debian: python3-matplotlib; else: pip install matplotlib)."""
 
 LACKEY_HELP = """\
 Makes a trace of a real program's memory accesses:
@@ -98,6 +99,13 @@ Makes a trace of the rows of a CSV: op, address, size, data.
 A first row that begins with op, blank rows and rows that begin with # are skipped. Addresses
 are decimal, or hex after 0x. Where there is a flush, a store reaches memory by a flush of its
 line alone. Otherwise as `import lackey`."""
+
+CONVERT_HELP = """\
+Writes the workload of a trace for `pmem run`, its writes, reads and power cycles, as a trace for
+another machine. After each drain and fence both have the same memory: wear and tree write line
+by line what it makes sure of, txn in a transaction (in several where it has more than 15 lines).
+Cuts, the attacker and what is only shown are left out, and so are lines that the other memory
+hasn't; standard error and the trace's first lines say how many."""
 
 SHELL_HELP = """\
 Reads commands of the machine from standard input, and tells after each its reply and its persist
@@ -227,6 +235,13 @@ def add_program(parser: argparse.ArgumentParser) -> None:
                        help="reach each state by a run from the trace's start, not by a fork just before it")
 
 
+def add_cluster(parser: argparse.ArgumentParser) -> None:
+    """The option that names a cluster."""
+    parser.add_argument("--cluster", metavar="ADDRESS",
+                        help="run on the cluster of dask.distributed whose scheduler is at this address, such as "
+                             "tcp://127.0.0.1:8786 (docs/CLUSTER.md)")
+
+
 def add_settings(parser: argparse.ArgumentParser, several: bool) -> None:
     """The options of `pmem run`; several numbers each, for a sweep."""
     read: Callable[[Sequence[int]], Callable[[str], Any]] = numbers_in if several else number_in
@@ -289,10 +304,19 @@ def add_import(commands: Any) -> None:
                           help="only stores and loads that lie within these addresses")
         each.add_argument("--skip", type=count_from(0), default=0, metavar="N",
                           help="leave out the first N stores and loads")
-        each.add_argument("--levels", type=number_in(settings.LEVELS), default=Settings().levels, metavar="LEVELS",
-                          help="fold onto the 64 * 4^LEVELS data lines of this geometry (default 2)")
+        each.add_argument("--as", choices=MACHINE_NAMES, default="run", dest="machine_name", metavar="MACHINE",
+                          help="the machine that the trace is for: run (the default), wear, txn or tree. --commands counts "
+                               "those of run, from which those of another one are made, as `explore convert` does")
+        add_levels(each)
         each.add_argument("--port", type=number_in(range(8)), default=0, metavar="PORT",
                           help="the port of all commands: 0 to 7 (default 0)")
+
+
+def add_levels(parser: argparse.ArgumentParser) -> None:
+    """The option that chooses the size of memory."""
+    parser.add_argument("--levels", type=number_in(settings.LEVELS), metavar="LEVELS",
+                        help="the levels of tree nodes, and so the lines of memory: 64 * 4^LEVELS of run, two less of wear, "
+                             "sixteen less of txn, 4 * 4^LEVELS of tree (default 2, of tree 4)")
 
 
 def add_check(parser: argparse.ArgumentParser) -> None:
@@ -321,6 +345,8 @@ def make_parser() -> Parser:
     add_trace(each)
     add_output(each)
     add_lines(each)
+    each.add_argument("--reads", action="store_true",
+                      help="also each device line that is read, and how many tags and digests are made (of run alone)")
     each.add_argument("--whole", action="store_true", help="don't shorten long hex")
     each.add_argument("--json", action="store_true", help="JSON in place of text")
     add_settings(each, several=False)
@@ -342,24 +368,34 @@ def make_parser() -> Parser:
     each.add_argument("--json", action="store_true", help="JSON in place of text")
     add_settings(each, several=False)
     add_program(each)
+    add_cluster(each)
     each = add_command(commands, "sweep", "compare what a trace costs under several settings", SWEEP_HELP, run_sweep)
     add_trace(each)
     add_output(each)
     formats = each.add_mutually_exclusive_group()
     formats.add_argument("--csv", action="store_true", help="CSV in place of text")
     formats.add_argument("--json", action="store_true", help="JSON in place of text, which `explore draw` takes")
+    formats.add_argument("--latex", action="store_true", help="a table for LaTeX in place of text")
     add_settings(each, several=True)
     add_program(each)
+    add_cluster(each)
     each = add_command(commands, "draw", "a picture of a trace, or of a sweep", DRAW_HELP, run_draw)
     add_trace(each, "a trace, or what `explore sweep --json` wrote; - is standard input")
-    each.add_argument("-o", "--output", metavar="FILE", required=True, help="the picture: a name in .svg or .png")
+    each.add_argument("-o", "--output", metavar="FILE", required=True, help="the picture: a name in .svg, .png or .pdf")
     add_lines(each)
     each.add_argument("--title", metavar="TEXT", help="the picture's title (default: the trace's name)")
     each.add_argument("--along", choices=sweep.NUMBERS,
                       help="of a sweep: the number that goes along the curves (default: the one with most values)")
+    each.add_argument("--trade-off", action="store_true",
+                      help="of a sweep: the trials of recovery against the steps of a write, a point for each setting")
     add_settings(each, several=False)
     add_program(each)
     add_import(commands)
+    each = add_command(commands, "convert", "the workload of a trace of run for another machine", CONVERT_HELP, run_convert)
+    add_trace(each, "a trace for pmem run; - is standard input")
+    add_output(each)
+    each.add_argument("--to", choices=MACHINE_NAMES, required=True, metavar="MACHINE", help="run, wear, txn or tree")
+    add_levels(each)
     each = add_command(commands, "shell", "a session in which a trace grows command by command", SHELL_HELP, run_shell)
     each.add_argument("trace", metavar="TRACE", nargs="?", help="a trace to begin with")
     add_settings(each, several=False)
@@ -376,8 +412,11 @@ def settings_of(words: argparse.Namespace) -> Settings:
 
 
 def together_of(words: argparse.Namespace) -> Together:
-    """The program that the words name, and how many runs of it go side by side."""
-    return Together(Program(found_program(words.program or default_program())), words.jobs, words.from_start)
+    """The program that the words name, and how many runs of it go side by side, or on which cluster."""
+    path = found_program(words.program or default_program())
+    if getattr(words, "cluster", None):
+        return ClusterTogether(Program(path), words.jobs, words.from_start, Cluster(words.cluster, path))
+    return Together(Program(path), words.jobs, words.from_start)
 
 
 def recording_of(words: argparse.Namespace, together: Together) -> Recording:
@@ -389,7 +428,7 @@ def run_steps(words: argparse.Namespace) -> None:
     """`explore steps`."""
     check_writable(words.output)
     together = together_of(words)
-    traced = steps.trace_steps(recording_of(words, together), together, words.lines)
+    traced = steps.trace_steps(recording_of(words, together), together, words.lines, words.reads)
     put(steps.steps_json(traced) if words.json else steps.steps_text(traced, words.whole), words.output)
 
 
@@ -448,6 +487,8 @@ def run_sweep(words: argparse.Namespace) -> None:
     costs = sweep.trace_sweep(trace, sweep.settings_of(base, values), together)
     if words.csv:
         put(sweep.sweep_csv(costs), words.output)
+    elif words.latex:
+        put(sweep.sweep_latex(costs), words.output)
     else:
         put(sweep.sweep_json(costs, trace) if words.json else sweep.sweep_text(costs), words.output)
 
@@ -461,12 +502,14 @@ def run_draw(words: argparse.Namespace) -> None:
     found = sweep.points_of(json_value(data))
     if found is not None:
         name, records = found
-        write_file(words.output, draw.curves(records, words.title or os.path.basename(name), words.along, kind))
+        title = words.title or os.path.basename(name)
+        write_file(words.output, draw.trade_off(records, title, kind) if words.trade_off else
+                   draw.curves(records, title, words.along, kind))
         return
     if data.lstrip().startswith(b"{"):
         raise ExploreError(f"{shown_name(words.trace)} is neither a trace nor what explore sweep --json wrote")
-    if words.along:
-        raise ExploreError("--along is for a sweep's JSON alone", WRONG_WORDS)
+    if words.along or words.trade_off:
+        raise ExploreError(f"--{'along' if words.along else 'trade-off'} is for a sweep's JSON alone", WRONG_WORDS)
     together = together_of(words)
     recording = Recording(together.program, settings_of(words), trace_of(words.trace, data))
     traced = steps.trace_steps(recording, together, words.lines)
@@ -492,23 +535,41 @@ def json_value(data: bytes) -> Any:
 def run_import(words: argparse.Namespace) -> None:
     """`explore import`."""
     check_writable(words.output)
-    rules = importing.Rules(64 * 4 ** words.levels, words.port, words.fence_every, words.fence_at, words.within,
-                            words.skip, words.commands, words.combine, words.cache)
+    levels = words.levels or default_levels(words.machine_name)
+    rules = importing.Rules(MACHINES[words.machine_name].data_lines(levels), words.port, words.fence_every, words.fence_at,
+                            words.within, words.skip, words.commands, words.combine, words.cache, words.machine_name, levels)
     if words.top:
         put(importing.hottest(words.file, words.kind, rules, words.top), words.output)
     else:
         put(importing.import_trace(words.file, words.kind, rules), words.output)
 
 
+def run_convert(words: argparse.Namespace) -> None:
+    """`explore convert`."""
+    check_writable(words.output)
+    levels = words.levels or default_levels(words.to)
+    trace = read_trace(words.trace)
+    made = convert.converted(trace.commands, words.to, levels)
+    for note in made.notes:
+        sys.stderr.write(f"explore: {note}\n")
+    put(convert.converted_text(trace, made), words.output)
+
+
+def default_levels(machine_name: str) -> int:
+    """The levels by which a machine has as much memory as `run` has by default."""
+    return convert.levels_for(machine_name, Settings().levels)
+
+
 def main(arguments: List[str]) -> int:
     """Does what the words say, and answers the exit status. Whatever happens, no process is left behind."""
-    for number in (signal.SIGINT, signal.SIGTERM, signal.SIGHUP):
-        signal.signal(number, INTERRUPTS.handle)
+    INTERRUPTS.listen()
     words = make_parser().parse_args(arguments)
     try:
         return ended(words)
     finally:
+        INTERRUPTS.ignore()
         end_all()
+        remove_temporary()
 
 
 def ended(words: argparse.Namespace) -> int:
@@ -519,6 +580,7 @@ def ended(words: argparse.Namespace) -> int:
         sys.stderr.write(f"explore: {error}\n")
         return error.status
     except KeyboardInterrupt:
+        INTERRUPTS.ignore()
         end_all()
         sys.stderr.write("explore: interrupted\n")
         return INTERRUPTED

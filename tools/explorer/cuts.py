@@ -114,6 +114,7 @@ class CutFinder:
     def __init__(self, recording: Recording, together: Together, every_line: bool, named_lines: bool = False) -> None:
         self.recording = recording
         self.observe: Optional[Callable[[Cut, Readings], None]] = None
+        self.plain_before: Readings = []
         self.together = together
         self.machine = recording.settings.machine
         self.totals = Totals(recording, together)
@@ -215,6 +216,7 @@ class CutFinder:
                 done += 1
             if moment.kind == "before":
                 before = readings_in(data, len(self.before_script))[1]
+                self.plain_before = list(map(reading_of, before)) if self.observe is not None else []
             else:
                 yield self.cut(moment, data, before, waiting)
 
@@ -235,14 +237,14 @@ class CutFinder:
         cut = Cut(moment.index, moment.number, moment.steps, command, replies[-2].answer, recovery, others, tuple(lost),
                   unread, moment.recovery_steps)
         if self.observe is not None:
-            self.observe(cut, self.whole(lines, before, after))
+            self.observe(cut, self.whole(lines, after))
         return cut
 
-    def whole(self, lines: Sequence[int], before: Readings, after: Readings) -> Readings:
+    def whole(self, lines: Sequence[int], after: Readings) -> Readings:
         """What all lines read as, those that weren't read as before."""
         if len(lines) == len(self.lines) or len(after) < len(lines):
             return list(map(reading_of, after))
-        readings = list(map(reading_of, before))
+        readings = list(self.plain_before)
         for line, reading in zip(lines, after):
             readings[self.places[line]] = reading_of(reading)
         return readings

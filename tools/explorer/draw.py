@@ -8,9 +8,9 @@ from .errors import WRONG_WORDS, ExploreError
 from .layout import CHIP, COUNTERS, DATA, NODES, PARTS, SHADOWS, TAGS, Layout, Place
 from .program import first_word
 from .settings import Settings
-from .steps import KEPT, LOST, UNSEEN, UNTOLD, Step, Traced
 from .sweep import NUMBERS
 from .trace import TAMPERING_WORDS, number_of
+from .traced import ARMS, EMPTIES, KEPT, LATCH, LOST, SETS, UNSEEN, UNTOLD, Step, Traced
 
 # Colours that are told apart without red and green (Okabe and Ito).
 BLUE, SKY, GREEN, ORANGE, VERMILION, PURPLE, BLACK = (
@@ -18,12 +18,19 @@ BLUE, SKY, GREEN, ORANGE, VERMILION, PURPLE, BLACK = (
 GREY, DARK_GREY, PALE, YELLOW = "#DDDDDD", "#666666", "#F6F6F6", "#FFF3B0"
 
 MARKS: Dict[str, Tuple[str, str, str]] = {
-    CHIP: ("D", BLACK, "latch of the registers"),
     DATA: ("o", BLUE, "data line written"),
     TAGS: ("s", SKY, "tag line written"),
     COUNTERS: ("^", ORANGE, "counter block written"),
     NODES: ("v", GREEN, "tree node written"),
     SHADOWS: ("P", PURPLE, "shadow line written"),
+}
+
+# Latches by what they do: the mark, the colour of its inside, and what the legend says.
+LATCHES: Dict[str, Tuple[str, str, str]] = {
+    ARMS: ("D", BLACK, "latch that arms the group"),
+    EMPTIES: ("D", "white", "latch that empties the group"),
+    SETS: ("p", BLACK, "latch of the stop-loss number"),
+    "": ("D", BLACK, "latch of the registers"),
 }
 
 # Of a machine that doesn't show its device: what a cut just before a step does to the command's write.
@@ -40,7 +47,9 @@ UNIT = 0.15
 NARROWEST, WIDEST = 8.5, 16.0
 BETWEEN_LABELS = 0.12
 LEFT, RIGHT, BOTTOM = 1.95, 0.15, 0.95
-KINDS = ("svg", "png")
+# The kinds of pictures, with what is told in each beside the picture: nothing that another run would tell otherwise.
+KINDS: Dict[str, Dict[str, Any]] = {"svg": {"Date": None}, "png": {"Software": None},
+                                    "pdf": {"Creator": None, "Producer": None, "CreationDate": None}}
 
 PANELS: Tuple[Tuple[str, str], ...] = (
     ("steps_per_write", "persist steps a write"),
@@ -58,13 +67,14 @@ CURVES: Tuple[Tuple[str, str], ...] = (
     (DARK_GREY, "*"))
 FEW_CURVES = 8
 LINE_STYLES = ("-", "--", ":", "-.")
+RECOVERY = "recovery_trials"
 
 
 def picture_kind(name: str) -> str:
     """The kind of picture that a name's ending says."""
     kind = name.rsplit(".", 1)[-1].lower() if "." in name else ""
     if kind not in KINDS:
-        raise ExploreError(f"a picture's name ends in .svg or .png, not as {name!r}", WRONG_WORDS)
+        raise ExploreError(f"a picture's name ends in .svg, .png or .pdf, not as {name!r}", WRONG_WORDS)
     return kind
 
 
@@ -86,7 +96,7 @@ def load_matplotlib() -> Any:
 def picture(pyplot: Any, figure: Any, kind: str) -> bytes:
     """The bytes of a figure. The same figure has the same bytes each time."""
     out = io.BytesIO()
-    figure.savefig(out, format=kind, dpi=110, metadata={"Date": None} if kind == "svg" else {"Software": None})
+    figure.savefig(out, format=kind, dpi=110, metadata=KINDS[kind])
     pyplot.close(figure)
     return out.getvalue()
 
@@ -267,14 +277,20 @@ def draw_power(axes: Any, spans: Sequence[Span], top: float, bottom: float) -> L
 
 
 def draw_marks(axes: Any, spans: Sequence[Span], lanes: Lanes, size: float) -> List[str]:
-    """A mark for each persist step; answers the parts that have one, and `again` for bytes written again."""
+    """A mark for each persist step; answers the parts and the latches that have one, and `again` for bytes written again."""
     drawn = []
+    for does, (marker, inside, _) in LATCHES.items():
+        points = [(span.step_at(number), lanes.chip) for span in spans for number, step in enumerate(span.traced.steps)
+                  if step.kind == LATCH and step.does == does]
+        if points:
+            edge, width = (BLACK, 1.2) if inside == "white" else ("white", 0.4)
+            axes.scatter(*zip(*points), marker=marker, s=size, facecolor=inside, edgecolor=edge, linewidth=width, zorder=3)
+            drawn.append(f"latch {does}")
     for part, (marker, colour, _) in MARKS.items():
         for again in (False, True):
             points = [(span.step_at(number), lanes.height_of(step)) for span in spans
                       for number, step in enumerate(span.traced.steps)
-                      if step.kind not in (UNSEEN, UNTOLD) and step.part == part and step.again == again
-                      and (step.place is not None or part == CHIP) and not (part == CHIP and step.again)]
+                      if step.place is not None and step.part == part and bool(step.again) == again]
             if points:
                 axes.scatter(*zip(*points), marker=marker, s=size, facecolor="white" if again else colour,
                              edgecolor=colour if again else "white", linewidth=1.2 if again else 0.4, zorder=3)
@@ -367,6 +383,9 @@ def legend_handles(drawn: Sequence[str], tampered: bool) -> List[Any]:
     from matplotlib.lines import Line2D
     from matplotlib.patches import Patch
     handles: List[Any] = []
+    for does, (marker, inside, text) in LATCHES.items():
+        if f"latch {does}" in drawn:
+            handles.append(Line2D([], [], marker=marker, color=BLACK, markerfacecolor=inside, linestyle="", label=text))
     for part, (marker, colour, text) in MARKS.items():
         if part in drawn:
             handles.append(Line2D([], [], marker=marker, color=colour, linestyle="", label=text))
@@ -541,6 +560,39 @@ def curves(records: Sequence[Dict[str, Any]], title: str, along: Optional[str], 
                       bbox_to_anchor=(0.5, (below - 0.3 * (place + 1)) / height))
     for place, note in enumerate(reversed(notes)):
         figure.text(0.02, (0.06 + 0.16 * place) / height, note, ha="left", va="bottom", fontsize=7.5, color=VERMILION)
+    return picture(pyplot, figure, kind)
+
+
+def trade_off(records: Sequence[Dict[str, Any]], title: str, kind: str) -> bytes:
+    """The picture of what recovery costs against what a write does: a point for each setting, those that no other one is
+    better than in both joined by a line."""
+    points = sorted(((record["steps_per_write"], record[RECOVERY], record) for record in records
+                     if record["steps_per_write"] is not None and record[RECOVERY] is not None), key=lambda point: point[:2])
+    if not points:
+        raise ExploreError(f"no setting of this sweep has both steps a write and {RECOVERY.replace('_', ' ')}")
+    pyplot = load_matplotlib()
+    figure, axes = pyplot.subplots(figsize=(6.0, 4.2))
+    best = [point for place, point in enumerate(points) if all(point[1] < other[1] for other in points[:place])]
+    axes.plot([point[0] for point in best], [point[1] for point in best], color=GREY, linewidth=1.2, zorder=1)
+    names = varied(records)
+    for steps, recovery, record in points:
+        axes.plot([steps], [recovery], marker="o", color=BLUE, linestyle="", zorder=2,
+                  markerfacecolor="white" if record["out_of_range"] else BLUE)
+        axes.annotate(", ".join(str(record[name]) for name in names), (steps, recovery), fontsize=6.5,
+                      textcoords="offset points", xytext=(5, 3), color=DARK_GREY)
+    if names:
+        axes.text(0.99, 0.98, f"at each point: {', '.join(map(label_of, names))}", transform=axes.transAxes, ha="right", va="top",
+                  fontsize=7.5, color=DARK_GREY)
+    axes.set_yscale("symlog", linthresh=1)
+    axes.set_xlabel("persist steps a write")
+    axes.set_ylabel("trials of the recovery at the end")
+    axes.grid(color=GREY, linewidth=0.5)
+    axes.margins(x=0.18, y=0.12)
+    notes = dropped_notes(records)
+    axes.set_title(title_of(records, title).replace("$", r"\$"), fontsize=10, loc="left", fontweight="bold")
+    figure.tight_layout(rect=(0, 0.05 * len(notes), 1, 1))
+    for place, note in enumerate(reversed(notes)):
+        figure.text(0.02, 0.01 + 0.04 * place, note, fontsize=6.5, color=VERMILION)
     return picture(pyplot, figure, kind)
 
 

@@ -1,9 +1,9 @@
 """Finding the program that is built already."""
 import os
-import subprocess
 from pathlib import Path
 
 from .errors import ExploreError, reason_of
+from .processes import start, talk
 
 REPOSITORY = Path(__file__).resolve().parents[2]
 SCRIPT = REPOSITORY / "pmem"
@@ -15,14 +15,14 @@ def built_program() -> str:
     if os.access(BUNDLED, os.X_OK):
         return str(BUNDLED)
     try:
-        asked = subprocess.run([str(SCRIPT), "--where"], stdin=subprocess.DEVNULL, stdout=subprocess.PIPE,
-                               stderr=subprocess.PIPE, universal_newlines=True, check=False)
+        said, status = talk(start([str(SCRIPT), "--where"], with_errors=True))
     except OSError as error:
         raise ExploreError(f"cannot run {SCRIPT}: {reason_of(error)}") from error
-    if asked.returncode != 0:
-        why = asked.stderr.strip().rsplit("\n", 1)[-1]
+    text = os.fsdecode(said).rstrip("\n")
+    if status != 0:
+        why = text.strip().rsplit("\n", 1)[-1]
         raise ExploreError(why[len("pmem: "):] if why.startswith("pmem: ") else why or f"{SCRIPT} doesn't say where it is")
-    return asked.stdout.rstrip("\n")
+    return text
 
 
 def default_program() -> str:
@@ -32,4 +32,4 @@ def default_program() -> str:
 
 def found_program(path: str) -> str:
     """The program's own file: where the repository's script is named, the file that it would run."""
-    return built_program() if os.path.exists(path) and os.path.samefile(path, SCRIPT) else path
+    return built_program() if os.path.exists(path) and SCRIPT.exists() and os.path.samefile(path, SCRIPT) else path

@@ -1,20 +1,19 @@
 """Where it can be had: the library that makes the program a server of its own states (fork_server.c)."""
-import atexit
 import hashlib
 import os
 import platform
 import shutil
-import subprocess
 import sys
 import tempfile
 from pathlib import Path
 from typing import List, Optional, Tuple
 
-from .processes import INTERRUPTS
+from .processes import start, talk
 
 SOURCE = Path(__file__).resolve().with_name("fork_server.c")
 COMPILERS = ("cc", "gcc", "clang")
 FLAGS = ("-std=c99", "-O2", "-fPIC", "-shared")
+TEMPORARY: List["tempfile.TemporaryDirectory[str]"] = []
 
 
 def compiler() -> Optional[str]:
@@ -55,9 +54,14 @@ def writable_folder() -> Path:
             return folder
     except (OSError, RuntimeError):
         pass
-    folder = Path(tempfile.mkdtemp(prefix="pmem-explore-"))
-    atexit.register(shutil.rmtree, folder, ignore_errors=True)
-    return folder
+    TEMPORARY.append(tempfile.TemporaryDirectory(prefix="pmem-explore-"))
+    return Path(TEMPORARY[-1].name)
+
+
+def remove_temporary() -> None:
+    """Removes the folders that were made for want of a cache folder."""
+    while TEMPORARY:
+        TEMPORARY.pop().cleanup()
 
 
 def digest(source: bytes, path: str) -> str:
@@ -72,11 +76,9 @@ def compile_to(path: str, kept: Path) -> None:
     os.close(handle)
     try:
         words: List[str] = [path, *FLAGS, "-o", part, str(SOURCE), "-ldl"]
-        with INTERRUPTS:
-            ran = subprocess.run(words, stdin=subprocess.DEVNULL, stdout=subprocess.PIPE, stderr=subprocess.STDOUT,
-                                 check=False)
-        if ran.returncode:
-            raise RuntimeError(ran.stdout.decode("utf-8", "replace").strip().split("\n")[0] or path)
+        said, status = talk(start(words, with_errors=True))
+        if status:
+            raise RuntimeError(said.decode("utf-8", "replace").strip().split("\n")[0] or path)
         os.replace(part, kept)
     finally:
         if os.path.exists(part):

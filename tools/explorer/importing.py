@@ -7,12 +7,13 @@ from collections import Counter
 from dataclasses import dataclass
 from typing import BinaryIO, Callable, Dict, Iterable, Iterator, List, Optional, Sequence, Set, Tuple
 
+from .convert import converted
 from .errors import ExploreError, reason_of
 from .front import Combining, Front, Straight, WriteBackCache
 from .output import table_text
 from .symbols import LINE_BYTES, lines_at
 from .together import Progress
-from .trace import shown_line, shown_name
+from .trace import commands_of, shown_line, shown_name
 
 LINES_BETWEEN_PROGRESS = 100_000
 QUEUE = 16
@@ -56,6 +57,8 @@ class Rules:
     commands: int = 1000
     combine: bool = False
     cache: Optional[Tuple[int, int]] = None
+    machine_name: str = "run"
+    levels: int = 2
 
 
 def lackey_accesses(lines: Iterable[bytes], name: str) -> Iterator[Access]:
@@ -378,10 +381,14 @@ def import_trace(name: str, kind: str, rules: Rules) -> str:
     if not commands:
         raise ExploreError(f"{shown_name(name)} has no store or load to import"
                            + (" within these addresses" if rules.within else ""))
-    return "\n".join([*heading(name, kind, rules, maker, commands), *commands]) + "\n"
+    notes: List[str] = []
+    if rules.machine_name != "run":
+        made = converted(commands_of("\n".join(commands).encode()), rules.machine_name, rules.levels)
+        commands, notes = [command.decode() for command in made.commands], made.notes
+    return "\n".join([*heading(name, kind, rules, maker, commands, notes), *commands]) + "\n"
 
 
-def heading(name: str, kind: str, rules: Rules, maker: Maker, commands: Sequence[str]) -> List[str]:
+def heading(name: str, kind: str, rules: Rules, maker: Maker, commands: Sequence[str], notes: Sequence[str]) -> List[str]:
     """The comments that say where a trace comes from, and which lines are which."""
     words = Counter(command.split(" ", 1)[0] for command in commands)
     counts = ", ".join(f"{count} {word}" for word, count in sorted(words.items()))
@@ -390,8 +397,13 @@ def heading(name: str, kind: str, rules: Rules, maker: Maker, commands: Sequence
     told = [f"# Made of {source} ({kind}): {counts}.",
             f"# {lines} lines of its memory are folded onto {len(maker.folded)} of {rules.data_lines} data lines: "
             f"address / 64 modulo {rules.data_lines}."]
+    if rules.machine_name != "run":
+        told.append(f"# For pmem {rules.machine_name} with {rules.levels} levels.")
+    told += [f"# Of its commands for pmem run: {note}." for note in notes]
     if maker.is_cut_off:
-        told.append(f"# It goes on after these {len(commands)} commands, which are as many as were asked for.")
+        told.append(f"# It goes on after these, which are the {rules.commands} commands of pmem run that were asked for."
+                    if rules.machine_name != "run" else
+                    f"# It goes on after these {len(commands)} commands, which are as many as were asked for.")
     if kind == "lackey":
         told.append("# The bytes stored are made up, since lackey doesn't print them: store n writes its number n.")
     told += [f"# {line}" for line in maker.front.told()]

@@ -22,6 +22,11 @@ class Place:
     part: str
     name: str
 
+    @property
+    def text(self) -> str:
+        """Its number and its name."""
+        return f"line {self.line}: {self.name}"
+
 
 class Layout:
     """Where each part of the device lies."""

@@ -1,7 +1,6 @@
 """What the cuts of a trace leave, each outcome once, and one's own question about it."""
 import hashlib
 import os
-import selectors
 import shlex
 import subprocess
 import tempfile
@@ -13,13 +12,14 @@ from xml.sax.saxutils import quoteattr
 from .cuts import Cut, Readings, all_cuts, cut_record, heads_of, row_of
 from .errors import ExploreError, reason_of
 from .output import json_text, table_text
-from .processes import start
+from .processes import new_selector, start
 from .program import Output, Recording
 from .symbols import LINE_BYTES, Names
 from .together import FromStart, Progress, in_order
 from .trace import shown_line, short_text
 
 RIGHT, WRONG = "ok", "fails"
+MOST_CHANGED = 64
 
 
 @dataclass(frozen=True)
@@ -37,12 +37,22 @@ class Verdict:
 
 @dataclass
 class Outcome:
-    """What some cuts leave alike: the recovered memory, or in place of it why there is none."""
+    """What some cuts leave alike: the recovered memory, or in place of it why there is none. Of its lines those in `changed`
+    aren't as in `base`, which many outcomes share."""
 
     number: int
-    readings: Readings
+    base: Readings
+    changed: Dict[int, bytes]
     cuts: List[Cut] = field(default_factory=list)
     verdict: Optional[Verdict] = None
+
+    @property
+    def readings(self) -> Readings:
+        """What its lines read as."""
+        readings = list(self.base)
+        for place, reading in self.changed.items():
+            readings[place] = reading
+        return readings
 
     @property
     def first(self) -> Cut:
@@ -61,6 +71,7 @@ class Outcomes:
     def __init__(self, recording: Recording, lines: Sequence[int]) -> None:
         self.recording = recording
         self.lines = lines
+        self.base: Readings = []
         self.by_memory: Dict[bytes, Outcome] = {}
         self.by_cut: Dict[Any, Outcome] = {}
 
@@ -72,12 +83,19 @@ class Outcomes:
     def add(self, cut: Cut, readings: Readings) -> None:
         """Notes what a cut leaves."""
         refused = b"" if cut.recovery.numbers else cut.recovery.answer.encode()
-        key = hashlib.sha256(b"\n".join((refused, *readings))).digest()
+        key = hashlib.blake2b(b"\n".join((refused, *readings)), digest_size=32).digest()
         outcome = self.by_memory.get(key)
         if outcome is None:
-            outcome = self.by_memory[key] = Outcome(len(self.by_memory) + 1, readings)
+            outcome = self.by_memory[key] = self.outcome(readings)
         outcome.cuts.append(cut)
         self.by_cut[cut.key] = outcome
+
+    def outcome(self, readings: Readings) -> Outcome:
+        """A new outcome, told by what differs from another one's."""
+        changed = {place: new for place, (old, new) in enumerate(zip(self.base, readings)) if old != new}
+        if len(self.base) != len(readings) or len(changed) > MOST_CHANGED:
+            self.base, changed = readings, {}
+        return Outcome(len(self.by_memory) + 1, self.base, changed)
 
     def of(self, cut: Cut) -> Outcome:
         """The outcome of a cut."""
@@ -119,7 +137,7 @@ class Outcomes:
             if not outcome.is_recovered:
                 outcome.verdict = Verdict(False, f"on answers {short_text(outcome.first.recovery.answer)}")
         done: Dict[int, Output] = {}
-        with tempfile.TemporaryDirectory() as folder, selectors.DefaultSelector() as selector:
+        with tempfile.TemporaryDirectory() as folder, new_selector() as selector:
             def begin(outcome: Outcome) -> Tuple["subprocess.Popen[bytes]", bytes]:
                 return self.asked(outcome, words, names, Path(folder)), b""
 

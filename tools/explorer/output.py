@@ -10,6 +10,11 @@ from typing import Any, Iterable, List, Optional, Sequence
 from .errors import ExploreError, reason_of
 
 
+# What LaTeX would take for something else.
+LATEX = {"\\": r"\textbackslash{}", "~": r"\textasciitilde{}", "^": r"\textasciicircum{}",
+         **{letter: "\\" + letter for letter in "&%$#_{}"}}
+
+
 def write_file(name: str, data: bytes) -> None:
     """Writes a file under a name beside it first, so that it is never there by half. What is no plain file, such as
     a terminal, is written as it stands."""
@@ -85,6 +90,16 @@ def csv_text(names: Sequence[str], rows: Iterable[Sequence[Any]]) -> str:
     for row in rows:
         writer.writerow(["" if value is None else value for value in row])
     return out.getvalue()
+
+
+def latex_text(heads: Sequence[str], rows: Sequence[Sequence[str]], left: Sequence[int] = ()) -> str:
+    """A table for LaTeX, in its own words alone; the columns in `left` begin at the left."""
+    def line(row: Sequence[str]) -> str:
+        return " & ".join("".join(LATEX.get(letter, letter) for letter in cell) for cell in row) + " \\\\\n"
+
+    columns = "".join("l" if column in left else "r" for column in range(len(heads)))
+    return (f"\\begin{{tabular}}{{{columns}}}\n\\hline\n{line(heads)}\\hline\n" + "".join(map(line, rows))
+            + "\\hline\n\\end{tabular}\n")
 
 
 def table_text(heads: Sequence[Sequence[str]], rows: Sequence[Sequence[str]], left: Sequence[int]) -> str:

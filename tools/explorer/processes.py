@@ -3,31 +3,70 @@ import os
 import selectors
 import signal
 import subprocess
+import sys
 from collections import deque
 from types import FrameType
-from typing import Deque, Dict, Optional, Protocol, Sequence, Set
+from typing import Deque, Dict, List, Optional, Protocol, Sequence, Set, Tuple
 
 PIPE_BYTES = 1 << 20
+SIGNALS = (signal.SIGINT, signal.SIGTERM, signal.SIGHUP)
 SET_PIPE_SIZE = 1031  # Linux's F_SETPIPE_SZ
 
 
 class Interrupts:
-    """Ctrl-C: noted, and raised at once, but not amid the start of a process, which would be left behind."""
+    """Ctrl-C: noted, and raised at once, but not amid the start of a process, which would be left behind, and not again while
+    the first one ends all. One that comes just before a wait for processes ends that wait too: `woken` can be read then."""
 
     def __init__(self) -> None:
         self.seen = False
         self.held = 0
+        self.woken: Optional[int] = None
+
+    def listen(self) -> None:
+        """Handles the signals that end a command."""
+        self.woken, waking = os.pipe()
+        for file in (self.woken, waking):
+            os.set_blocking(file, False)
+        signal.set_wakeup_fd(waking, warn_on_full_buffer=False)
+        sys.unraisablehook = self.dropped
+        for number in SIGNALS:
+            signal.signal(number, self.handle)
+
+    def dropped(self, raised: "sys.UnraisableHookArgs") -> None:
+        """What was raised where Python drops it: of an interrupt nothing is told there, as the next check raises it."""
+        if raised.exc_type is not KeyboardInterrupt:
+            sys.__unraisablehook__(raised)
 
     def handle(self, _number: int, _frame: Optional[FrameType]) -> None:
-        """The handler of the signal."""
+        """The handler of the signals."""
         self.seen = True
         if not self.held:
             raise KeyboardInterrupt
 
     def check(self) -> None:
         """Raises one that came while they were held, or that was raised where Python drops it."""
-        if self.seen:
+        if self.seen and not self.held:
             raise KeyboardInterrupt
+
+    def woke(self) -> None:
+        """A signal ended a wait."""
+        try:
+            if self.woken is not None:
+                os.read(self.woken, 512)
+        except BlockingIOError:
+            pass
+        self.check()
+
+    def ignore(self) -> None:
+        """Leaves all further ones unheard: the command ends, and has its status."""
+        self.held += 1
+        if self.woken is not None:
+            for number in SIGNALS:
+                signal.signal(number, signal.SIG_IGN)
+
+    def forget(self) -> None:
+        """The one that came is dealt with, and the command goes on."""
+        self.seen = False
 
     def __enter__(self) -> None:
         self.held += 1
@@ -39,6 +78,31 @@ class Interrupts:
 
 
 INTERRUPTS = Interrupts()
+
+
+def new_selector() -> selectors.BaseSelector:
+    """What waits for several processes at once, and for an interrupt."""
+    selector = selectors.DefaultSelector()
+    if INTERRUPTS.woken is not None:
+        selector.register(INTERRUPTS.woken, selectors.EVENT_READ)
+    return selector
+
+
+def serve(selector: selectors.BaseSelector, timeout: Optional[float] = None) -> None:
+    """Waits until a process tells something or takes something, and serves it."""
+    INTERRUPTS.check()
+    for key, events in selector.select(timeout):
+        channel: Optional["Channel"] = key.data
+        if channel is None:
+            INTERRUPTS.woke()
+        elif events & selectors.EVENT_WRITE:
+            channel.write()
+        else:
+            data = channel.read()
+            if data is not None:
+                channel.owner.told(channel, data)
+
+
 RUNNING: Set["subprocess.Popen[bytes]"] = set()
 
 
@@ -157,6 +221,34 @@ class Channel:
         self.watch(False)
         if self.source in self.selector.get_map():
             self.selector.unregister(self.source)
+
+
+class Told:
+    """What one process tells."""
+
+    def __init__(self) -> None:
+        self.pieces: List[bytes] = []
+        self.status: Optional[int] = None
+
+    def told(self, channel: Channel, data: bytes) -> None:
+        """What it told: nothing (`b""`) at its end."""
+        if data:
+            self.pieces.append(data)
+        else:
+            self.status = channel.finish()
+
+
+def talk(process: "subprocess.Popen[bytes]", given: bytes = b"") -> Tuple[bytes, int]:
+    """All that a process tells to what it is given, and its status."""
+    told = Told()
+    try:
+        with new_selector() as selector:
+            Channel(selector, process, told).send(given, last=True)
+            while told.status is None:
+                serve(selector)
+    finally:
+        end(process)
+    return b"".join(told.pieces), told.status
 
 
 def widen(file: int) -> None:

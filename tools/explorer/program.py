@@ -5,7 +5,7 @@ from dataclasses import dataclass
 from typing import Dict, List, Optional, Sequence, Tuple
 
 from .errors import INTERRUPTED, WRONG_WORDS, ExploreError, reason_of
-from .processes import end, start
+from .processes import start, talk
 from .settings import Settings
 from .stops import KINDS
 from .trace import Trace, shown_line
@@ -15,6 +15,7 @@ EXHIBITS = ("clash", "forged", "twin")
 WITHOUT_STEPS = ("off", "range", "empty", "idle", "clean", "already", "closed")
 
 STATUS_EXHIBIT = 6
+REFUSED = (2, b"stop words\n")
 
 
 @dataclass(frozen=True)
@@ -153,11 +154,13 @@ class Program:
 
     def __init__(self, path: str) -> None:
         self.path = path
+        self.has_log: Optional[bool] = None
 
-    def start(self, settings: Settings, environment: Optional[Dict[str, str]] = None) -> "subprocess.Popen[bytes]":
-        """Begins a run."""
+    def start(self, settings: Settings, environment: Optional[Dict[str, str]] = None,
+              *more: str) -> "subprocess.Popen[bytes]":
+        """Begins a run, with more words behind those of the settings."""
         try:
-            return start([self.path, *settings.words()], environment)
+            return start([self.path, *settings.words(), *more], environment)
         except OSError as error:
             raise ExploreError(f"cannot run the program {self.path}: {reason_of(error)}") from error
 
@@ -167,18 +170,24 @@ class Program:
 
     def output(self, run: Run) -> Output:
         """What the program prints in a run, and how it ends."""
-        process = self.start(run.settings)
-        try:
-            data, _ = process.communicate(run.script)
-        finally:
-            status = end(process)
-        return Output(data, status)
+        return Output(*talk(self.start(run.settings), run.script))
 
     def run(self, script: bytes, settings: Settings) -> Output:
         """What the program prints on this trace."""
         output = self.output(Run(script, settings))
         self.check(output, settings)
         return output
+
+    def logged(self, script: bytes, settings: Settings) -> Optional[bytes]:
+        """What the program prints on this trace with the log of each command; None where it refuses that option, as older
+        programs do."""
+        if self.has_log is None or self.has_log:
+            output = Output(*talk(self.start(settings, None, "--log"), script))
+            self.has_log = (output.status, output.data) != REFUSED
+            if self.has_log:
+                self.check(output, settings)
+                return output.data
+        return None
 
     def check(self, output: Output, settings: Settings) -> None:
         """Tells what is wrong where a run didn't answer to its end."""
@@ -206,17 +215,17 @@ class Program:
 class Recording:
     """A trace with the program's replies to it, which can be run again up to any command and then asked."""
 
-    def __init__(self, program: Program, settings: Settings, trace: Trace) -> None:
+    def __init__(self, program: Program, settings: Settings, trace: Trace, known: Optional[Output] = None) -> None:
         self.program = program
         self.settings = settings
         self.trace = trace
         self.commands = trace.commands
-        output = self.first_run()
+        output = known or self.first_run()
         self.replies = replies_of(output.lines)
         self.check_replies(output)
         self.script = b"".join(command.text + b"\n" for command in self.commands)
         self.script_ends = ends_of([len(command.text) + 1 for command in self.commands])
-        self.output = output.data
+        self.output, self.status = output.data, output.status
         self.output_ends = ends_of([sum(len(line) + 1 for line in reply.lines) for reply in self.replies])
 
     def first_run(self) -> Output:

@@ -10,10 +10,11 @@ from .output import write_file
 from .processes import INTERRUPTS, end_all
 from .program import Recording, StopLine, text_of
 from .settings import Settings
-from .steps import Traced, trace_steps
+from .steps import trace_steps
 from .stops import KINDS, hint_for
 from .together import Together
 from .trace import commands_of, read_bytes, short_text, shown_line, trace_of
+from .traced import Traced
 
 PROMPT = "pmem> "
 HELP = """\
@@ -324,7 +325,7 @@ def run_session(together: Together, settings: Settings, begin: Optional[str] = N
             all_well &= tried(session, line)
         except KeyboardInterrupt:
             end_all()
-            INTERRUPTS.seen = False
+            INTERRUPTS.forget()
             if not is_terminal:
                 raise
             say("")

@@ -1,80 +1,24 @@
-"""Each persist step of a trace, found by cutting it at each step and comparing the device with `peek`."""
+"""Each persist step of a trace, as the program's log tells it. Of an older program, which has no log, the steps are found by
+cutting the trace at each one and comparing the device with `peek`."""
+import sys
+from collections import deque
 from dataclasses import dataclass
 from typing import Any, Dict, Iterable, Iterator, List, Optional, Sequence, Tuple
 
+from .accesses import told_steps
 from .errors import WRONG_WORDS, ExploreError
-from .layout import CHIP, Layout, Place
+from .layout import Layout, Place
 from .machines import LINES_OF_PAGE
 from .output import json_text
-from .program import Counts, Question, Recording, Reply, counts_of, replies_in, text_of
+from .program import Counts, Question, Recording, counts_of, replies_in, text_of
+from .same_bytes import SHOWN_BYTES, SameBytes, peeks
 from .together import Together
-from .trace import TAMPERING_WORDS, Command, number_of, short_text
+from .trace import TAMPERING_WORDS, number_of, short_text
+from .traced import LATCH, UNSEEN, UNTOLD, WRITE, Fate, Step, Traced, Work
 
 LINES_AT_ONCE = 500_000
 TRIED_AT_ONCE = 8
 MOST_TURNED = 500
-SHOWN_BYTES = len("raw ") + 128 + len("\n")
-
-LATCH = "latch"
-WRITE = "write"
-UNSEEN = "unseen"
-UNTOLD = "untold"
-LOST, KEPT = "lost", "kept"
-
-
-@dataclass(frozen=True)
-class Step:
-    """One persist step: a latch, or a write of a device line. `again`: with the bytes that it had. Of a machine that
-    doesn't show its device `fate` is what a cut just before the step answers: `lost`, `kept` or nothing."""
-
-    number: int
-    kind: str
-    place: Optional[Place] = None
-    again: bool = False
-    fate: str = ""
-
-    @property
-    def part(self) -> str:
-        """The part that the step is on."""
-        return CHIP if self.place is None else self.place.part
-
-    @property
-    def text(self) -> str:
-        """The step in words."""
-        if self.kind == LATCH:
-            return "latch"
-        if self.kind == UNSEEN:
-            return "not seen: the run ends with this command"
-        if self.place is None:
-            return "a line, with the bytes that it had"
-        return f"line {self.place.line}: {self.place.name}" + (", with the bytes that it had" if self.again else "")
-
-
-@dataclass(frozen=True)
-class Fate:
-    """What cuts after `first` to `last` steps of a command answer, and then `on`, both without their steps."""
-
-    first: int
-    last: int
-    answer: str
-    recovery: str
-
-    @property
-    def text(self) -> str:
-        """It in words."""
-        numbers = f"{self.first}" if self.first == self.last else f"{self.first} to {self.last}"
-        return f"{numbers} of its steps: {self.answer}, then {short_text(self.recovery)}"
-
-
-@dataclass(frozen=True)
-class Traced:
-    """A command, its reply, and its persist steps, or of a machine that doesn't show its device what cuts in it leave."""
-
-    command: Command
-    reply: Reply
-    steps: Tuple[Step, ...]
-    fates: Tuple[Fate, ...] = ()
-
 
 @dataclass(frozen=True)
 class State:
@@ -129,7 +73,7 @@ def likely_places(recording: Recording, layout: Layout) -> List[int]:
 
 def asks(places: Sequence[int]) -> List[bytes]:
     """The commands that show the counts and these device lines."""
-    return [b"stat", *(b"peek %d" % place for place in places)]
+    return [b"stat", *peeks(places)]
 
 
 def state_in(data: bytes, count: int) -> State:
@@ -187,8 +131,17 @@ class Totals:
             first += TRIED_AT_ONCE
 
 
+def check_layout(recording: Recording) -> None:
+    """That the device ends where the layout says."""
+    size = Layout(recording.settings).size
+    replies = recording.ask(0, [b"peek %d" % (size - 1), b"peek %d" % size])
+    if [reply.answer.split(" ")[0] for reply in replies] != ["raw", "range"]:
+        raise ExploreError(f"{recording.program.path} doesn't answer as pmem does: its device hasn't the {size} lines that "
+                           "docs/MACHINE.md lists")
+
+
 class StepFinder:
-    """Finds the steps of one trace of `run`."""
+    """Finds the steps of one trace of `run` by a program without a log."""
 
     def __init__(self, recording: Recording, together: Together) -> None:
         self.recording = recording
@@ -198,14 +151,6 @@ class StepFinder:
         self.asked = text_of(asks(self.likely))
         self.totals = Totals(recording, together)
         self.places: Dict[int, Place] = {}
-
-    def check_layout(self) -> None:
-        """That the device ends where the layout says."""
-        size = self.layout.size
-        replies = self.recording.ask(0, [b"peek %d" % (size - 1), b"peek %d" % size])
-        if [reply.answer.split(" ")[0] for reply in replies] != ["raw", "range"]:
-            raise ExploreError(f"{self.recording.program.path} doesn't answer as pmem does: its device hasn't the "
-                               f"{size} lines that docs/MACHINE.md lists")
 
     def script_to(self, index: int, number: int) -> List[bytes]:
         """What is run after the first `index` commands to stop at a step of the next one."""
@@ -336,8 +281,9 @@ class StepFinder:
                 return []
         return whole if (plain_old.counts, plain_new.counts) == (old.counts, new.counts) else []
 
-    def traced(self, indexes: Sequence[int]) -> List[Traced]:
+    def find(self, indexes: Sequence[int]) -> List[Traced]:
         """All commands with their replies, and the steps of these."""
+        self.totals.count(indexes)
         steps = self.found(indexes)
         every = [(index, after) for index in indexes for after in range(1, self.totals.of(index) + 1)]
         unseen = {(index, self.totals.of(index)) for index in indexes if self.recording.replies[index].is_exhibit}
@@ -369,17 +315,33 @@ def stepping_indexes(recording: Recording, lines: Optional[range]) -> List[int]:
             and (lines is None or recording.commands[index].number in lines)]
 
 
-def trace_steps(recording: Recording, together: Together, lines: Optional[range] = None) -> List[Traced]:
-    """The commands on these lines of the trace with their replies and steps."""
+def trace_steps(recording: Recording, together: Together, lines: Optional[range] = None,
+                with_work: bool = False) -> List[Traced]:
+    """The commands on these lines of the trace with their replies and steps, and where it is asked for with their work."""
     indexes = stepping_indexes(recording, lines)
-    if recording.settings.machine.has_counts:
-        finder = StepFinder(recording, together)
-        finder.check_layout()
-        finder.totals.count(indexes)
-        traced = finder.traced(indexes)
-    else:
+    if not recording.settings.machine.has_counts:
+        if with_work:
+            raise ExploreError(f"pmem {recording.settings.machine_name} doesn't tell what its commands read", WRONG_WORDS)
         traced = fates_traced(recording, together, indexes)
+    else:
+        check_layout(recording)
+        told = told_steps(recording, with_work)
+        if told is not None:
+            traced = SameBytes(recording, together, told, set(indexes)).told()
+        else:
+            tell_no_log(recording, together, with_work)
+            traced = StepFinder(recording, together).find(indexes)
     return [each for each in traced if lines is None or each.command.number in lines]
+
+
+def tell_no_log(recording: Recording, together: Together, with_work: bool) -> None:
+    """Tells, once, that the program has no log."""
+    if with_work:
+        raise ExploreError(f"{recording.program.path} doesn't tell what its commands read: it has no option --log")
+    if not together.is_log_missed:
+        together.is_log_missed = True
+        sys.stderr.write(f"explore: {recording.program.path} has no option --log, so each step is found by a cut, and what a "
+                         "latch does isn't told\n")
 
 
 def fates_traced(recording: Recording, together: Together, indexes: Sequence[int]) -> List[Traced]:
@@ -433,16 +395,38 @@ def steps_text(traced: Sequence[Traced], whole: bool) -> str:
         lines.append(f"{entry.command.number:>{width}}  {command}")
         for text in entry.reply.lines:
             lines.append(f"{indent}> {text if whole else short_text(text)}")
-        for step in entry.steps:
-            if step.kind != UNTOLD:
-                lines.append(f"{indent}  step {step.number:>{places}}  {step.text}")
+        lines += [f"{indent}  {text}" for text in access_texts(entry, places)]
         for fate in entry.fates:
             lines.append(f"{indent}  cut after {fate.text}")
     taken = sum(len(entry.steps) for entry in traced)
-    lines.append(f"{len(traced)} commands, {taken} persist steps")
+    lines.append(f"{len(traced)} commands, {taken} persist steps" + work_text(traced))
     if any(entry.fates for entry in traced):
         lines.append("which device line a step writes can't be told: this machine shows neither its device nor its counts")
     return "\n".join(lines) + "\n"
+
+
+def access_texts(entry: Traced, places: int) -> Iterator[str]:
+    """The steps of a command, and where they are told what it read between, and how much work it was."""
+    reads = deque(entry.work.reads if entry.work else ())
+    for step in entry.steps:
+        while reads and reads[0][0] < step.number:
+            yield f"{'read':{places + 7}}{reads.popleft()[1].text}"
+        if step.kind != UNTOLD:
+            yield f"step {step.number:>{places}}  {step.text}"
+    for _, place in reads:
+        yield f"{'read':{places + 7}}{place.text}"
+    if entry.work and (entry.work.reads or entry.work.tags or entry.work.digests):
+        yield entry.work.text
+
+
+def work_text(traced: Sequence[Traced]) -> str:
+    """The sum of the work of these commands, where it is told."""
+    works = [entry.work for entry in traced if entry.work]
+    if not works:
+        return ""
+    total = Work(tuple(read for work in works for read in work.reads), sum(work.tags for work in works),
+                 sum(work.digests for work in works))
+    return f", {total.text}"
 
 
 def step_record(step: Step) -> Dict[str, Any]:
@@ -452,7 +436,14 @@ def step_record(step: Step) -> Dict[str, Any]:
         return {"step": step.number, "kind": step.kind, "cut_before": step.fate or None}
     return {"step": step.number, "kind": step.kind, "device_line": place.line if place else None,
             "part": step.part if step.kind != UNSEEN else None, "name": place.name if place else None,
-            "same_bytes": step.again}
+            "same_bytes": step.again,
+            **({"latch": step.does, "group_lines": step.group} if step.does else {})}
+
+
+def work_record(work: Work) -> Dict[str, Any]:
+    """The work of a command, for scripts."""
+    return {"reads": [{"steps_before": before, "device_line": place.line, "part": place.part, "name": place.name}
+                      for before, place in work.reads], "tags": work.tags, "digests": work.digests}
 
 
 def steps_json(traced: Sequence[Traced]) -> str:
@@ -460,6 +451,7 @@ def steps_json(traced: Sequence[Traced]) -> str:
     return json_text([{"trace_line": entry.command.number, "command": " ".join(entry.command.words),
                        "marks": list(entry.reply.marks), "answer": entry.reply.answer,
                        "steps": [step_record(step) for step in entry.steps],
+                       **(work_record(entry.work) if entry.work else {}),
                        **({"cuts": [fate_record(fate) for fate in entry.fates]} if entry.fates else {})}
                       for entry in traced])
 

@@ -4,7 +4,7 @@ from dataclasses import dataclass, replace
 from typing import Any, Dict, List, Optional, Sequence, Tuple
 
 from .cuts import Recovery
-from .output import csv_text, json_text, table_text
+from .output import csv_text, json_text, latex_text, table_text
 from .program import Counts, Output, Recording, Reply, Run, counts_of, first_word, replies_of, text_of
 from .settings import Settings
 from .together import Together
@@ -16,6 +16,11 @@ FIELDS = ("levels", "sets", "ways", "loss", "writes", "reads", "out_of_range", "
           "write_amplification", "metadata_reads_per_write", "digests_per_write", "metadata_reads_per_read",
           "digests_per_read", "recovery", "recovery_trials", "recovery_digests", "recovery_steps", "end")
 MORE_FIELDS = ("machine", "commands")
+LATEX_NAMES = {"levels": "levels", "sets": "sets", "ways": "ways", "loss": "stop-loss", "writes": "writes",
+               "steps_per_write": "steps/write", "write_amplification": "lines/write",
+               "metadata_reads_per_write": "meta reads/write", "digests_per_write": "digests/write",
+               "metadata_reads_per_read": "meta reads/read", "digests_per_read": "digests/read",
+               "recovery_trials": "trials", "recovery_digests": "digests", "recovery_steps": "steps"}
 
 
 @dataclass
@@ -189,6 +194,14 @@ def sweep_text(costs: Sequence[Cost]) -> str:
     records = [cost.record() for cost in costs]
     table = table_text(heads, [[cell(record[name]) for name in names] for record in records], left=())
     return table + "".join(f"{note}\n" for note in notes_of(costs))
+
+
+def sweep_latex(costs: Sequence[Cost]) -> str:
+    """The sweep as a table for LaTeX; its notes stand behind it as comments."""
+    records = [cost.record() for cost in costs]
+    names = [name for name in LATEX_NAMES if any(record[name] is not None for record in records)]
+    table = latex_text([LATEX_NAMES[name] for name in names], [[cell(record[name]) for name in names] for record in records])
+    return table + "".join(f"% {note}\n" for note in notes_of(costs))
 
 
 def notes_of(costs: Sequence[Cost]) -> List[str]:

@@ -9,7 +9,7 @@ from typing import Callable, Deque, Dict, Generic, Iterable, Iterator, List, Opt
 
 from . import fork_server
 from .errors import ExploreError
-from .processes import INTERRUPTS, Channel
+from .processes import Channel, new_selector, serve
 from .program import Output, Program, Question, Recording, Run
 
 Task = TypeVar("Task")
@@ -180,19 +180,6 @@ class Forked(Worker[Question]):
         self.channel.close()
 
 
-def serve(selector: selectors.BaseSelector, timeout: Optional[float] = None) -> None:
-    """Waits until a process tells something or takes something, and serves it."""
-    INTERRUPTS.check()
-    for key, events in selector.select(timeout):
-        channel: Channel = key.data
-        if events & selectors.EVENT_WRITE:
-            channel.write()
-        else:
-            data = channel.read()
-            if data is not None:
-                channel.owner.told(channel, data)
-
-
 def in_order(selector: selectors.BaseSelector, tasks: Iterable[Task], workers: Sequence[Worker[Task]],
              done: Dict[int, Output], progress: Progress) -> Iterator[Tuple[Task, Output]]:
     """The tasks with their outputs, in their order. Only so many are begun as are soon needed."""
@@ -229,6 +216,15 @@ def in_order(selector: selectors.BaseSelector, tasks: Iterable[Task], workers: S
             worker.close()
 
 
+def in_order_from_start(program: Program, tasks: Sequence[Run], jobs: int, progress: Optional[Progress] = None) -> Iterator[Output]:
+    """The outputs of runs, in their order."""
+    done: Dict[int, Output] = {}
+    with new_selector() as selector:
+        workers = [FromStart[Run](selector, done, program.begin) for _ in range(min(jobs, max(1, len(tasks))))]
+        for _, output in in_order(selector, tasks, workers, done, progress or Progress("", len(tasks))):
+            yield output
+
+
 class Together:
     """Runs of one program, several at a time. A failure or an interrupt ends them all (`processes.end_all`)."""
 
@@ -238,16 +234,13 @@ class Together:
         self.why_from_start = "it is so chosen" if from_start else ""
         self.library: Optional[str] = None
         self.is_told = from_start
+        self.is_log_missed = False
 
     def runs(self, tasks: Sequence[Run], what: str) -> Iterator[Output]:
         """The outputs of runs, in their order."""
-        done: Dict[int, Output] = {}
-        with selectors.DefaultSelector() as selector:
-            workers = [FromStart[Run](selector, done, self.program.begin)
-                       for _ in range(min(self.jobs, max(1, len(tasks))))]
-            for run, output in in_order(selector, tasks, workers, done, Progress(what, len(tasks))):
-                self.program.check(output, run.settings)
-                yield output
+        for run, output in zip(tasks, in_order_from_start(self.program, tasks, self.jobs, Progress(what, len(tasks)))):
+            self.program.check(output, run.settings)
+            yield output
 
     def answers(self, recording: Recording, questions: Iterable[Question], total: int,
                 what: str) -> Iterator[Tuple[Question, bytes]]:
@@ -256,7 +249,7 @@ class Together:
         done: Dict[int, Output] = {}
         jobs = min(self.jobs, max(1, total))
         library = self.library_for(recording, total)
-        with selectors.DefaultSelector() as selector:
+        with new_selector() as selector:
             workers: List[Worker[Question]]
             if library is None:
                 workers = [FromStart(selector, done, recording.begin) for _ in range(jobs)]
@@ -285,7 +278,7 @@ def trial(recording: Recording, library: str) -> str:
     """Tries whether a program can be asked by forks; answers why not, or nothing where it can."""
     done: Dict[int, Output] = {}
     end = time.monotonic() + SECONDS_TO_ANSWER
-    with selectors.DefaultSelector() as selector:
+    with new_selector() as selector:
         worker = Forked(selector, recording, library, done)
         try:
             count = len(recording.replies) - recording.ends_in_exhibit

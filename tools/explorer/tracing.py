@@ -6,9 +6,10 @@ from . import cuts, sweep
 from .finding import default_program, found_program
 from .program import Program, Recording, Reply
 from .settings import Settings
-from .steps import Traced, trace_steps
+from .steps import trace_steps
 from .together import Together
 from .trace import Command, Trace, read_trace, trace_of
+from .traced import Traced
 
 
 class Explored:
@@ -31,9 +32,10 @@ class Explored:
         """The reply to each command, up to an exhibit where the trace ends in one."""
         return self.recording.replies
 
-    def steps(self, lines: Optional[range] = None) -> List[Traced]:
-        """Each command (on these lines) with its persist steps."""
-        return trace_steps(self.recording, self.together, lines)
+    def steps(self, lines: Optional[range] = None, with_work: bool = False) -> List[Traced]:
+        """Each command (on these lines) with its persist steps; `with_work`: with what it read, and the tags and digests
+        that it made."""
+        return trace_steps(self.recording, self.together, lines, with_work)
 
     def cuts(self, lines: Optional[range] = None, twice: bool = False) -> List[cuts.Cut]:
         """What a cut at each persist step (of the commands on these lines) leaves; `twice`: each recovery is cut too."""

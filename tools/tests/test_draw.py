@@ -30,6 +30,18 @@ class PictureTest(ExploreTest):
         for name in ("power_cut", "attack"):
             self.draw(f"{name}.svg", "--title", "$ a title $", text=(EXAMPLES / f"{name}.trace").read_text())
 
+    def test_latches_by_what_they_do(self) -> None:
+        words = ("that arms the group", "that empties the group", "of the stop-loss number", "of the registers")
+        for text, told in (("post 0 0 " + ONES + "\ncut 4\ndrain 0\n", words[:1]), (WRITE, words[:2]),
+                           (WRITE + "loss 2\n", words[:3]), ("loss 2\n", words[2:3]), ("", ())):
+            drawn = self.draw("latches.svg", "--suite", "weak", text=text).decode()
+            self.assertEqual([each for each in words if f"<!-- latch {each} -->" in drawn], list(told))
+        result = self.explore("draw", "-", "-o", self.path("older.svg"), "--suite", "weak", "--program", self.older_program(), text=WRITE)
+        self.assertEqual(result.returncode, 0, result.stderr)
+        drawn = (self.directory / "older.svg").read_text()
+        self.assertIn("<!-- latch of the registers -->", drawn)
+        self.assertNotIn("<!-- latch that", drawn)
+
     def test_empty_trace_exhibit_and_some_lines(self) -> None:
         self.draw("empty.svg", text="")
         self.draw("exhibit.svg", "--suite", "weak", text=FORGED)
@@ -39,6 +51,17 @@ class PictureTest(ExploreTest):
         sweep = self.output("sweep", "-", "--json", "--loss", "1,4", "--sets", "1,2", text=WRITE)
         self.draw("curves.svg", text=sweep)
         self.draw("other.png", "--along", "sets", text=sweep)
+        self.draw("points.svg", "--trade-off", text=sweep)
+        for words in ((), ("--trade-off",)):
+            first = self.draw("first.pdf", *words, text=sweep)
+            self.assertTrue(first.startswith(b"%PDF"))
+            self.assertEqual(first, self.draw("second.pdf", *words, text=sweep))
+
+    def test_a_sweep_that_has_no_trade_off(self) -> None:
+        sweep = self.output("sweep", "-", "--json", "--as", "tree", text=f"write 1 {ONES}\n")
+        result = self.explore("draw", "-", "-o", self.path("a.svg"), "--trade-off", text=sweep)
+        self.assertEqual((result.returncode, self.names()), (1, []))
+        self.assertIn("explore: no setting of this sweep has both steps a write and recovery trials\n", result.stderr)
 
     def test_settings_that_drop_commands_are_told_in_the_picture(self) -> None:
         text = f"post 0 300 {ONES}\nfence 0\nread 0 300\n{WRITE}"
@@ -54,8 +77,9 @@ class PictureTest(ExploreTest):
             self.assert_fails(self.explore("draw", "-", "-o", self.path("a.svg"), text=text), 1, "sweep --json")
 
     def test_along_is_for_sweeps(self) -> None:
-        result = self.explore("draw", "-", "-o", self.path("a.svg"), "--along", "sets", text=WRITE)
-        self.assert_fails(result, 2, "--along")
+        for words in (("--along", "sets"), ("--trade-off",)):
+            result = self.explore("draw", "-", "-o", self.path("a.svg"), *words, text=WRITE)
+            self.assert_fails(result, 2, words[0])
         self.assertEqual(self.names(), [])
 
 
@@ -68,5 +92,5 @@ class WithoutPicturesTest(ExploreTest):
         self.assertNotIn("a.svg", self.names())
 
     def test_a_name_that_says_no_kind(self) -> None:
-        for name in ("picture", "picture.pdf"):
-            self.assert_fails(self.explore("draw", "-", "-o", self.path(name), text=WRITE), 2, ".svg or .png")
+        for name in ("picture", "picture.gif"):
+            self.assert_fails(self.explore("draw", "-", "-o", self.path(name), text=WRITE), 2, ".svg, .png or .pdf")

@@ -1,9 +1,15 @@
 """`explore steps`: each persist step with the line that it writes."""
+import json
 import subprocess
 import sys
-from typing import Any, Dict, List, Optional
+from typing import Any, Dict, List, Optional, Sequence
 
-from .helpers import EXAMPLES, EXPLORE, FORGED, ONES, TWIN, TWO_WRITES, WRITE, ExploreTest
+from .helpers import EXAMPLES, EXPLORE, FORGED, ONES, TOOLS, TWIN, TWO_WRITES, WRITE, ExploreTest, lesson_words, program_path
+
+TWO_PAGES = f"post 0 324 {'f0' * 64}\npost 1 372 {'eb' * 64}\ndrain 1\ndrain 0\n"
+SAME_BYTES = TWO_PAGES + "read 0 0\nread 0 256\nread 0 512\nread 0 768\n"
+COUNTS = ("reads", "writes", "latches", "tags", "digests")
+NO_LOG = "has no option --log, so each step is found by a cut, and what a latch does isn't told\n"
 
 
 def lines_of(command: Dict[str, Any]) -> List[Optional[int]]:
@@ -27,9 +33,10 @@ class StepsTest(ExploreTest):
         text = self.output("steps", "-", text="# a comment\n\n" + WRITE)
         self.assertIn("3  post 0 0 11..11\n   > ok\n4  drain 0\n   > seal 0 0.1 ", text)
         self.assertIn("step 1  line 1302: line 0 of the shadow table of tree nodes\n", text)
-        self.assertIn("step 4  latch\n", text)
+        self.assertIn("step 4  latch: arms a group of 2 lines\n", text)
         self.assertIn("step 5  line 0: data line 0\n", text)
         self.assertIn("step 6  line 1024: tag line of 0 to 3\n", text)
+        self.assertIn("step 7  latch: empties the group\n", text)
         self.assertTrue(text.endswith("2 commands, 7 persist steps\n"))
 
     def test_whole_keeps_long_hex(self) -> None:
@@ -87,8 +94,16 @@ class StepsTest(ExploreTest):
     def test_steps_before_an_exhibit_are_found(self) -> None:
         commands = self.json("steps", "-", "--suite", "blur", "--loss", "2", text=TWIN)
         self.assertTrue(commands[3]["answer"].startswith("twin 0 0 0 1 "))
-        self.assertEqual([step["kind"] for step in commands[3]["steps"]], ["write", "write", "unseen"])
+        self.assertEqual([step["kind"] for step in commands[3]["steps"]], ["write", "write", "latch"])
         self.assertEqual(lines_of(commands[3]), [0, 1024, None])
+        self.assertEqual(commands[3]["steps"][2]["latch"], "empties")
+
+    def test_the_last_step_before_an_exhibit(self) -> None:
+        """The line is told, but not whether it had those bytes, since nothing can be asked after an exhibit."""
+        text = WRITE + "flip 100 0\nflip 100 8\nread 0 100\n"
+        read = self.json("steps", "-", "--suite", "weak", "--sets", "1", "--ways", "1", text=text)[4]
+        self.assertTrue(read["answer"].startswith("forged 100 0.0 "))
+        self.assertEqual([(step["device_line"], step["same_bytes"]) for step in read["steps"]], [(1285, None)])
 
     def test_empty_trace_and_comments_alone(self) -> None:
         self.assertEqual(self.output("steps", "-", text=""), "0 commands, 0 persist steps\n")
@@ -112,12 +127,136 @@ class StepsTest(ExploreTest):
         self.assertEqual(commands[3]["steps"][0]["name"], "node 2")
 
     def test_a_line_that_is_written_with_the_bytes_that_it_had(self) -> None:
-        text = f"post 0 324 {'f0' * 64}\npost 1 372 {'eb' * 64}\ndrain 1\ndrain 0\nflush\n"
+        text = TWO_PAGES + "flush\n"
         flush = self.json("steps", "-", "--suite", "weak", "--loss", "1", text=text)[4]
         self.assertEqual((flush["answer"], lines_of(flush)), ("ok 0 1", [1280]))
         self.assertTrue(flush["steps"][0]["same_bytes"])
-        text += "read 0 0\nread 0 256\nread 0 512\nread 0 768\n"
-        text = text.replace("flush\n", "")
-        commands = self.json("steps", "-", "--suite", "weak", "--loss", "1", "--sets", "1", "--ways", "1", text=text)
+        commands = self.json("steps", "-", "--suite", "weak", "--loss", "1", "--sets", "1", "--ways", "1", text=SAME_BYTES)
         self.assertEqual(lines_of(commands[4]), [1282])
         self.assertTrue(commands[4]["steps"][0]["same_bytes"])
+
+
+class LogTest(ExploreTest):
+    """What the program's log tells."""
+
+    def test_what_a_latch_does(self) -> None:
+        commands = self.json("steps", "-", text=WRITE + "loss 2\nloss 4\n")
+        latches = [[(step["latch"], step["group_lines"]) for step in command["steps"] if step["kind"] == "latch"]
+                   for command in commands]
+        self.assertEqual(latches, [[], [("arms", 2), ("empties", 0)], [("sets", 0)], [("sets", 0)]])
+        text = self.output("steps", "-", text=WRITE + "loss 2\nloss 4\n")
+        self.assertEqual(text.count(": arms a group of 2 lines\n"), 1)
+        self.assertEqual(text.count(": empties the group\n"), 1)
+        self.assertEqual(text.count(": sets the stop-loss number\n"), 2)
+
+    def test_a_recovery_empties_what_a_cut_left_armed(self) -> None:
+        commands = self.json("steps", "-", text=f"post 0 0 {ONES}\ncut 4\ndrain 0\ncut 1\non\non\n")
+        self.assertEqual([[step.get("latch") for step in command["steps"]] for command in commands[2:]],
+                         [[None, None, None, "arms"], [], [None], [None, None, "empties", *[None] * 5]])
+
+    def same_steps(self, words: Sequence[str], text: str) -> List[List[Dict[str, Any]]]:
+        """The steps of each command, which are those that cuts find, but for what a latch does, and for the last one before
+        an exhibit, which cuts don't see."""
+        told = self.json("steps", "-", *words, text=text)
+        result = self.explore("steps", "-", *words, "--json", "--program", self.older_program(), text=text)
+        self.assertEqual(result.returncode, 0, result.stderr)
+        found = json.loads(result.stdout)
+        for step in (step for command in told for step in command["steps"] if step["kind"] == "latch"):
+            self.assertIn(step.pop("latch"), ("arms", "empties", "sets"))
+            del step["group_lines"]
+        for each, other in zip(told, found):
+            if other["steps"] and other["steps"][-1]["kind"] == "unseen":
+                self.assertEqual(other["steps"].pop()["step"], each["steps"].pop()["step"])
+        self.assertEqual(told, found)
+        return [command["steps"] for command in told]
+
+    def test_steps_are_those_that_cuts_find(self) -> None:
+        for name, *words in (("first",), ("attack",), ("power_cut",), ("forged_tag", "--suite", "weak")):
+            with self.subTest(name):
+                self.same_steps(words, (EXAMPLES / f"{name}.trace").read_text())
+        for trace in sorted((TOOLS.parent / "lessons").glob("[0-9]*/trace")):
+            machine, *words = lesson_words(trace.parent)
+            if machine == "run":
+                with self.subTest(trace.parent.name):
+                    self.assertTrue(any(self.same_steps(words, trace.read_text())))
+
+    def test_steps_of_a_sample_with_a_small_cache(self) -> None:
+        """There are lines that a command writes twice, and lines that are written with the bytes that they had."""
+        made = subprocess.run([program_path(), "make", "5", "100"], stdout=subprocess.PIPE, universal_newlines=True, check=True)
+        text = SAME_BYTES + made.stdout + f"flip 1282 0\nloss 1\ncut 6\nfence 0\non\n{TWO_WRITES}cut 9\nflush\non\nflush\n"
+        steps = self.same_steps(["--suite", "weak", "--sets", "1", "--ways", "1", "--loss", "1"], text)
+        lines = [[step["device_line"] for step in each if step["kind"] == "write"] for each in steps]
+        self.assertTrue(any(len(set(each)) < len(each) for each in lines))
+        self.assertTrue(any(step["same_bytes"] for each in steps for step in each))
+
+    def test_some_lines_of_a_trace_have_the_steps_of_the_whole(self) -> None:
+        text = (EXAMPLES / "power_cut.trace").read_text() + "flip 9 0\nflush\n" + TWO_WRITES
+        whole = self.json("steps", "-", text=text)
+        for first, last in ((9, 14), (14, 40), (30, 33)):
+            self.assertEqual(self.json("steps", "-", "--lines", f"{first}-{last}", text=text),
+                             [command for command in whole if first <= command["trace_line"] <= last])
+
+    def test_counts_are_the_differences_of_stat(self) -> None:
+        lines = [line for line in ((EXAMPLES / "power_cut.trace").read_text() + TWO_WRITES + "read 0 70\nturn\nflush\nloss 1\n"
+                                   ).splitlines() if line and not line.startswith("#")]
+        commands = self.json("steps", "-", "--reads", text="stat\n" + "".join(f"{line}\nstat\n" for line in lines))
+        stats = [[int(word) for word in command["answer"].split(" ")[1:]] for command in commands[::2]]
+        self.assertEqual(len(stats), len(lines) + 1)
+        for number, command in enumerate(commands[1::2]):
+            kinds = [step["kind"] for step in command["steps"]]
+            told = (len(command["reads"]), kinds.count("write"), kinds.count("latch"), command["tags"], command["digests"])
+            risen = tuple(new - old for old, new in zip(stats[number], stats[number + 1]))
+            self.assertEqual(dict(zip(COUNTS, told)), dict(zip(COUNTS, risen)), command["command"])
+        self.assertTrue(all(stats[-1]))
+
+    def test_reads_stand_between_the_steps(self) -> None:
+        text = self.output("steps", "-", "--reads", text=WRITE + "read 0 4\n")
+        self.assertIn("     step 3  line 1301: line 0 of the shadow table of counter blocks\n"
+                      "     read    line 1024: tag line of 0 to 3\n"
+                      "     step 4  latch: arms a group of 2 lines\n", text)
+        self.assertIn("3  read 0 4\n   > line 00..00 0\n     read    line 4: data line 4\n"
+                      "     read    line 1025: tag line of 4 to 7\n     2 reads, 1 tags, 0 digests\n", text)
+        self.assertTrue(text.endswith("3 commands, 7 persist steps, 6 reads, 2 tags, 6 digests\n"))
+        self.assertNotIn("read ", self.output("steps", "-", text=WRITE))
+        drain, read = self.json("steps", "-", "--reads", text=WRITE + "read 0 4\n")[1:]
+        self.assertEqual([(read["steps_before"], read["device_line"]) for read in drain["reads"]],
+                         [(0, 1280), (0, 1281), (0, 1285), (3, 1024)])
+        self.assertEqual(drain["reads"][3]["name"], "tag line of 0 to 3")
+        self.assertEqual([each["steps_before"] for each in read["reads"]], [7, 7])
+
+    def test_reads_that_are_not_told(self) -> None:
+        result = self.explore("steps", "-", "--reads", "--as", "txn", text="begin\n")
+        self.assert_fails(result, 2, "pmem txn doesn't tell what its commands read")
+        result = self.explore("steps", "-", "--reads", "--program", self.older_program(), text=WRITE)
+        self.assert_fails(result, 1, "older doesn't tell what its commands read: it has no option --log")
+
+    def test_an_older_program(self) -> None:
+        result = self.explore("steps", "-", "--program", self.older_program(), text=TWO_WRITES)
+        self.assertEqual((result.returncode, result.stderr.count("\n")), (0, 1))
+        self.assertTrue(result.stderr.startswith("explore: ") and result.stderr.endswith(NO_LOG), result.stderr)
+        plain = self.output("steps", "-", text=TWO_WRITES)
+        for does in (": arms a group of 2 lines", ": empties the group"):
+            plain = plain.replace(does, "")
+        self.assertEqual(result.stdout, plain)
+
+    def test_steps_before_an_exhibit_by_an_older_program(self) -> None:
+        result = self.explore("steps", "-", "--json", "--suite", "blur", "--loss", "2", "--program", self.older_program(), text=TWIN)
+        (*_, command) = json.loads(result.stdout)
+        self.assertEqual([step["kind"] for step in command["steps"]], ["write", "write", "unseen"])
+        self.assertEqual(lines_of(command), [0, 1024, None])
+
+    def test_a_log_that_does_not_fit_the_replies(self) -> None:
+        for old, new, told in (("ok 7", "ok 8", "doesn't answer the same with --log"), ("work.*", "", "with --log"),
+                               ("look 1280", "look x", "doesn't tell its accesses"), ("look 1280", "gaze 1280", "accesses"),
+                               ("latch 2\\n", "", "the answer tells 7 steps, and the log 6"),
+                               ("line 0\\n", "line 5000\\n", "tells of line 5000"), ("\\Z", "ok\\n", "answers more")):
+            with self.subTest(told):
+                program = self.script("other", f"""
+import os, re, subprocess, sys
+words = [{program_path()!r}, *sys.argv[1:]]
+if "--log" not in words:
+    os.execv(words[0], words)
+out = subprocess.run(words, stdout=subprocess.PIPE).stdout
+sys.stdout.buffer.write(re.sub(b"{old}", b"{new}", out))
+""")
+                self.assert_fails(self.explore("steps", "-", "--program", program, text=WRITE), 1, told)

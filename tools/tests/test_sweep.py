@@ -1,8 +1,10 @@
 """`explore sweep`: what a trace costs under several settings."""
 import csv
 import io
+import subprocess
+import sys
 
-from .helpers import FORGED, ONES, TWO_WRITES, WRITE, ExploreTest
+from .helpers import FORGED, ONES, TOOLS, TWO_WRITES, WRITE, ExploreTest
 
 
 class SweepTest(ExploreTest):
@@ -43,6 +45,20 @@ class SweepTest(ExploreTest):
         self.assertEqual([row["loss"] for row in rows], ["1", "2", "4"])
         self.assertEqual(rows[2]["recovery_trials"], "256")
         self.assertEqual(rows[2]["metadata_reads_per_read"], "")
+
+    def test_a_table_for_latex(self) -> None:
+        text = self.output("sweep", "-", "--loss", "1,4", "--latex", text=WRITE)
+        lines = text.splitlines()
+        self.assertEqual((lines[0], lines[-1]), (r"\begin{tabular}{rrrrrrrrrrrr}", r"\end{tabular}"))
+        self.assertIn(r"2 & 4 & 2 & 4 & 1 & 7.00 & 5.00 & 3.00 & 6.00 & 256 & 9 & 5 \\", lines)
+        self.assertEqual(text.count("\\hline"), 3)
+        tree = self.output("sweep", "-", "--as", "tree", "--latex", text=f"write 1 {ONES}\n")
+        self.assertIn("levels & sets & writes & steps/write & digests & steps", tree)
+        noted = self.output("sweep", "-", "--latex", "--levels", "1", text=f"post 0 300 {ONES}\n")
+        self.assertTrue(noted.splitlines()[-1].startswith("% levels 1, "))
+        found = subprocess.run([sys.executable, "-c", "from explorer.output import latex_text; print(latex_text(['a_b'], [['50% \\\\ ~']]))"],
+                               cwd=TOOLS, stdout=subprocess.PIPE, universal_newlines=True, check=True)
+        self.assertIn("a\\_b \\\\\n\\hline\n50\\% \\textbackslash{} \\textasciitilde{} \\\\\n", found.stdout)
 
     def test_places_out_of_range_are_told(self) -> None:
         text = self.output("sweep", "-", "--levels", "1,2", text=f"post 0 300 {ONES}\nread 0 300\n")

@@ -1,7 +1,6 @@
 """Wrong words, files that aren't there, programs that fail, and interrupts."""
 import os
 import pty
-import re
 import shutil
 import signal
 import subprocess
@@ -182,6 +181,39 @@ class InterruptsTest(ExploreTest):
                 process.kill()
             self.assertIn((process.returncode, err), ((130, "explore: interrupted\n"), (0, "")), (number, words))
 
+    def test_an_interrupt_just_before_a_wait_ends_it(self) -> None:
+        text = """
+import os, signal, sys, time
+from explorer.processes import INTERRUPTS, new_selector
+INTERRUPTS.listen()
+signal.signal(signal.SIGINT, lambda *_: None)  # It came after the last check, so nothing has been raised.
+selector = new_selector()
+begun = time.monotonic()
+os.kill(os.getpid(), signal.SIGINT)
+assert [key.data for key, _ in selector.select(50)] == [None]
+assert time.monotonic() - begun < 40
+INTERRUPTS.seen = True
+try:
+    INTERRUPTS.woke()
+except KeyboardInterrupt:
+    print("interrupted")
+"""
+        found = subprocess.run([sys.executable, "-c", text], cwd=EXPLORE.parent, stdout=subprocess.PIPE, stderr=subprocess.STDOUT,
+                               universal_newlines=True, check=False)
+        self.assertEqual((found.returncode, found.stdout), (0, "interrupted\n"))
+
+    def test_an_interrupt_ends_a_compiler(self) -> None:
+        begun = Path(self.path("begun"))
+        compiler = self.script("compiler", f"import time\nopen({str(begun)!r}, 'w').close()\ntime.sleep(60)")
+        with subprocess.Popen([sys.executable, str(EXPLORE), "cuts", self.file("a.trace", WRITE)], stdout=subprocess.PIPE,
+                              stderr=subprocess.PIPE, universal_newlines=True,
+                              env={**os.environ, "CC": compiler, "XDG_CACHE_HOME": self.path("cache")}) as process:
+            self.wait_until(begun.exists)
+            process.send_signal(signal.SIGINT)
+            out, err = process.communicate(timeout=20)
+        self.assertEqual((process.returncode, out, err), (130, "", "explore: interrupted\n"))
+        self.assertEqual(os.listdir(self.path("cache/pmem-explore")), [])
+
     def test_a_program_that_was_interrupted(self) -> None:
         program = self.script("interrupted", "import os; os.kill(os.getpid(), 2)")
         result = self.explore("steps", "-", "--program", program, text=WRITE)
@@ -189,15 +221,15 @@ class InterruptsTest(ExploreTest):
 
     def test_progress_on_a_terminal_alone(self) -> None:
         trace = self.file("a.trace", WRITE)
-        main, side = pty.openpty()
-        self.addCleanup(os.close, main)
-        process = subprocess.Popen([sys.executable, str(EXPLORE), "steps", trace], stdout=subprocess.DEVNULL,
-                                   stderr=side)
-        os.close(side)
-        text = b""
-        while not re.search(rb"steps: 8 of 8", text):
-            text += os.read(main, 4096)
-        self.assertEqual(process.wait(timeout=60), 0)
+        for command, told in (("steps", b"bytes of lines: 1 of 1"), ("cuts", b"cuts: 10 of 10")):
+            main, side = pty.openpty()
+            self.addCleanup(os.close, main)
+            process = subprocess.Popen([sys.executable, str(EXPLORE), command, trace], stdout=subprocess.DEVNULL, stderr=side)
+            os.close(side)
+            text = b""
+            while told not in text:
+                text += os.read(main, 4096)
+            self.assertEqual(process.wait(timeout=60), 0)
 
     def test_a_reader_that_goes_away(self) -> None:
         trace = self.file("a.trace", WRITE * 50)
