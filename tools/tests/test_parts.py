@@ -14,9 +14,9 @@ from explorer.errors import ExploreError
 from explorer.layout import Layout
 from explorer.program import Output, Reply, replies_of
 from explorer.settings import Settings
-from explorer.steps import Traced
 from explorer.together import Progress, Worker, in_order, time_text
 from explorer.trace import Command, commands_of, short_text
+from explorer.traced import ARMS, EMPTIES, LATCH, SETS, Step, Traced
 
 
 class LayoutTest(unittest.TestCase):
@@ -133,6 +133,18 @@ class LabelsTest(unittest.TestCase):
         traced.append(Traced(Command(9, b"read 0 5", "read"), Reply((), "refused data 5 0"), ()))
         (first, *_) = draw.labels_of(draw.spans_of(traced), 0.001)
         self.assertEqual(first[1], "read 0 5: refused data 5")
+
+
+class MarksTest(unittest.TestCase):
+    def test_each_latch_has_a_mark_of_its_own(self) -> None:
+        steps = tuple(Step(number, LATCH, does=does) for number, does in enumerate((ARMS, EMPTIES, SETS, ""), 1))
+        axes = mock.Mock()
+        spans = draw.spans_of([Traced(Command(1, b"drain 0", "drain"), Reply((), "ok 4"), steps)])
+        self.assertEqual(draw.draw_marks(axes, spans, draw.Lanes(), 9.0), [f"latch {step.does}" for step in steps])
+        marks = [(call.args[0], call.kwargs["marker"], call.kwargs["facecolor"]) for call in axes.scatter.call_args_list]
+        self.assertEqual([places for places, _, _ in marks], [(number + 0.5,) for number in range(4)])
+        self.assertEqual(len({(marker, inside) for _, marker, inside in marks}), 3)
+        self.assertEqual(marks[0][1:], marks[3][1:])
 
 
 class TableTest(unittest.TestCase):

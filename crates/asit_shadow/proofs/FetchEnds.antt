@@ -10,6 +10,7 @@ use Rattle.pmem_base.specs.Counts.{HasRisen}
 use Rattle.pmem_base.specs.Lines.{line_at}
 use Rattle.pmem_base.specs.Shape.{Shape}
 use Rattle.suite.specs.Setup.{Setup}
+use Rattle.board.proofs.CountLemmas.{HasRisen-once}
 use Rattle.board.specs.Device.{Device}
 use Rattle.board.specs.Counts.{RisesBy}
 use Rattle.board.specs.Steps.{HasRead, Tells}
@@ -169,7 +170,7 @@ pub cut-power : (g : Shape) (x : ℕ) (old new : TreeEngineParts) → IsNodeCutO
 cut-power g x old new cut = (
   still-steady old.device.steady cut.between.steady cut.steady cut.cut.unsteady,
   cut.cut.off,
-  subst (λ n. HasRisen n new.device.cuts) cut.cuts cut.cut.rose,
+  subst (λ n. HasRisen n new.device.cuts) cut.cuts (HasRisen-once cut.cut.cuts),
 )
 
 -- ---- an exhibit
@@ -201,7 +202,7 @@ shown-effect setup x version now new ready uncached engine forged =
     record {
       shape = ap (λ (e : TreeState). e.shape) engine;
       size = same.size;
-      power = (forged.read.steady, forged.read.live, forged.read.cuts);
+      power = (λ was. forged.read.steady ∙ was, λ was. forged.read.live ∙ was, forged.read.cuts);
       trusted =
           λ trusted.
           subst (λ (o : Option Exhibit). IfSome o (IsExhibit setup.formulas))

@@ -7,7 +7,7 @@ use Rattle.pmem_base.specs.declared.lines.Line.{Line}
 use Rattle.pmem_base.specs.Counts.{risen, risen_times}
 use Rattle.pmem_recovery.proofs.PartLaws.{risen_times-then}
 use Rattle.suite.specs.Setup.{Setup}
-use Rattle.board.proofs.CountLemmas.{RisesBy-then}
+use Rattle.board.proofs.CountLemmas.{RisesBy-then, RisesBy-once}
 use Rattle.board.specs.Steps.{HasRead, Tells}
 use Rattle.pmem_engine.specs.Outcomes.{going, cut_short, shown}
 use Rattle.counter_tree.specs.Nodes.{total, makes_node_tag, node_read}
@@ -41,7 +41,7 @@ stopped-at setup a j x version line old now new next uncached engine read =
       next = next.place;
       absent = is_cached-false setup.shape old.engine.cache x (λ it. uncached (cached-after setup a j x version old now next it));
       fetched = unwritten-levels setup a j old now new (ap (λ (e : TreeState). e.cache) engine) same work.done;
-      reads = RisesBy-then (absent_nodes setup.shape old.engine.cache a j) 1 old.device.reads now.device.reads new.device.reads work.reads read.reads;
+      reads = RisesBy-then (absent_nodes setup.shape old.engine.cache a j) 1 old.device.reads now.device.reads new.device.reads work.reads (RisesBy-once read.reads);
     }
 
 -- how far a fetch came that was cut
@@ -151,7 +151,7 @@ refused_stop setup a j x version old now new start count made next before uncach
       kind = tt;
       effect =
           effect-then setup going old now new next.before.effect
-          (refused-effect setup now new same (it.read.steady, it.read.live, it.read.cuts) engine it.watch_kept);
+          (refused-effect setup now new same (λ s. it.read.steady ∙ s, λ l. it.read.live ∙ l, it.read.cuts) engine it.watch_kept);
       down = ap (λ (e : TreeState). e.down) engine ∙ next.before.down;
       regs = same.regs ∙ next.before.regs;
       steps = stopped-steps setup a j x version going old now new next same;

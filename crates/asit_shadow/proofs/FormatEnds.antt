@@ -11,6 +11,7 @@ use Rattle.pmem_base.specs.Layout.{meta_lines}
 use Rattle.pmem_base.specs.Lines.{IsLine}
 use Rattle.pmem_base.specs.Registers.{IsGroup, empty_regs}
 use Rattle.pmem_base.specs.Shape.{Shape, IsShape}
+use Rattle.board.proofs.CountLemmas.{RisesBy-once}
 use Rattle.board.specs.Counts.{RisesBy}
 use Rattle.board.specs.Device.{Device, AreToldLines}
 use Rattle.board.specs.Steps.{HasLatched}
@@ -82,10 +83,10 @@ device-formatted setup old new sealed noded slotted sealing noding root tree it 
       over = over;
       height = height;
       size = size;
-      steady = it.latched.steady (all.steady it.steady);
-      live = λ on. it.latched.live (all.live on);
+      steady = it.latched.steady ∙ all.steady it.steady;
+      live = λ on. it.latched.live ∙ all.live on;
       writes = subst (λ n. RisesBy (tree_size setup.shape) old.device.writes n) (sym it.latched.writes) all.writes;
-      latches = subst (λ n. RisesBy 1 n new.device.latches) all.latches it.latched.latches;
+      latches = subst (λ n. RisesBy 1 n new.device.latches) all.latches (RisesBy-once it.latched.latches);
       reads = it.latched.reads ∙ all.reads;
       cuts = it.latched.cuts ∙ all.cuts;
     }

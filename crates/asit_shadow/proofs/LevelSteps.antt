@@ -11,6 +11,7 @@ use Rattle.pmem_base.specs.Layout.{meta_lines}
 use Rattle.pmem_base.proofs.LineSets.{line_at-set_other}
 use Rattle.suite.specs.Formulas.{AreInRange}
 use Rattle.suite.specs.Setup.{Setup}
+use Rattle.board.proofs.CountLemmas.{RisesBy-once}
 use Rattle.board.specs.Counts.{RisesBy}
 use Rattle.board.specs.Device.{Device, AreToldLines}
 use Rattle.board.specs.Steps.{HasRead, with_line}
@@ -83,10 +84,10 @@ room-where setup held true old new is made =
       size = made.size;
       regs = made.regs;
       latches = made.latches;
-      power = (made.steady, made.live, made.cuts);
+      power = (λ was. made.steady ∙ was, λ was. made.live ∙ was, made.cuts);
       count = 1;
       at_most = omega arith;
-      writes = made.writes;
+      writes = RisesBy-once made.writes;
       lines = inr (record { held = held; stood = refl; dirty = is; written = made.lines });
     }
 room-where setup held false old new is made =
@@ -106,7 +107,7 @@ after_read setup slot old between new at line read step =
       size = step.size ∙ read.size;
       regs = step.regs ∙ read.regs;
       latches = step.latches ∙ read.latches;
-      power = (λ was. step.power.0 (read.steady was), λ was. step.power.1 (read.live was), step.power.2 ∙ read.cuts);
+      power = (λ was. step.power.0 (read.steady ∙ was), λ was. step.power.1 (read.live ∙ was), step.power.2 ∙ read.cuts);
       count = step.count;
       at_most = step.at_most;
       writes = subst (λ n. RisesBy step.count n new.writes) read.writes step.writes;

@@ -9,7 +9,7 @@ use Rattle.suite.specs.Setup.{Setup}
 use Rattle.board.specs.Counts.{RisesBy}
 use Rattle.board.specs.Device.{Device}
 use Rattle.board.specs.Steps.{with_line}
-use Rattle.board.proofs.CountLemmas.{RisesBy-then}
+use Rattle.board.proofs.CountLemmas.{RisesBy-then, RisesBy-once}
 use Rattle.bonsai_tree.specs.Positions.{level_of}
 use Rattle.bonsai_tree.proofs.PathPositions.{on_path-level, path_of-on_path, path_of-level}
 use Rattle.commit_regs.specs.Groups.{redone_told}
@@ -93,7 +93,7 @@ room_where setup held true old new is made =
           ∙ (sym (redone-cons (line_of_node setup.shape held.x, node_line setup.formulas held.x held.node) [] old.lines
           ∙ redone-nil (with_line old.lines (line_of_node setup.shape held.x) (node_line setup.formulas held.x held.node)))
           ∙ ap (λ (group : List (ℕ × Line)). redone_told group old.lines) (sym one));
-      writes = subst (λ (group : List (ℕ × Line)). RisesBy (length group) old.writes new.writes) (sym one) made.writes;
+      writes = subst (λ (group : List (ℕ × Line)). RisesBy (length group) old.writes new.writes) (sym one) (RisesBy-once made.writes);
       reads = made.reads;
     }
 room_where setup held false old new is made =
@@ -270,7 +270,7 @@ reads-found setup a j x version node old now new next is found =
     let made = room-written setup (cache_at now.engine.cache (slot_of setup.shape x)) found.between new.device found.room in
     subst (λ n. RisesBy n old.device.reads new.device.reads) (sym (absent-found setup.shape old.engine.cache a j x next.place is))
     (RisesBy-then (absent_nodes setup.shape old.engine.cache a j) 1 old.device.reads now.device.reads new.device.reads next.reads
-    (subst (RisesBy 1 now.device.reads) (sym made.reads) found.taken.read.reads))
+    (subst (RisesBy 1 now.device.reads) (sym made.reads) (RisesBy-once found.taken.read.reads)))
 
 -- ---- how much it is at most
 

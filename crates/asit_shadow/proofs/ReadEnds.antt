@@ -12,7 +12,7 @@ use Rattle.pmem_base.specs.Shape.{Shape, IsShape}
 use Rattle.pmem_base.specs.Counts.{HasRisen}
 use Rattle.suite.specs.Setup.{Setup}
 use Rattle.board.specs.Counts.{RisesBy}
-use Rattle.board.proofs.CountLemmas.{RisesBy-then}
+use Rattle.board.proofs.CountLemmas.{RisesBy-then, RisesBy-once, HasRisen-once}
 use Rattle.board.specs.Device.{Device}
 use Rattle.board.specs.Steps.{Tells}
 use Rattle.collision_witness.specs.Exhibits.{IsExhibit}
@@ -90,7 +90,7 @@ both-unwritten setup a cipher tags old new it =
 
 both-power : (setup : Setup) (a : ℕ) (cipher tags : Line) (old new : Device) → HasLineRead setup a cipher tags old new → HasPower going old new
 both-power setup a cipher tags old new it =
-    (λ was. it.second.steady (it.first.steady was), λ was. it.second.live (it.first.live was), it.second.cuts ∙ it.first.cuts)
+    (λ was. it.second.steady ∙ it.first.steady ∙ was, λ was. it.second.live ∙ it.first.live ∙ was, it.second.cuts ∙ it.first.cuts)
 
 -- the path was fetched, and both lines were read
 path-through : (setup : Setup) (a : ℕ) (cipher tags : Line) (old mid new : TreeEngineParts) → IsPathFetchedTo setup a setup.shape.levels old mid → new.engine.cache ≡ mid.engine.cache → HasLineRead setup a cipher tags mid.device new.device → HasFetchedPath setup a 2 old new
@@ -99,7 +99,7 @@ path-through setup a cipher tags old mid new path cache read =
       fetched = unwritten-levels setup a setup.shape.levels old mid new cache (both-unwritten setup a cipher tags mid.device new.device read) path.done;
       reads =
           RisesBy-then (absent_nodes setup.shape old.engine.cache a setup.shape.levels) 2 old.device.reads mid.device.reads new.device.reads path.reads
-          (RisesBy-then 1 1 mid.device.reads read.between.reads new.device.reads read.first.reads read.second.reads);
+          (RisesBy-then 1 1 mid.device.reads read.between.reads new.device.reads (RisesBy-once read.first.reads) (RisesBy-once read.second.reads));
     }
 
 line-told : (setup : Setup) (a : ℕ) (cipher tags : Line) (mid new : TreeEngineParts) → HasLineRead setup a cipher tags mid.device new.device → IsDataLineRead setup a cipher tags new
@@ -178,7 +178,7 @@ read-cut setup a count old mid new had cut off watch =
     let power : HasPower cut_short mid.device new.device = (
       still-steady mid.device.steady cut.between.steady cut.steady cut.cut.unsteady,
       cut.cut.off,
-      subst (λ n. HasRisen n new.device.cuts) cut.cuts cut.cut.rose,
+      subst (λ n. HasRisen n new.device.cuts) cut.cuts (HasRisen-once cut.cut.cuts),
     ) in
     record {
       kind = tt;

@@ -1,30 +1,35 @@
 -- How a recovery ends.
-use Rattle.std.proofs.Common.{◌++◌, take, drop, ℕ, ◌≡◌, ◌≢◌, ◌<◌, false, List, [], length, Some, None, refl, sym, ap, subst, inl, inr, ◌∙◌, arith}
-use Rattle.std.specs.Prelude.{Option, Ok, Err, All, IfSome, MatchOption}
+use Rattle.std.proofs.Common.{◌++◌, take, drop, ℕ, ◌≡◌, ◌≢◌, ◌<◌, false, List, [], length, Some, None, refl, sym, ap, subst, subst₂, inl, inr, ◌∙◌, arith}
+use Rattle.std.specs.Prelude.{Option, Ok, Err, All, IfSome, IsSome, MatchOption, slice_index_or}
+use Rattle.std.proofs.lemmas.Bool.{true≢false}
 use Rattle.std.proofs.lemmas.List.{append-nil, take_all, drop_all}
 use Rattle.pmem_base.specs.declared.lines.Line.{Line}
 use Rattle.pmem_base.specs.declared.registers.Regs.{Regs}
 use Rattle.pmem_base.specs.declared.answers.Exhibit.{Exhibit}
-use Rattle.pmem_base.specs.Counts.{risen_times}
-use Rattle.pmem_base.specs.Registers.{without_group}
+use Rattle.pmem_base.specs.Counts.{HasRisen, risen_times}
+use Rattle.pmem_base.specs.Registers.{without_group, IsGroup}
 use Rattle.pmem_base.specs.Lines.{IsLine, line_at}
 use Rattle.pmem_base.specs.Shape.{Shape, IsShape}
 use Rattle.suite.specs.Formulas.{Formulas, AreInRange}
 use Rattle.suite.specs.Setup.{Setup}
 use Rattle.board.specs.Counts.{RisesBy}
-use Rattle.board.specs.Device.{Device}
+use Rattle.board.specs.Device.{Device, AreToldLines, IsDevice}
 use Rattle.board.specs.Steps.{Tells}
 use Rattle.collision_witness.specs.Exhibits.{IsExhibit}
-use Rattle.commit_regs.specs.Groups.{redone_told, HasFinished}
-use Rattle.pmem_engine.specs.Outcomes.{going}
+use Rattle.board.proofs.CountLemmas.{HasRisen-once}
+use Rattle.commit_regs.specs.Groups.{redone_told, finishing_latches, HasFinished, IsInterrupted}
+use Rattle.pmem_engine.specs.Outcomes.{going, cut_short, HasPower}
 use Rattle.pmem_engine.proofs.CallEnds.ToldLines.{unarmed}
+use Rattle.pmem_engine.proofs.Laws.AnchoredLatches.{IsGroup-nil}
 use Rattle.pmem_engine.proofs.CallEnds.CallChains.{power_chained, going_uncut}
 use Rattle.pmem_recovery.specs.declared.faults.Work.{Work}
 use Rattle.counter_tree.specs.Nodes.{node_line}
-use Rattle.counter_tree.specs.Layout.{tree_slots, line_of_slot}
+use Rattle.counter_tree.specs.Accepted.{IsCutReading}
+use Rattle.counter_tree.specs.Layout.{tree_size, tree_slots, line_of_slot}
 use Rattle.counter_tree.specs.Trees.{node_at}
 use Rattle.counter_tree.specs.Slots.{slot_of, slot_line, slot_read}
 use Rattle.counter_tree.specs.Shadow.{ChipTree, shadow_height, root_of, shadow_root, shadow_digests}
+use Rattle.counter_tree.specs.declared.watch.LineSeal.{LineSeal}
 use Rattle.counter_tree.specs.Watch.{WatchState, HasShown, IsSlotClash}
 use Rattle.pmem_base.proofs.LineLemmas.{lines-equal}
 use Rattle.pmem_base.proofs.LayoutLemmas.{meta_lines-most}
@@ -36,14 +41,14 @@ use Rattle.asit_shadow.specs.State.{TreeState, IsTreeEngine}
 use Rattle.asit_shadow.specs.Invariants.{IsTreeAnchored, IsTreeDurable, IsTreeSound, IsTreeSealStored, IsSlotStored}
 use Rattle.asit_shadow.specs.Places.{IsNodeHeld, IsNodeHeldBy}
 use Rattle.asit_shadow.specs.Steps.{IsTreeRecovered, slots_read}
-use Rattle.asit_shadow.specs.Recovering.{Rest, rest_redone, IsRestAnchored, IsRestDurable, HasOnlyReadLines, AreSlotsRead, IsTreeWork, IsReadFinished, IsRoomFilled, HasTreeRecovered, IsNameable}
+use Rattle.asit_shadow.specs.Recovering.{Rest, IsRestUsable, rest_redone, IsRestAnchored, IsRestDurable, HasOnlyReadLines, AreSlotsRead, IsTreeWork, IsGroupBegun, IsReadFinished, IsRoomFilled, HasTreeRecovered, IsNameable}
 use Rattle.asit_shadow.proofs.ArmLaws.{IsAnchored-emptied}
-use Rattle.asit_shadow.proofs.GroupLaws.{IsDurable-finished}
+use Rattle.asit_shadow.proofs.GroupLaws.{IsDurable-again, IsDurable-finished}
 use Rattle.asit_shadow.proofs.RegisterLaws.{finished-emptied}
 use Rattle.asit_shadow.proofs.PlaceLaws.{recovered-place}
 use Rattle.asit_shadow.proofs.RecoverLaws.{clash-holds, IsTrusted-recovered, slots-sound, IsSound-recovered, length-slots_read, line_at-slots_read}
 use Rattle.asit_shadow.proofs.Chains.{cut-unshown}
-use Rattle.asit_shadow.proofs.FetchEnds.{some_map, first-none}
+use Rattle.asit_shadow.proofs.FetchEnds.{still-steady, some_map, first-none}
 
 -- ---- what a true slot line names can be cached
 
@@ -199,6 +204,24 @@ refused_end setup kept found slots old new before after finished read is_kept is
           };
     }
 
+-- where other slot lines were shown, the watch and the board are ready as before
+pub shown_usable : (g : Shape) (old new : Rest) (at : Exhibit) → IsReadFinished g old.device new.device → HasShown old.watch new.watch at → IsRestUsable g old → IsRestUsable g new
+shown_usable g old new at finished seen usable =
+    record {
+      watch =
+          record {
+            seal_count = ap length seen.seals ∙ usable.watch.seal_count;
+            node_count = ap length seen.nodes ∙ usable.watch.node_count;
+            slot_count = ap length seen.slots ∙ usable.watch.slot_count;
+            each_sealed = λ a low. subst (λ (seals : List (Option LineSeal)). IsSome (slice_index_or seals a None)) (sym seen.seals) (usable.watch.each_sealed a low);
+          };
+      board =
+          record {
+            its_size = finished.size ∙ usable.board.its_size;
+            group = subst (λ (r : Regs). IsGroup (tree_size g) r.group.items) (sym finished.regs) (IsGroup-nil (tree_size g));
+          };
+    }
+
 pub shown_end : (setup : Setup) (slots : List Line) (at : Exhibit) (old new : Rest) (before after : ℕ) → IsShape setup.shape → AreInRange setup.formulas → IsReadFinished setup.shape old.device new.device → AreSlotsRead setup.shape slots new.device
     → shadow_root setup.shape setup.formulas slots ≡ new.device.regs.root → slots ≢ old.watch.slots → IsSlotClash old.watch slots at → HasShown old.watch new.watch at → after ≡ risen_times (shadow_digests setup.shape) before → HasTreeRecovered setup old new before after (Err Fail.Shown)
 shown_end setup slots at old new before after shape in_range finished read is_root other clash seen counted =
@@ -220,6 +243,90 @@ shown_end setup slots at old new before after shape in_range finished read is_ro
           subst (λ (o : Option Exhibit). IfSome o (IsExhibit setup.formulas)) (sym (seen.exhibit ∙ first-none old.watch.exhibit at anchored.no_exhibit))
           (clash-holds setup old.device.regs old.watch slots at shape in_range anchored read.count read.whole (is_root ∙ root) clash);
       sound = λ durable. other (slots-true setup slots old new finished read durable);
+      places =
+          λ anchored.
+          record {
+            seals = λ a inside it. rest-seals setup old new a lines same it;
+            slots = λ i inside it. rest-slots setup old new i lines same it;
+            nodes = λ x inside it. rest-nodes setup old new x lines same it;
+          };
+    }
+
+-- ---- a cut
+
+again-durable : (setup : Setup) (regs : Regs) (watch : WatchState) (old new : Option (List Line)) → AreToldLines (tree_size setup.shape) new → redone_told regs.group.items new ≡ redone_told regs.group.items old
+    → MatchOption old ⊥ (λ lines. IsTreeDurable setup lines regs watch) → MatchOption new ⊥ (λ lines. IsTreeDurable setup lines regs watch)
+again-durable setup regs watch None new whole again it = absurd it
+again-durable setup regs watch (Some lines) None whole again it = absurd cc
+again-durable setup regs watch (Some lines) (Some redone) whole again it = IsDurable-again setup lines redone regs watch whole (cc) it
+
+-- amid the group
+pub interrupted_end : (setup : Setup) (old new : Rest) (before after : ℕ) → old.device.size ≡ tree_size setup.shape → IsDevice new.device → old.device.regs.group.items ≢ [] → IsInterrupted old.device.regs.group.items old.device new.device
+    → new.watch ≡ old.watch → after ≡ before → HasTreeRecovered setup old new before after (Err Fail.Cut)
+interrupted_end setup old new before after size whole armed cut watch counted =
+    let lines : rest_redone new ≡ rest_redone old = subst (λ (r : Regs). redone_told r.group.items new.device.lines ≡ rest_redone old) (sym cut.regs) cut.again in
+    let begun : IsGroupBegun old.device new.device = record { regs = cut.regs; writes = cut.writes; latches = cut.latches } in
+    let same = knows_same old.watch new.watch watch in
+    record {
+      size = cut.size;
+      lines = lines;
+      root = ap (λ (r : Regs). r.root) cut.regs;
+      group = inl begun;
+      begun = λ is was. begun;
+      work = record { no_digests = counted; due = λ was. armed; no_reads = λ was. cut.reads };
+      cached = tt;
+      power = (cut.unsteady, cut.off, cut.rose);
+      answered = watch;
+      trusted = λ anchored. subst₂ (IsTreeAnchored setup) (sym cut.regs) (sym watch) anchored;
+      sound =
+          λ durable.
+          subst₂ (λ (regs : Regs) (known : WatchState). MatchOption new.device.lines ⊥ (λ ls. IsTreeDurable setup ls regs known)) (sym cut.regs) (sym watch)
+          (again-durable setup old.device.regs old.watch old.device.lines new.device.lines
+          (subst (λ n. AreToldLines n new.device.lines) (cut.size ∙ size) whole) cut.again durable);
+      places =
+          λ anchored.
+          record {
+            seals = λ a inside it. rest-seals setup old new a lines same it;
+            slots = λ i inside it. rest-slots setup old new i lines same it;
+            nodes = λ x inside it. rest-nodes setup old new x lines same it;
+          };
+    }
+
+-- amid the reads, which comes only of a board that had no power
+pub unread_end : (setup : Setup) (old new : Rest) (mid : Device) (before after : ℕ) → HasFinished old.device mid → IsCutReading mid new.device → mid.live ≡ false → new.watch ≡ old.watch → after ≡ before
+    → HasTreeRecovered setup old new before after (Err Fail.Cut)
+unread_end setup old new mid before after first cut off watch counted =
+    let told : new.device.lines ≡ redone_told old.device.regs.group.items old.device.lines = cut.cut.lines ∙ (cut.lines ∙ first.lines) in
+    let regs : new.device.regs ≡ without_group old.device.regs = cut.cut.regs ∙ (cut.regs ∙ first.regs) in
+    let lines = finished-redone old new regs told in
+    let same = knows_same old.watch new.watch watch in
+    let power : HasPower cut_short mid new.device = (
+      still-steady mid.steady cut.between.steady cut.steady cut.cut.unsteady,
+      cut.cut.off,
+      subst (λ n. HasRisen n new.device.cuts) cut.cuts (HasRisen-once cut.cut.cuts),
+    ) in
+    record {
+      size = cut.cut.size ∙ (cut.size ∙ first.size);
+      lines = lines;
+      root = ap (λ (r : Regs). r.root) regs;
+      group =
+          inr (record {
+            regs = regs;
+            writes = subst (λ n. RisesBy (length old.device.regs.group.items) old.device.writes n) (sym (cut.cut.writes ∙ cut.writes)) first.writes;
+            latches = subst (λ n. RisesBy (finishing_latches old.device.regs.group.items) old.device.latches n) (sym (cut.cut.latches ∙ cut.latches)) first.latches;
+          });
+      begun = λ is was. absurd (true≢false (sym (first.live was) ∙ off));
+      work =
+          record {
+            no_digests = counted;
+            due = λ was. absurd (true≢false (sym (first.live was) ∙ off));
+            no_reads = λ was. absurd (true≢false (sym (first.live was) ∙ off));
+          };
+      cached = tt;
+      power = power_chained cut_short old.device mid new.device (first.steady, first.live, first.cuts) power;
+      answered = watch;
+      trusted = λ anchored. finished-anchored setup old new.device.regs new.watch regs watch anchored;
+      sound = λ durable. finished-durable setup old new.device.lines new.device.regs new.watch regs watch told durable;
       places =
           λ anchored.
           record {

@@ -11,7 +11,7 @@ use Rattle.pmem_base.specs.Registers.{IsGroup, without_group}
 use Rattle.pmem_base.specs.Shape.{Shape, IsShape}
 use Rattle.pmem_base.proofs.LineSets.{length-put_lines}
 use Rattle.suite.specs.Setup.{Setup}
-use Rattle.board.proofs.CountLemmas.{RisesBy-then}
+use Rattle.board.proofs.CountLemmas.{RisesBy-then, RisesBy-once}
 use Rattle.board.specs.Counts.{RisesBy}
 use Rattle.board.specs.Device.{Device, AreLinesOf, AreToldLines}
 use Rattle.board.specs.Steps.{HasLatched, Tells}
@@ -198,7 +198,7 @@ kept-work setup a plain seal pairs regs old mid new armed it cut =
     ap (λ (r : Regs). redone_told r.group.items new.device.lines) new_regs ∙ kept-made setup a plain seal pairs regs old mid new armed it cut in
     let count = group-count setup a plain seal pairs regs mid new it.made in
     let one_latched : RisesBy 1 old.device.latches new.device.latches =
-    subst (λ n. RisesBy 1 n new.device.latches) path.steps.latches (subst (λ n. RisesBy 1 mid.device.latches n) (sym cut.latches) it.latched.latches) in
+    subst (λ n. RisesBy 1 n new.device.latches) path.steps.latches (subst (λ n. RisesBy 1 mid.device.latches n) (sym cut.latches) (RisesBy-once it.latched.latches)) in
     let over = armed-over setup a plain seal pairs regs old mid new armed it in
     record {
       seal = seal;
@@ -222,7 +222,7 @@ write-kept setup a plain seal pairs regs old mid new armed it told_new cut =
     let count = group-count setup a plain seal pairs regs mid new it.made in
     let cuts = kept-cuts setup a plain seal pairs regs old mid new armed it cut in
     let one_latched : RisesBy 1 old.device.latches new.device.latches =
-    subst (λ n. RisesBy 1 n new.device.latches) path.steps.latches (subst (λ n. RisesBy 1 mid.device.latches n) (sym cut.latches) it.latched.latches) in
+    subst (λ n. RisesBy 1 n new.device.latches) path.steps.latches (subst (λ n. RisesBy 1 mid.device.latches n) (sym cut.latches) (RisesBy-once it.latched.latches)) in
     record {
       kind = tt;
       up = λ e. e;
@@ -233,7 +233,7 @@ write-kept setup a plain seal pairs regs old mid new armed it told_new cut =
             size = cut.size ∙ (it.latched.size ∙ path.effect.size);
             power =
                 power_chained cut_short old.device mid.device new.device path.effect.power (
-                  false_from_ne_true mid.device.steady (λ was. true≢false (sym (it.latched.steady was) ∙ cut.unsteady)),
+                  false_from_ne_true mid.device.steady (λ was. true≢false (sym (it.latched.steady ∙ was) ∙ cut.unsteady)),
                   cut.off,
                   subst (λ c. HasRisen c new.device.cuts) it.latched.cuts cut.rose,
                 );
@@ -281,7 +281,7 @@ write-kept setup a plain seal pairs regs old mid new armed it told_new cut =
             latches =
                 record {
                   never_falls = omega (arith, it.latched.latches.never_falls, cut.latches, path.steps.latches);
-                  bound = λ below. omega (arith, it.latched.latches.exact (omega (arith, below, cut.latches)), cut.latches, path.steps.latches);
+                  bound = λ below. omega (arith, (RisesBy-once it.latched.latches).exact (omega (arith, below, cut.latches)), cut.latches, path.steps.latches);
                 };
           };
       work = inr (kept-work setup a plain seal pairs regs old mid new armed it cut);
@@ -336,7 +336,7 @@ write-done setup a plain seal pairs regs old mid new armed it done =
     subst (λ n. RisesBy n armed.latches new.device.latches) (one-latch regs.group.items (omega (arith, count)))
     (subst (λ (r : Regs). RisesBy (finishing_latches r.group.items) armed.latches new.device.latches) it.latched.regs done.latches) in
     let two_latched : RisesBy 2 old.device.latches new.device.latches =
-    RisesBy-then 1 1 old.device.latches armed.latches new.device.latches (subst (λ n. RisesBy 1 n armed.latches) path.steps.latches it.latched.latches) latches in
+    RisesBy-then 1 1 old.device.latches armed.latches new.device.latches (subst (λ n. RisesBy 1 n armed.latches) path.steps.latches (RisesBy-once it.latched.latches)) latches in
     let group_writes : RisesBy (setup.shape.levels + 3) mid.device.writes new.device.writes =
     subst (λ n. RisesBy n mid.device.writes new.device.writes) count (subst (λ n. RisesBy (length regs.group.items) n new.device.writes) it.latched.writes writes) in
     record {
@@ -348,8 +348,8 @@ write-done setup a plain seal pairs regs old mid new armed it done =
             shape = it.made.shape ∙ path.effect.shape;
             size = done.size ∙ (it.latched.size ∙ path.effect.size);
             power = (
-              λ was. done.steady (it.latched.steady (path.effect.power.0 was)),
-              λ was. done.live (it.latched.live (path.effect.power.1 was)),
+              λ was. done.steady (it.latched.steady ∙ path.effect.power.0 was),
+              λ was. done.live (it.latched.live ∙ path.effect.power.1 was),
               done.cuts ∙ (it.latched.cuts ∙ path.effect.power.2),
             );
             trusted =

@@ -7,6 +7,7 @@ use Rattle.pmem_base.specs.declared.registers.Regs.{Regs}
 use Rattle.pmem_base.specs.Shape.{IsShape}
 use Rattle.bonsai_tree.proofs.PathPositions.{on_path-level}
 use Rattle.suite.specs.Setup.{Setup}
+use Rattle.board.proofs.CountLemmas.{HasRisen-once}
 use Rattle.board.specs.Counts.{RisesBy}
 use Rattle.board.specs.Device.{Device}
 use Rattle.board.specs.Steps.{WasCut}
@@ -163,7 +164,7 @@ write-lost setup a plain old mid new node unspent fetched shape cache down cut w
       kind = tt;
       up = λ e. e;
       down = down ∙ path.down;
-      effect = effect-then setup cut_short old mid new path.effect (cut-effect setup mid new same (cut.unsteady, cut.off, cut.rose) shape watch);
+      effect = effect-then setup cut_short old mid new path.effect (cut-effect setup mid new same (cut.unsteady, cut.off, HasRisen-once cut.cuts) shape watch);
       steps =
           record {
             writes =

@@ -1,10 +1,9 @@
 -- What the calls of a board do: a read, a line write, a latch, or a cut.
-use Rattle.std.specs.Prelude.{ℕ, ◌≡◌, ◌≤◌, true, false, List, Option, Some, None, slice_set, ⊤}
+use Rattle.std.specs.Prelude.{ℕ, ◌≡◌, false, List, Option, Some, None, slice_set, ⊤}
 use Rattle.pmem_base.specs.declared.lines.Line.{Line}
 use Rattle.pmem_base.specs.declared.registers.Regs.{Regs}
-use Rattle.pmem_base.specs.Counts.{HasRisen}
 use Rattle.pmem_base.specs.Lines.{line_at}
-use Rattle.board.specs.Counts.{RisesBy}
+use Rattle.board.specs.Counts.{RisesOnce}
 use Rattle.board.specs.Device.{Device}
 
 -- this is the line at a place, where the board tells its lines
@@ -17,50 +16,51 @@ abbrev pub with_line : Option (List Line) → ℕ → Line → Option (List Line
 with_line None at line = None
 with_line (Some lines) at line = Some (slice_set lines at line)
 
--- a read changes nothing but the count of reads
+-- A read changes nothing but the count of reads, and leaves the board steady or not, and live or not,
+-- as it was.
 pub record HasRead (old : Device) (at : ℕ) (line : Line) (new : Device) : Type 0 where
   pub tells : Tells old.lines at line
-  pub reads : RisesBy 1 old.reads new.reads
+  pub reads : RisesOnce old.reads new.reads
   pub size : new.size ≡ old.size
   pub lines : new.lines ≡ old.lines
   pub regs : new.regs ≡ old.regs
   pub writes : new.writes ≡ old.writes
   pub latches : new.latches ≡ old.latches
   pub cuts : new.cuts ≡ old.cuts
-  pub steady : old.steady ≡ true → new.steady ≡ true
-  pub live : old.live ≡ true → new.live ≡ true
+  pub steady : new.steady ≡ old.steady
+  pub live : new.live ≡ old.live
 
 -- a write changes one line, and counts it
 pub record HasWritten (old : Device) (at : ℕ) (line : Line) (new : Device) : Type 0 where
   pub lines : new.lines ≡ with_line old.lines at line
-  pub writes : RisesBy 1 old.writes new.writes
+  pub writes : RisesOnce old.writes new.writes
   pub size : new.size ≡ old.size
   pub regs : new.regs ≡ old.regs
   pub reads : new.reads ≡ old.reads
   pub latches : new.latches ≡ old.latches
   pub cuts : new.cuts ≡ old.cuts
-  pub steady : old.steady ≡ true → new.steady ≡ true
-  pub live : old.live ≡ true → new.live ≡ true
+  pub steady : new.steady ≡ old.steady
+  pub live : new.live ≡ old.live
 
 -- a latch replaces the registers, and counts it
 pub record HasLatched (old : Device) (next : Regs) (new : Device) : Type 0 where
   pub regs : new.regs ≡ next
-  pub latches : RisesBy 1 old.latches new.latches
+  pub latches : RisesOnce old.latches new.latches
   pub size : new.size ≡ old.size
   pub lines : new.lines ≡ old.lines
   pub reads : new.reads ≡ old.reads
   pub writes : new.writes ≡ old.writes
   pub cuts : new.cuts ≡ old.cuts
-  pub steady : old.steady ≡ true → new.steady ≡ true
-  pub live : old.live ≡ true → new.live ≡ true
+  pub steady : new.steady ≡ old.steady
+  pub live : new.live ≡ old.live
 
--- A cut comes on a board that isn't steady, and leaves it without power. It changes nothing else but
--- the count of cuts, which rose.
+-- A cut comes on a board that isn't steady, and leaves it without power and not steady. It changes
+-- nothing else but the count of cuts, by one.
 pub record WasCut (old new : Device) : Type 0 where
   pub unsteady : old.steady ≡ false
   pub off : new.live ≡ false
-  pub never_falls : old.cuts ≤ new.cuts
-  pub rose : HasRisen old.cuts new.cuts
+  pub still_unsteady : new.steady ≡ false
+  pub cuts : RisesOnce old.cuts new.cuts
   pub size : new.size ≡ old.size
   pub lines : new.lines ≡ old.lines
   pub regs : new.regs ≡ old.regs

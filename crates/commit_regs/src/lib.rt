@@ -4,7 +4,10 @@
 ghost use Rattle.std.specs.Prelude.{◌≡◌, ◌≢◌, ◌<◌, [], All, length, IsOk, OnOk, OnErr};
 ghost use Rattle.pmem_base.specs.Registers.{IsGroup, without_group};
 ghost use Rattle.board.specs.Steps.{HasLatched, WasCut};
+ghost use Rattle.call_plan.specs.Following.{Follows};
 ghost use Rattle.commit_regs.specs.Groups.{HasRedone, HasFinished, IsInterrupted};
+ghost use Rattle.commit_regs.specs.Plans.{arm_plan, lines_plan, finish_plan};
+ghost use Rattle.commit_regs.specs.Laws.{CutGroupsAreFronts, DoneGroupsAreWritten, GroupStepsAreCounted};
 
 use board::Board;
 use pmem_base::{Cut, Line, Regs};
@@ -17,6 +20,7 @@ pub fn arm<B: Board>(board: &mut B, next: &Regs) -> Result<(), Cut>
     requires group { IsGroup (B.device board.old).size next.now.group.items }
     ensures ok { OnOk result (HasLatched (B.device board.old) next.now (B.device board.new)) }
     ensures cut { OnErr result (WasCut (B.device board.old) (B.device board.new)) }
+    ensures plan { Follows (arm_plan next.now) (B.device board.old) (B.device board.new) result }
 {
     board.latch(next)
 }
@@ -30,6 +34,8 @@ pub fn finish<B: Board>(board: &mut B) -> Result<(), Cut>
     ensures cut { OnErr result
         (IsInterrupted (B.device board.old).regs.group.items (B.device board.old) (B.device board.new)) }
     ensures empty { (B.device board.old).regs.group.items ≡ [] → IsOk result × (board.new ≡ board.old) }
+    ensures plan { (B.device board.old).regs.group.items ≢ []
+        → Follows (finish_plan (B.device board.old).regs) (B.device board.old) (B.device board.new) result }
 {
     if board.regs().group.is_empty() {
         return Ok(());
@@ -47,6 +53,7 @@ pub fn finish_armed<B: Board>(board: &mut B, armed: &mut Regs) -> Result<(), Cut
     ensures ok { OnOk result (HasFinished (B.device board.old) (B.device board.new)) }
     ensures cut { OnErr result (IsInterrupted armed.old.group.items (B.device board.old) (B.device board.new)) }
     ensures emptied { armed.new ≡ without_group armed.old }
+    ensures plan { Follows (finish_plan armed.old) (B.device board.old) (B.device board.new) result }
 {
     let written = write_all(board, armed.group.as_slice());
     armed.group.clear();
@@ -59,9 +66,19 @@ fn write_all<B: Board>(board: &mut B, group: &[(u32, Line)]) -> Result<(), Cut>
     requires { All (λ entry. entry.0 < (B.device board.old).size) group.now }
     ensures ok { OnOk result (HasRedone (B.device board.old) group.now (B.device board.new)) }
     ensures cut { OnErr result (IsInterrupted group.now (B.device board.old) (B.device board.new)) }
+    ensures plan { Follows (lines_plan group.now) (B.device board.old) (B.device board.new) result }
 {
     for (at, line) in group {
         board.write_line(*at, line)?;
     }
     Ok(())
 }
+
+/// A law: a group's lines are written in order. Where power is cut before the group is emptied, a front of them
+/// was written, and the registers are as they were; where it isn't, each line took one write, and the group one
+/// latch.
+pub fn groups_are_written_in_order()
+    ensures cut { CutGroupsAreFronts }
+    ensures done { DoneGroupsAreWritten }
+    ensures steps { GroupStepsAreCounted }
+{}

@@ -4,7 +4,6 @@ use Rattle.std.specs.Prelude.{MatchOption}
 use Rattle.pmem_base.specs.declared.lines.Line.{Line}
 use Rattle.pmem_base.specs.declared.registers.Regs.{Regs}
 use Rattle.seal_ledger.specs.Ledger.{LedgerState}
-use Rattle.seal_ledger.specs.Notes.{HasRoom}
 use Rattle.suite.specs.Setup.{Setup}
 use Rattle.suite.specs.Formulas.{Formulas}
 use Rattle.board.specs.declared.memory.MemBoard.{MemBoard}
@@ -17,14 +16,12 @@ use Rattle.board.specs.Device.{Device}
 use Rattle.pmem_engine.specs.Parts.{parts_of}
 use Rattle.pmem_recovery.specs.declared.faults.RecFault.TheVariants.{Memory, Cut, NoCounter, Root, Twin}
 use Rattle.pmem_recovery.specs.Recovered.{Answer, IsMendedAs}
-use Rattle.pmem_replay.proofs.Steps.ReservedRoom.{room_is, sound_spare}
 use Rattle.hostile.specs.Ends.{IsUnrefusedRecovery}
 
--- what is sound stays so where room for marks is made
-pub sound_room : (setup : Setup) (engine : EngineState) (lines : List Line) (regs : Regs) (old new : LedgerState) (n : ℕ)
-    → IsSound setup engine lines regs old → HasRoom old new n → IsSound setup engine lines regs new
-sound_room setup engine lines regs old new n sound room =
-    subst (IsSound setup engine lines regs) (sym (room_is old new n room)) (sound_spare setup engine lines regs old new.spare sound)
+-- the ledger by another name
+pub sound_by : (setup : Setup) (engine : EngineState) (lines : List Line) (regs : Regs) (old new : LedgerState) → new ≡ old
+    → IsSound setup engine lines regs old → IsSound setup engine lines regs new
+sound_by setup engine lines regs old new same sound = subst (IsSound setup engine lines regs) (sym same) sound
 
 abbrev pub setup_with : Shape → Formulas → Setup
 setup_with shape formulas = record { shape = shape; formulas = formulas }

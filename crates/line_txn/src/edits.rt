@@ -5,6 +5,7 @@ ghost use Rattle.pmem_engine.specs.Parts.{parts_of};
 ghost use Rattle.pmem_engine.specs.Calls.{IsUsable};
 ghost use Rattle.line_txn.specs.Logged.{targets_of};
 ghost use Rattle.line_txn.specs.Edits.{HasLinePut, HasEdited, AreEdited, IsEditOf, IsWholeTxn, deciding_edits, applying_edits, redoing_edits};
+ghost use Rattle.seal_ledger.specs.Notes.{HasRoom};
 
 use crate::header::header_line;
 use arrayvec::ArrayVec;
@@ -110,12 +111,13 @@ pub(crate) fn edit_all<B: Board, S: Suite, A: Audit>(
     edits: &[Edit],
 ) -> Result<(), Fault>
     requires places { All (IsEditOf (data_lines engine.old.shape)) edits.now }
-    requires room { 66 * length edits.now ≤ (A.ledger audit.old).spare }
+    requires room { HasRoom (A.ledger audit.old) (A.capacity audit.old) (66 * length edits.now) }
     requires usable { IsUsable engine.old.shape engine.old (B.device board.old) (A.ledger audit.old) }
     ensures edited { AreEdited (record { shape = engine.old.shape; formulas = S.formulas_of (S.keys suite.old) }) edits.now
         (parts_of engine.old (B.device board.old) (A.ledger audit.old) (S.tags suite.old) (S.digests suite.old))
         (parts_of engine.new (B.device board.new) (A.ledger audit.new) (S.tags suite.new) (S.digests suite.new)) result }
-    ensures room { IfOk result (λ done. (A.ledger audit.old).spare ≤ (A.ledger audit.new).spare + 66 * length edits.now) }
+    ensures few { IfOk result (λ done. length (A.ledger audit.new).marks ≤ length (A.ledger audit.old).marks + 66 * length edits.now) }
+    ensures capacity { A.capacity audit.new ≡ A.capacity audit.old }
     ensures keys { S.keys suite.new ≡ S.keys suite.old }
     ensures usable { IsUsable engine.old.shape engine.new (B.device board.new) (A.ledger audit.new) }
     ensures shape { engine.new.shape ≡ engine.old.shape }
@@ -137,12 +139,13 @@ fn edit_line<B: Board, S: Suite, A: Audit>(
     edit: &Edit,
 ) -> Result<(), Fault>
     requires places { IsEditOf (data_lines engine.old.shape) edit.now }
-    requires room { 66 ≤ (A.ledger audit.old).spare }
+    requires room { HasRoom (A.ledger audit.old) (A.capacity audit.old) 66 }
     requires usable { IsUsable engine.old.shape engine.old (B.device board.old) (A.ledger audit.old) }
     ensures edited { HasEdited (record { shape = engine.old.shape; formulas = S.formulas_of (S.keys suite.old) }) edit.now
         (parts_of engine.old (B.device board.old) (A.ledger audit.old) (S.tags suite.old) (S.digests suite.old))
         (parts_of engine.new (B.device board.new) (A.ledger audit.new) (S.tags suite.new) (S.digests suite.new)) result }
-    ensures room { IfOk result (λ done. (A.ledger audit.old).spare ≤ (A.ledger audit.new).spare + 66) }
+    ensures few { IfOk result (λ done. length (A.ledger audit.new).marks ≤ length (A.ledger audit.old).marks + 66) }
+    ensures capacity { A.capacity audit.new ≡ A.capacity audit.old }
     ensures keys { S.keys suite.new ≡ S.keys suite.old }
     ensures usable { IsUsable engine.old.shape engine.new (B.device board.new) (A.ledger audit.new) }
     ensures shape { engine.new.shape ≡ engine.old.shape }
@@ -166,12 +169,13 @@ fn put_line<B: Board, S: Suite, A: Audit>(
     line: &Line,
 ) -> Result<(), Fault>
     requires line { at < data_lines engine.old.shape }
-    requires room { 66 ≤ (A.ledger audit.old).spare }
+    requires room { HasRoom (A.ledger audit.old) (A.capacity audit.old) 66 }
     requires usable { IsUsable engine.old.shape engine.old (B.device board.old) (A.ledger audit.old) }
     ensures put { HasLinePut (record { shape = engine.old.shape; formulas = S.formulas_of (S.keys suite.old) }) at line.now
         (parts_of engine.old (B.device board.old) (A.ledger audit.old) (S.tags suite.old) (S.digests suite.old))
         (parts_of engine.new (B.device board.new) (A.ledger audit.new) (S.tags suite.new) (S.digests suite.new)) result }
-    ensures room { IfOk result (λ done. (A.ledger audit.old).spare ≤ (A.ledger audit.new).spare + 66) }
+    ensures few { IfOk result (λ done. length (A.ledger audit.new).marks ≤ length (A.ledger audit.old).marks + 66) }
+    ensures capacity { A.capacity audit.new ≡ A.capacity audit.old }
     ensures keys { S.keys suite.new ≡ S.keys suite.old }
     ensures usable { IsUsable engine.old.shape engine.new (B.device board.new) (A.ledger audit.new) }
     ensures shape { engine.new.shape ≡ engine.old.shape }

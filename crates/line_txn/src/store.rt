@@ -10,6 +10,7 @@ ghost use Rattle.pmem_engine.specs.Calls.{IsUsable, HasReadLine};
 ghost use Rattle.start_gap.specs.Gapped.{HasLines};
 ghost use Rattle.line_txn.specs.Header.{AreTargets, AreDistinctBelow};
 ghost use Rattle.line_txn.specs.Logged.{IsLogged, targets_of};
+ghost use Rattle.seal_ledger.specs.Notes.{HasRoom};
 
 use crate::edits::{applying, deciding, edit_all, redoing, targets_in};
 use crate::header::read_header;
@@ -79,7 +80,7 @@ impl Store {
         suite: &mut S,
         audit: &mut A,
     ) -> Result<(Store, Opened), TxnFault>
-        requires room { 1056 ≤ (A.ledger audit.old).spare }
+        requires room { HasRoom (A.ledger audit.old) (A.capacity audit.old) 1056 }
         requires usable { IsUsable engine.shape engine (B.device board.old) (A.ledger audit.old) }
         ensures opened { HasStoreOpened (record { shape = engine.shape; formulas = S.formulas_of (S.keys suite.old) })
             (parts_of engine (B.device board.old) (A.ledger audit.old) (S.tags suite.old) (S.digests suite.old))
@@ -99,6 +100,7 @@ impl Store {
             (parts_of engine (B.device board.old) (A.ledger audit.old) (S.tags suite.old) (S.digests suite.old))
             → LeavesOpenedSound (record { shape = engine.shape; formulas = S.formulas_of (S.keys suite.old) })
             (λ now. parts_of now (B.device board.new) (A.ledger audit.new) (S.tags suite.new) (S.digests suite.new)) result }
+        ensures capacity { A.capacity audit.new ≡ A.capacity audit.old }
         ensures keys { S.keys suite.new ≡ S.keys suite.old }
         ensures usable { IfOk result (λ opened. IsUsable engine.shape opened.0.engine (B.device board.new) (A.ledger audit.new)) }
         ensures shape { IfOk result (λ opened. opened.0.engine.shape ≡ engine.shape) }
@@ -114,12 +116,13 @@ impl Store {
         suite: &mut S,
         audit: &mut A,
     ) -> Result<(Store, Opened), TxnFault>
-        requires room { 1056 ≤ (A.ledger audit.old).spare }
+        requires room { HasRoom (A.ledger audit.old) (A.capacity audit.old) 1056 }
         requires usable { IsUsable engine.shape engine (B.device board.old) (A.ledger audit.old) }
         ensures opened { HasStoreOpened (record { shape = engine.shape; formulas = S.formulas_of (S.keys suite.old) })
             (parts_of engine (B.device board.old) (A.ledger audit.old) (S.tags suite.old) (S.digests suite.old))
             (λ now. parts_of now (B.device board.new) (A.ledger audit.new) (S.tags suite.new) (S.digests suite.new)) result }
         ensures few { logged_lines engine.shape ≤ 2 ^ 30 }
+        ensures capacity { A.capacity audit.new ≡ A.capacity audit.old }
         ensures keys { S.keys suite.new ≡ S.keys suite.old }
         ensures usable { IfOk result (λ opened. IsUsable engine.shape opened.0.engine (B.device board.new) (A.ledger audit.new)) }
         ensures shape { IfOk result (λ opened. opened.0.engine.shape ≡ engine.shape) }
@@ -204,6 +207,7 @@ impl Store {
             → IsLogged self.old.lines lines self.old.logged.items memory
             → IfOk result (λ read. read ≡ line_at memory at) }
         ensures served { IsServedAs self.old.logged.items self.old.stuck self.old self.new }
+        ensures capacity { A.capacity audit.new ≡ A.capacity audit.old }
         ensures keys { S.keys suite.new ≡ S.keys suite.old }
         ensures usable { IsUsable self.old.engine.shape self.new.engine (B.device board.new) (A.ledger audit.new) }
         ensures shape { self.new.engine.shape ≡ self.old.engine.shape }
@@ -239,7 +243,7 @@ impl Store {
     ) -> Result<Done, CommitFault>
         requires targets { AreDistinctBelow self.old.lines (targets_of txn.now.items) }
         requires free { self.old.stuck ≡ None }
-        requires room { 2112 ≤ (A.ledger audit.old).spare }
+        requires room { HasRoom (A.ledger audit.old) (A.capacity audit.old) 2112 }
         requires usable { IsUsable self.old.engine.shape self.old.engine (B.device board.old) (A.ledger audit.old) }
         ensures committed { HasStoreCommitted (record { shape = self.old.engine.shape; formulas = S.formulas_of (S.keys suite.old) })
             txn.now.items self.old self.new
@@ -264,6 +268,7 @@ impl Store {
             × IsSoundCommitAnswer result }
         ensures spent { IsSpentUndecided result }
         ensures whole { IsWholeTxn txn.now.items }
+        ensures capacity { A.capacity audit.new ≡ A.capacity audit.old }
         ensures keys { S.keys suite.new ≡ S.keys suite.old }
         ensures usable { IsUsable self.old.engine.shape self.new.engine (B.device board.new) (A.ledger audit.new) }
         ensures shape { self.new.engine.shape ≡ self.old.engine.shape }
@@ -280,13 +285,14 @@ impl Store {
         txn: &ArrayVec<(u32, Line), 15>,
     ) -> Result<Done, CommitFault>
         requires targets { AreDistinctBelow self.old.lines (targets_of txn.now.items) }
-        requires room { 2112 ≤ (A.ledger audit.old).spare }
+        requires room { HasRoom (A.ledger audit.old) (A.capacity audit.old) 2112 }
         requires usable { IsUsable self.old.engine.shape self.old.engine (B.device board.old) (A.ledger audit.old) }
         ensures committed { HasStoreCommitted (record { shape = self.old.engine.shape; formulas = S.formulas_of (S.keys suite.old) })
             txn.now.items self.old self.new
             (parts_of self.old.engine (B.device board.old) (A.ledger audit.old) (S.tags suite.old) (S.digests suite.old))
             (parts_of self.new.engine (B.device board.new) (A.ledger audit.new) (S.tags suite.new) (S.digests suite.new)) result }
         ensures whole { IsWholeTxn txn.now.items }
+        ensures capacity { A.capacity audit.new ≡ A.capacity audit.old }
         ensures keys { S.keys suite.new ≡ S.keys suite.old }
         ensures usable { IsUsable self.old.engine.shape self.new.engine (B.device board.new) (A.ledger audit.new) }
         ensures shape { self.new.engine.shape ≡ self.old.engine.shape }

@@ -2,13 +2,13 @@
 use Rattle.std.proofs.Common.{◌≡◌, ℕ, ◌+◌, ◌<◌, ◌≤◌, List, [], length, get_or, set, replicate, refl, sym, ap, subst, ◌∙◌, inl, inr, arith}
 use Rattle.std.proofs.lemmas.Bool.{cases_lt, cases_eq}
 use Rattle.std.proofs.lemmas.Option.{unwrap_or-slice_get}
-use Rattle.std.proofs.lemmas.List.{length-set, length-replicate, get_or-set_same, get_or-set_other, get_or-replicate, get_or_past}
+use Rattle.std.proofs.lemmas.List.{length-set, length-replicate, get_or-set_same, get_or-set_other, get_or-replicate, get_or_past, set-set, set-get_or, set_past}
 use Rattle.std.proofs.lemmas.List.Elements.{All-nil}
 use Rattle.pmem_base.specs.Lines.{IsLine}
 use Rattle.pmem_base.specs.Shape.{Shape}
 use Rattle.meta_cache.specs.Banks.{Slot, Banks, set_of, set_index}
 use Rattle.meta_cache.specs.Sets.{IsSetOf, KeepsWays}
-use Rattle.meta_cache.specs.State.{bank_of, empty_banks, IsCacheOf, ChangesSet}
+use Rattle.meta_cache.specs.State.{CacheState, bank_of, empty_banks, with_slots, IsCacheOf, ChangesSet}
 
 pub bank_of-get_or : (banks : Banks) (bank : ℕ) → bank_of banks bank ≡ get_or banks bank []
 bank_of-get_or banks bank = unwrap_or-slice_get banks bank []
@@ -71,11 +71,44 @@ pub ChangesSet-with_set : (g : Shape) (banks : Banks) (bank n : ℕ) (slots : Li
     → ChangesSet (record { shape = g; banks = banks }) (record { shape = g; banks = with_set banks bank n slots }) bank n slots
 ChangesSet-with_set g banks bank n slots inside ways =
     record {
+      exact =
+          ap (λ (sets : List (List Slot)). record { shape = g; banks = set banks bank (set sets n slots) })
+          (sym (bank_of-get_or banks bank));
       shape = refl;
       ways = ways;
       here = here_changed g banks bank n slots inside;
       elsewhere = λ bank' n' apart. elsewhere_same g banks bank n slots bank' n' inside apart;
     }
+
+-- ---- the cache with other slots in a set, as a value
+
+-- a set has its own slots
+pub with_slots-own : (cache : CacheState) (bank n : ℕ) → with_slots cache bank n (set_of cache.banks bank n) ≡ cache
+with_slots-own cache bank n =
+    ap (λ (banks : Banks). let made : CacheState = record { shape = cache.shape; banks = banks } in made)
+    (ap (λ slots. set cache.banks bank (set (bank_of cache.banks bank) n slots)) (unwrap_or-slice_get (bank_of cache.banks bank) n [])
+    ∙ ap (set cache.banks bank) (set-get_or (bank_of cache.banks bank) n [] ∙ bank_of-get_or cache.banks bank)
+    ∙ set-get_or cache.banks bank [])
+
+-- the later of two changes of a set stands
+pub with_slots-twice : (cache : CacheState) (bank n : ℕ) (first second : List Slot)
+    → with_slots (with_slots cache bank n first) bank n second ≡ with_slots cache bank n second
+with_slots-twice cache bank n first second =
+    ap (λ (banks : Banks). let made : CacheState = record { shape = cache.shape; banks = banks } in made)
+    (elim (cases_lt bank (length banks)) [
+      | inl low ↦
+          set-set banks bank changed (set (bank_of (set banks bank changed) bank) n second)
+          ∙ ap (λ sets. set banks bank (set sets n second))
+          (bank_of-get_or (set banks bank changed) bank ∙ get_or-set_same banks bank changed [] low)
+          ∙ ap (set banks bank) (set-set (bank_of banks bank) n first second)
+      | inr past ↦ ap (λ (b : Banks). set b bank (set (bank_of b bank) n second)) (set_past banks bank changed past)
+    ])
+  where
+    banks : Banks
+    banks = cache.banks
+
+    changed : List (List Slot)
+    changed = set (bank_of banks bank) n first
 
 pub IsCacheOf-with_set : (g : Shape) (banks : Banks) (bank n : ℕ) (slots : List Slot) → IsInside g banks bank n
     → IsSetOf g n slots → IsCacheOf g (with_set banks bank n slots)

@@ -1,5 +1,5 @@
 -- A cache as contracts see it: its banks, and the geometry that it was made for.
-use Rattle.std.specs.Prelude.{ℕ, ◌≡◌, ◌+◌, ◌≤◌, List, [], length, replicate, filter_map, slice_get, option_map, Option, unwrap_or}
+use Rattle.std.specs.Prelude.{ℕ, ◌≡◌, ◌+◌, ◌≤◌, List, [], length, replicate, filter_map, slice_get, slice_set, option_map, Option, unwrap_or}
 use Rattle.std.specs.List.{range_with_len}
 use Rattle.pmem_base.specs.Shape.{Shape}
 use Rattle.meta_cache.specs.Banks.{Slot, Banks, set_of, set_index}
@@ -27,8 +27,15 @@ pub record IsCacheOf (g : Shape) (banks : Banks) : Type 0 where
   pub its_sets : (bank : ℕ) → bank ≤ g.levels → length (bank_of banks bank) ≡ g.sets
   pub each_set : (bank set : ℕ) → IsSetOf g set (set_of banks bank set)
 
--- one set has these slots now, with the ways that they had, and every other set is as it was
+-- the cache with other slots in one set
+abbrev pub with_slots : CacheState → ℕ → ℕ → List Slot → CacheState
+with_slots cache bank set slots =
+    record { shape = cache.shape; banks = slice_set cache.banks bank (slice_set (bank_of cache.banks bank) set slots) }
+
+-- One set has these slots now, and nothing else changed: each slot that stays has its way, and every other
+-- set is as it was.
 pub record ChangesSet (old new : CacheState) (bank set : ℕ) (slots : List Slot) : Type 0 where
+  pub exact : new ≡ with_slots old bank set slots
   pub shape : new.shape ≡ old.shape
   pub here : set_of new.banks bank set ≡ slots
   pub ways : KeepsWays (set_of old.banks bank set) slots

@@ -10,13 +10,15 @@ use Rattle.pmem_base.specs.Layout.{meta_line}
 use Rattle.pmem_base.specs.Lines.{line_at, zero_line}
 use Rattle.pmem_base.specs.Counts.{risen_times}
 use Rattle.suite.specs.Formulas.{Formulas}
+use Rattle.board.proofs.CountLemmas.{HasRisen-once}
 use Rattle.board.specs.Device.{Device}
 use Rattle.board.specs.Steps.{Tells, WasCut}
 use Rattle.commit_regs.proofs.GroupLemmas.{redone-nil}
 use Rattle.meta_cache.specs.declared.slot.Slot.{Slot}
 use Rattle.meta_cache.specs.Banks.{Banks, set_of, set_index, is_cached}
 use Rattle.meta_cache.specs.Sets.{holds, slot_with, with_mark, victim_of, placed, IsSetOf, KeepsWays}
-use Rattle.meta_cache.specs.State.{CacheState, slots_of, ChangesSet}
+use Rattle.meta_cache.specs.State.{CacheState, slots_of, with_slots, ChangesSet}
+use Rattle.meta_cache.proofs.CacheLemmas.{with_slots-own, with_slots-twice}
 use Rattle.meta_cache.proofs.WayLemmas.{KeepsWays-placed}
 use Rattle.meta_path.specs.declared.faults.PathFault.{PathFault}
 use Rattle.meta_path.specs.declared.faults.PathFault.TheVariants as Fault
@@ -25,7 +27,7 @@ use Rattle.meta_path.specs.Work.{HasWorked, FetchState}
 use Rattle.meta_path.specs.Levels.{expected_digest, dirty_position, victim_write, room_write, without_dirty, HasRoomMade, IsLevelFetched, IsLevelRead, IsLevelCut}
 use Rattle.meta_path.specs.Storing.{IsCleaned}
 use Rattle.meta_path.proofs.SetFacts.{holds_slot, victim_contained, slot_with-victim, placed-without_dirty, clean_victim, holds-without_dirty}
-use Rattle.meta_path.proofs.WorkLemmas.{HasWorked-written, HasWorked-then}
+use Rattle.meta_path.proofs.WorkLemmas.{HasWorked-none, HasWorked-written, HasWorked-then}
 
 -- an answer that turns a cut into the fault has what the fault says
 pub fault_of_cut : {X : Type 0} (answer : Result X PathFault) (P : PathFault → Type 0)
@@ -38,7 +40,7 @@ pub cut_at_read : (g : Shape) (bank x : ℕ) (cache : CacheState) (old new : Dev
     → is_cached g cache.banks bank x ≡ false → WasCut old new → old.live ≡ false
     → IsLevelCut g bank x (record { cache = cache; device = old; digests = digests })
     (record { cache = cache; device = new; digests = digests })
-cut_at_read g bank x cache old new digests absent cut dead = search rules
+cut_at_read g bank x cache old new digests absent cut dead = search (rules, HasRisen-once)
 
 -- ---- room
 
@@ -126,6 +128,39 @@ room_made g bank x position old_cache new_cache old new form of cleaned =
         cond-true of.victim.dirty ((meta_line g of.victim.position, of.victim.line) ∷ []) [] of.dirty
         ∙ ap₂ (λ (y : ℕ) (l : Line). (meta_line g y, l) ∷ []) of.its_position (sym line)
 
+-- where no dirty block would give way there is room
+pub room_free : (g : Shape) (bank x : ℕ) (cache : CacheState) (d : Device)
+    → dirty_position (victim_of g.ways (slots_at g cache.banks bank x)) ≡ None → HasRoomMade g bank x cache cache d d
+room_free g bank x cache d none =
+    record {
+      cache = subst (ChangesSet cache cache bank (set_index g x)) (sym (clean (victim_of g.ways slots) none).0) own;
+      work = subst (λ entries. HasWorked 0 entries d d) (sym (clean (victim_of g.ways slots) none).1) (HasWorked-none d);
+    }
+  where
+    slots : List Slot
+    slots = slots_at g cache.banks bank x
+
+    own : ChangesSet cache cache bank (set_index g x) slots
+    own =
+        record {
+          exact = sym (with_slots-own cache bank (set_index g x));
+          shape = refl;
+          here = refl;
+          ways = λ y before after. refl;
+          elsewhere = λ bank' set' apart. refl;
+        }
+
+    clean : (victim : Option Slot) → dirty_position victim ≡ None → (without_dirty slots victim ≡ slots) × (victim_write g victim ≡ [])
+    clean None none = (refl, refl)
+    clean (Some victim) none =
+        elim (cases_Bool victim.dirty) [
+          | inl dirty ↦ absurd (none-some victim.position (sym none ∙ cond-true victim.dirty (Some victim.position) None dirty))
+          | inr is_clean ↦ (
+            cond-false victim.dirty (with_mark slots victim.position false) slots is_clean,
+            cond-false victim.dirty ((meta_line g victim.position, victim.line) ∷ []) [] is_clean,
+          )
+        ]
+
 -- x still isn't cached
 pub room_absent : (g : Shape) (bank x : ℕ) (old_cache new_cache : CacheState) (old new : Device)
     → old_cache.shape ≡ g → HasRoomMade g bank x old_cache new_cache old new
@@ -151,7 +186,15 @@ room_clean g bank x old_cache new_cache old new its form made =
 pub ChangesSet-twice : (old mid new : CacheState) (bank set : ℕ) (first second : List Slot)
     → ChangesSet old mid bank set first → ChangesSet mid new bank set second
     → KeepsWays (set_of old.banks bank set) second → ChangesSet old new bank set second
-ChangesSet-twice old mid new bank set first second one two ways = search rules
+ChangesSet-twice old mid new bank set first second one two ways =
+    record {
+      exact =
+          two.exact ∙ ap (λ (c : CacheState). with_slots c bank set second) one.exact ∙ with_slots-twice old bank set first second;
+      shape = two.shape ∙ one.shape;
+      here = two.here;
+      ways = ways;
+      elsewhere = λ bank' set' apart. two.elsewhere bank' set' apart ∙ one.elsewhere bank' set' apart;
+    }
 
 -- ---- the level
 

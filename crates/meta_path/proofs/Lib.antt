@@ -5,6 +5,9 @@ pub mod CauseLaws
 pub mod RunLaws
 pub mod LevelLemmas
 pub mod NameLemmas
+pub mod NamePlans
+pub mod WritePlans
+pub mod FetchPlans
 pub mod PathFacts
 pub mod SetFacts
 pub mod RenewalLemmas

@@ -9,6 +9,7 @@ use Rattle.pmem_base.specs.Counts.{HasRisen}
 use Rattle.pmem_base.specs.Shape.{Shape}
 use Rattle.pmem_base.specs.Layout.{slots, shadow_line}
 use Rattle.board.specs.Counts.{RisesBy}
+use Rattle.board.proofs.CountLemmas.{HasRisen-once, RisesBy-once}
 use Rattle.board.specs.Device.{Device}
 use Rattle.board.specs.Steps.{HasWritten, WasCut}
 use Rattle.shadow_tables.specs.Entries.{slot_entry}
@@ -35,7 +36,7 @@ pub IsSlotNamed-written : (g : Shape) (bank n x : ℕ) (old_mirror new_mirror : 
     → is_slot_named g old_mirror bank n x ≡ false → new_mirror ≡ with_named g old_mirror bank n x
     → at ≡ shadow_line g (entry_line g bank n) → line ≡ naming_line g old_mirror bank n x
     → HasWritten old at line new → IsSlotNamed g bank n x old_mirror new_mirror old new
-IsSlotNamed-written g bank n x old_mirror new_mirror old new at line not_named written place bytes done = search rules
+IsSlotNamed-written g bank n x old_mirror new_mirror old new at line not_named written place bytes done = search (rules, RisesBy-once)
 
 -- the entry named the position already
 pub IsSlotNamed-already : (g : Shape) (bank n x : ℕ) (old_mirror new_mirror : List Line) (device : Device)
@@ -47,7 +48,7 @@ IsSlotNamed-already g bank n x old_mirror new_mirror device named same = search 
 pub IsSlotCut-from : (g : Shape) (bank n x : ℕ) (old_mirror new_mirror : List Line) (old new : Device)
     → is_slot_named g old_mirror bank n x ≡ false → new_mirror ≡ with_named g old_mirror bank n x → WasCut old new
     → IsSlotCut g bank n x old_mirror new_mirror old new
-IsSlotCut-from g bank n x old_mirror new_mirror old new not_named written cut = search rules
+IsSlotCut-from g bank n x old_mirror new_mirror old new not_named written cut = search (rules, HasRisen-once)
 
 -- what an answer that is an error has
 pub on_err : {X E : Type 0} (answer : Result X E) (P : Type 0) → P → OnErr answer P

@@ -1,6 +1,6 @@
 -- New lines are stored, level by level.
 use Rattle.std.proofs.lemmas.Grind.{common_steps}
-use Rattle.std.proofs.Common.{rules, ◌≡◌, ◌≢◌, ℕ, ◌+◌, ◌<◌, ◌≤◌, Bool, true, cond, List, [], ◌∷◌, ◌++◌, length, get_or, take, map, set, refl, sym, ap, subst, ◌∙◌, inl, inr, arith}
+use Rattle.std.proofs.Common.{rules, ◌≡◌, ◌≢◌, ℕ, ◌+◌, ◌<◌, ◌≤◌, Bool, true, cond, List, [], ◌∷◌, ◌++◌, length, get_or, take, map, set, add-one, refl, sym, ap, subst, ◌∙◌, inl, inr, arith}
 use Rattle.std.specs.Prelude.{◌==◌, ◌||◌, nat_lt, not, Contains}
 use Rattle.std.proofs.lemmas.Bool.{cases_eq, cases_Bool, cond-true, cond-false, eq-eqb, eqb-true, false≢true}
 use Rattle.std.proofs.lemmas.List.{map-id, length-map, take_more, get_or-map}
@@ -14,11 +14,13 @@ use Rattle.bonsai_tree.specs.Positions.{level_of}
 use Rattle.pmem_base.proofs.LineSets.{put_lines-append}
 use Rattle.bonsai_tree.proofs.PathPositions.{length-path_of}
 use Rattle.seal_ledger.specs.Ledger.{LedgerState}
-use Rattle.seal_ledger.specs.Notes.{HasMeta}
+use Rattle.seal_ledger.specs.Notes.{HasMeta, with_truth}
+use Rattle.seal_ledger.proofs.NoteLemmas.{same_ledger}
 use Rattle.meta_cache.specs.declared.slot.Slot.{Slot}
 use Rattle.meta_cache.specs.Banks.{Banks, set_of, set_index, is_cached}
 use Rattle.meta_cache.specs.Sets.{holds, lined, slot_marked, with_slot_line, with_mark}
-use Rattle.meta_cache.specs.State.{CacheState, ChangesSet}
+use Rattle.meta_cache.specs.State.{CacheState, with_slots, ChangesSet}
+use Rattle.meta_cache.proofs.CacheLemmas.{with_slots-twice}
 use Rattle.meta_cache.proofs.WayLemmas.{KeepsWays-with_slot_line, KeepsWays-with_mark}
 use Rattle.meta_path.specs.Blocks.{path_at, slots_at, IsPathCached, IsOfItsBank, AreInTheirBanks}
 use Rattle.meta_path.specs.Storing.{new_line, IsPathOf, stored_set, stored_mark, IsStoredTo, HasMetaLines, IsStoredSlot, KeepsSlots}
@@ -37,6 +39,11 @@ pub stored_twice : (old mid new : CacheState) (bank x : ℕ) (line : Line) (dirt
     → ChangesSet old new bank (set_index old.shape x) (stored_set (slots_at old.shape old.banks bank x) x line dirty)
 stored_twice old mid new bank x line dirty one two =
     record {
+      exact =
+          two.exact ∙ ap (λ (k : Shape). with_slots mid bank (set_index k x) (with_mark (slots_at k mid.banks bank x) x dirty)) one.shape
+          ∙ ap (λ (c : CacheState). with_slots c bank (set_index old.shape x) (with_mark (slots_at old.shape mid.banks bank x) x dirty)) one.exact
+          ∙ with_slots-twice old bank (set_index old.shape x) (with_slot_line slots x line) (with_mark (slots_at old.shape mid.banks bank x) x dirty)
+          ∙ ap (λ set. with_slots old bank (set_index old.shape x) (with_mark set x dirty)) one.here;
       shape = two.shape ∙ one.shape;
       here =
           ap (λ (k : Shape). set_of new.banks bank (set_index k x)) (sym one.shape) ∙ two.here ∙ same;
@@ -91,6 +98,11 @@ pub IsStoredTo-more : {g : Shape} {page : ℕ} {persisted : Bool} {lines : List 
     → IsStoredTo g page persisted lines (n + 1) old new
 IsStoredTo-more {g} {page} {persisted} {lines} {n} {old} {mid} {new} before level =
     record {
+      exact =
+          rw add-one (level.exact
+          ∙ ap (λ (c : CacheState). with_slots c n (set_index g (path_at g page n))
+          (stored_set (slots_at g c.banks n (path_at g page n)) (path_at g page n) (new_line lines n) (stored_mark g persisted n)))
+          before.exact);
       shape = level.shape ∙ before.shape;
       stored = λ j h.
           elim (cases_eq j n) [
@@ -146,6 +158,12 @@ mark_is levels n last persisted mark same is = is ∙ ap (λ k. nat_lt n k || no
 
 -- ---- the ledger
 
+-- the ledger is known whole
+pub HasMetaLines-is : (lines : List (ℕ × Line)) (old new : LedgerState) → HasMetaLines lines old new
+    → new ≡ with_truth old (put_lines lines old.truth)
+HasMetaLines-is lines old new it =
+    same_ledger new (with_truth old (put_lines lines old.truth)) it.marks it.truth it.data_lines it.exhibit
+
 pub HasMetaLines-none : (ledger : LedgerState) → HasMetaLines [] ledger ledger
 HasMetaLines-none ledger = search rules
 
@@ -162,7 +180,6 @@ HasMetaLines-more lines n x line d old mid new h is before more =
       marks = more.marks ∙ before.marks;
       data_lines = more.data_lines ∙ before.data_lines;
       exhibit = more.exhibit ∙ before.exhibit;
-      spare = more.spare ∙ before.spare;
     }
 
 -- ---- what is kept

@@ -7,8 +7,9 @@ use Rattle.pmem_base.proofs.LineSets.{put_lines-append}
 use Rattle.board.specs.Counts.{RisesBy}
 use Rattle.board.specs.Device.{Device}
 use Rattle.board.specs.Steps.{HasWritten}
-use Rattle.board.proofs.CountLemmas.{RisesBy-then}
+use Rattle.board.proofs.CountLemmas.{RisesBy-then, RisesBy-once}
 use Rattle.commit_regs.specs.Groups.{redone_told}
+use Rattle.commit_regs.proofs.GroupLemmas.{redone-nil}
 use Rattle.meta_path.specs.Work.{HasWorked}
 
 pub redone_told-append : (front back : List (ℕ × Line)) (told : Option (List Line))
@@ -16,9 +17,12 @@ pub redone_told-append : (front back : List (ℕ × Line)) (told : Option (List 
 redone_told-append front back None = refl
 redone_told-append front back (Some lines) = ap Some (put_lines-append front back lines)
 
+pub HasWorked-none : (d : Device) → HasWorked 0 [] d d
+HasWorked-none d = search (rules, redone-nil)
+
 pub HasWorked-written : (old : Device) (at : ℕ) (line : Line) (new : Device) → HasWritten old at line new
     → HasWorked 0 ((at, line) ∷ []) old new
-HasWorked-written old at line new written = search rules
+HasWorked-written old at line new written = search (rules, RisesBy-once)
 
 -- two calls are one
 pub HasWorked-then : (m n : ℕ) (front back : List (ℕ × Line)) (old mid new : Device) → HasWorked m front old mid

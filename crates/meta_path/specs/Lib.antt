@@ -4,4 +4,6 @@ pub mod Levels
 pub mod Fetching
 pub mod Keeping
 pub mod Naming
+pub mod Plans
+pub mod FetchPlans
 pub mod Storing

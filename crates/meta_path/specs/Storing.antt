@@ -1,5 +1,5 @@
 -- New lines of a page's path are stored in the cache and told to the audit; a block is written back.
-use Rattle.std.specs.Prelude.{ℕ, ◌≡◌, ◌≤◌, ◌<◌, ◌+◌, ◌||◌, nat_lt, not, Bool, false, List, length, map, Option, Some, None, slice_index_or, Contains}
+use Rattle.std.specs.Prelude.{ℕ, zero, suc, ◌≡◌, ◌≤◌, ◌<◌, ◌+◌, ◌||◌, nat_lt, not, Bool, false, List, length, map, Option, Some, None, slice_index_or, Contains}
 use Rattle.pmem_base.specs.declared.lines.Line.{Line}
 use Rattle.pmem_base.specs.Shape.{Shape}
 use Rattle.pmem_base.specs.Layout.{pages, meta_line}
@@ -13,7 +13,7 @@ use Rattle.seal_ledger.specs.Ledger.{LedgerState}
 use Rattle.meta_cache.specs.declared.slot.Slot.{Slot}
 use Rattle.meta_cache.specs.Banks.{Banks, set_of, set_index}
 use Rattle.meta_cache.specs.Sets.{with_slot_line, with_mark}
-use Rattle.meta_cache.specs.State.{CacheState, ChangesSet}
+use Rattle.meta_cache.specs.State.{CacheState, with_slots, ChangesSet}
 use Rattle.meta_path.specs.Blocks.{path_at, slots_at, line_in, IsPathCached, dirty_count}
 
 -- ---- storing
@@ -48,9 +48,18 @@ stored_set slots x line dirty = with_mark (with_slot_line slots x line) x dirty
 abbrev pub stored_mark : Shape → Bool → ℕ → Bool
 stored_mark g persisted j = nat_lt j g.levels || not persisted
 
+-- the cache once the path's first n levels have their new lines
+abbrev pub stored_levels : Shape → ℕ → Bool → List (ℕ × Line) → ℕ → CacheState → CacheState
+stored_levels g page persisted lines zero cache = cache
+stored_levels g page persisted lines (suc n) cache =
+    let below = stored_levels g page persisted lines n cache in
+    with_slots below n (set_index g (path_at g page n))
+    (stored_set (slots_at g below.banks n (path_at g page n)) (path_at g page n) (new_line lines n) (stored_mark g persisted n))
+
 -- the path's first n levels have their new lines, and every other set is as it was
 pub record IsStoredTo (g : Shape) (page : ℕ) (persisted : Bool) (lines : List (ℕ × Line)) (n : ℕ)
     (old new : CacheState) : Type 0 where
+  pub exact : new ≡ stored_levels g page persisted lines n old
   pub shape : new.shape ≡ old.shape
   pub stored :
       (j : ℕ) → j < n
@@ -68,7 +77,6 @@ pub record HasMetaLines (lines : List (ℕ × Line)) (old new : LedgerState) : T
   pub marks : new.marks ≡ old.marks
   pub data_lines : new.data_lines ≡ old.data_lines
   pub exhibit : new.exhibit ≡ old.exhibit
-  pub spare : new.spare ≡ old.spare
 
 -- a slot of a bank, before and now: it keeps its way and position; that of the path's position has the
 -- new line and its mark, and every other one is unchanged

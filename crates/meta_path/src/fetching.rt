@@ -5,11 +5,15 @@ ghost use Rattle.pmem_base.specs.Geo.{shape_of};
 ghost use Rattle.pmem_base.specs.Layout.{pages, meta_lines, device_lines};
 ghost use Rattle.pmem_base.specs.Lines.{line_at};
 ghost use Rattle.board.specs.Steps.{WasCut};
+ghost use Rattle.call_plan.specs.Plans.{ended};
+ghost use Rattle.call_plan.specs.Following.{Follows};
 ghost use Rattle.meta_cache.specs.Banks.{is_cached};
 ghost use Rattle.meta_cache.specs.Sets.{victim_of};
 ghost use Rattle.meta_path.specs.Blocks.{slots_at, IsPathCached, AreInTheirBanks, AreCachedTrue, dirty_count};
 ghost use Rattle.meta_path.specs.Levels.{expected_digest, HasParent, HasDirtyVictim, HasRoomMade, dirty_position, IsLevelFetched, IsLevelRead, IsLevelFault};
 ghost use Rattle.meta_path.specs.Fetching.{IsFetchedTo, IsPathFault};
+ghost use Rattle.meta_path.specs.Plans.{room_plan};
+ghost use Rattle.meta_path.specs.FetchPlans.{fetch_parts, check_plan, level_plan, fetch_plan};
 ghost use Rattle.meta_path.specs.Keeping.{KeepsBlocks, IsUndisturbed, IsTrueTree, IsFaultCaused};
 
 use crate::faults::PathFault;
@@ -45,6 +49,7 @@ pub fn fetch_path<B: Board, S: Suite, A: Audit>(
         (record { cache = cache.new; device = B.device board.new; digests = S.digests suite.new })) }
     ensures cached { OnOk result (IsPathCached (shape_of geo.now) cache.new.banks page) }
     ensures ledger { OnOk result (A.ledger audit.new ≡ A.ledger audit.old) }
+    ensures capacity { A.capacity audit.new ≡ A.capacity audit.old }
 
     ensures fault { IfErr result (IsPathFault (shape_of geo.now) (S.formulas_of (S.keys suite.old)) page
         (record { cache = cache.old; device = B.device board.old; digests = S.digests suite.old })
@@ -69,6 +74,10 @@ pub fn fetch_path<B: Board, S: Suite, A: Audit>(
     ensures keys { S.keys suite.new ≡ S.keys suite.old }
     ensures pads { S.pads suite.new ≡ S.pads suite.old }
     ensures tags { S.tags suite.new ≡ S.tags suite.old }
+
+    ensures plan { Follows (fetch_plan (S.formulas_of (S.keys suite.old)) (B.device board.old).regs.root page
+        (fetch_parts cache.old (A.ledger audit.old) (S.digests suite.old))) (B.device board.old) (B.device board.new)
+        (ended result (fetch_parts cache.new (A.ledger audit.new) (S.digests suite.new))) }
 {
     cache.are_banks();
     let path = path(geo, page);
@@ -105,9 +114,13 @@ fn fetch_level<B: Board, S: Suite, A: Audit>(
         (record { cache = cache.new; device = B.device board.new; digests = S.digests suite.new })
         (A.ledger audit.old) (A.ledger audit.new)) }
     ensures ledger { OnOk result (A.ledger audit.new ≡ A.ledger audit.old) }
+    ensures capacity { A.capacity audit.new ≡ A.capacity audit.old }
     ensures keys { S.keys suite.new ≡ S.keys suite.old }
     ensures pads { S.pads suite.new ≡ S.pads suite.old }
     ensures tags { S.tags suite.new ≡ S.tags suite.old }
+    ensures plan { Follows (level_plan (S.formulas_of (S.keys suite.old)) (B.device board.old).regs.root bank x
+        (fetch_parts cache.old (A.ledger audit.old) (S.digests suite.old))) (B.device board.old) (B.device board.new)
+        (ended result (fetch_parts cache.new (A.ledger audit.new) (S.digests suite.new))) }
 {
     if cache.look(bank, x).is_some() {
         cache.touch(bank, x);
@@ -145,6 +158,7 @@ fn read_checked<B: Board, S: Suite, A: Audit>(
         ≡ expected_digest (shape_of geo.now) (B.device board.old).regs.root cache.now.banks bank x) }
     ensures line { IfOk result (λ line. line ≡ line_at (A.ledger audit.old).truth x) }
     ensures ledger { OnOk result (A.ledger audit.new ≡ A.ledger audit.old) }
+    ensures capacity { A.capacity audit.new ≡ A.capacity audit.old }
     ensures fault { IfErr result (IsLevelFault (shape_of geo.now) (S.formulas_of (S.keys suite.old)) bank x
         (record { cache = cache.now; device = B.device board.old; digests = S.digests suite.old })
         (record { cache = cache.now; device = B.device board.new; digests = S.digests suite.new })
@@ -152,6 +166,9 @@ fn read_checked<B: Board, S: Suite, A: Audit>(
     ensures keys { S.keys suite.new ≡ S.keys suite.old }
     ensures pads { S.pads suite.new ≡ S.pads suite.old }
     ensures tags { S.tags suite.new ≡ S.tags suite.old }
+    ensures plan { Follows (check_plan (S.formulas_of (S.keys suite.old)) (B.device board.old).regs.root bank x
+        (fetch_parts cache.now (A.ledger audit.old) (S.digests suite.old))) (B.device board.old) (B.device board.new)
+        (ended result (fetch_parts cache.now (A.ledger audit.new) (S.digests suite.new))) }
 {
     let line = board.read_line(geo.meta_line(x))?;
     line.is_whole();
@@ -216,6 +233,7 @@ fn make_room<B: Board>(
     ensures cut { OnErr result (WasCut (B.device board.old) (B.device board.new)) }
     ensures same { OnErr result (cache.new ≡ cache.old) }
     ensures victim { OnErr result (HasDirtyVictim (shape_of geo.now) (slots_at (shape_of geo.now) cache.old.banks bank x)) }
+    ensures plan { Follows (room_plan cache.old bank x) (B.device board.old) (B.device board.new) (ended result cache.new) }
 {
     cache.are_banks();
     if let Some(position) = dirty_victim(cache, bank, x) {

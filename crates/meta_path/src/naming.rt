@@ -2,11 +2,14 @@
 ghost use Rattle.std.specs.Prelude.{◌≡◌, ◌<◌, ◌≤◌, ◌+◌, ℕ, length, IsTrue, OnOk, OnErr};
 ghost use Rattle.pmem_base.specs.Geo.{shape_of};
 ghost use Rattle.pmem_base.specs.Layout.{pages, slots, meta_lines, shadow_lines, device_lines};
+ghost use Rattle.call_plan.specs.Plans.{ended};
+ghost use Rattle.call_plan.specs.Following.{Follows};
 ghost use Rattle.shadow_tables.specs.Entries.{slot_entry};
 ghost use Rattle.shadow_tables.specs.Naming.{Names};
 ghost use Rattle.meta_cache.specs.Banks.{is_cached};
 ghost use Rattle.meta_path.specs.Blocks.{number_in, IsPathCached};
 ghost use Rattle.meta_path.specs.Naming.{path_number, naming_writes, IsSlotNamed, IsSlotCut, IsNamedTo, IsNamingCut};
+ghost use Rattle.meta_path.specs.Plans.{slot_plan, naming_plan};
 
 use board::Board;
 use bonsai_tree::path;
@@ -39,6 +42,8 @@ pub fn make_dirty<B: Board>(
     ensures one_a_level { length (naming_writes (shape_of geo.now) cache.now.banks page mirror.old
         ((shape_of geo.now).levels + 1)) ≤ (shape_of geo.now).levels + 1 }
     ensures long { length mirror.new ≡ shadow_lines (shape_of geo.now) }
+    ensures plan { Follows (naming_plan (shape_of geo.now) cache.now.banks page mirror.old)
+        (B.device board.old) (B.device board.new) (ended result mirror.new) }
 {
     cache.are_banks();
     let path = path(geo, page);
@@ -71,6 +76,8 @@ fn name_level<B: Board>(
     ensures names { Names (shape_of geo.now) mirror.old mirror.new bank
         (number_in (shape_of geo.now) cache.now.banks bank x) x }
     ensures long { length mirror.new ≡ shadow_lines (shape_of geo.now) }
+    ensures plan { Follows (slot_plan (shape_of geo.now) bank (number_in (shape_of geo.now) cache.now.banks bank x) x
+        mirror.old) (B.device board.old) (B.device board.new) (ended result mirror.new) }
 {
     let slot = cache.slot_of(bank, x);
     if let Some((at, line)) = mirror.name_slot(geo, bank, slot, x) {

@@ -101,6 +101,7 @@ pub fn store_path<A: Audit>(cache: &mut Cache, audit: &mut A, path: &Path, persi
     ensures banks { AreInTheirBanks cache.old.shape cache.old.banks → AreInTheirBanks cache.old.shape cache.new.banks }
     ensures shape { cache.new.shape ≡ cache.old.shape }
     ensures ledger { HasMetaLines path.now.lines.items (A.ledger audit.old) (A.ledger audit.new) }
+    ensures capacity { A.capacity audit.new ≡ A.capacity audit.old }
 {
     cache.are_banks();
     let last = path.lines.len() - 1;
@@ -132,6 +133,7 @@ fn store_level<A: Audit>(
     ensures cache { ChangesSet cache.old cache.new bank (set_index cache.old.shape x)
         (stored_set (slots_at cache.old.shape cache.old.banks bank x) x line.now dirty) }
     ensures ledger { HasMeta (A.ledger audit.old) (A.ledger audit.new) x line.now }
+    ensures capacity { A.capacity audit.new ≡ A.capacity audit.old }
 {
     cache.store(bank, x, line);
     if dirty {

@@ -4,9 +4,12 @@ ghost use Rattle.pmem_base.specs.Geo.{shape_of};
 ghost use Rattle.pmem_base.specs.Layout.{meta_lines, device_lines};
 ghost use Rattle.pmem_base.specs.declared.lines.Line.{Line};
 ghost use Rattle.board.specs.Steps.{WasCut};
+ghost use Rattle.call_plan.specs.Plans.{ended};
+ghost use Rattle.call_plan.specs.Following.{Follows};
 ghost use Rattle.meta_cache.specs.Banks.{is_cached};
 ghost use Rattle.meta_cache.specs.State.{oldest_dirty};
 ghost use Rattle.meta_path.specs.Blocks.{line_in, AreInTheirBanks, AreCachedTrue};
+ghost use Rattle.meta_path.specs.Plans.{write_back_plan, oldest_plan};
 ghost use Rattle.meta_path.specs.Storing.{IsCleaned, IsOneWrittenBack};
 
 use board::Board;
@@ -33,6 +36,7 @@ pub fn write_back_one<B: Board>(
     ensures shape { cache.new.shape ≡ cache.old.shape }
     ensures banks { AreInTheirBanks (shape_of geo.now) cache.new.banks }
     ensures lines { (truth : List Line) → AreCachedTrue cache.old.banks truth → AreCachedTrue cache.new.banks truth }
+    ensures plan { Follows (oldest_plan cache.old) (B.device board.old) (B.device board.new) (ended result cache.new) }
 {
     cache.are_banks();
     let Some((bank, x)) = cache.oldest_dirty() else {
@@ -58,6 +62,7 @@ pub(crate) fn write_back<B: Board>(
     ensures ok { OnOk result (IsCleaned (shape_of geo.now) bank x cache.old cache.new (B.device board.old) (B.device board.new)) }
     ensures cut { OnErr result (WasCut (B.device board.old) (B.device board.new)) }
     ensures same { OnErr result (cache.new ≡ cache.old) }
+    ensures plan { Follows (write_back_plan cache.old bank x) (B.device board.old) (B.device board.new) (ended result cache.new) }
 {
     board.write_line(geo.meta_line(x), cached_line(cache, bank, x))?;
     cache.set_clean(bank, x);

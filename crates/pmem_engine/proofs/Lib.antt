@@ -6,3 +6,4 @@ pub mod PathNaming
 pub mod Seals
 pub mod PageLines
 pub mod PostedWrites
+pub mod PlannedCalls

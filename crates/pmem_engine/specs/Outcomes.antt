@@ -200,7 +200,6 @@ pub record CallEffect (setup : Setup) (outcome : Outcome) (made : List Mark) (ol
   pub tags : NeverFalls old.tags new.tags
   pub digests : NeverFalls old.digests new.digests
   pub marks : new.ledger.marks ≡ old.ledger.marks ++ made
-  pub spare : new.ledger.spare + length made ≡ old.ledger.spare
   pub true_lines : length new.ledger.truth ≡ length old.ledger.truth
   pub data_lines : new.ledger.data_lines ≡ old.ledger.data_lines
   pub exhibit : outcome ≢ shown → new.ledger.exhibit ≡ old.ledger.exhibit

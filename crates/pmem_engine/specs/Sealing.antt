@@ -57,7 +57,6 @@ pub record HasStoredPath (g : Shape) (page : ℕ) (persisted : Bool) (lines : Li
 -- the ledger has one mark more, and the path's new lines
 pub record HasNotedPath (lines : List (ℕ × Line)) (mark : Mark) (old new : LedgerState) : Type 0 where
   pub marks : new.marks ≡ old.marks ++ mark ∷ []
-  pub spare : new.spare + 1 ≡ old.spare
   pub truth : new.truth ≡ put_lines lines old.truth
   pub count : length new.truth ≡ length old.truth
   pub data_lines : new.data_lines ≡ old.data_lines

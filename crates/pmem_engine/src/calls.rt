@@ -5,8 +5,12 @@ ghost use Rattle.pmem_base.specs.Layout.{data_lines};
 ghost use Rattle.pmem_base.specs.Ranges.{IsPosted};
 ghost use Rattle.suite.specs.Setup.{Setup};
 ghost use Rattle.seal_ledger.specs.Ledger.{LedgerState};
+ghost use Rattle.seal_ledger.specs.Notes.{HasRoom};
 ghost use Rattle.pmem_engine.specs.declared.fault.Fault.TheVariants as Fail;
-ghost use Rattle.pmem_engine.specs.Parts.{parts_of};
+ghost use Rattle.call_plan.specs.Plans.{ended};
+ghost use Rattle.call_plan.specs.Following.{Follows};
+ghost use Rattle.pmem_engine.specs.Parts.{parts_of, setup_at};
+ghost use Rattle.pmem_engine.specs.Plans.{chip_at, read_plan, turn_plan, flush_plan, set_loss_plan};
 ghost use Rattle.pmem_engine.specs.Outcomes.{of_cut, outcome_of, is_going};
 ghost use Rattle.pmem_engine.specs.Inner.{ended_by};
 ghost use Rattle.pmem_engine.specs.Calls.{IsReady, IsUsable, whole_write, HasReadLine, HasWrittenLine, HasTurned, HasFlushed, HasSetLoss};
@@ -32,6 +36,10 @@ impl Engine {
         ensures read { HasReadLine (record { shape = self.old.shape; formulas = S.formulas_of (S.keys suite.old) }) at
             (parts_of self.old (B.device board.old) (A.ledger audit.old) (S.tags suite.old) (S.digests suite.old))
             (parts_of self.new (B.device board.new) (A.ledger audit.new) (S.tags suite.new) (S.digests suite.new)) result }
+        ensures plan { Follows (read_plan (setup_at S.Suite self.old suite.old) (B.device board.old).regs at
+            (chip_at S.Suite A.Audit self.old suite.old audit.old)) (B.device board.old) (B.device board.new)
+            (ended result (chip_at S.Suite A.Audit self.new suite.new audit.new)) }
+        ensures capacity { A.capacity audit.new ≡ A.capacity audit.old }
         ensures keys { S.keys suite.new ≡ S.keys suite.old }
         ensures usable { IsUsable self.old.shape self.new (B.device board.new) (A.ledger audit.new) }
         ensures shape { self.new.shape ≡ self.old.shape }
@@ -51,12 +59,13 @@ impl Engine {
         line: &Line,
     ) -> Result<Ctr, Fault>
         requires line { at < data_lines self.old.shape }
-        requires room { 66 ≤ (A.ledger audit.old).spare }
+        requires room { HasRoom (A.ledger audit.old) (A.capacity audit.old) 66 }
         requires usable { IsUsable self.old.shape self.old (B.device board.old) (A.ledger audit.old) }
         ensures written { HasWrittenLine (record { shape = self.old.shape; formulas = S.formulas_of (S.keys suite.old) })
             (whole_write at line.now)
             (parts_of self.old (B.device board.old) (A.ledger audit.old) (S.tags suite.old) (S.digests suite.old))
             (parts_of self.new (B.device board.new) (A.ledger audit.new) (S.tags suite.new) (S.digests suite.new)) result }
+        ensures capacity { A.capacity audit.new ≡ A.capacity audit.old }
         ensures keys { S.keys suite.new ≡ S.keys suite.old }
         ensures usable { IsUsable self.old.shape self.new (B.device board.new) (A.ledger audit.new) }
         ensures shape { self.new.shape ≡ self.old.shape }
@@ -82,11 +91,12 @@ impl Engine {
     ) -> Result<Ctr, Fault>
         requires line { write.now.at < data_lines self.old.shape }
         requires posted { IsPosted write.now }
-        requires room { 66 ≤ (A.ledger audit.old).spare }
+        requires room { HasRoom (A.ledger audit.old) (A.capacity audit.old) 66 }
         requires usable { IsUsable self.old.shape self.old (B.device board.old) (A.ledger audit.old) }
         ensures written { HasWrittenLine (record { shape = self.old.shape; formulas = S.formulas_of (S.keys suite.old) }) write.now
             (parts_of self.old (B.device board.old) (A.ledger audit.old) (S.tags suite.old) (S.digests suite.old))
             (parts_of self.new (B.device board.new) (A.ledger audit.new) (S.tags suite.new) (S.digests suite.new)) result }
+        ensures capacity { A.capacity audit.new ≡ A.capacity audit.old }
         ensures keys { S.keys suite.new ≡ S.keys suite.old }
         ensures usable { IsUsable self.old.shape self.new (B.device board.new) (A.ledger audit.new) }
         ensures shape { self.new.shape ≡ self.old.shape }
@@ -104,11 +114,15 @@ impl Engine {
         suite: &mut S,
         audit: &mut A,
     ) -> Result<Option<(u32, u8)>, Fault>
-        requires room { 1 ≤ (A.ledger audit.old).spare }
+        requires room { HasRoom (A.ledger audit.old) (A.capacity audit.old) 1 }
         requires usable { IsUsable self.old.shape self.old (B.device board.old) (A.ledger audit.old) }
         ensures turned { HasTurned (record { shape = self.old.shape; formulas = S.formulas_of (S.keys suite.old) })
             (parts_of self.old (B.device board.old) (A.ledger audit.old) (S.tags suite.old) (S.digests suite.old))
             (parts_of self.new (B.device board.new) (A.ledger audit.new) (S.tags suite.new) (S.digests suite.new)) result }
+        ensures plan { Follows (turn_plan (setup_at S.Suite self.old suite.old) (B.device board.old).regs
+            (chip_at S.Suite A.Audit self.old suite.old audit.old)) (B.device board.old) (B.device board.new)
+            (ended result (chip_at S.Suite A.Audit self.new suite.new audit.new)) }
+        ensures capacity { A.capacity audit.new ≡ A.capacity audit.old }
         ensures keys { S.keys suite.new ≡ S.keys suite.old }
         ensures usable { IsUsable self.old.shape self.new (B.device board.new) (A.ledger audit.new) }
         ensures shape { self.new.shape ≡ self.old.shape }
@@ -128,6 +142,7 @@ impl Engine {
         ensures flushed { (setup : Setup) (ledger : LedgerState) (tags digests : ℕ) → setup.shape ≡ self.old.shape
             → HasFlushed setup (parts_of self.old (B.device board.old) ledger tags digests)
             (parts_of self.new (B.device board.new) ledger tags digests) result }
+        ensures plan { Follows (flush_plan self.old) (B.device board.old) (B.device board.new) (ended result self.new) }
         ensures reads { (B.device board.new).reads ≡ (B.device board.old).reads }
         ensures ready { IsReady self.old.shape self.new (B.device board.new) }
         ensures shape { self.new.shape ≡ self.old.shape }
@@ -145,6 +160,8 @@ impl Engine {
         ensures set { (setup : Setup) (ledger : LedgerState) (tags digests : ℕ) → setup.shape ≡ self.old.shape
             → HasSetLoss setup n (parts_of self.old (B.device board.old) ledger tags digests)
             (parts_of self.new (B.device board.new) ledger tags digests) result }
+        ensures plan { Follows (set_loss_plan n (B.device board.old).regs self.old) (B.device board.old) (B.device board.new)
+            (ended result self.new) }
         ensures reads { (B.device board.new).reads ≡ (B.device board.old).reads }
         ensures ready { IsReady self.old.shape self.new (B.device board.new) }
         ensures shape { self.new.shape ≡ self.old.shape }

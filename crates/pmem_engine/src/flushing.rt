@@ -6,6 +6,9 @@ ghost use Rattle.board.specs.Steps.{WasCut};
 ghost use Rattle.meta_cache.specs.Banks.{is_cached, is_cached_dirty};
 ghost use Rattle.meta_cache.specs.State.{bank_of, oldest_dirty_of, oldest_dirty};
 ghost use Rattle.meta_path.specs.Blocks.{line_in, bank_dirty_count};
+ghost use Rattle.call_plan.specs.Plans.{ended};
+ghost use Rattle.call_plan.specs.Following.{Follows};
+ghost use Rattle.pmem_engine.specs.Plans.{oldest_block_plan, block_plan, counter_blocks_plan, make_way_plan, latch_loss_plan};
 ghost use Rattle.pmem_engine.specs.DirtyOrder.{dirty_order};
 ghost use Rattle.pmem_engine.specs.Flushed.{HasWrittenBack, HasWrittenOldest, HasWrittenBlocks, HasMadeWay, IsCutInBlocks, HasChangedLoss, with_loss, IsBankClean};
 
@@ -22,6 +25,7 @@ impl Engine {
         ensures oldest { IfOk result (λ found. found ≡ option_map (λ block. block.1) (oldest_dirty self.old.cache)) }
         ensures mirror { self.new.mirror ≡ self.old.mirror }
         ensures reads { (B.device board.new).reads ≡ (B.device board.old).reads }
+        ensures plan { Follows (oldest_block_plan self.old) (B.device board.old) (B.device board.new) (ended result self.new) }
     {
         self.cache.are_banks();
         let x = write_back_one(&self.geo, &mut self.cache, board)?;
@@ -35,6 +39,8 @@ impl Engine {
         requires size { (B.device board.old).size ≡ device_lines self.old.shape }
         ensures changed { HasChangedLoss n self.old self.new (B.device board.old) (B.device board.new) result }
         ensures reads { (B.device board.new).reads ≡ (B.device board.old).reads }
+        ensures plan { Follows (latch_loss_plan n (B.device board.old).regs self.old) (B.device board.old) (B.device board.new)
+            (ended result self.new) }
     {
         if n == board.regs().loss {
             return Ok(0);
@@ -52,6 +58,8 @@ impl Engine {
         ensures ok { IfOk result (λ count. HasMadeWay n count self.old self.new (B.device board.old) (B.device board.new)) }
         ensures few { IfOk result (λ count. count ≤ 512) }
         ensures cut { OnErr result (IsCutInBlocks n self.old self.new (B.device board.old) (B.device board.new)) }
+        ensures plan { Follows (make_way_plan n (B.device board.old).regs self.old) (B.device board.old) (B.device board.new)
+            (ended result self.new) }
     {
         if board.regs().loss <= n {
             return Ok(0);
@@ -68,6 +76,7 @@ impl Engine {
         ensures few { IfOk result (λ count. count ≤ 512) }
         ensures cut { (n : ℕ) → n < (B.device board.old).regs.loss
             → OnErr result (IsCutInBlocks n self.old self.new (B.device board.old) (B.device board.new)) }
+        ensures plan { Follows (counter_blocks_plan self.old) (B.device board.old) (B.device board.new) (ended result self.new) }
     {
         self.cache.are_banks();
         let mut written: u32 = 0;
@@ -101,6 +110,8 @@ impl Engine {
             ≡ bank_dirty_count self.old.shape self.old.cache self.old.shape.levels) }
         ensures order { OnOk result (dirty_order (bank_of self.old.cache self.old.shape.levels)
             ≡ x ∷ dirty_order (bank_of self.new.cache self.old.shape.levels)) }
+        ensures plan { Follows (block_plan self.old.shape.levels x self.old) (B.device board.old) (B.device board.new)
+            (ended result self.new) }
     {
         self.cache.are_banks();
         board.write_line(self.geo.meta_line(x), self.block_line(x))?;

@@ -1,11 +1,14 @@
 //! Naming: a page's path in the shadow tables.
 ghost use Rattle.std.specs.Prelude.{ℕ, ◌≡◌, ◌<◌};
 ghost use Rattle.pmem_base.specs.Layout.{pages, device_lines};
+ghost use Rattle.call_plan.specs.Plans.{ended};
+ghost use Rattle.call_plan.specs.Following.{Follows};
 ghost use Rattle.seal_ledger.specs.Ledger.{LedgerState};
 ghost use Rattle.meta_path.specs.Blocks.{IsPathCached};
 ghost use Rattle.suite.specs.Setup.{Setup};
 ghost use Rattle.pmem_engine.specs.Parts.{parts_of};
 ghost use Rattle.pmem_engine.specs.Inner.{HasNamedPath};
+ghost use Rattle.pmem_engine.specs.Plans.{name_plan};
 
 use crate::engine::Engine;
 use board::Board;
@@ -22,6 +25,7 @@ impl Engine {
             → HasNamedPath setup page (parts_of self.old (B.device board.old) ledger tags digests)
             (parts_of self.new (B.device board.new) ledger tags digests) result }
         ensures cache { self.new.cache ≡ self.old.cache }
+        ensures plan { Follows (name_plan page self.old) (B.device board.old) (B.device board.new) (ended result self.new) }
     {
         self.cache.are_banks();
         self.mirror.are_lines();

@@ -9,6 +9,9 @@ ghost use Rattle.page_reencrypt.specs.Registers.{counter_of};
 ghost use Rattle.seal_ledger.specs.Ledger.{LedgerState};
 ghost use Rattle.meta_path.specs.Blocks.{IsPathCached, line_in};
 ghost use Rattle.suite.specs.Setup.{Setup};
+ghost use Rattle.call_plan.specs.Plans.{ended};
+ghost use Rattle.call_plan.specs.Following.{Follows};
+ghost use Rattle.pmem_engine.specs.Plans.{chip_at, fetch_path_plan, read_line_plan, unseal_plan};
 ghost use Rattle.pmem_engine.specs.Invariants.{IsTrusted};
 ghost use Rattle.pmem_engine.specs.Parts.{parts_at, setup_at};
 ghost use Rattle.pmem_engine.specs.Calls.{IsUsable};
@@ -46,6 +49,10 @@ impl Engine {
         ensures read { UpReadOutcome (setup_at S.Suite self.old suite.old) at
             (parts_at B.Board S.Suite A.Audit self.old board.old suite.old audit.old)
             (parts_at B.Board S.Suite A.Audit self.new board.new suite.new audit.new) result }
+        ensures plan { Follows (read_line_plan (setup_at S.Suite self.old suite.old) (B.device board.old).regs at
+            (chip_at S.Suite A.Audit self.old suite.old audit.old)) (B.device board.old) (B.device board.new)
+            (ended result (chip_at S.Suite A.Audit self.new suite.new audit.new)) }
+        ensures capacity { A.capacity audit.new ≡ A.capacity audit.old }
         ensures keys { S.keys suite.new ≡ S.keys suite.old }
     {
         self.fetch(board, suite, audit, at / 64)?;
@@ -68,6 +75,10 @@ impl Engine {
         ensures fetched { HasFetched (setup_at S.Suite self.old suite.old) page
             (parts_at B.Board S.Suite A.Audit self.old board.old suite.old audit.old)
             (parts_at B.Board S.Suite A.Audit self.new board.new suite.new audit.new) result }
+        ensures plan { Follows (fetch_path_plan (setup_at S.Suite self.old suite.old) (B.device board.old).regs.root page
+            (chip_at S.Suite A.Audit self.old suite.old audit.old)) (B.device board.old) (B.device board.new)
+            (ended result (chip_at S.Suite A.Audit self.new suite.new audit.new)) }
+        ensures capacity { A.capacity audit.new ≡ A.capacity audit.old }
         ensures keys { S.keys suite.new ≡ S.keys suite.old }
     {
         self.cache.are_banks();
@@ -161,10 +172,15 @@ impl Engine {
         ensures unsealed { HasUnsealed (setup_at S.Suite self.now suite.old) at ctr
             (parts_at B.Board S.Suite A.Audit self.now board.old suite.old audit.old)
             (parts_at B.Board S.Suite A.Audit self.now board.new suite.new audit.new) result }
+        ensures plan { Follows (unseal_plan (setup_at S.Suite self.now suite.old) at ctr (chip_at S.Suite A.Audit self.now suite.old audit.old))
+            (B.device board.old) (B.device board.new) (ended result (chip_at S.Suite A.Audit self.now suite.new audit.new)) }
+        ensures capacity { A.capacity audit.new ≡ A.capacity audit.old }
         ensures keys { S.keys suite.new ≡ S.keys suite.old }
     {
         let cipher = board.read_line(at)?;
+        cipher.is_whole();
         let tag_line = board.read_line(self.geo.tag_line(at))?;
+        tag_line.is_whole();
         let tag = tag_at(&tag_line, at);
         match unseal(suite, at, ctr, &cipher, &tag) {
             None => Err(LineFault::Tag { at }),

@@ -4,10 +4,14 @@ ghost use Rattle.pmem_base.specs.Counts.{risen};
 ghost use Rattle.pmem_base.specs.Layout.{data_lines, device_lines};
 ghost use Rattle.pmem_base.specs.Lines.{IsLine};
 ghost use Rattle.pmem_base.specs.Registers.{not_done, old_major, IsGroup, IsValidRegs};
+ghost use Rattle.seal_ledger.specs.Notes.{HasRoom};
 ghost use Rattle.page_reencrypt.specs.Registers.{registers_with_done};
 ghost use Rattle.pmem_engine.specs.Committing.{next_seal_of, entries_of, HasLineDone};
 ghost use Rattle.pmem_engine.specs.Parts.{parts_at, setup_at};
 ghost use Rattle.pmem_engine.specs.Calls.{IsUsable};
+ghost use Rattle.call_plan.specs.Plans.{ended};
+ghost use Rattle.call_plan.specs.Following.{Follows};
+ghost use Rattle.pmem_engine.specs.Plans.{chip_at, commit_plan, reseal_plan};
 ghost use Rattle.pmem_engine.specs.Resealing.{IsNextHeld, HasResealCommitted, IsResealCut, HasResealed};
 
 use crate::engine::Engine;
@@ -120,11 +124,15 @@ impl Engine {
     ) -> Result<(u32, u8), LineFault>
         requires usable { IsUsable self.now.shape self.now (B.device board.old) (A.ledger audit.old) }
         requires up { self.now.down ≡ false }
-        requires room { 1 ≤ (A.ledger audit.old).spare }
+        requires room { HasRoom (A.ledger audit.old) (A.capacity audit.old) 1 }
         requires register { n < length (B.device board.old).regs.progress.items }
         ensures resealed { HasResealed (setup_at S.Suite self.now suite.old) n
             (parts_at B.Board S.Suite A.Audit self.now board.old suite.old audit.old)
             (parts_at B.Board S.Suite A.Audit self.now board.new suite.new audit.new) result }
+        ensures plan { Follows (reseal_plan (setup_at S.Suite self.now suite.old) n (B.device board.old).regs
+            (chip_at S.Suite A.Audit self.now suite.old audit.old)) (B.device board.old) (B.device board.new)
+            (ended result (chip_at S.Suite A.Audit self.now suite.new audit.new)) }
+        ensures capacity { A.capacity audit.new ≡ A.capacity audit.old }
         ensures keys { S.keys suite.new ≡ S.keys suite.old }
     {
         self.has_shape();
@@ -154,11 +162,14 @@ impl Engine {
         requires valid { IsValidRegs self.now.shape (B.device board.old).regs }
         requires no_group { (B.device board.old).regs.group.items ≡ [] }
         requires lines { (A.ledger audit.old).data_lines ≡ data_lines self.now.shape }
-        requires room { 1 ≤ (A.ledger audit.old).spare }
+        requires room { HasRoom (A.ledger audit.old) (A.capacity audit.old) 1 }
         ensures ok { OnOk result (HasResealCommitted self.now.shape next.now (B.device board.old) (B.device board.new)
             (A.ledger audit.old) (A.ledger audit.new)) }
         ensures cut { OnErr result (IsResealCut self.now.shape next.now (B.device board.old) (B.device board.new)
             (A.ledger audit.old) (A.ledger audit.new)) }
+        ensures plan { Follows (commit_plan self.now.shape next.now (B.device board.old).regs (A.ledger audit.old))
+            (B.device board.old) (B.device board.new) (ended result (A.ledger audit.new)) }
+        ensures capacity { A.capacity audit.new ≡ A.capacity audit.old }
     {
         let mut regs = Regs::empty();
         regs.set(board.regs());

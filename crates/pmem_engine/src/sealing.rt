@@ -4,6 +4,7 @@ ghost use Rattle.std.specs.Prelude.{◌≡◌, ◌≢◌, ◌<◌, ◌≤◌, �
 ghost use Rattle.pmem_base.specs.Lines.{IsCtr};
 ghost use Rattle.pmem_base.specs.Layout.{page_of, index_in_page, data_lines, device_lines, meta_lines, pages, meta_line};
 ghost use Rattle.pmem_base.specs.Registers.{IsGroup, IsValidRegs};
+ghost use Rattle.seal_ledger.specs.Notes.{HasRoom};
 ghost use Rattle.bonsai_tree.specs.Positions.{counter_position};
 ghost use Rattle.meta_path.specs.Blocks.{IsPathCached};
 ghost use Rattle.meta_path.specs.Storing.{IsPathOf, HasMetaLines};
@@ -41,13 +42,14 @@ impl Engine {
         requires line { at < data_lines self.old.shape }
         requires usable { IsUsable self.old.shape self.old (B.device board.old) (A.ledger audit.old) }
         requires up { self.old.down ≡ false }
-        requires room { 1 ≤ (A.ledger audit.old).spare }
+        requires room { HasRoom (A.ledger audit.old) (A.capacity audit.old) 1 }
         requires cached { IsPathCached self.old.shape self.old.cache (page_of at) }
         requires named { IsPathNamedInMirror self.old.shape self.old (page_of at) }
         requires minor { minor_of (cached_block self.old.shape self.old (page_of at)) (index_in_page at) < 127 }
         ensures sealed { HasSealedNext (setup_at S.Suite self.old suite.old) at plain.now
             (parts_at B.Board S.Suite A.Audit self.old board.old suite.old audit.old)
             (parts_at B.Board S.Suite A.Audit self.new board.new suite.new audit.new) result }
+        ensures capacity { A.capacity audit.new ≡ A.capacity audit.old }
         ensures keys { S.keys suite.new ≡ S.keys suite.old }
     {
         plain.is_whole();
@@ -85,7 +87,7 @@ impl Engine {
         requires page { page < pages self.old.shape }
         requires usable { IsUsable self.old.shape self.old (B.device board.old) (A.ledger audit.old) }
         requires up { self.old.down ≡ false }
-        requires room { 1 ≤ (A.ledger audit.old).spare }
+        requires room { HasRoom (A.ledger audit.old) (A.capacity audit.old) 1 }
         requires cached { IsPathCached self.old.shape self.old.cache page }
         requires named { IsPathNamedInMirror self.old.shape self.old page }
         requires closed { register_of (B.device board.old).regs.progress.items page ≡ None }
@@ -95,6 +97,7 @@ impl Engine {
             (parts_at B.Board S.Suite A.Audit self.old board.old suite.old audit.old)
             (parts_at B.Board S.Suite A.Audit self.new board.new suite.new audit.new) result }
         ensures rolled { OnOk result (cached_block self.old.shape self.new page ≡ next_block (cached_block self.old.shape self.old page)) }
+        ensures capacity { A.capacity audit.new ≡ A.capacity audit.old }
         ensures keys { S.keys suite.new ≡ S.keys suite.old }
     {
         let (block, register) = begin(&self.block(page), page)?;
@@ -122,11 +125,12 @@ impl Engine {
         requires no_group { (B.device board.old).regs.group.items ≡ [] }
         requires lines { (A.ledger audit.old).data_lines ≡ data_lines self.old.shape }
         requires truth { length (A.ledger audit.old).truth ≡ meta_lines self.old.shape }
-        requires room { 1 ≤ (A.ledger audit.old).spare }
+        requires room { HasRoom (A.ledger audit.old) (A.capacity audit.old) 1 }
         ensures ok { OnOk result (HasSealCommitted self.old.shape next.now persisted block.now path.now.lines.items path.now.root
             self.old self.new (B.device board.old) (B.device board.new) (A.ledger audit.old) (A.ledger audit.new)) }
         ensures cut { OnErr result (IsSealCut self.old.shape next.now persisted block.now path.now.lines.items path.now.root
             self.old self.new (B.device board.old) (B.device board.new) (A.ledger audit.old) (A.ledger audit.new)) }
+        ensures capacity { A.capacity audit.new ≡ A.capacity audit.old }
     {
         let mut regs = Regs::empty();
         regs.set(board.regs());
@@ -181,11 +185,12 @@ impl Engine {
         requires not_full { length (B.device board.old).regs.progress.items < 4 }
         requires no_group { (B.device board.old).regs.group.items ≡ [] }
         requires truth { length (A.ledger audit.old).truth ≡ meta_lines self.old.shape }
-        requires room { 1 ≤ (A.ledger audit.old).spare }
+        requires room { HasRoom (A.ledger audit.old) (A.capacity audit.old) 1 }
         ensures ok { OnOk result (HasBeginCommitted self.old.shape page register.now block.now path.now.lines.items path.now.root
             self.old self.new (B.device board.old) (B.device board.new) (A.ledger audit.old) (A.ledger audit.new)) }
         ensures cut { OnErr result (IsBeginCut self.old.shape page register.now block.now path.now.lines.items path.now.root
             self.old self.new (B.device board.old) (B.device board.new) (A.ledger audit.old) (A.ledger audit.new)) }
+        ensures capacity { A.capacity audit.new ≡ A.capacity audit.old }
     {
         let mut regs = Regs::empty();
         regs.set(board.regs());
@@ -222,6 +227,7 @@ impl Engine {
         requires truth { length (A.ledger audit.old).truth ≡ meta_lines self.old.shape }
         ensures stored { HasStoredPath self.old.shape page persisted path.now.lines.items self.old self.new }
         ensures told { HasMetaLines path.now.lines.items (A.ledger audit.old) (A.ledger audit.new) }
+        ensures capacity { A.capacity audit.new ≡ A.capacity audit.old }
     {
         self.cache.are_banks();
         store_path(&mut self.cache, audit, path, persisted);

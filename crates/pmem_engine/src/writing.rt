@@ -3,10 +3,15 @@ ghost use Rattle.std.specs.Prelude.{◌≡◌, ◌<◌, ◌≤◌, ◌-◌, ◌^
 ghost use Rattle.pmem_base.specs.Layout.{page_of, index_in_page, data_lines, pages};
 ghost use Rattle.pmem_base.specs.Ranges.{IsPosted};
 ghost use Rattle.pmem_base.specs.WaitingWrites.{put_write};
+ghost use Rattle.seal_ledger.specs.Notes.{HasRoom};
 ghost use Rattle.split_counters.specs.Blocks.{next_block};
 ghost use Rattle.page_reencrypt.specs.Registers.{register_of};
 ghost use Rattle.meta_path.specs.Blocks.{IsPathCached};
 ghost use Rattle.pmem_engine.specs.Parts.{parts_at, setup_at};
+ghost use Rattle.call_plan.specs.Plans.{ended};
+ghost use Rattle.call_plan.specs.Following.{Follows};
+ghost use Rattle.pmem_engine.specs.Plans.{chip_at};
+ghost use Rattle.pmem_engine.specs.WritePlans.{plain_plan, finish_page_plan, finish_for_plan};
 ghost use Rattle.pmem_engine.specs.Calls.{IsUsable, IsPathNamedInMirror};
 ghost use Rattle.pmem_engine.specs.Inner.{cached_block};
 ghost use Rattle.pmem_engine.specs.Writing.{overflow_of, HasMadePlain, register_to_finish, HasFinishedPage, HasFinishedFor, HasBegunFor, UpWriteOutcome};
@@ -34,10 +39,11 @@ impl Engine {
         requires posted { IsPosted write.now }
         requires usable { IsUsable self.old.shape self.old (B.device board.old) (A.ledger audit.old) }
         requires up { self.old.down ≡ false }
-        requires room { 66 ≤ (A.ledger audit.old).spare }
+        requires room { HasRoom (A.ledger audit.old) (A.capacity audit.old) 66 }
         ensures written { UpWriteOutcome (setup_at S.Suite self.old suite.old) write.now
             (parts_at B.Board S.Suite A.Audit self.old board.old suite.old audit.old)
             (parts_at B.Board S.Suite A.Audit self.new board.new suite.new audit.new) result }
+        ensures capacity { A.capacity audit.new ≡ A.capacity audit.old }
         ensures keys { S.keys suite.new ≡ S.keys suite.old }
     {
         let page = write.at / 64;
@@ -82,6 +88,10 @@ impl Engine {
         ensures made { HasMadePlain (setup_at S.Suite self.now suite.old) write.now
             (parts_at B.Board S.Suite A.Audit self.now board.old suite.old audit.old)
             (parts_at B.Board S.Suite A.Audit self.now board.new suite.new audit.new) result }
+        ensures plan { Follows (plain_plan (setup_at S.Suite self.now suite.old) (B.device board.old).regs write.now
+            (chip_at S.Suite A.Audit self.now suite.old audit.old)) (B.device board.old) (B.device board.new)
+            (ended result (chip_at S.Suite A.Audit self.now suite.new audit.new)) }
+        ensures capacity { A.capacity audit.new ≡ A.capacity audit.old }
         ensures keys { S.keys suite.new ≡ S.keys suite.old }
     {
         if write.len == 64 {
@@ -103,12 +113,16 @@ impl Engine {
     ) -> Result<(), LineFault>
         requires usable { IsUsable self.now.shape self.now (B.device board.old) (A.ledger audit.old) }
         requires up { self.now.down ≡ false }
-        requires room { 64 ≤ (A.ledger audit.old).spare }
+        requires room { HasRoom (A.ledger audit.old) (A.capacity audit.old) 64 }
         ensures finished { HasFinishedFor overflows (setup_at S.Suite self.now suite.old) page
             (parts_at B.Board S.Suite A.Audit self.now board.old suite.old audit.old)
             (parts_at B.Board S.Suite A.Audit self.now board.new suite.new audit.new) result }
         ensures closed { OnOk result (overflows ≡ true → register_of (B.device board.new).regs.progress.items page ≡ None) }
         ensures not_full { OnOk result (overflows ≡ true → length (B.device board.new).regs.progress.items < 4) }
+        ensures plan { Follows (finish_for_plan (setup_at S.Suite self.now suite.old) page overflows (B.device board.old).regs
+            (chip_at S.Suite A.Audit self.now suite.old audit.old)) (B.device board.old) (B.device board.new)
+            (ended result (chip_at S.Suite A.Audit self.now suite.new audit.new)) }
+        ensures capacity { A.capacity audit.new ≡ A.capacity audit.old }
         ensures keys { S.keys suite.new ≡ S.keys suite.old }
     {
         if !overflows {
@@ -130,11 +144,15 @@ impl Engine {
     ) -> Result<(), LineFault>
         requires usable { IsUsable self.now.shape self.now (B.device board.old) (A.ledger audit.old) }
         requires up { self.now.down ≡ false }
-        requires room { 64 ≤ (A.ledger audit.old).spare }
+        requires room { HasRoom (A.ledger audit.old) (A.capacity audit.old) 64 }
         requires register { n < length (B.device board.old).regs.progress.items }
         ensures finished { HasFinishedPage (setup_at S.Suite self.now suite.old) n
             (parts_at B.Board S.Suite A.Audit self.now board.old suite.old audit.old)
             (parts_at B.Board S.Suite A.Audit self.now board.new suite.new audit.new) result }
+        ensures plan { Follows (finish_page_plan (setup_at S.Suite self.now suite.old) n (B.device board.old).regs
+            (chip_at S.Suite A.Audit self.now suite.old audit.old)) (B.device board.old) (B.device board.new)
+            (ended result (chip_at S.Suite A.Audit self.now suite.new audit.new)) }
+        ensures capacity { A.capacity audit.new ≡ A.capacity audit.old }
         ensures keys { S.keys suite.new ≡ S.keys suite.old }
     {
         let lines = left(&board.regs().progress[n]);
@@ -156,7 +174,7 @@ impl Engine {
         requires page { page < pages self.old.shape }
         requires usable { IsUsable self.old.shape self.old (B.device board.old) (A.ledger audit.old) }
         requires up { self.old.down ≡ false }
-        requires room { 1 ≤ (A.ledger audit.old).spare }
+        requires room { HasRoom (A.ledger audit.old) (A.capacity audit.old) 1 }
         requires cached { IsPathCached self.old.shape self.old.cache page }
         requires named { IsPathNamedInMirror self.old.shape self.old page }
         requires closed { overflows ≡ true → register_of (B.device board.old).regs.progress.items page ≡ None }
@@ -166,6 +184,7 @@ impl Engine {
             (parts_at B.Board S.Suite A.Audit self.old board.old suite.old audit.old)
             (parts_at B.Board S.Suite A.Audit self.new board.new suite.new audit.new) result }
         ensures rolled { OnOk result (overflows ≡ true → cached_block self.old.shape self.new page ≡ next_block (cached_block self.old.shape self.old page)) }
+        ensures capacity { A.capacity audit.new ≡ A.capacity audit.old }
         ensures keys { S.keys suite.new ≡ S.keys suite.old }
     {
         if !overflows {

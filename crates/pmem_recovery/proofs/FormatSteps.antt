@@ -3,7 +3,8 @@ use Rattle.std.proofs.Common.{rules, ℕ, ◌≡◌, ◌≢◌, ◌<◌, ◌≤�
 use Rattle.std.specs.Prelude.{is_some, replicate, slice_set}
 use Rattle.std.specs.List.{range_with_len}
 use Rattle.std.proofs.lemmas.Bool.{cases_eq, cases_lt}
-use Rattle.std.proofs.lemmas.List.{append_assoc, map-append, length-set}
+use Rattle.std.proofs.lemmas.List.{append_assoc, map-append, length-set, length-append, length-map}
+use Rattle.std.proofs.lemmas.List.FromFn.{length-range_with_len}
 use Rattle.pmem_base.specs.declared.lines.Line.{Line}
 use Rattle.pmem_base.specs.Shape.{Shape}
 use Rattle.pmem_base.specs.Layout as layout
@@ -11,7 +12,7 @@ use Rattle.pmem_base.specs.Lines.{line_at, tag_slot}
 use Rattle.pmem_base.proofs.ListLaws.{range_with_len-append}
 use Rattle.board.specs.Device.{Device, AreToldLines}
 use Rattle.board.specs.Steps.{HasWritten}
-use Rattle.board.proofs.CountLemmas.{RisesBy-then}
+use Rattle.board.proofs.CountLemmas.{RisesBy-then, RisesBy-once}
 use Rattle.split_counters.specs.Blocks.{zero_minors, packed}
 use Rattle.bonsai_tree.specs.Positions.{child_position, counter_position}
 use Rattle.bonsai_tree.specs.Nodes.{node_over}
@@ -48,7 +49,7 @@ StaysSteady-then n m old mid new a b =
     }
 
 pub StaysSteady-written : (old : Device) (at : ℕ) (line : Line) (new : Device) → HasWritten old at line new → StaysSteady 1 old new
-StaysSteady-written old at line new w = search rules
+StaysSteady-written old at line new w = search (rules, RisesBy-once)
 
 -- the lines before and after a write
 pub record IsFirstLineWritten (at : ℕ) (line : Line) (old : Device) (now : List Line) : Type 0 where
@@ -78,11 +79,16 @@ HasSealedFrom-then setup a k b m old mid new e x y =
           (ap (λ c. map (first_seal setup) (range_with_len a k) ++ map (first_seal setup) (range_with_len c m)) e
           ∙ sym (map-append (first_seal setup) (range_with_len a k) (range_with_len (a + k) m))
           ∙ ap (map (first_seal setup)) (sym (range_with_len-append a k m)));
-      spare = omega (arith, x.spare, y.spare);
       truth = y.truth ∙ x.truth;
       data_lines = y.data_lines ∙ x.data_lines;
       exhibit = y.exhibit ∙ x.exhibit;
     }
+
+-- as many marks more as lines
+pub sealed_count : (setup : Setup) (a k : ℕ) (old new : LedgerState) → HasSealedFrom setup a k old new → length new.marks ≡ length old.marks + k
+sealed_count setup a k old new it =
+    ap length it.marks ∙ length-append old.marks (map (first_seal setup) (range_with_len a k))
+    ∙ ap (λ n. length old.marks + n) (length-map (range_with_len a k) (first_seal setup) ∙ length-range_with_len a k)
 
 -- ---- four lines
 

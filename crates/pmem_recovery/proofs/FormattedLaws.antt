@@ -14,6 +14,7 @@ use Rattle.pmem_base.specs.Marks.{SealOf, last_seal}
 use Rattle.pmem_base.specs.Registers.{IsGroup}
 use Rattle.pmem_base.proofs.LineLemmas.{IsLine-zero_line}
 use Rattle.pmem_engine.proofs.CallEnds.ToldLines.{whole_lines}
+use Rattle.board.proofs.CountLemmas.{RisesBy-once}
 use Rattle.board.specs.Device.{Device, AreLinesOf, AreToldLines}
 use Rattle.board.specs.Counts.{RisesBy}
 use Rattle.board.specs.Steps.{HasLatched}
@@ -205,10 +206,10 @@ HasFormatted-of setup truth l0 l1 l2 d0 d1 d2 d3 d4 engine shape in_range its ma
       regs = d.latched.regs ∙ ap (λ t. first_regs setup (line_at t 0)) (sym same);
       size = d.latched.size ∙ stays.size;
       told = ap is_some d.latched.lines ∙ stays.told;
-      steady = d.latched.steady (stays.steady d.steady);
-      live = λ l. d.latched.live (stays.live l);
+      steady = d.latched.steady ∙ stays.steady d.steady;
+      live = λ l. d.latched.live ∙ stays.live l;
       writes = subst (RisesBy (layout.device_lines setup.shape) d0.writes) (sym d.latched.writes) stays.writes;
-      latches = subst (λ n. RisesBy 1 n d4.latches) stays.latches d.latched.latches;
+      latches = subst (λ n. RisesBy 1 n d4.latches) stays.latches (RisesBy-once d.latched.latches);
       reads = d.latched.reads ∙ stays.reads;
       cuts = d.latched.cuts ∙ stays.cuts;
     }

@@ -10,6 +10,7 @@ use Rattle.pmem_base.specs.Shape.{Shape, IsShape}
 use Rattle.pmem_base.specs.Layout.{slots, meta_lines}
 use Rattle.pmem_base.specs.declared.lines.Line.{Line}
 use Rattle.pmem_base.specs.Counts.{risen, risen_times}
+use Rattle.board.proofs.CountLemmas.{HasRisen-once}
 use Rattle.board.specs.Device.{Device}
 use Rattle.commit_regs.specs.Groups.{RisesAtMost}
 use Rattle.board.specs.Steps.{Tells, HasRead, WasCut}
@@ -42,13 +43,13 @@ pub KeepsDevice-read : (old : Device) (at : ℕ) (line : Line) (new : Device) �
 KeepsDevice-read old at line new r = search rules
 
 pub IsUncut-read : (old : Device) (at : ℕ) (line : Line) (new : Device) → HasRead old at line new → IsUncut old new
-IsUncut-read old at line new r = record { cuts = r.cuts; steady = r.steady; live = r.live }
+IsUncut-read old at line new r = record { cuts = r.cuts; steady = λ was. r.steady ∙ was; live = λ was. r.live ∙ was }
 
 pub told-read : (old : Device) (at : ℕ) (line : Line) (new : Device) → HasRead old at line new → IfLinesTold old.lines (λ lines. line ≡ line_at lines at)
 told-read old at line new r lines told = subst (λ o. Tells o at line) told r.tells
 
 pub IsCutOff-cut : (old new : Device) → WasCut old new → IsCutOff old new
-IsCutOff-cut old new c = search rules
+IsCutOff-cut old new c = search (rules, HasRisen-once)
 
 -- what is told stays told
 pub told_before : (old mid : Device) → KeepsDevice old mid → (lines : List Line) → old.lines ≡ Some lines → mid.lines ≡ Some lines

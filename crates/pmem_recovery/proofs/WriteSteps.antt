@@ -9,6 +9,7 @@ use Rattle.pmem_base.specs.declared.lines.Line.{Line}
 use Rattle.pmem_base.specs.Shape.{Shape}
 use Rattle.pmem_base.specs.Layout as layout
 use Rattle.pmem_base.specs.Lines.{line_at, zero_line}
+use Rattle.board.proofs.CountLemmas.{RisesBy-once}
 use Rattle.board.specs.Device.{Device}
 use Rattle.board.specs.Steps.{HasWritten, WasCut}
 use Rattle.board.proofs.StepLemmas.{is_some-with_line}
@@ -32,7 +33,7 @@ pub HasOnlyWritten-then : (n m : ℕ) (old mid new : Device) → HasOnlyWritten 
 HasOnlyWritten-then n m old mid new a b = search rules
 
 HasOnlyWritten-one : (old : Device) (at : ℕ) (line : Line) (new : Device) → HasWritten old at line new → HasOnlyWritten 1 old new
-HasOnlyWritten-one old at line new w = search rules
+HasOnlyWritten-one old at line new w = search (rules, RisesBy-once)
 
 pub HasOnlyWritten-cut : (old new : Device) → WasCut old new → HasOnlyWritten 0 old new
 HasOnlyWritten-cut old new c = search rules
@@ -183,5 +184,5 @@ HasZeroedTo-more g shadow n at line false old mid new long inside here its_line 
     }
 
 pub IsUncut-written_if : (changed : Bool) (old : Device) (at : ℕ) (line : Line) (new : Device) → HasWrittenIf changed old at line new → IsUncut old new
-IsUncut-written_if true old at line new w = record { cuts = w.cuts; steady = w.steady; live = w.live }
+IsUncut-written_if true old at line new w = record { cuts = w.cuts; steady = λ was. w.steady ∙ was; live = λ was. w.live ∙ was }
 IsUncut-written_if false old at line new same = subst (IsUncut old) (sym same) (IsUncut-none old)

@@ -42,7 +42,6 @@ pub record IsFirstSealed (setup : Setup) (lines : List Line) (a : ℕ) : Type 0 
 -- k lines from a on are sealed, in order
 pub record HasSealedFrom (setup : Setup) (a k : ℕ) (old new : LedgerState) : Type 0 where
   pub marks : new.marks ≡ old.marks ++ map (first_seal setup) (range_with_len a k)
-  pub spare : new.spare + k ≡ old.spare
   pub truth : new.truth ≡ old.truth
   pub data_lines : new.data_lines ≡ old.data_lines
   pub exhibit : new.exhibit ≡ old.exhibit
@@ -81,7 +80,6 @@ pub record HasToldMeta (g : Shape) (truth : List Line) (n : ℕ) (old new : Ledg
   pub lines : (x : ℕ) → x < n → line_at new.truth x ≡ line_at truth x
   pub count : length new.truth ≡ length old.truth
   pub marks : new.marks ≡ old.marks
-  pub spare : new.spare ≡ old.spare
   pub data_lines : new.data_lines ≡ old.data_lines
   pub exhibit : new.exhibit ≡ old.exhibit
 

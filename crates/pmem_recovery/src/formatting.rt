@@ -5,6 +5,7 @@ ghost use Rattle.pmem_base.specs.Layout.{data_lines, meta_lines, pages, shadow_l
 ghost use Rattle.pmem_base.specs.Lines.{IsLine, line_at, tag_slot};
 ghost use Rattle.board.specs.Steps.{HasWritten, HasLatched};
 ghost use Rattle.seal_ledger.specs.Ledger.{IsOfShape};
+ghost use Rattle.seal_ledger.specs.Notes.{HasRoom};
 ghost use Rattle.split_counters.specs.Blocks.{packed};
 ghost use Rattle.bonsai_tree.specs.Positions.{counter_position};
 ghost use Rattle.bonsai_tree.specs.Nodes.{node_over, IsHashTree};
@@ -44,8 +45,9 @@ pub fn format<B: Board, S: Suite, A: Audit>(
     ensures keys { S.keys suite.new ≡ S.keys suite.old }
     ensures counts { OnOk result (SuiteRise (data_lines (shape_of geo.now)) (data_lines (shape_of geo.now)) (meta_lines (shape_of geo.now)) (suite_state (S.keys suite.old) (S.pads suite.old) (S.tags suite.old) (S.digests suite.old))
         (suite_state (S.keys suite.new) (S.pads suite.new) (S.tags suite.new) (S.digests suite.new))) }
-    ensures spare { OnOk result ((A.ledger audit.old).spare ≤ (A.ledger audit.new).spare + data_lines (shape_of geo.now)) }
+    ensures capacity { A.capacity audit.old ≤ A.capacity audit.new }
     ensures err { OnErr result (A.ledger audit.new ≡ A.ledger audit.old) }
+    ensures err_capacity { OnErr result (A.capacity audit.new ≡ A.capacity audit.old) }
     ensures err_lines { OnErr result ((B.device board.new).lines ≡ (B.device board.old).lines) }
     ensures err_regs { OnErr result ((B.device board.new).regs ≡ (B.device board.old).regs) }
     ensures err_device { OnErr result (B.device board.new ≡ B.device board.old) }
@@ -74,12 +76,12 @@ fn fill_device<B: Board, S: Suite, A: Audit>(
     requires truth { length (A.ledger audit.old).truth ≡ meta_lines (shape_of geo.now) }
     requires no_marks { (A.ledger audit.old).marks ≡ [] }
     requires no_exhibit { IsNone (A.ledger audit.old).exhibit }
-    requires room { data_lines (shape_of geo.now) ≤ (A.ledger audit.old).spare }
+    requires room { HasRoom (A.ledger audit.old) (A.capacity audit.old) (data_lines (shape_of geo.now)) }
     requires long { length truth.old ≡ meta_lines (shape_of geo.now) }
     requires whole { All IsLine truth.old }
     ensures formatted { HasFormatted (setup_of geo.now (S.formulas_of (S.keys suite.old))) (A.ledger audit.new) (B.device board.old) (B.device board.new) (new_engine (shape_of geo.now)) }
+    ensures capacity { A.capacity audit.new ≡ A.capacity audit.old }
     ensures keys { S.keys suite.new ≡ S.keys suite.old }
-    ensures spare { (A.ledger audit.new).spare + data_lines (shape_of geo.now) ≡ (A.ledger audit.old).spare }
     ensures counts { SuiteRise (data_lines (shape_of geo.now)) (data_lines (shape_of geo.now)) (meta_lines (shape_of geo.now)) (suite_state (S.keys suite.old) (S.pads suite.old) (S.tags suite.old) (S.digests suite.old))
         (suite_state (S.keys suite.new) (S.pads suite.new) (S.tags suite.new) (S.digests suite.new)) }
 {
@@ -97,7 +99,8 @@ fn seal_lines<B: Board, S: Suite, A: Audit>(board: &mut B, suite: &mut S, audit:
     requires size { (B.device board.old).size ≡ device_lines (shape_of geo.now) }
     requires steady { (B.device board.old).steady ≡ true }
     requires lines { (A.ledger audit.old).data_lines ≡ data_lines (shape_of geo.now) }
-    requires room { data_lines (shape_of geo.now) ≤ (A.ledger audit.old).spare }
+    requires room { HasRoom (A.ledger audit.old) (A.capacity audit.old) (data_lines (shape_of geo.now)) }
+    ensures capacity { A.capacity audit.new ≡ A.capacity audit.old }
     ensures keys { S.keys suite.new ≡ S.keys suite.old }
     ensures counts { SuiteRise (data_lines (shape_of geo.now)) (data_lines (shape_of geo.now)) (0) (suite_state (S.keys suite.old) (S.pads suite.old) (S.tags suite.old) (S.digests suite.old))
         (suite_state (S.keys suite.new) (S.pads suite.new) (S.tags suite.new) (S.digests suite.new)) }
@@ -122,7 +125,8 @@ fn seal_group<B: Board, S: Suite, A: Audit>(
     requires steady { (B.device board.old).steady ≡ true }
     requires group { group < 16 * pages (shape_of geo.now) }
     requires lines { (A.ledger audit.old).data_lines ≡ data_lines (shape_of geo.now) }
-    requires room { 4 ≤ (A.ledger audit.old).spare }
+    requires room { HasRoom (A.ledger audit.old) (A.capacity audit.old) 4 }
+    ensures capacity { A.capacity audit.new ≡ A.capacity audit.old }
     ensures keys { S.keys suite.new ≡ S.keys suite.old }
     ensures counts { SuiteRise (4) (4) (0) (suite_state (S.keys suite.old) (S.pads suite.old) (S.tags suite.old) (S.digests suite.old))
         (suite_state (S.keys suite.new) (S.pads suite.new) (S.tags suite.new) (S.digests suite.new)) }
@@ -150,7 +154,8 @@ fn seal_one<B: Board, S: Suite, A: Audit>(
     requires steady { (B.device board.old).steady ≡ true }
     requires line { at < data_lines (shape_of geo.now) }
     requires lines { (A.ledger audit.old).data_lines ≡ data_lines (shape_of geo.now) }
-    requires room { 1 ≤ (A.ledger audit.old).spare }
+    requires room { HasRoom (A.ledger audit.old) (A.capacity audit.old) 1 }
+    ensures capacity { A.capacity audit.new ≡ A.capacity audit.old }
     ensures keys { S.keys suite.new ≡ S.keys suite.old }
     ensures counts { SuiteRise (1) (1) (0) (suite_state (S.keys suite.old) (S.pads suite.old) (S.tags suite.old) (S.digests suite.old))
         (suite_state (S.keys suite.new) (S.pads suite.new) (S.tags suite.new) (S.digests suite.new)) }
@@ -244,6 +249,7 @@ fn write_metadata<B: Board, A: Audit>(board: &mut B, audit: &mut A, geo: &Geo, t
     ensures steady { StaysSteady (meta_lines (shape_of geo.now)) (B.device board.old) (B.device board.new) }
     ensures ledger { HasToldMeta (shape_of geo.now) truth.now (meta_lines (shape_of geo.now)) (A.ledger audit.old) (A.ledger audit.new) }
     ensures lines { HasWrittenMeta (shape_of geo.now) truth.now (meta_lines (shape_of geo.now)) (B.device board.old) (B.device board.new) }
+    ensures capacity { A.capacity audit.new ≡ A.capacity audit.old }
 {
     'lines: for x in 0..geo.metas() {
         let line = &truth[x as usize];

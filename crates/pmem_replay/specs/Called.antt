@@ -133,6 +133,7 @@ pub record WasCalled {T : Type 0} (setup : Setup) (relation : Setup → Parts �
   pub after : EngineState
   pub call : IsCall setup old new engine after taken
   pub keys : new.keys ≡ old.keys
+  pub capacity : new.capacity ≡ old.capacity
   pub related : relation setup (parts_in old engine none_taken) (parts_in new after taken) answer
   pub lawful : IsLawful setup write old.state.memory (parts_in old engine none_taken) (parts_in new after taken) answer
   pub kept : new.engine ≡ engine_left (outcome_of answer) after

@@ -1,5 +1,5 @@
 -- One waiting write given to the engine, and what became of it.
-use Rattle.std.specs.Prelude.{ℕ, ⊤, ◌≡◌, ◌-◌, ◌++◌, Bool, true, false, List, ◌∷◌, Some, None, Result, Ok, Err, option_map, slice_set, All, if◌then◌else◌}
+use Rattle.std.specs.Prelude.{ℕ, ⊤, ◌≡◌, ◌≤◌, ◌-◌, ◌++◌, Bool, true, false, List, ◌∷◌, Some, None, Result, Ok, Err, option_map, slice_set, All, if◌then◌else◌}
 use Rattle.pmem_base.specs.declared.lines.Ctr.{Ctr}
 use Rattle.pmem_base.specs.declared.commands.Posted.{Posted}
 use Rattle.pmem_base.specs.declared.answers.Answer.{Answer}
@@ -68,6 +68,7 @@ pub record WasWriteGiven (setup : Setup) (old : WorldState) (port : ℕ) (answer
   pub start : new.start ≡ old.start
   pub written : HasWrittenLine setup write (parts_in old engine none_taken) (parts_in new after taken) answer
   pub marks : new.ledger.marks ≡ old.ledger.marks ++ written.made
+  pub capacity : new.capacity ≡ old.capacity
 
 -- and the world after it
 pub record IsWriteGiven (setup : Setup) (old : WorldState) (port steps : ℕ) (answer : Result Ctr Fault) (put goes : Bool) (new : WorldState) :
@@ -119,6 +120,7 @@ CanEndFence one = ⊥
 
 -- room was made for more marks, and nothing else was done
 pub record HasMarkRoom (setup : Setup) (old : WorldState) (more : ℕ) (new : WorldState) : Type 0 where
-  pub same : new ≡ record old { ledger = new.ledger }
-  pub room : HasRoom old.ledger new.ledger more
+  pub same : new ≡ record old { capacity = new.capacity }
+  pub never_falls : old.capacity ≤ new.capacity
+  pub room : HasRoom old.ledger new.capacity more
   pub holds : IsWorld setup new

@@ -18,8 +18,6 @@ use Rattle.pmem_base.specs.Marks.{last_seal}
 use Rattle.pmem_base.specs.Ranges.{IsAnswer}
 use Rattle.pmem_base.specs.WaitingWrites.{queue_of}
 use Rattle.board.specs.Memory.{BoardMemory, with_line_at, with_lines, flipped_line, restored_lines}
-use Rattle.seal_ledger.specs.Ledger.{LedgerState}
-use Rattle.seal_ledger.specs.Notes.{HasRoom}
 use Rattle.suite.specs.Setup.{Setup}
 use Rattle.plain_model.specs.State.{PlainState, Reply, start_state}
 use Rattle.plain_model.specs.View.{start_view}
@@ -45,7 +43,7 @@ use Rattle.pmem_recovery.specs.Recovered.{HasRecovered}
 use Rattle.pmem_replay.specs.World.{WorldState, AreExact, IsWorld, view_in, lines_in}
 use Rattle.watched_board.specs.declared.taken.Taken.{Taken}
 use Rattle.pmem_replay.specs.declared.world.Reply as replies
-use Rattle.watched_board.specs.Watching.{none_taken, steps_in, step_limit, device_during, counted, cuts_after}
+use Rattle.watched_board.specs.Watching.{none_taken, steps_in, device_during, FollowsOn}
 use Rattle.pmem_replay.specs.During.{parts_in}
 
 -- ---- what the table's answers do to the board and to the engine
@@ -71,30 +69,26 @@ pub record IsByTable (old : WorldState) (command : Command) (answer : Answer) (n
   pub board : new.board ≡ board_after old.board command answer
   pub engine : new.engine ≡ engine_after old.engine command answer
   pub ledger : new.ledger ≡ old.ledger
+  pub capacity : new.capacity ≡ old.capacity
   pub tags : new.tags ≡ old.tags
   pub digests : new.digests ≡ old.digests
 
 -- ---- calls of the engine
 
 -- The world's parts before and after a call, for which room for marks may have been made before. The
--- engine is kept unless power was cut. Line writes and latches are counted from the call on, and are the
--- steps of the answer unless that is an exhibit. The cuts that the engine saw are the board's own.
+-- engine is kept unless power was cut. Whatever is answered, the board follows on by what the call took of
+-- it: no step past the fuse. Line writes and latches are counted from the call on, and are the steps of the
+-- answer unless that is an exhibit.
 pub record HasCalled (relation : Parts → Parts → Type 0) (old new : WorldState) (answer : Answer) : Type 0 where
   pub engine : EngineState
   pub was_on : old.engine ≡ Some engine
   pub after : EngineState
   pub kept : new.engine ≡ (if is_cut answer then None else Some after)
   pub taken : Taken
+  pub follows_on : FollowsOn old.board new.board taken
   pub steps : is_shown answer ≡ false → steps_of answer ≡ steps_in taken
-  pub few : steps_in taken ≤ step_limit
-  pub ledger : LedgerState
-  pub room : HasRoom old.ledger ledger 0
-  pub related :
-      relation (parts_in (record old { ledger = ledger }) engine none_taken) (parts_in new after taken)
-  pub snapshot : new.board.snapshot ≡ old.board.snapshot
-  pub writes : new.board.writes ≡ counted old.board.writes taken.writes
-  pub latches : new.board.latches ≡ counted old.board.latches taken.latches
-  pub cuts : new.board.cuts ≡ cuts_after old.board.cuts taken.cuts
+  pub capacity : old.capacity ≤ new.capacity
+  pub related : relation (parts_in old engine none_taken) (parts_in new after taken)
   pub cut : is_cut answer ≡ true → HasRisen old.board.cuts new.board.cuts
   pub uncut : is_cut answer ≡ false → new.board.cuts ≡ old.board.cuts
 
@@ -157,7 +151,8 @@ HasDrained setup write old answer new =
 pub record HasSameParts (old new : WorldState) : Type 0 where
   pub board : new.board ≡ old.board
   pub engine : new.engine ≡ old.engine
-  pub room : HasRoom old.ledger new.ledger 0
+  pub ledger : new.ledger ≡ old.ledger
+  pub capacity : old.capacity ≤ new.capacity
   pub tags : new.tags ≡ old.tags
   pub digests : new.digests ≡ old.digests
 
@@ -188,12 +183,18 @@ abbrev pub engine_given : Result (EngineState × Work) RecFault → Option Engin
 engine_given (Ok done) = Some done.0
 engine_given (Err fault) = None
 
--- recovery, over the board with power on; where it is refused, power goes off again
+-- the board as it is left after recovery: where that is refused or shown something, power goes off again
+abbrev pub board_after_on : Result (EngineState × Work) RecFault → BoardMemory → BoardMemory
+board_after_on (Ok done) left = left
+board_after_on (Err Stop.Cut) left = left
+board_after_on (Err fault) left = record left { powered = false }
+
+-- recovery, over the board with power on, which follows on by what recovery took of it
 pub record HasPoweredOn (setup : Setup) (old new : WorldState) (answer : Answer) : Type 0 where
   pub left : BoardMemory
   pub taken : Taken
+  pub follows_on : FollowsOn (record (old.board) { powered = true }) left taken
   pub steps : is_shown answer ≡ false → steps_of answer ≡ steps_in taken
-  pub few : steps_in taken ≤ step_limit
   pub outcome : Result (EngineState × Work) RecFault
   pub suite_old : SuiteState
   pub suite_new : SuiteState
@@ -207,14 +208,9 @@ pub record HasPoweredOn (setup : Setup) (old new : WorldState) (answer : Answer)
       (device_during left taken) suite_old suite_new outcome
   pub answered : IsOnAnswer outcome answer
   pub engine : new.engine ≡ engine_given outcome
-  pub lines : new.board.lines ≡ left.lines
-  pub regs : new.board.regs ≡ left.regs
-  pub snapshot : new.board.snapshot ≡ old.board.snapshot
+  pub board : new.board ≡ board_after_on outcome left
   pub ledger : new.ledger ≡ old.ledger
-  pub reads : new.board.reads ≡ left.reads
-  pub writes : new.board.writes ≡ counted old.board.writes taken.writes
-  pub latches : new.board.latches ≡ counted old.board.latches taken.latches
-  pub cuts : new.board.cuts ≡ cuts_after old.board.cuts taken.cuts
+  pub capacity : new.capacity ≡ old.capacity
   pub cut : is_cut answer ≡ true → HasRisen old.board.cuts new.board.cuts
   pub uncut : is_cut answer ≡ false → new.board.cuts ≡ old.board.cuts
 

@@ -27,14 +27,16 @@ use Rattle.pmem_engine.specs.Recached.{IsTrueOrDirty}
 use Rattle.pmem_engine.specs.Invariants.{IsAnchored, IsTrusted, IsDurable, IsSound, IsSealStored, IsCounterStored}
 
 -- the geometry and the keys; the plain machine that the world stands for; the device with its
--- registers, power, fuse and snapshot; marks and truth; the engine while power is on; the suite's
--- tags and digests; the counts as formatting ended; whether an answer was an exhibit
+-- registers, power, fuse and snapshot; marks and truth; how many marks there is room for in all; the
+-- engine while power is on; the suite's tags and digests; the counts as formatting ended; whether an
+-- answer was an exhibit
 pub record WorldState : Type 0 where
   pub shape : Shape
   pub keys : List ℕ
   pub state : PlainState
   pub board : BoardMemory
   pub ledger : LedgerState
+  pub capacity : ℕ
   pub engine : Option EngineState
   pub tags : ℕ
   pub digests : ℕ
@@ -60,6 +62,7 @@ pub record WorldParts : Type 0 where
   pub keys : List ℕ
   pub board : BoardMemory
   pub ledger : LedgerState
+  pub capacity : ℕ
   pub engine : Option EngineState
   pub tags : ℕ
   pub digests : ℕ
@@ -97,6 +100,7 @@ world_of setup parts =
       state = state_in setup parts;
       board = parts.board;
       ledger = parts.ledger;
+      capacity = parts.capacity;
       engine = parts.engine;
       tags = parts.tags;
       digests = parts.digests;

@@ -3,6 +3,7 @@ ghost use Rattle.std.specs.Prelude.{◌≡◌, ◌<◌, ◌≤◌, false, length
 ghost use Rattle.pmem_base.specs.declared.answers.Answer.TheVariants as Say;
 ghost use Rattle.pmem_base.specs.Layout.{data_lines};
 ghost use Rattle.pmem_base.specs.WaitingWrites.{no_writes};
+ghost use Rattle.seal_ledger.specs.Notes.{HasRoom};
 ghost use Rattle.seal_ledger.specs.View.{ledger_of};
 ghost use Rattle.pmem_engine.specs.Outcomes.{is_sealed_by};
 ghost use Rattle.pmem_replay.specs.Called.{WasCalled, CanStop, IsFaultAnswered, cut_answer};
@@ -25,7 +26,7 @@ impl<S: Counted + Drop> World<S> {
     pub(crate) fn call<C: Call>(&mut self, call: &C) -> Done<Result<C::Value, Fault>>
         requires shown { self.old.shown ≡ false }
         requires on { IsSome self.old.engine }
-        requires can { C.can call.now self.old.shape self.old.ledger.spare }
+        requires can { C.can call.now self.old.shape self.old.ledger self.old.capacity }
         requires within { IfSome (C.write call.now) (λ w. w.at < data_lines self.old.shape) }
         ensures { WasCalled (setup_of_world S.formulas_of self.old) (C.relation call.now) (C.write call.now) self.old result.taken result.answer self.new }
     {
@@ -76,7 +77,8 @@ impl<S: Counted + Drop> World<S> {
         requires { self.old.shown ≡ false }
         ensures ok { OnOk result (HasMarkRoom (setup_of_world S.formulas_of self.old) self.old more self.new) }
         ensures err { OnErr result (self.new ≡ self.old) }
-        ensures wanting { OnErr result (self.old.ledger.spare < more) }
+        ensures wanting { OnErr result (HasRoom self.old.ledger self.old.capacity more → ⊥) }
+        ensures some { OnErr result (0 < more) }
     {
         self.ledger.reserve(more)?;
         Ok(())

@@ -11,8 +11,9 @@ ghost use Rattle.pmem_base.specs.WaitingWrites.{no_writes};
 ghost use Rattle.board.specs.Memory.{device_of};
 ghost use Rattle.board.specs.MemBoard.{memory_of};
 ghost use Rattle.suite.specs.Setup.{Setup};
-ghost use Rattle.seal_ledger.specs.Ledger.{IsOfShape};
-ghost use Rattle.seal_ledger.specs.View.{ledger_of};
+ghost use Rattle.seal_ledger.specs.Ledger.{IsOfShape, LedgerState};
+ghost use Rattle.seal_ledger.specs.Notes.{HasRoom};
+ghost use Rattle.seal_ledger.specs.View.{capacity_of, ledger_of};
 ghost use Rattle.pmem_engine.specs.declared.fault.Fault.{Fault};
 ghost use Rattle.pmem_engine.specs.Parts.{Parts, parts_of};
 ghost use Rattle.pmem_engine.specs.Outcomes.{outcome_of, is_sealed_by};
@@ -45,7 +46,7 @@ pub(crate) trait Call {
     /// What it answers where it is done.
     type Value: Copy;
 
-    ghost can: { Self → Shape → ℕ → Type 0 };
+    ghost can: { Self → Shape → LedgerState → ℕ → Type 0 };
 
     ghost relation: { Self → Setup → Parts → Parts → Result Self.Value Fault → Type 0 };
 
@@ -59,11 +60,12 @@ pub(crate) trait Call {
         suite: &mut S,
         ledger: &mut Ledger,
     ) -> Result<Self::Value, Fault>
-        requires can { can self.now engine.old.shape (ledger_of ledger.old).spare }
+        requires can { can self.now engine.old.shape (ledger_of ledger.old) (capacity_of ledger.old) }
         requires usable { IsUsable engine.old.shape engine.old (B.device board.old) (ledger_of ledger.old) }
         ensures made { IsLawfulCall (relation self.now) (write self.now) (record { shape = engine.old.shape; formulas = S.formulas_of (S.keys suite.old) })
             (parts_of engine.old (B.device board.old) (ledger_of ledger.old) (S.tags suite.old) (S.digests suite.old))
             (parts_of engine.new (B.device board.new) (ledger_of ledger.new) (S.tags suite.new) (S.digests suite.new)) result }
+        ensures capacity { capacity_of ledger.new ≡ capacity_of ledger.old }
         ensures keys { S.keys suite.new ≡ S.keys suite.old };
 
     /// The data line that it writes, if it is a write.
@@ -80,7 +82,7 @@ pub(crate) struct ReadLine {
 impl Call for ReadLine {
     type Value = Line;
 
-    ghost can = { λ c g spare. c.at < data_lines g };
+    ghost can = { λ c g ledger capacity. c.at < data_lines g };
 
     ghost relation = { λ c setup old new answer. HasReadLine setup c.at old new answer };
 
@@ -108,7 +110,7 @@ pub(crate) struct TurnPage;
 impl Call for TurnPage {
     type Value = Option<(u32, u8)>;
 
-    ghost can = { λ c g spare. 1 ≤ spare };
+    ghost can = { λ c g ledger capacity. HasRoom ledger capacity 1 };
 
     ghost relation = { λ c setup old new answer. HasTurned setup old new answer };
 
@@ -138,7 +140,7 @@ pub(crate) struct WriteLine {
 impl Call for WriteLine {
     type Value = Ctr;
 
-    ghost can = { λ c g spare. (c.write.at < data_lines g) × IsPosted c.write × (66 ≤ spare) };
+    ghost can = { λ c g ledger capacity. (c.write.at < data_lines g) × IsPosted c.write × HasRoom ledger capacity 66 };
 
     ghost relation = { λ c setup old new answer. HasWrittenLine setup c.write old new answer };
 
@@ -166,7 +168,7 @@ pub(crate) struct FlushBlock;
 impl Call for FlushBlock {
     type Value = Option<u32>;
 
-    ghost can = { λ c g spare. ⊤ };
+    ghost can = { λ c g ledger capacity. ⊤ };
 
     ghost relation = { λ c setup old new answer. HasFlushed setup old new answer };
 
@@ -196,7 +198,7 @@ pub(crate) struct SetLoss {
 impl Call for SetLoss {
     type Value = u32;
 
-    ghost can = { λ c g spare. IsTrue (is_loss c.n) };
+    ghost can = { λ c g ledger capacity. IsTrue (is_loss c.n) };
 
     ghost relation = { λ c setup old new answer. HasSetLoss setup c.n old new answer };
 
@@ -225,13 +227,14 @@ pub(crate) fn make<C: Call, S: Suite>(
     suite: &mut S,
     ledger: &mut Ledger,
 ) -> Done<Result<C::Value, Fault>>
-    requires can { C.can call.now engine.old.shape (ledger_of ledger.old).spare }
+    requires can { C.can call.now engine.old.shape (ledger_of ledger.old) (capacity_of ledger.old) }
     requires on { (memory_of board.old).powered ≡ true }
     requires usable { IsUsable engine.old.shape engine.old (device_during (memory_of board.old) none_taken) (ledger_of ledger.old) }
     ensures made { IsLawfulCall (C.relation call.now) (C.write call.now) (record { shape = engine.old.shape; formulas = S.formulas_of (S.keys suite.old) })
         (parts_of engine.old (device_during (memory_of board.old) none_taken) (ledger_of ledger.old) (S.tags suite.old) (S.digests suite.old))
         (parts_of engine.new (device_during (memory_of board.new) result.taken) (ledger_of ledger.new) (S.tags suite.new) (S.digests suite.new)) result.answer }
     ensures watched { IsWatched (memory_of board.old) (memory_of board.new) result.taken }
+    ensures capacity { capacity_of ledger.new ≡ capacity_of ledger.old }
     ensures keys { S.keys suite.new ≡ S.keys suite.old }
 {
     let mut outcome = None;
@@ -255,7 +258,7 @@ fn make_watched<'a, K: Start, C: Call, S: Suite>(
     ledger: &mut Ledger,
     outcome: &mut Option<Result<C::Value, Fault>>,
 ) -> Left<'a, ()>
-    requires can { C.can call.now engine.old.shape (ledger_of ledger.old).spare }
+    requires can { C.can call.now engine.old.shape (ledger_of ledger.old) (capacity_of ledger.old) }
     requires start { memory_of board.old ≡ K.start }
     requires name { board.ghost_name ≡ K.name }
     requires on { (memory_of board.old).powered ≡ true }
@@ -266,6 +269,7 @@ fn make_watched<'a, K: Start, C: Call, S: Suite>(
         (parts_of engine.new (device_during (memory_of result.board.now) result.taken) (ledger_of ledger.new) (S.tags suite.new) (S.digests suite.new)) answer) }
     ensures some { IsSome outcome.new }
     ensures watched { IsWatched K.start (memory_of result.board.now) result.taken }
+    ensures capacity { capacity_of ledger.new ≡ capacity_of ledger.old }
     ensures keys { S.keys suite.new ≡ S.keys suite.old }
 {
     let mut watched = Watched::<K>::new(board);

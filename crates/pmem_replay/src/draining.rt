@@ -2,6 +2,7 @@
 ghost use Rattle.std.specs.Prelude.{◌≡◌, ◌<◌, ◌≤◌, ◌*◌, false, length, drop, Some, IsSome, IfOk, OnErr};
 ghost use Rattle.pmem_base.specs.declared.commands.Command.TheVariants as Do;
 ghost use Rattle.pmem_base.specs.WaitingWrites.{queue_of};
+ghost use Rattle.seal_ledger.specs.Notes.{HasRoom};
 ghost use Rattle.plain_model.specs.After.{steps_of};
 ghost use Rattle.pmem_engine.specs.Outcomes.{is_sealed_by};
 ghost use Rattle.pmem_replay.specs.Called.{IsWriteTaken};
@@ -69,7 +70,7 @@ impl<S: Counted + Drop> World<S> {
         requires on { IsSome self.old.engine }
         requires count { count ≡ length (queue_of self.old.state.queues port) }
         requires most { count < 17 }
-        requires room { 66 * count ≤ self.old.ledger.spare }
+        requires room { HasRoom self.old.ledger self.old.capacity (66 * count) }
         ensures { HasStepped (setup_of_world S.formulas_of self.old) self.old (Do.Fence port) (with_marks_since self.old self.new result) self.new }
     {
         self.holds();
@@ -95,7 +96,7 @@ impl<S: Counted + Drop> World<S> {
         requires port { port < 8 }
         requires on { IsSome self.old.engine }
         requires some { 0 < length (queue_of self.old.state.queues port) }
-        requires room { 66 ≤ self.old.ledger.spare }
+        requires room { HasRoom self.old.ledger self.old.capacity 66 }
         ensures { HasWriteGiven (setup_of_world S.formulas_of self.old) self.old port result self.new }
     {
         self.holds();

@@ -45,7 +45,7 @@ impl<S: Counted + Drop> Model for World<S> {
     ghost use Rattle.std.specs.Prelude.{◌≡◌, false};
     ghost use Rattle.pmem_base.specs.Geo.{shape_of};
     ghost use Rattle.board.specs.MemBoard.{memory_of};
-    ghost use Rattle.seal_ledger.specs.View.{ledger_of};
+    ghost use Rattle.seal_ledger.specs.View.{capacity_of, ledger_of};
     ghost use Rattle.pmem_replay.specs.World.{WorldState, world_of, IsWorld};
 
     ghost Value = { WorldState };
@@ -55,6 +55,7 @@ impl<S: Counted + Drop> Model for World<S> {
           keys = S.keys w.suite;
           board = memory_of w.board;
           ledger = ledger_of w.ledger;
+          capacity = capacity_of w.ledger;
           engine = w.engine;
           tags = S.tags w.suite;
           digests = S.digests w.suite;
@@ -72,6 +73,7 @@ impl<S: Counted + Drop> Model for World<S> {
           keys = S.keys w.suite;
           board = memory_of w.board;
           ledger = ledger_of w.ledger;
+          capacity = capacity_of w.ledger;
           engine = w.engine;
           tags = S.tags w.suite;
           digests = S.digests w.suite;

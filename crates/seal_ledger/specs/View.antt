@@ -1,5 +1,5 @@
 -- What contracts see of a `Ledger`.
-use Rattle.std.specs.Prelude.{◌-◌, length, vec_len, vec_capacity}
+use Rattle.std.specs.Prelude.{ℕ, length, vec_capacity}
 use Rattle.seal_ledger.specs.declared.ledger.Ledger.{Ledger}
 use Rattle.seal_ledger.specs.Ledger.{LedgerState}
 
@@ -10,5 +10,8 @@ ledger_of ledger =
       truth = ledger.truth.items;
       data_lines = length ledger.ciphers.items;
       exhibit = ledger.exhibit;
-      spare = vec_capacity ledger.marks - vec_len ledger.marks;
     }
+
+-- how many marks there is room for in all
+abbrev pub capacity_of : Ledger → ℕ
+capacity_of ledger = vec_capacity ledger.marks

@@ -24,7 +24,7 @@ pub struct Ledger {
 }
 
 impl Ledger {
-    ghost use Rattle.seal_ledger.specs.View.{ledger_of};
+    ghost use Rattle.seal_ledger.specs.View.{capacity_of, ledger_of};
 
     /// The ledger of a geometry: no marks, zero lines and no exhibit. The one error is want of
     /// memory.
@@ -32,6 +32,7 @@ impl Ledger {
     pub fn new(alloc: Global, geo: &Geo) -> Result<Ledger, MemFault>
         ensures value { IfOk result (λ ledger. ledger_of ledger ≡ new_ledger (shape_of geo.now)) }
         ensures shape { IfOk result (λ ledger. IsOfShape (shape_of geo.now) (ledger_of ledger)) }
+        ensures capacity { IfOk result (λ ledger. capacity_of ledger ≡ 0) }
     {
         let ciphers = vec![in alloc; Line::default(); geo.lines() as usize]?;
         let truth = vec![in alloc; Line::default(); geo.metas() as usize]?;
@@ -68,9 +69,11 @@ impl Ledger {
 }
 
 impl Audit for Ledger {
-    ghost use Rattle.seal_ledger.specs.View.{ledger_of};
+    ghost use Rattle.seal_ledger.specs.View.{capacity_of, ledger_of};
 
     ghost ledger = { ledger_of };
+
+    ghost capacity = { capacity_of };
 
     fn reserve(&mut self, n: u32) -> Result<(), MemFault> {
         self.marks.reserve(n as usize)?;

@@ -2,7 +2,7 @@
 use Rattle.std.proofs.Common.{rules, ℕ, ◌≡◌, ◌<◌, ◌≤◌, ◌+◌, ◌^◌, ◌⊎◌, inl, inr, Bool, true, false, cond, List, [], length, Result, Ok, Err, refl, sym, ap, subst, ◌∙◌, arith}
 use Rattle.std.specs.Prelude.{slice_set, IsOk, ◌↔◌}
 use Rattle.std.proofs.lemmas.Bool.{cases_Bool, true≢false}
-use Rattle.std.proofs.lemmas.List.{length-set, append-nil}
+use Rattle.std.proofs.lemmas.List.{length-set, length-append, append-nil}
 use Rattle.std.proofs.lemmas.Option.{same_Some}
 use Rattle.pmem_base.specs.declared.lines.Line.{Line}
 use Rattle.pmem_base.specs.declared.lines.Ctr.{Ctr}
@@ -11,6 +11,7 @@ use Rattle.pmem_base.specs.Layout.{data_lines}
 use Rattle.pmem_base.specs.Lines.{IsLine, line_at}
 use Rattle.pmem_base.proofs.LineLemmas.{IsLine-line_at, All-lines_set}
 use Rattle.suite.specs.Setup.{Setup}
+use Rattle.seal_ledger.specs.Notes.{HasRoom}
 use Rattle.plain_model.specs.State.{memory_with}
 use Rattle.plain_model.specs.View.{plain_line}
 use Rattle.pmem_engine.specs.declared.fault.Fault.{Fault}
@@ -101,22 +102,21 @@ pub up_before_write : (setup : Setup) (write : Posted) (old new : Parts) (ctr : 
     → old.engine.down ≡ false
 up_before_write setup write old new ctr it = up_of old.engine.down _ it.down.exactly (λ h. h)
 
-pub room_after_write : (setup : Setup) (write : Posted) (old new : Parts) (ctr : Ctr) (k : ℕ)
-    → HasWrittenLine setup write old new (Ok ctr) → k + 66 ≤ old.ledger.spare → k ≤ new.ledger.spare
-room_after_write setup write old new ctr k it room =
-    let spare = (it.done (up_before_write setup write old new ctr it)).gone.spare in
-    let few = it.few_marks in
-    omega (arith, spare, few, room)
+pub room_after_write : (setup : Setup) (write : Posted) (old new : Parts) (ctr : Ctr) (k before after : ℕ)
+    → HasWrittenLine setup write old new (Ok ctr) → after ≡ before → HasRoom old.ledger before (k + 66) → HasRoom new.ledger after k
+room_after_write setup write old new ctr k before after it same room =
+    let marks = (it.done (up_before_write setup write old new ctr it)).gone.marks in
+    omega (arith, ap length marks, length-append old.ledger.marks it.made, it.few_marks, same, room)
 
 pub up_before_read : (setup : Setup) (at : ℕ) (old new : Parts) (line : Line) → HasReadLine setup at old new (Ok line)
     → old.engine.down ≡ false
 up_before_read setup at old new line it = up_of old.engine.down _ it.down.exactly (λ h. h)
 
-pub room_after_read : (setup : Setup) (at : ℕ) (old new : Parts) (line : Line) (k : ℕ)
-    → HasReadLine setup at old new (Ok line) → k ≤ old.ledger.spare → k ≤ new.ledger.spare
-room_after_read setup at old new line k it room =
-    let spare = (it.done (up_before_read setup at old new line it)).gone.spare in
-    omega (arith, spare, room)
+pub room_after_read : (setup : Setup) (at : ℕ) (old new : Parts) (line : Line) (k before after : ℕ)
+    → HasReadLine setup at old new (Ok line) → after ≡ before → HasRoom old.ledger before k → HasRoom new.ledger after k
+room_after_read setup at old new line k before after it same room =
+    let marks = (it.done (up_before_read setup at old new line it)).gone.marks in
+    omega (arith, ap length marks, length-append old.ledger.marks [], same, room)
 
 -- ---- a read
 

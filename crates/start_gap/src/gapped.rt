@@ -10,6 +10,7 @@ ghost use Rattle.pmem_engine.specs.Calls.{IsUsable, HasReadLine};
 ghost use Rattle.start_gap.specs.declared.wear.Wear.{Wear};
 ghost use Rattle.start_gap.specs.Wear.{IsWear, place_of};
 ghost use Rattle.start_gap.specs.Logical.{IsLevelled};
+ghost use Rattle.seal_ledger.specs.Notes.{HasRoom};
 
 use crate::record::{read_wear, wear_line};
 use crate::wear::{Wear, next, place, source};
@@ -83,6 +84,7 @@ impl Gapped {
             → HasLines (record { shape = engine.shape; formulas = S.formulas_of (S.keys suite.old) }) lines
             (parts_of engine (B.device board.old) (A.ledger audit.old) (S.tags suite.old) (S.digests suite.old))
             → IsLevelled (logical_lines engine.shape) lines wear memory → HasWearOf wear result }
+        ensures capacity { A.capacity audit.new ≡ A.capacity audit.old }
         ensures keys { S.keys suite.new ≡ S.keys suite.old }
         ensures usable { IfOk result (λ gapped. IsUsable engine.shape gapped.engine (B.device board.new) (A.ledger audit.new)) }
         ensures shape { IfOk result (λ gapped. gapped.engine.shape ≡ engine.shape) }
@@ -143,6 +145,7 @@ impl Gapped {
             → IsLevelled self.old.lines lines self.old.wear memory
             → IfOk result (λ read. read ≡ line_at memory line) }
         ensures wear { HasWear self.old.wear self.old.count self.old self.new }
+        ensures capacity { A.capacity audit.new ≡ A.capacity audit.old }
         ensures keys { S.keys suite.new ≡ S.keys suite.old }
         ensures usable { IsUsable self.old.engine.shape self.new.engine (B.device board.new) (A.ledger audit.new) }
         ensures shape { self.new.engine.shape ≡ self.old.engine.shape }
@@ -162,7 +165,7 @@ impl Gapped {
         plain: &Line,
     ) -> Result<Moved, WriteFault>
         requires line { line < self.old.lines }
-        requires room { 198 ≤ (A.ledger audit.old).spare }
+        requires room { HasRoom (A.ledger audit.old) (A.capacity audit.old) 198 }
         requires usable { IsUsable self.old.engine.shape self.old.engine (B.device board.old) (A.ledger audit.old) }
         ensures written { HasLevelledWrite (record { shape = self.old.engine.shape; formulas = S.formulas_of (S.keys suite.old) })
             line plain.now self.old self.new
@@ -186,6 +189,7 @@ impl Gapped {
             (parts_of self.new.engine (B.device board.new) (A.ledger audit.new) (S.tags suite.new) (S.digests suite.new))
             × IsSoundWriteAnswer result }
         ensures spent { IsSpentUnwritten result }
+        ensures capacity { A.capacity audit.new ≡ A.capacity audit.old }
         ensures keys { S.keys suite.new ≡ S.keys suite.old }
         ensures usable { IsUsable self.old.engine.shape self.new.engine (B.device board.new) (A.ledger audit.new) }
         ensures shape { self.new.engine.shape ≡ self.old.engine.shape }
@@ -204,12 +208,13 @@ impl Gapped {
         plain: &Line,
     ) -> Result<Moved, WriteFault>
         requires line { line < self.old.lines }
-        requires room { 198 ≤ (A.ledger audit.old).spare }
+        requires room { HasRoom (A.ledger audit.old) (A.capacity audit.old) 198 }
         requires usable { IsUsable self.old.engine.shape self.old.engine (B.device board.old) (A.ledger audit.old) }
         ensures written { HasLevelledWrite (record { shape = self.old.engine.shape; formulas = S.formulas_of (S.keys suite.old) })
             line plain.now self.old self.new
             (parts_of self.old.engine (B.device board.old) (A.ledger audit.old) (S.tags suite.old) (S.digests suite.old))
             (parts_of self.new.engine (B.device board.new) (A.ledger audit.new) (S.tags suite.new) (S.digests suite.new)) result }
+        ensures capacity { A.capacity audit.new ≡ A.capacity audit.old }
         ensures keys { S.keys suite.new ≡ S.keys suite.old }
         ensures usable { IsUsable self.old.engine.shape self.new.engine (B.device board.new) (A.ledger audit.new) }
         ensures shape { self.new.engine.shape ≡ self.old.engine.shape }
@@ -237,13 +242,14 @@ impl Gapped {
         suite: &mut S,
         audit: &mut A,
     ) -> Result<(), Fault>
-        requires room { 132 ≤ (A.ledger audit.old).spare }
+        requires room { HasRoom (A.ledger audit.old) (A.capacity audit.old) 132 }
         requires usable { IsUsable self.old.engine.shape self.old.engine (B.device board.old) (A.ledger audit.old) }
         ensures moved { HasMovedGap (record { shape = self.old.engine.shape; formulas = S.formulas_of (S.keys suite.old) })
             self.old.lines self.old.wear
             (parts_of self.old.engine (B.device board.old) (A.ledger audit.old) (S.tags suite.old) (S.digests suite.old))
             (parts_of self.new.engine (B.device board.new) (A.ledger audit.new) (S.tags suite.new) (S.digests suite.new)) result }
         ensures wear { HasWear (wear_by result self.old.lines self.old.wear) self.old.count self.old self.new }
+        ensures capacity { A.capacity audit.new ≡ A.capacity audit.old }
         ensures keys { S.keys suite.new ≡ S.keys suite.old }
         ensures usable { IsUsable self.old.engine.shape self.new.engine (B.device board.new) (A.ledger audit.new) }
         ensures shape { self.new.engine.shape ≡ self.old.engine.shape }

@@ -8,7 +8,6 @@ use Rattle.pmem_base.specs.Lines.{put_lines}
 use Rattle.pmem_base.specs.Shape.{Shape}
 use Rattle.board.specs.Memory.{BoardMemory}
 use Rattle.seal_ledger.specs.Ledger.{LedgerState}
-use Rattle.seal_ledger.specs.Notes.{HasRoom}
 use Rattle.suite.specs.Formulas.{Formulas}
 use Rattle.suite.specs.Setup.{Setup}
 use Rattle.plain_model.specs.State.{Memory}
@@ -36,7 +35,6 @@ use Rattle.txn_session.specs.State.{TxnState, Entries, commit_writes, with_commi
 use Rattle.txn_session.specs.World.{TxnParts, IsTxnWorld, IsStoreOn, targets_in_force, redone_memory, txn_of}
 use Rattle.txn_session.specs.Answered.{IsTxnButForSteps, GoesToTxnState, IsTxnCutOff, after_commit, most_of_commit}
 use Rattle.txn_session.proofs.Worlds.{few_data, targets_held, memory_held, logged_is, goes_to, cut_off, IsOpenTxn, on_in, lines_are, on_after, off_after}
-use Rattle.txn_session.proofs.Rooms.{reserved_world}
 use Rattle.txn_session.proofs.WriteLists.{posted_commit, edits_memory, length-commit_writes}
 use Rattle.txn_session.proofs.Stages.{commit_edits, IsAtStage, at_stage}
 use Rattle.txn_session.proofs.CommitEnds.{commit_queue, CommitEndsAt, CommitServes, commit_serves, commit_ends_at}
@@ -74,7 +72,7 @@ pub record CommitCall : Type 0 where
   -- before room for marks was made, and after
   pub before : TxnParts
   pub ledger_before : LedgerState
-  pub room : HasRoom before.ledger ledger_before 2112
+  pub same_ledger : ledger_before ≡ before.ledger
   pub now : TxnState
   pub is : txn_of (setup_under formulas_of geometry before.keys) before ≡ now
   pub world : IsTxnWorld (setup_under formulas_of geometry before.keys) before
@@ -144,7 +142,7 @@ module _ (c : CommitCall) where
   left_under store = record { keys = c.keys; board = c.board; ledger = c.ledger; store = store; txn = None }
 
   pub world : IsTxnWorld setup p
-  world = reserved_world setup c.before c.ledger_before 2112 c.room c.world
+  world = subst (λ ledger. IsTxnWorld setup (record (c.before) { ledger = ledger })) (sym c.same_ledger) c.world
 
   pub on : IsStoreOn setup p c.store
   on = on_in setup p c.store world c.there

@@ -25,7 +25,6 @@ use Rattle.txn_session.specs.declared.answers.TxnAnswer.TheVariants as Say
 use Rattle.txn_session.specs.State.{TxnState, txn_setup_in, txn_moment_in, commit_writes}
 use Rattle.txn_session.specs.World.{TxnParts, IsTxnWorld, stuck_in, txn_of}
 use Rattle.txn_session.specs.Answered.{IsTxnAnswered, IsCommitting, IsTxnCommitKept, EndsCommit, HasTxnCommitted, after_commit}
-use Rattle.txn_session.proofs.Rooms.{reserved_state}
 use Rattle.txn_session.proofs.Seen.{commit_undecided, served, seen_from, held_under}
 use Rattle.txn_session.proofs.EngineEdits.{IsTxnCutAt}
 use Rattle.txn_session.proofs.CommitEnds.{FailsTxnAt, own_absent, own_present}
@@ -69,7 +68,7 @@ module _ (c : CommitCall) where
   -- ---- as contracts write it
 
   now_is : old ≡ c.now
-  now_is = reserved_state setup c.before c.ledger_before 2112 c.room ∙ c.is
+  now_is = ap (λ ledger. txn_of setup (record (c.before) { ledger = ledger })) c.same_ledger ∙ c.is
 
   held_as : (store : Option Store) → IsTxnWorld setup (left store) → IsTxnWorld (setup_under c.formulas_of c.geometry c.keys) (left_under store)
   held_as store it = held_under c.formulas_of c.geometry p (left store) c.keys c.same_keys it

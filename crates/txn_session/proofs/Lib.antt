@@ -3,7 +3,6 @@ pub mod EngineEdits
 pub mod WriteLists
 pub mod Stages
 pub mod Worlds
-pub mod Rooms
 pub mod Seen
 pub mod ReadLaws
 pub mod Puts

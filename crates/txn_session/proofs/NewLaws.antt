@@ -15,7 +15,6 @@ use Rattle.board.specs.Device.{Device}
 use Rattle.board.specs.Memory.{BoardMemory, device_of}
 use Rattle.meta_path.specs.Fetching.{spilled}
 use Rattle.seal_ledger.specs.Ledger.{LedgerState}
-use Rattle.seal_ledger.specs.Notes.{HasRoom}
 use Rattle.suite.specs.Formulas.{AreInRange}
 use Rattle.suite.specs.Setup.{Setup}
 use Rattle.plain_model.specs.View.{IsMemoryOf, plain_line, plain_memory}
@@ -44,7 +43,6 @@ use Rattle.wear_session.proofs.NewLaws.{none_to_write}
 use Rattle.txn_session.specs.State.{IsNewTxn}
 use Rattle.txn_session.specs.World.{TxnParts, IsTxnWorld, targets_in_force, txn_of}
 use Rattle.txn_session.proofs.Worlds.{few_lines, targets_held, memory_held, logged_is, on_of}
-use Rattle.txn_session.proofs.Rooms.{sound_reserved}
 
 -- what formatting and the opening leave
 pub record NewTxnCall : Type 0 where
@@ -63,7 +61,7 @@ pub record NewTxnCall : Type 0 where
   pub formatted : HasFormatted setup ledger_middle start (device_of middle) engine
   -- once room for marks was made
   pub ledger_before : LedgerState
-  pub room : HasRoom ledger_middle ledger_before 1056
+  pub same_ledger : ledger_before ≡ ledger_middle
   pub board : BoardMemory
   pub ledger : LedgerState
   pub tags : ℕ
@@ -90,8 +88,7 @@ module _ (c : NewTxnCall) where
 
   sound : IsSound c.setup c.engine c.middle.lines c.middle.regs c.ledger_before
   sound =
-      sound_reserved c.setup c.ledger_middle c.ledger_before 1056 c.engine c.middle.lines c.middle.regs c.room
-      (c.formatted.sound c.middle.lines refl)
+      subst (IsSound c.setup c.engine c.middle.lines c.middle.regs) (sym c.same_ledger) (c.formatted.sound c.middle.lines refl)
 
   -- ---- zero lines
 
@@ -107,7 +104,7 @@ module _ (c : NewTxnCall) where
 
   places : plain_memory c.setup c.ledger_before.marks ≡ replicate (layout.data_lines g) zero_line
   places =
-      ap (plain_memory c.setup) c.room.marks
+      ap (λ ledger. plain_memory c.setup ledger.marks) c.same_ledger
       ∙ memory_is c.setup c.ledger_middle.marks (replicate (layout.data_lines g) zero_line) zeros
 
   size : n + 16 ≡ layout.data_lines g
@@ -124,7 +121,7 @@ module _ (c : NewTxnCall) where
   header_read : (new : Parts) (line : Line) → HasReadLine c.setup n from new (Ok line) → IsHeader n line []
   header_read new line it =
       let plain = (it.answered sound.trusted.not_down sound.trusted).0 in
-      let zero = ap (λ (m : List Mark). plain_line c.setup.formulas m n) c.room.marks ∙ c.formatted.plain n header_inside in
+      let zero = ap (λ ledger. plain_line c.setup.formulas ledger.marks n) c.same_ledger ∙ c.formatted.plain n header_inside in
       let same : line ≡ zero_line = let both : Some line ≡ Some zero_line = sym plain ∙ zero in search (rules, both) in
       let here : line_at (plain_memory c.setup c.ledger_before.marks) n ≡ zero_line =
       ap (λ l. line_at l n) places ∙ get_or-replicate (layout.data_lines g) n zero_line zero_line header_inside in
@@ -217,7 +214,7 @@ module _ (c : NewTxnCall) where
           power = powered;
           fuse = no_fuse;
           loss = effect.loss ∙ ap (λ (r : Regs). r.loss) c.formatted.regs;
-          marks = marks ∙ c.room.marks ∙ c.formatted.marks;
+          marks = marks ∙ ap (λ ledger. ledger.marks) c.same_ledger ∙ c.formatted.marks;
           writes =
               subst₂ (λ before after. RisesBy (layout.device_lines g) before after) c.start_writes (sym no_write) c.formatted.writes;
           latches = subst₂ (λ before after. RisesBy 1 before after) c.start_latches (sym no_latch) c.formatted.latches;

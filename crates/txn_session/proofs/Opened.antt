@@ -46,7 +46,6 @@ use Rattle.txn_session.specs.During.{HasTxnOpenedAfter, txn_started_as}
 use Rattle.txn_session.specs.State.{TxnState, txn_setup_in}
 use Rattle.txn_session.specs.World.{TxnParts, IsTxnWorld, stuck_in, txn_of}
 use Rattle.txn_session.specs.Answered.{IsTxnAnswered, IsTxnShownBy, IsTxnMemoryWanted, GoesToTxnState, HasTxnOpened, after_redo}
-use Rattle.txn_session.proofs.Rooms.{reserved_state}
 use Rattle.txn_session.proofs.Seen.{on_undecided, served, seen_from, held_under}
 use Rattle.txn_session.proofs.EngineEdits.{IsTxnCutAt, EndsTxnAt}
 use Rattle.txn_session.proofs.RedoLists.{none_redone, few_redone}
@@ -101,7 +100,7 @@ module _ (c : OnTxnCall) where
       × IsTxnAnswered (txn_setup_in c.formulas_of c.now) c.now Do.On answer (txn_of (setup_under c.formulas_of c.geometry c.keys) (left_under board store))
 
   now_is : old ≡ c.now
-  now_is = reserved_state setup c.before c.ledger_before 1056 c.room ∙ c.is
+  now_is = ap (λ ledger. txn_of setup (record (c.before) { ledger = ledger })) c.same_ledger ∙ c.is
 
   -- no transaction is open, as before
   txn_as : (P : TxnParts → Type 0) (board : BoardMemory) (store : Option Store) → P (left board store) → P (record (left board store) { txn = p.txn })

@@ -45,7 +45,6 @@ use Rattle.txn_session.specs.State.{TxnState, txn_moment_in, redo_writes}
 use Rattle.txn_session.specs.World.{TxnParts, IsTxnWorld, IsStoreOff, IsStoredBy, targets_in_force, redone_memory, txn_of}
 use Rattle.txn_session.specs.Answered.{GoesToTxnState, HasTxnOpened, after_redo, txn_most_of_on}
 use Rattle.txn_session.proofs.Worlds.{few_data, few_lines, targets_held, memory_held, logged_is, goes_to, cut_off, on_after, off_after}
-use Rattle.txn_session.proofs.Rooms.{reserved_world}
 use Rattle.txn_session.proofs.EngineEdits.{all_posted, cost, EndsTxnAt, edits_go}
 use Rattle.txn_session.proofs.WriteLists.{posted_redo, edits_memory}
 use Rattle.txn_session.proofs.Stages.{IsRedoneTo, redone_at}
@@ -99,7 +98,7 @@ module _ (c : OnTxnCall) where
   left_under board store = record { keys = c.keys; board = board; ledger = c.ledger; store = store; txn = p.txn }
 
   pub world : IsTxnWorld setup p
-  world = reserved_world setup c.before c.ledger_before 1056 c.room c.world
+  world = subst (λ ledger. IsTxnWorld setup (record (c.before) { ledger = ledger })) (sym c.same_ledger) c.world
 
   pub off : IsStoreOff setup p
   off = subst (λ s. IsStoredBy setup p s) c.there world.chip

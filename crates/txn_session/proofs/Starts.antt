@@ -6,7 +6,6 @@ use Rattle.pmem_base.specs.Shape.{Shape, IsShape}
 use Rattle.board.specs.Device.{Device}
 use Rattle.board.specs.Memory.{BoardMemory}
 use Rattle.seal_ledger.specs.Ledger.{LedgerState}
-use Rattle.seal_ledger.specs.Notes.{HasRoom}
 use Rattle.suite.specs.Formulas.{Formulas}
 use Rattle.plain_model.specs.Bounds.{path_length, recovery_bound}
 use Rattle.pmem_engine.specs.Engine.{EngineState}
@@ -86,7 +85,7 @@ pub record OnTxnCall : Type 0 where
   -- before room for marks was made, and after
   pub before : TxnParts
   pub ledger_before : LedgerState
-  pub room : HasRoom before.ledger ledger_before 1056
+  pub same_ledger : ledger_before ≡ before.ledger
   pub now : TxnState
   pub is : txn_of (setup_under formulas_of geometry before.keys) before ≡ now
   pub world : IsTxnWorld (setup_under formulas_of geometry before.keys) before

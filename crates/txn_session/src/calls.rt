@@ -9,7 +9,8 @@ ghost use Rattle.pmem_base.specs.Marks.{last_seal};
 ghost use Rattle.pmem_base.specs.Registers.{IsValidRegs};
 ghost use Rattle.board.specs.MemBoard.{memory_of};
 ghost use Rattle.seal_ledger.specs.Ledger.{IsOfShape};
-ghost use Rattle.seal_ledger.specs.View.{ledger_of};
+ghost use Rattle.seal_ledger.specs.Notes.{HasRoom};
+ghost use Rattle.seal_ledger.specs.View.{capacity_of, ledger_of};
 ghost use Rattle.pmem_engine.specs.Parts.{parts_of, AreTrusted, AreSound};
 ghost use Rattle.pmem_engine.specs.Outcomes.{LeavesTrusted, LeavesSound};
 ghost use Rattle.pmem_engine.specs.Calls.{IsUsable, HasReadLine};
@@ -133,7 +134,7 @@ pub(crate) fn commit<S: Suite>(
 ) -> Called<Result<Done, CommitFault>>
     requires targets { AreDistinctBelow store.old.lines (targets_of txn.now.items) }
     requires free { store.old.stuck ≡ None }
-    requires room { 2112 ≤ (ledger_of ledger.old).spare }
+    requires room { HasRoom (ledger_of ledger.old) (capacity_of ledger.old) 2112 }
     requires on { (memory_of board.old).powered ≡ true }
     requires usable { IsUsable store.old.engine.shape store.old.engine (device_during (memory_of board.old) none_taken) (ledger_of ledger.old) }
     ensures committed { HasStoreCommitted (record { shape = store.old.engine.shape; formulas = S.formulas_of (S.keys suite.old) })
@@ -180,7 +181,7 @@ fn commit_watched<'a, K: Start, S: Suite>(
 ) -> Left<'a, Result<Done, CommitFault>>
     requires targets { AreDistinctBelow store.old.lines (targets_of txn.now.items) }
     requires free { store.old.stuck ≡ None }
-    requires room { 2112 ≤ (ledger_of ledger.old).spare }
+    requires room { HasRoom (ledger_of ledger.old) (capacity_of ledger.old) 2112 }
     requires start { memory_of board.old ≡ K.start }
     requires name { board.ghost_name ≡ K.name }
     requires on { (memory_of board.old).powered ≡ true }
@@ -229,7 +230,7 @@ pub(crate) fn start<S: Suite>(
     requires on { (memory_of board.old).powered ≡ true }
     requires regs { IsValidRegs (shape_of geo.now) (memory_of board.old).regs }
     requires ledger { IsOfShape (shape_of geo.now) (ledger_of ledger.old) }
-    requires room { 1056 ≤ (ledger_of ledger.old).spare }
+    requires room { HasRoom (ledger_of ledger.old) (capacity_of ledger.old) 1056 }
     requires each_sealed { (a : ℕ) → a < data_lines (shape_of geo.now) → IsSome (last_seal (ledger_of ledger.old).marks a) }
     ensures started { HasTxnStarted (record { shape = shape_of geo.now; formulas = S.formulas_of (S.keys suite.old) })
         (device_during (memory_of board.old) none_taken) (device_during (memory_of board.new) result.taken)
@@ -263,7 +264,7 @@ fn start_watched<'a, K: Start, S: Suite>(
     requires on { (memory_of board.old).powered ≡ true }
     requires regs { IsValidRegs (shape_of geo.now) (memory_of board.old).regs }
     requires ledger { IsOfShape (shape_of geo.now) (ledger_of ledger.old) }
-    requires room { 1056 ≤ (ledger_of ledger.old).spare }
+    requires room { HasRoom (ledger_of ledger.old) (capacity_of ledger.old) 1056 }
     requires each_sealed { (a : ℕ) → a < data_lines (shape_of geo.now) → IsSome (last_seal (ledger_of ledger.old).marks a) }
     ensures name { result.board.ghost_name ≡ K.name }
     ensures started { HasTxnStarted (record { shape = shape_of geo.now; formulas = S.formulas_of (S.keys suite.old) })
@@ -292,7 +293,7 @@ fn recover_and_open<B: Board, S: Suite, A: Audit>(
     requires size { (B.device board.old).size ≡ device_lines (shape_of geo.now) }
     requires regs { IsValidRegs (shape_of geo.now) (B.device board.old).regs }
     requires ledger { IsOfShape (shape_of geo.now) (A.ledger audit.old) }
-    requires room { 1056 ≤ (A.ledger audit.old).spare }
+    requires room { HasRoom (A.ledger audit.old) (A.capacity audit.old) 1056 }
     requires each_sealed { (a : ℕ) → a < data_lines (shape_of geo.now) → IsSome (last_seal (A.ledger audit.old).marks a) }
     ensures started { HasTxnStarted (record { shape = shape_of geo.now; formulas = S.formulas_of (S.keys suite.old) })
         (B.device board.old) (B.device board.new)

@@ -7,7 +7,6 @@ pub mod AskedWrites
 pub mod EngineWrites
 pub mod WriteEnds
 pub mod WriteLaws
-pub mod Rooms
 pub mod Written
 pub mod Turns
 pub mod Sessions

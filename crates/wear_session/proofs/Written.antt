@@ -12,7 +12,6 @@ use Rattle.pmem_base.specs.Lines.{IsLine}
 use Rattle.pmem_base.specs.Shape.{Shape}
 use Rattle.board.specs.Memory.{BoardMemory}
 use Rattle.seal_ledger.specs.Ledger.{LedgerState}
-use Rattle.seal_ledger.specs.Notes.{HasRoom}
 use Rattle.suite.specs.Formulas.{Formulas}
 use Rattle.suite.specs.Setup.{Setup}
 use Rattle.plain_model.specs.State.{Memory}
@@ -42,7 +41,6 @@ use Rattle.wear_session.specs.Answered.{Writing, is_own_seal, IsWearAnswered, Is
 use Rattle.wear_session.proofs.Worlds.{goes_to, cut_off, on_after, off_after}
 use Rattle.wear_session.proofs.ReadLaws.{on_in, lines_are}
 use Rattle.wear_session.proofs.Seen.{setup_under, of_line_is, served, seen_from, held_under}
-use Rattle.wear_session.proofs.Rooms.{reserved_world, reserved_state}
 use Rattle.wear_session.proofs.EngineWrites.{moment_now, AreDone, AreCut, memory_done}
 use Rattle.wear_session.proofs.WriteEnds.{writes_of, most_of, AreWearGone, IsKeptAt, IsLostAt, FailsWearAt, EndsWearAt, WearsAs, write_ends_at, wears_as}
 use Rattle.wear_session.proofs.WriteLaws.{whole_places, stage_of, lines_done, levelled_done, memory_by, wear_by, wear_after, memory_after, levelled_after, some_of, with_writes_is}
@@ -65,7 +63,7 @@ pub record WriteWearCall : Type 0 where
   -- before room for marks was made, and after
   pub before : WearParts
   pub ledger_before : LedgerState
-  pub room : HasRoom before.ledger ledger_before 198
+  pub same_ledger : ledger_before ≡ before.ledger
   pub now : WearState
   pub is : wear_of (setup_under formulas_of geometry before.keys) before ≡ now
   pub world : IsWearWorld (setup_under formulas_of geometry before.keys) before
@@ -135,7 +133,7 @@ module _ (c : WriteWearCall) where
   left_under gapped = record { keys = c.keys; every = c.before.every; board = c.board; ledger = c.ledger; gapped = gapped }
 
   world : IsWearWorld setup p
-  world = reserved_world setup c.before c.ledger_before 198 c.room c.world
+  world = subst (λ ledger. IsWearWorld setup (record (c.before) { ledger = ledger })) (sym c.same_ledger) c.world
 
   on : IsLevelledOn setup p c.gapped
   on = on_in setup p c.gapped world c.there
@@ -298,7 +296,7 @@ module _ (c : WriteWearCall) where
       of_line_is old c.at None on.powered (omega (arith, same, low))
 
   now_is : old ≡ c.now
-  now_is = reserved_state setup c.before c.ledger_before 198 c.room ∙ c.is
+  now_is = ap (λ ledger. wear_of setup (record (c.before) { ledger = ledger })) c.same_ledger ∙ c.is
 
   held_as : (gapped : Option Gapped) → IsWearWorld setup (left gapped) → IsWearWorld (setup_under c.formulas_of c.geometry c.keys) (left_under gapped)
   held_as gapped it = held_under c.formulas_of c.geometry p (left gapped) c.keys c.same_keys it

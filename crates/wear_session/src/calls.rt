@@ -7,7 +7,8 @@ ghost use Rattle.pmem_base.specs.Layout.{data_lines, device_lines};
 ghost use Rattle.pmem_base.specs.Registers.{IsValidRegs};
 ghost use Rattle.board.specs.MemBoard.{memory_of};
 ghost use Rattle.seal_ledger.specs.Ledger.{IsOfShape};
-ghost use Rattle.seal_ledger.specs.View.{ledger_of};
+ghost use Rattle.seal_ledger.specs.Notes.{HasRoom};
+ghost use Rattle.seal_ledger.specs.View.{capacity_of, ledger_of};
 ghost use Rattle.pmem_base.specs.Marks.{last_seal};
 ghost use Rattle.pmem_engine.specs.Parts.{parts_of, AreTrusted, AreSound};
 ghost use Rattle.pmem_engine.specs.Outcomes.{LeavesTrusted, LeavesSound};
@@ -113,7 +114,7 @@ pub(crate) fn write<S: Suite>(
     plain: &Line,
 ) -> Done<Result<Moved, WriteFault>>
     requires line { line < gapped.old.lines }
-    requires room { 198 ≤ (ledger_of ledger.old).spare }
+    requires room { HasRoom (ledger_of ledger.old) (capacity_of ledger.old) 198 }
     requires on { (memory_of board.old).powered ≡ true }
     requires usable { IsUsable gapped.old.engine.shape gapped.old.engine (device_during (memory_of board.old) none_taken) (ledger_of ledger.old) }
     ensures written { HasLevelledWrite (record { shape = gapped.old.engine.shape; formulas = S.formulas_of (S.keys suite.old) })
@@ -159,7 +160,7 @@ fn write_watched<'a, K: Start, S: Suite>(
     plain: &Line,
 ) -> Left<'a, Result<Moved, WriteFault>>
     requires line { line < gapped.old.lines }
-    requires room { 198 ≤ (ledger_of ledger.old).spare }
+    requires room { HasRoom (ledger_of ledger.old) (capacity_of ledger.old) 198 }
     requires start { memory_of board.old ≡ K.start }
     requires name { board.ghost_name ≡ K.name }
     requires on { (memory_of board.old).powered ≡ true }

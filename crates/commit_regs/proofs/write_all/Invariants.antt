@@ -1,6 +1,9 @@
 use Rattle.std.proofs.Common.{◌≡◌, true, drop}
 use Rattle.board.specs.Counts.{RisesBy}
+use Rattle.call_plan.specs.Plans.{for_each}
+use Rattle.call_plan.proofs.Loops.{HasReached}
 use Rattle.commit_regs.specs.Groups.{redone_told}
+use Rattle.commit_regs.specs.Plans.{line_plan, lines_plan}
 use Rattle.commit_regs.proofs.write_all.Given as goal
 
 abbrev pub invariant-loop-at : goal.invariant-loop-at
@@ -18,4 +21,5 @@ invariant-loop-at g l =
       cuts : now.cuts ≡ start.cuts;
       steady : start.steady ≡ true → now.steady ≡ true;
       live : start.live ≡ true → now.live ≡ true;
+      reached : HasReached (lines_plan l.group) start (for_each line_plan (drop l.at-index l.group) tt) now;
     }

@@ -7,6 +7,7 @@ use Rattle.pmem_base.specs.declared.faults.Cut.{Cut}
 use Rattle.pmem_base.specs.Shape.{Shape}
 use Rattle.pmem_base.specs.Layout.{device_lines, meta_lines, shadow_lines, shadow_line}
 use Rattle.bonsai_tree.specs.Positions.{level_of}
+use Rattle.board.proofs.CountLemmas.{RisesBy-once, HasRisen-once}
 use Rattle.board.specs.Device.{Device, IsDevice}
 use Rattle.seal_ledger.specs.Ledger.{LedgerState}
 use Rattle.suite.specs.Setup.{Setup}
@@ -71,7 +72,7 @@ module _ (old new : EngineState) (before after : Device) (mirror : new.mirror �
 -- a cut before a line write changes nothing
 pub cut_still : (setup : Setup) (engine : EngineState) (before after : Device) (ledger : LedgerState) (tags digests : ℕ)
     → WasCut before after → OneLossEffect setup cut_short [] (parts_of engine before ledger tags digests) (parts_of engine after ledger tags digests)
-cut_still setup engine before after ledger tags digests it = grind (arith, common_steps)
+cut_still setup engine before after ledger tags digests it = grind (arith, common_steps, HasRisen-once)
 
 -- nothing is done
 pub nothing_done : (setup : Setup) (parts : Parts) → OneLossEffect setup going [] parts parts
@@ -134,7 +135,7 @@ module _ (setup : Setup) (old new : EngineState) (before after : Device) (ledger
     record {
       writes = it.cleaned.board.writes.never_falls;
       latches = omega (arith, it.cleaned.board.latches);
-      sum = λ writes latches. omega (arith, it.cleaned.board.writes.exact writes, it.cleaned.board.latches);
+      sum = λ writes latches. omega (arith, (RisesBy-once it.cleaned.board.writes).exact writes, it.cleaned.board.latches);
     },
   )
   flush_answer (Err cut) it = (

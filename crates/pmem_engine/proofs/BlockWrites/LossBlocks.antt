@@ -2,6 +2,7 @@
 use Rattle.std.proofs.Common.{rules, ℕ, ◌≡◌, ◌<◌, ◌+◌, false, [], ◌∷◌, sym, ap, subst, ◌∙◌, arith}
 use Rattle.pmem_base.specs.Shape.{Shape}
 use Rattle.pmem_base.specs.Layout.{device_lines, meta_lines, meta_line, shadow_line}
+use Rattle.board.proofs.CountLemmas.{RisesBy-then, RisesBy-once}
 use Rattle.board.specs.Device.{Device, IsDevice}
 use Rattle.board.specs.Steps.{HasWritten}
 use Rattle.meta_cache.specs.Banks.{set_index, is_cached}
@@ -64,15 +65,7 @@ blocks_more count x old mid new before middle after its_size whole first it fewe
       reads = it.cleaned.board.reads ∙ first.reads;
       latches = it.cleaned.board.latches ∙ first.latches;
       writes =
-          record {
-            never_falls = omega (arith, first.writes.never_falls, it.cleaned.board.writes.never_falls);
-            exact =
-                λ below.
-                let last : after.writes ≡ middle.writes + 1 = it.cleaned.board.writes.exact below in
-                let so_far : middle.writes ≡ before.writes + count =
-                first.writes.exact (omega (arith, below, it.cleaned.board.writes.never_falls)) in
-                omega (arith, last, so_far);
-          };
+          RisesBy-then count 1 before.writes middle.writes after.writes first.writes (RisesBy-once it.cleaned.board.writes);
       none = λ zero. absurd (omega (arith, zero));
       marks =
           subst (λ (g : Shape). KeepsButMarks g old.cache new.cache) first.shape
@@ -88,7 +81,7 @@ blocks_more count x old mid new before middle after its_size whole first it fewe
           in_order_more old.shape x old.cache mid.cache new.cache before middle after first.in_order
           (subst (λ (g : Shape). dirty_order (bank_of mid.cache g.levels) ≡ x ∷ dirty_order (bank_of new.cache g.levels))
           first.shape next)
-          it.cleaned.board.writes;
+          (RisesBy-once it.cleaned.board.writes);
       shadow =
           λ n within.
           ap (λ told. told_line told (shadow_line old.shape n)) it.cleaned.board.lines

@@ -2,7 +2,8 @@
 use Rattle.std.proofs.Common.{rules, ℕ, ◌≡◌, ◌≢◌, ◌<◌, ◌≤◌, ◌+◌, sym, subst, arith}
 use Rattle.std.specs.Prelude.{MatchBool, nat_lt, ◌==◌}
 use Rattle.std.proofs.lemmas.Bool.{cases_lt, eq-eqb, ne_eqb, lt-ltb, le-ltb}
-use Rattle.board.specs.Counts.{RisesBy}
+use Rattle.board.proofs.CountLemmas.{RisesBy-once}
+use Rattle.board.specs.Counts.{RisesBy, RisesOnce}
 use Rattle.board.specs.Device.{Device}
 use Rattle.pmem_engine.specs.Parts.{Parts}
 use Rattle.pmem_engine.specs.Outcomes.{TakesSteps, TakesFewer}
@@ -27,7 +28,7 @@ other_steps dirty old_loss n steps count other steps_are greater smaller =
 
 -- so many writes, and then a latch
 pub latched_steps : (count : ℕ) (before mid after : Device) → RisesBy count before.writes mid.writes
-    → mid.latches ≡ before.latches → RisesBy 1 mid.latches after.latches → after.writes ≡ mid.writes
+    → mid.latches ≡ before.latches → RisesOnce mid.latches after.latches → after.writes ≡ mid.writes
     → TakesSteps (count + 1) before after
 latched_steps count before mid after writes latches latch still =
     record {
@@ -36,7 +37,7 @@ latched_steps count before mid after writes latches latch still =
       sum =
           λ one two.
           let wrote : mid.writes ≡ before.writes + count = writes.exact (omega (arith, one, still)) in
-          let latched : after.latches ≡ mid.latches + 1 = latch.exact two in
+          let latched : after.latches ≡ mid.latches + 1 = (RisesBy-once latch).exact two in
           omega (arith, wrote, latched, latches, still);
     }
 

@@ -53,7 +53,7 @@ answer_or : (answer : Option ℕ) (answers : List ℕ)
 answer_or None answers = refl
 answer_or (Some x) answers = refl
 
-first_of_bank : (sets : List (List Slot)) → slice_get (dirty_order sets) 0 ≡ oldest_dirty_of sets
+pub first_of_bank : (sets : List (List Slot)) → slice_get (dirty_order sets) 0 ≡ oldest_dirty_of sets
 first_of_bank [] = refl
 first_of_bank (slots ∷ sets) =
     first_of (dirty_positions slots) (dirty_order sets)

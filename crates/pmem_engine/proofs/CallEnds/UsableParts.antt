@@ -34,7 +34,7 @@ some_setup g =
     }
 
 abbrev pub some_ledger : LedgerState
-some_ledger = record { marks = []; truth = []; data_lines = 0; exhibit = None; spare = 0 }
+some_ledger = record { marks = []; truth = []; data_lines = 0; exhibit = None }
 
 -- the board is ready again
 pub ready_after : (setup : Setup) (outcome : Outcome) (made : List Mark) (old new : Parts)

@@ -164,6 +164,5 @@ module _ (setup : Setup) (page : ℕ) (old new : EngineState) (ledger noted : Le
         marks = it.shown.marks;
         truth = it.shown.truth;
         data_lines = it.shown.data_lines;
-        spare = it.shown.spare;
       })
       keeps shadow block_line uncached it cause

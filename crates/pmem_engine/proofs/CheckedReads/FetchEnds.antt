@@ -43,7 +43,6 @@ pub record IsFetchOver (old new : Device) (digests digests_now : ℕ) (ledger no
   pub marks : noted.marks ≡ ledger.marks
   pub truth : noted.truth ≡ ledger.truth
   pub data_lines : noted.data_lines ≡ ledger.data_lines
-  pub spare : noted.spare ≡ ledger.spare
 
 module _ (setup : Setup) (page : ℕ) (old new : EngineState) (ledger noted : LedgerState) (before after : Device)
     (tags digests tags_now digests_now : ℕ)

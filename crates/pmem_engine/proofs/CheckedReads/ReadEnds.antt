@@ -47,7 +47,6 @@ gone_with setup outcome made old new engine shape trusted sound metadata small i
       tags = it.tags;
       digests = it.digests;
       marks = it.marks;
-      spare = it.spare;
       true_lines = it.true_lines;
       data_lines = it.data_lines;
       exhibit = it.exhibit;

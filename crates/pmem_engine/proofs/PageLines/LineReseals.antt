@@ -67,7 +67,6 @@ module _ (setup : Setup) (next : NextSeal) (register : Progress) (engine : Engin
         noted =
             record {
               marks = done.mark.marks;
-              spare = done.mark.spare;
               truth = done.mark.truth;
               count = ap length done.mark.truth;
               data_lines = done.mark.data_lines;

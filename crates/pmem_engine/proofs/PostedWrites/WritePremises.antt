@@ -1,7 +1,8 @@
 -- What each part of a write asks of the parts before it.
-use Rattle.std.proofs.Common.{rules, ℕ, ◌≡◌, ◌<◌, ◌≤◌, ◌+◌, ◌-◌, Bool, true, false, ◌||◌, List, [], length, Option, Some, None, Ok, refl, sym, ap, subst, ◌∙◌, arith}
+use Rattle.std.proofs.Common.{rules, ℕ, ◌≡◌, ◌<◌, ◌≤◌, ◌+◌, ◌-◌, Bool, true, false, ◌||◌, List, [], ◌++◌, length, Option, Some, None, Ok, refl, sym, ap, subst, ◌∙◌, arith}
 use Rattle.std.specs.Prelude.{not}
 use Rattle.std.proofs.lemmas.Bool.{cases_Bool, cond-false, true≢false, ltb-true}
+use Rattle.std.proofs.lemmas.List.{length-append}
 use Rattle.std.proofs.lemmas.List.Filters.{length-filter_both}
 use Rattle.pmem_base.specs.declared.registers.Progress.{Progress}
 use Rattle.pmem_base.specs.declared.answers.Mark.{Mark}
@@ -12,9 +13,12 @@ use Rattle.split_counters.specs.declared.Block.{Block}
 use Rattle.split_counters.specs.Blocks.{minor_of, next_block}
 use Rattle.split_counters.proofs.Packing.{zero_minors-zero}
 use Rattle.suite.specs.Setup.{Setup}
+use Rattle.seal_ledger.specs.Ledger.{LedgerState}
+use Rattle.seal_ledger.specs.Notes.{HasRoom}
 use Rattle.pmem_engine.specs.Parts.{Parts, regs_of}
 use Rattle.pmem_engine.specs.Outcomes.{going, OneLossEffect}
 use Rattle.pmem_engine.specs.Calls.{IsUsable, IsPathNamedInMirror}
+use Rattle.pmem_engine.specs.Resealing.{register_in}
 use Rattle.pmem_engine.specs.Writing.{overflow_of, register_to_finish, HasFinishedWhere, HasFinishedFor, HasBegunFor}
 use Rattle.pmem_engine.proofs.CallEnds.UsableParts.{usable_after}
 use Rattle.pmem_engine.proofs.PostedWrites.WriteParts.{alone_done}
@@ -56,6 +60,11 @@ few_left register =
     let all = length-places in
     omega (arith, both, all)
 
+-- the room that so many marks leave
+room_after : (old new : LedgerState) (made : List Mark) (capacity n m : ℕ) → new.marks ≡ old.marks ++ made → length made ≤ n
+    → HasRoom old capacity (m + n) → HasRoom new capacity m
+room_after old new made capacity n m marks few room = omega (arith, ap length marks, length-append old.marks made, few, room)
+
 module _ (setup : Setup) (page : ℕ) (old new : Parts) where
   amid_where : (place : Option ℕ) → IsAmid setup old → HasFinishedWhere setup place old new (Ok tt) → IsAmid setup new
   amid_where None amid it = amid_after setup [] old new amid (alone_done setup old new it.alone) (ap (λ e. e.down) it.alone.engine)
@@ -65,14 +74,18 @@ module _ (setup : Setup) (page : ℕ) (old new : Parts) where
   amid_finished true amid it = amid_where (register_to_finish (regs_of old).progress.items page) amid it
   amid_finished false amid it = amid_where None amid it
 
-  room_where : (place : Option ℕ) (m : ℕ) → m + 64 ≤ old.ledger.spare → HasFinishedWhere setup place old new (Ok tt)
-      → m ≤ new.ledger.spare
-  room_where place m room it = search (rules, few_left)
+  room_where : (place : Option ℕ) (capacity m : ℕ) → HasRoom old.ledger capacity (m + 64) → HasFinishedWhere setup place old new (Ok tt)
+      → HasRoom new.ledger capacity m
+  room_where None capacity m room it =
+      room_after old.ledger new.ledger [] capacity 64 m (alone_done setup old new it.alone).gone.marks (omega arith) room
+  room_where (Some n) capacity m room it =
+      let few = few_left (register_in old n) in
+      room_after old.ledger new.ledger it.made capacity 64 m it.done.gone.marks (omega (arith, few, it.few)) room
 
-  pub room_finished : (overflows : Bool) (m : ℕ) → m + 64 ≤ old.ledger.spare → HasFinishedFor overflows setup page old new (Ok tt)
-      → m ≤ new.ledger.spare
-  room_finished true m room it = room_where (register_to_finish (regs_of old).progress.items page) m room it
-  room_finished false m room it = room_where None m room it
+  pub room_finished : (overflows : Bool) (capacity m : ℕ) → HasRoom old.ledger capacity (m + 64)
+      → HasFinishedFor overflows setup page old new (Ok tt) → HasRoom new.ledger capacity m
+  room_finished true capacity m room it = room_where (register_to_finish (regs_of old).progress.items page) capacity m room it
+  room_finished false capacity m room it = room_where None capacity m room it
 
   -- ---- the page that was begun
 
@@ -80,9 +93,13 @@ module _ (setup : Setup) (page : ℕ) (old new : Parts) where
   amid_begun true amid it = amid_after setup it.made old new amid it.done it.down
   amid_begun false amid it = amid_after setup [] old new amid (alone_done setup old new it.alone) (ap (λ e. e.down) it.alone.engine)
 
-  pub room_begun : (overflows : Bool) → 2 ≤ old.ledger.spare → HasBegunFor overflows setup page old new (Ok tt)
-      → 1 ≤ new.ledger.spare
-  room_begun v0 room it = search rules
+  pub room_begun : (overflows : Bool) (capacity : ℕ) → HasRoom old.ledger capacity 2 → HasBegunFor overflows setup page old new (Ok tt)
+      → HasRoom new.ledger capacity 1
+  room_begun true capacity room it =
+      let one = ap length it.marks in
+      room_after old.ledger new.ledger it.made capacity 1 1 it.done.gone.marks (omega (arith, one)) room
+  room_begun false capacity room it =
+      room_after old.ledger new.ledger [] capacity 1 1 (alone_done setup old new it.alone).gone.marks (omega arith) room
 
   pub cached_begun : (overflows : Bool) → IsPathCached setup.shape old.engine.cache page
       → HasBegunFor overflows setup page old new (Ok tt) → IsPathCached setup.shape new.engine.cache page

@@ -17,6 +17,7 @@ use Rattle.suite.specs.Formulas.{AreInRange}
 use Rattle.suite.specs.Setup.{Setup}
 use Rattle.split_counters.specs.Blocks.{packed, minor_of}
 use Rattle.bonsai_tree.specs.Positions.{counter_position}
+use Rattle.board.proofs.CountLemmas.{RisesBy-once, HasRisen-once}
 use Rattle.board.specs.Counts.{RisesBy}
 use Rattle.board.specs.Device.{Device, IsDevice}
 use Rattle.board.specs.Steps.{HasRead, WasCut}
@@ -63,7 +64,7 @@ module _ (setup : Setup) (at : ℕ) (plain : Line) (engine : EngineState) (old :
       record {
         made = [];
         done =
-            search rules;
+            search (rules, HasRisen-once);
         marks = inl refl;
         plain_now = λ a. refl;
         path_cached = λ ok. absurd (true≢false (sym ok));
@@ -256,7 +257,7 @@ module _ (setup : Setup) (at : ℕ) (plain tag_line : Line) (persisted : Bool) (
               search rules;
           work =
               record {
-                reads = subst (λ count. RisesBy 1 old.reads count) (sym finished.reads) read.reads;
+                reads = subst (λ count. RisesBy 1 old.reads count) (sym finished.reads) (RisesBy-once read.reads);
                 no_read = λ none. absurd (omega (arith, none));
                 writes =
                     subst₂ (λ n count. RisesBy n count new.writes)

@@ -1,5 +1,5 @@
 -- A command that made a call of the engine: its step, by what it answers.
-use Rattle.std.proofs.Common.{ℕ, ◌≡◌, ◌<◌, ◌^◌, ◌++◌, Bool, true, false, List, Option, None, refl, sym, ap, subst, ◌∙◌, arith}
+use Rattle.std.proofs.Common.{ℕ, ◌≡◌, ◌<◌, ◌≤◌, ◌^◌, ◌++◌, Bool, true, false, List, Option, None, refl, sym, ap, subst, ◌∙◌, arith}
 use Rattle.std.specs.Prelude.{Result, Err, not, length, drop}
 use Rattle.std.proofs.Math.Seq.{drop-append_seam}
 use Rattle.pmem_base.specs.declared.answers.Mark.{Mark}
@@ -7,8 +7,6 @@ use Rattle.pmem_base.specs.declared.answers.Answer.{Answer}
 use Rattle.pmem_base.specs.declared.commands.Command.{Command}
 use Rattle.pmem_base.specs.declared.commands.Posted.{Posted}
 use Rattle.pmem_base.specs.Ranges.{IsAnswer}
-use Rattle.seal_ledger.specs.Ledger.{LedgerState}
-use Rattle.seal_ledger.specs.Notes.{HasRoom}
 use Rattle.suite.specs.Formulas.{Formulas}
 use Rattle.suite.specs.Setup.{Setup}
 use Rattle.plain_model.specs.State.{PlainState, Reply}
@@ -27,25 +25,25 @@ use Rattle.pmem_replay.specs.Stepped.{HasStepped, HasCalled, IsCommandDone, IsSe
 use Rattle.pmem_replay.specs.World.{WorldState, IsOn, IsWorld, setup_of_world}
 use Rattle.pmem_replay.proofs.Steps.WorldsAfterCalls.{on_in, cut_counted, uncut_counted}
 use Rattle.pmem_replay.proofs.Steps.GoodReplies.{IsGood}
-use Rattle.pmem_replay.proofs.Steps.ReservedRoom.{same_room, no_room}
+use Rattle.pmem_replay.proofs.Steps.ReservedRoom.{same_room}
 use Rattle.pmem_replay.proofs.Steps.WorldSteps.{stepped_by_engine}
 use Rattle.pmem_replay.proofs.Called.Made.{lost_engine}
 
--- A call that was made within a command: the world before the command, the ledger once room for marks was made, and
--- the world after the call.
+-- A call that was made within a command: the world before the command, how many marks there was room for once more was
+-- made, and the world after the call.
 pub record Serving {T : Type 0} (relation : Setup → Parts → Parts → Result T Fault → Type 0) (write : Option Posted) (answer : Result T Fault) :
     Type 0 where
   pub setup : Setup
   pub first : WorldState
-  pub ledger : LedgerState
-  pub room : HasRoom first.ledger ledger 0
+  pub capacity : ℕ
+  pub grown : first.capacity ≤ capacity
   pub new : WorldState
   pub taken : Taken
-  pub called : WasCalled setup relation write (record first { ledger = ledger }) taken answer new
+  pub called : WasCalled setup relation write (record first { capacity = capacity }) taken answer new
 
 module _ {T : Type 0} {relation : Setup → Parts → Parts → Result T Fault → Type 0} {write : Option Posted} {answer : Result T Fault} (s : Serving relation write answer) where
   abbrev pub old_of : WorldState
-  old_of = record (s.first) { ledger = s.ledger }
+  old_of = record (s.first) { capacity = s.capacity }
 
   pub on_of : IsOn s.setup old_of s.called.engine
   on_of = on_in s.setup old_of s.called.engine s.called.call.world s.called.call.was_on
@@ -75,27 +73,22 @@ module _ {T : Type 0} {relation : Setup → Parts → Parts → Result T Fault �
         after = s.called.after;
         kept = s.called.kept ∙ sym (lost_engine (outcome_of answer) s.called.after (is_cut said) cut);
         taken = s.taken;
+        follows_on = s.called.call.follows;
         steps = steps;
-        few = s.called.call.follows.few;
-        ledger = s.ledger;
-        room = s.room;
+        capacity = omega (arith, s.grown, s.called.capacity);
         related = related;
-        snapshot = s.called.call.follows.snapshot;
-        writes = s.called.call.follows.writes;
-        latches = s.called.call.follows.latches;
-        cuts = s.called.call.follows.cuts;
         cut = cut_counted s.called.call.follows power;
         uncut = uncut_counted s.called.call.follows power;
       }
 
   -- the marks that were made
-  made_is : (marks : List Mark) → s.new.ledger.marks ≡ s.ledger.marks ++ marks → s.called.lawful.made ≡ marks
+  made_is : (marks : List Mark) → s.new.ledger.marks ≡ s.first.ledger.marks ++ marks → s.called.lawful.made ≡ marks
   made_is marks is =
-      sym (drop-append_seam s.ledger.marks s.called.lawful.made)
-      ∙ ap (drop (length s.ledger.marks)) (sym s.called.lawful.effect.marks ∙ is) ∙ drop-append_seam s.ledger.marks marks
+      sym (drop-append_seam s.first.ledger.marks s.called.lawful.made)
+      ∙ ap (drop (length s.first.ledger.marks)) (sym s.called.lawful.effect.marks ∙ is) ∙ drop-append_seam s.first.ledger.marks marks
 
   -- the state after the call
-  pub state_is : (o : Outcome) → outcome_of answer ≡ o → is_outcome_shown o ≡ false → (marks : List Mark) → s.new.ledger.marks ≡ s.ledger.marks ++ marks
+  pub state_is : (o : Outcome) → outcome_of answer ≡ o → is_outcome_shown o ≡ false → (marks : List Mark) → s.new.ledger.marks ≡ s.first.ledger.marks ++ marks
       → (loss : ℕ) → s.new.board.regs.loss ≡ loss
       → s.new.state ≡ called_state s.setup.shape o write marks (steps_in s.taken) loss s.first.state
   state_is o ends quiet marks is loss its_loss =
@@ -107,14 +100,12 @@ module _ {T : Type 0} {relation : Setup → Parts → Parts → Result T Fault �
   -- what fits the world once room was made fits it before
   good_first : (command : Command) (reply : Reply) → IsGood s.setup old_of command reply → IsGood s.setup s.first command reply
   good_first command reply good =
-      let still : IsGood s.setup (record (s.first) { ledger = record (s.ledger) { marks = s.first.ledger.marks } }) command reply =
-      subst (λ (ms : List Mark). IsGood s.setup (record (s.first) { ledger = record (s.ledger) { marks = ms } }) command reply) s.room.marks good in
-      record { legal = still.legal; fits = still.fits }
+      record { legal = good.legal; fits = good.fits }
 
   -- The command returns. What it notes of the state afterwards may be more than the call.
   pub stepped_call : (command : Command) (marks : List Mark) (said : Answer) (state : PlainState)
       → decided_answer s.setup.shape s.first.state command ≡ None
-      → s.new.ledger.marks ≡ s.ledger.marks ++ marks
+      → s.new.ledger.marks ≡ s.first.ledger.marks ++ marks
       → IsGood s.setup old_of command (record { marks = marks; answer = said })
       → IsAnswer said
       → is_shown said ≡ is_outcome_shown (outcome_of answer)
@@ -128,12 +119,12 @@ module _ {T : Type 0} {relation : Setup → Parts → Parts → Result T Fault �
       (good_first command (record { marks = marks; answer = said }) good) in_range
       (record { shape = s.called.call.shape; keys = s.called.keys; start = s.called.call.start })
       (s.called.shown ∙ sym ends)
-      (made ∙ ap (λ (ms : List Mark). ms ++ marks) s.room.marks) after holds worked seen
+      made after holds worked seen
 
   -- the same by how the call ended, where the call's world is the command's
   pub ends_as : (command : Command) (marks : List Mark) (o : Outcome) → outcome_of answer ≡ o → (loss : ℕ) → s.new.board.regs.loss ≡ loss
       → decided_answer s.setup.shape s.first.state command ≡ None
-      → s.new.ledger.marks ≡ s.ledger.marks ++ marks
+      → s.new.ledger.marks ≡ s.first.ledger.marks ++ marks
       → (its : Answer → Parts → Parts → Type 0)
       → ((said : Answer) → HasCalled (its said) s.first s.new said → IsCommandDone s.setup s.first command said s.new)
       → (said : Answer)
@@ -165,7 +156,7 @@ can_stop Fail.Shown w = w.lawful.exhibit refl
 abbrev pub serving : {T : Type 0} {relation : Setup → Parts → Parts → Result T Fault → Type 0} {write : Option Posted} {answer : Result T Fault} (setup : Setup) (old : WorldState) (taken : Taken) (new : WorldState)
     → WasCalled setup relation write old taken answer new → Serving relation write answer
 serving setup old taken new w =
-    record { setup = setup; first = old; ledger = old.ledger; room = same_room old.ledger; new = new; taken = taken; called = w }
+    record { setup = setup; first = old; capacity = old.capacity; grown = same_room old.capacity; new = new; taken = taken; called = w }
 
 -- a call before which room was made
 abbrev pub serving_roomy : {T : Type 0} (relation : Setup → Parts → Parts → Result T Fault → Type 0) (write : Option Posted) (answer : Result T Fault) (formulas_of : List ℕ → Formulas)
@@ -175,8 +166,8 @@ serving_roomy relation write answer formulas_of first mid more made taken new w 
     record {
       setup = setup_of_world formulas_of first;
       first = first;
-      ledger = mid.ledger;
-      room = no_room first.ledger mid.ledger more made.room;
+      capacity = mid.capacity;
+      grown = made.never_falls;
       new = new;
       taken = taken;
       called = subst (λ (world : WorldState). WasCalled (setup_of_world formulas_of world) relation write world taken answer new) made.same w;

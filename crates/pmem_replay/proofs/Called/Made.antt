@@ -42,13 +42,13 @@ lost_queues cut_short queues cut is = ap (λ (b : Bool). if b then no_writes els
 lost_queues shown queues cut is = ap (λ (b : Bool). if b then no_writes else queues) is
 
 -- the parts after a call that no exhibit ended
-abbrev pub parts_made : WorldParts → List ℕ → BoardMemory → LedgerState → Option EngineState → ℕ → ℕ → ℕ → List (List Posted) → Tampering → Dirtying → WorldParts
-parts_made p keys board ledger e tags digests steps queues tampering dirtying =
-    record (called p keys board ledger e tags digests steps) { queues = queues; tampering = tampering; dirtying = dirtying }
+abbrev pub parts_made : WorldParts → List ℕ → BoardMemory → LedgerState → ℕ → Option EngineState → ℕ → ℕ → ℕ → List (List Posted) → Tampering → Dirtying → WorldParts
+parts_made p keys board ledger capacity e tags digests steps queues tampering dirtying =
+    record (called p keys board ledger capacity e tags digests steps) { queues = queues; tampering = tampering; dirtying = dirtying }
 
-module _ {T : Type 0} (setup : Setup) (p : WorldParts) (keys : List ℕ) (board : BoardMemory) (ledger : LedgerState) (tags digests steps : ℕ)
+module _ {T : Type 0} (setup : Setup) (p : WorldParts) (keys : List ℕ) (board : BoardMemory) (ledger : LedgerState) (capacity tags digests steps : ℕ)
     (engine after : EngineState) (taken : Taken) (served : IsServed setup p keys board steps engine taken)
-    (relation : Setup → Parts → Parts → Result T Fault → Type 0) (write : Option Posted) (answer : Result T Fault)
+    (same_capacity : capacity ≡ p.capacity) (relation : Setup → Parts → Parts → Result T Fault → Type 0) (write : Option Posted) (answer : Result T Fault)
     (made : IsLawfulCall relation write setup (parts_in (world_of setup p) engine none_taken) (parts_of after (device_during board taken) ledger tags digests) answer)
     (within : IfSome write (λ w. w.at < layout.data_lines setup.shape)) where
   abbrev old : WorldState
@@ -92,7 +92,7 @@ module _ {T : Type 0} (setup : Setup) (p : WorldParts) (keys : List ℕ) (board 
 
   module _ (e : Option EngineState) (queues : List (List Posted)) (tampering : Tampering) (dirtying : Dirtying) where
     abbrev new : WorldState
-    new = world_of setup (parts_made p keys board ledger e tags digests steps queues tampering dirtying)
+    new = world_of setup (parts_made p keys board ledger capacity e tags digests steps queues tampering dirtying)
 
     call : IsCall setup old new engine after taken
     call = call_of setup p keys board steps engine after taken served new refl refl refl
@@ -153,6 +153,7 @@ module _ {T : Type 0} (setup : Setup) (p : WorldParts) (keys : List ℕ) (board 
           after = after;
           call = call;
           keys = served.same_keys;
+          capacity = same_capacity;
           related = made.related;
           lawful = lawful;
           kept = engine_now;
@@ -167,13 +168,14 @@ module _ {T : Type 0} (setup : Setup) (p : WorldParts) (keys : List ℕ) (board 
 
   -- an exhibit ended it
   pub was_shown : is_outcome_shown (outcome_of answer) ≡ true
-      → WasCalled setup relation write old taken answer (world_of setup (record (called p keys board ledger (Some after) tags digests steps) { shown = true }))
+      → WasCalled setup relation write old taken answer (world_of setup (record (called p keys board ledger capacity (Some after) tags digests steps) { shown = true }))
   was_shown is =
       record {
         engine = engine;
         after = after;
-        call = call_of setup p keys board steps engine after taken served (world_of setup (record (called p keys board ledger (Some after) tags digests steps) { shown = true })) refl refl refl;
+        call = call_of setup p keys board steps engine after taken served (world_of setup (record (called p keys board ledger capacity (Some after) tags digests steps) { shown = true })) refl refl refl;
         keys = served.same_keys;
+        capacity = same_capacity;
         related = made.related;
         lawful = lawful;
         kept = stays (outcome_of answer) is;

@@ -51,8 +51,8 @@ module _ (port at : ℕ) (answer : Result Line Fault) (s : Serving (ReadsLine at
   pub done : OneLossEffect s.setup (outcome_of answer) [] (parts_in (old_of s) s.called.engine none_taken) (parts_in s.new s.called.after s.taken)
   done = read.done (on_of s).trusted.not_down
 
-  pub same_marks : s.new.ledger.marks ≡ s.ledger.marks
-  same_marks = done.gone.marks ∙ append-nil s.ledger.marks
+  pub same_marks : s.new.ledger.marks ≡ s.first.ledger.marks
+  same_marks = done.gone.marks ∙ append-nil s.first.ledger.marks
 
   undecided : decided_answer s.setup.shape s.first.state (Do.Read port at) ≡ None
   undecided =
@@ -102,8 +102,8 @@ read_stopped port at (Fail.Meta x) s within uncovered said is =
     (read_ends port at (Err (Fail.Meta x)) s within uncovered going refl (Say.Refused None (Place.Meta x) (steps_in s.taken))
     (laws.meta-good s.setup (old_of s) s.new w.engine w.after s.taken w.call port at within x w.related)
     (tt, small_position s.setup.shape w.call.world.whole_shape x in_tree, few_of s) refl refl (λ quiet. refl) (λ quiet. refl) refl
-    (meta_wrong s.setup s.new s.ledger x refused.line refused.fetched.read
-    (same_truth s.setup s.first.board.regs s.new.board.regs s.ledger s.new.ledger w.call.world.whole_shape (on_of s).trusted.anchored
+    (meta_wrong s.setup s.new s.first.ledger x refused.line refused.fetched.read
+    (same_truth s.setup s.first.board.regs s.new.board.regs s.first.ledger s.new.ledger w.call.world.whole_shape (on_of s).trusted.anchored
     (effect.trusted (on_of s).trusted).anchored (same_marks port at (Err (Fail.Meta x)) s within uncovered))
     refused.other_digest))
 read_stopped port at (Fail.Tag b) s within uncovered said is =

@@ -56,7 +56,7 @@ module _ (answer : Result (Option (ℕ × ℕ)) Fault) (s : Serving TurnsPage No
   turn_ends o ends marks made said good in_range shown cut steps after says seen =
       ends_as s Do.Turn marks o ends s.first.state.loss (done.loss ∙ s.called.call.world.board.loss)
       (rw (lit_in s.setup (old_of s) s.called.engine s.called.call.world s.called.call.was_on) refl)
-      (done.gone.marks ∙ ap (λ (ms : List Mark). s.ledger.marks ++ ms) made)
+      (done.gone.marks ∙ ap (λ (ms : List Mark). s.first.ledger.marks ++ ms) made)
       (λ said p q. (r : Result (Option (ℕ × ℕ)) Fault) × HasTurned s.setup p q r × IsTurnAnswer s.new r said) (λ said it. it)
       said good in_range shown cut steps after (answer, turn, says) seen
 
@@ -85,7 +85,7 @@ turn_stopped (Fail.Tag b) s said is =
     let w = s.called in
     let marks = marks_of (Err (Fail.Tag b)) s in
     let within = lowest_within s.setup.shape (view_in s.setup (old_of s)).open_pages b
-    (whole_pages s.setup s.first.board.regs s.ledger (on_of s).trusted.anchored) marks.1 in
+    (whole_pages s.setup s.first.board.regs s.first.ledger (on_of s).trusted.anchored) marks.1 in
     subst (λ (ms : List Mark). HasStepped s.setup s.first Do.Turn (record { marks = ms; answer = said }) s.new) (sym marks.0)
     (subst (λ a. HasStepped s.setup s.first Do.Turn (record { marks = []; answer = a }) s.new) (sym is)
     (turn_ends (Err (Fail.Tag b)) s going refl [] marks.0 (Say.Refused None (Place.Line b) (steps_in s.taken))
@@ -104,10 +104,10 @@ turn_stopped Fail.Shown s said is =
     let none = (marks_of (Err Fail.Shown) s).0 in
     let found = w.related.answered on.trusted.not_down on.trusted in
     let effect = (done (Err Fail.Shown) s).gone in
-    let marks : s.new.ledger.marks ≡ s.ledger.marks =
-    effect.marks ∙ ap (λ (ms : List Mark). s.ledger.marks ++ ms) none ∙ append-nil s.ledger.marks in
+    let marks : s.new.ledger.marks ≡ s.first.ledger.marks =
+    effect.marks ∙ ap (λ (ms : List Mark). s.first.ledger.marks ++ ms) none ∙ append-nil s.first.ledger.marks in
     let within = lowest_within s.setup.shape (view_in s.setup (old_of s)).open_pages found.at
-    (whole_pages s.setup s.first.board.regs s.ledger on.trusted.anchored) found.lowest in
+    (whole_pages s.setup s.first.board.regs s.first.ledger on.trusted.anchored) found.lowest in
     let sight : IsExhibitValue exhibit × IsExhibitSeen s.setup s.new exhibit =
     forged_sight s.setup s.new w.after s.taken found.at exhibit w.call.world.whole_shape w.call.world.whole_formulas within
     w.call.each_line (subst (λ ms. All (IsMark s.setup.shape) ms) (sym marks) on.trusted.anchored.of_shape.marks_in_range) found.forged is.1 in

@@ -15,8 +15,6 @@ use Rattle.pmem_base.specs.Layout as layout
 use Rattle.pmem_base.specs.declared.answers.Exhibit.{Exhibit}
 use Rattle.pmem_base.specs.Marks.{last_seal}
 use Rattle.pmem_base.specs.Ranges.{IsAnswer, IsExhibitValue}
-use Rattle.seal_ledger.specs.Ledger.{LedgerState}
-use Rattle.seal_ledger.specs.Notes.{HasRoom}
 use Rattle.suite.specs.Formulas.{Formulas}
 use Rattle.suite.specs.Setup.{Setup}
 use Rattle.plain_model.specs.State.{PlainState, Reply}
@@ -61,13 +59,14 @@ some_long write later = ne_eqb (length (write ∷ later)) 0 zero_not
     zero_not same = omega (arith, same)
 
 -- a write that was given, once room was made, is drained as a drain answers it
-pub given_drained : (setup : Setup) (old new : WorldState) (ledger : LedgerState) (more : ℕ) → HasRoom old.ledger ledger more → (port : ℕ) (answer : Result Ctr Fault)
-    → (given : WasWriteGiven setup (record old { ledger = ledger }) port answer new) (said : Answer) → IsDrainAnswer new answer said
+pub given_drained : (setup : Setup) (old new : WorldState) (capacity : ℕ) → old.capacity ≤ capacity → (port : ℕ) (answer : Result Ctr Fault)
+    → (given : WasWriteGiven setup (record old { capacity = capacity }) port answer new) (said : Answer) → IsDrainAnswer new answer said
     → new.engine ≡ (if is_cut said then None else Some given.after)
     → new.board.powered ≡ not (is_cut said)
     → (is_shown said ≡ false → steps_of said ≡ steps_in given.taken)
     → HasDrained setup given.write old said new
-given_drained setup old new ledger more room port answer given said says kept power steps =
+given_drained setup old new capacity grown port answer given said says kept power steps =
+    let larger : old.capacity ≤ new.capacity = omega (arith, grown, given.capacity) in
     search (rules, cut_counted given.follows power, uncut_counted given.follows power)
 
 -- power is on afterwards where the write wasn't cut
@@ -78,10 +77,10 @@ power_after setup old new port steps answer put true is =
 power_after setup old new port steps answer put false is =
     is.holds.board.power ∙ (subst (λ e. IsPowered setup new e) is.engine is.holds.chip).unpowered
 
-module _ (setup : Setup) (old new : WorldState) (ledger : LedgerState) (room : HasRoom old.ledger ledger 66) (port : ℕ) (small : port < 8)
-    (goes_on : IsGoingOn setup old) (whole : IsWorld setup (record old { ledger = ledger })) where
+module _ (setup : Setup) (old new : WorldState) (capacity : ℕ) (grown : old.capacity ≤ capacity) (port : ℕ) (small : port < 8)
+    (goes_on : IsGoingOn setup old) (whole : IsWorld setup (record old { capacity = capacity })) where
   abbrev mid : WorldState
-  mid = record old { ledger = ledger }
+  mid = record old { capacity = capacity }
 
   drained : IsDrainedTo setup mid mid port 0 [] 0
   drained = drained_none setup mid port whole
@@ -91,9 +90,7 @@ module _ (setup : Setup) (old new : WorldState) (ledger : LedgerState) (room : H
 
   good_mid : (reply : Reply) → IsGood setup mid (Do.Drain port) reply → IsGood setup old (Do.Drain port) reply
   good_mid reply good =
-      let still : IsGood setup (record old { ledger = record ledger { marks = old.ledger.marks } }) (Do.Drain port) reply =
-      subst (λ (ms : List Mark). IsGood setup (record old { ledger = record ledger { marks = ms } }) (Do.Drain port) reply) room.marks good in
-      record { legal = still.legal; fits = still.fits }
+      record { legal = good.legal; fits = good.fits }
 
   module _ (answer : Result Ctr Fault) (given : WasWriteGiven setup mid port answer new) where
     abbrev call : IsCall setup mid new given.engine given.after given.taken
@@ -120,7 +117,7 @@ module _ (setup : Setup) (old new : WorldState) (ledger : LedgerState) (room : H
         → (is_shown said ≡ false → steps_of said ≡ steps_in given.taken)
         → MatchOption (front_of old.state port) ⊥
         (λ write. HasDrained setup write old said new)
-    called_one said says kept power steps = rw given.waits (given_drained setup old new ledger 66 room port answer given said says kept power steps)
+    called_one said says kept power steps = rw given.waits (given_drained setup old new capacity grown port answer given said says kept power steps)
 
     on_mid : IsOn setup mid given.engine
     on_mid = on_in setup mid given.engine whole given.was_on
@@ -151,8 +148,7 @@ module _ (setup : Setup) (old new : WorldState) (ledger : LedgerState) (room : H
         (good_mid (record { marks = given.written.made; answer = said }) good) its
         (record { shape = given.shape; keys = given.keys; start = given.start })
         shown
-        (given.marks ∙ ap (λ (ms : List Mark). ms ++ given.written.made) room.marks)
-        state holds (called_one said says kept power steps) seen
+        given.marks state holds (called_one said says kept power steps) seen
 
   -- ---- drained
 
@@ -199,7 +195,7 @@ module _ (setup : Setup) (old new : WorldState) (ledger : LedgerState) (room : H
       let in_tree = on_path-within setup.shape (layout.page_of g.write.at) x (omega (arith, inside)) refused.fetched.on_path in
       let done = g.written.done on.trusted.not_down in
       let none : g.written.made ≡ [] = g.written.marks on.trusted.not_down on.trusted mid.state.memory whole.memory.each in
-      let marks : new.ledger.marks ≡ ledger.marks = g.marks ∙ ap (λ (ms : List Mark). ledger.marks ++ ms) none ∙ append-nil ledger.marks in
+      let marks : new.ledger.marks ≡ old.ledger.marks = g.marks ∙ ap (λ (ms : List Mark). old.ledger.marks ++ ms) none ∙ append-nil old.ledger.marks in
       subst (λ (k : ℕ). HasStepped setup old (Do.Drain port) (record { marks = g.written.made; answer = Say.Refused None (Place.Meta x) k }) new) (all_steps n (steps_in g.taken) is.counted)
       (one_step (Err (Fail.Meta x)) g (Say.Refused None (Place.Meta x) (0 + steps_in g.taken))
       (meta-good setup mid mid new (Do.Drain port) None port 0 [] 0 writing drained whole small g.write g.later g.waits g.engine g.after g.taken c x g.written (path_within (Err (Fail.Meta x)) g refl))
@@ -207,8 +203,8 @@ module _ (setup : Setup) (old new : WorldState) (ledger : LedgerState) (room : H
       (λ quiet. state_form (given_state mid.state port g.write g.later (steps_in g.taken) false true) g.written.made is.state
       ∙ after_refused setup mid mid (Do.Drain port) None port 0 [] g.written.made 0 (steps_in g.taken) writing drained g.write g.later g.waits (Place.Meta x))
       (λ quiet. is.holds)
-      (meta_wrong setup new ledger x refused.line refused.fetched.read
-      (same_truth setup old.board.regs new.board.regs ledger new.ledger whole.whole_shape on.trusted.anchored
+      (meta_wrong setup new old.ledger x refused.line refused.fetched.read
+      (same_truth setup old.board.regs new.board.regs old.ledger new.ledger whole.whole_shape on.trusted.anchored
       (done.gone.trusted on.trusted).anchored marks) refused.other_digest))
 
   pub drain-tag : (b n : ℕ) (is : IsWriteGiven setup mid port n (Err (Fail.Tag b)) false true new)
@@ -350,7 +346,7 @@ module _ (formulas_of : List ℕ → Formulas) (old mid new : WorldState) (port 
   going_on : IsGoingOn its_setup old
   going_on = record { whole = whole; unshown = unshown }
 
-  its_world : IsWorld its_setup (record old { ledger = mid.ledger })
+  its_world : IsWorld its_setup (record old { capacity = mid.capacity })
   its_world = subst (λ (w : WorldState). IsWorld its_setup w) made.same made.holds
 
   since_then : (marks : List Mark) (one : Answer) → HasStepped its_setup old (Do.Drain port) (record { marks = marks; answer = one }) new
@@ -359,22 +355,22 @@ module _ (formulas_of : List ℕ → Formulas) (old mid new : WorldState) (port 
       subst (λ (a : Answer). HasStepped its_setup old (Do.Drain port) (with_marks_since old new a) new) (sym same)
       (since its_setup old new (Do.Drain port) marks one step)
 
-  by_answer : (answer : Result Ctr Fault) (put : Bool) (n : ℕ) → IsWriteGivenTo its_setup (record old { ledger = mid.ledger }) port n answer put new
+  by_answer : (answer : Result Ctr Fault) (put : Bool) (n : ℕ) → IsWriteGivenTo its_setup (record old { capacity = mid.capacity }) port n answer put new
       → IsDrainSaid new answer put n said → HasStepped its_setup old (Do.Drain port) (with_marks_since old new said) new
   by_answer (Ok ctr) put n it same =
-      since_then it.given.written.made (Say.Drained n) (drain-put its_setup old new mid.ledger made.room port small going_on its_world ctr n it) same
+      since_then it.given.written.made (Say.Drained n) (drain-put its_setup old new mid.capacity made.never_falls port small going_on its_world ctr n it) same
   by_answer (Err (Fail.Meta x)) put n it same =
-      since_then it.given.written.made (Say.Refused None (Place.Meta x) n) (drain-meta its_setup old new mid.ledger made.room port small going_on its_world x n it) same
+      since_then it.given.written.made (Say.Refused None (Place.Meta x) n) (drain-meta its_setup old new mid.capacity made.never_falls port small going_on its_world x n it) same
   by_answer (Err (Fail.Tag b)) put n it same =
-      since_then it.given.written.made (Say.Refused None (Place.Line b) n) (drain-tag its_setup old new mid.ledger made.room port small going_on its_world b n it) same
+      since_then it.given.written.made (Say.Refused None (Place.Line b) n) (drain-tag its_setup old new mid.capacity made.never_falls port small going_on its_world b n it) same
   by_answer (Err (Fail.Spent page)) put n it same =
-      since_then it.given.written.made (Say.Spent None page n) (drain-spent its_setup old new mid.ledger made.room port small going_on its_world page n it) same
+      since_then it.given.written.made (Say.Spent None page n) (drain-spent its_setup old new mid.capacity made.never_falls port small going_on its_world page n it) same
   by_answer (Err Fail.Cut) true n it same =
-      since_then it.given.written.made (Say.CutKept None n) (drain-kept its_setup old new mid.ledger made.room port small going_on its_world n it) same
+      since_then it.given.written.made (Say.CutKept None n) (drain-kept its_setup old new mid.capacity made.never_falls port small going_on its_world n it) same
   by_answer (Err Fail.Cut) false n it same =
-      since_then it.given.written.made (Say.CutLost None n) (drain-lost its_setup old new mid.ledger made.room port small going_on its_world n it) same
+      since_then it.given.written.made (Say.CutLost None n) (drain-lost its_setup old new mid.capacity made.never_falls port small going_on its_world n it) same
   by_answer (Err Fail.Shown) put n it same =
-      since_then it.given.written.made (Say.Shown same.0) (drain-shown its_setup old new mid.ledger made.room port small going_on its_world same.0 it same.1) same.2
+      since_then it.given.written.made (Say.Shown same.0) (drain-shown its_setup old new mid.capacity made.never_falls port small going_on its_world same.0 it same.1) same.2
   by_answer (Err Fail.Down) put n it same = absurd same
 
   pub drained_as : HasWriteGiven (setup_of_world formulas_of mid) mid port said new

@@ -4,7 +4,7 @@ use Rattle.std.proofs.Common.{ℕ, suc, ◌≡◌, ◌<◌, ◌≤◌, ◌+◌, 
 use Rattle.std.specs.Prelude.{Bool, Result, Ok, Err, MatchOption, length, drop, IsSome}
 use Rattle.std.proofs.lemmas.Bool.{true≢false}
 use Rattle.std.proofs.lemmas.Option.{none-some}
-use Rattle.std.proofs.lemmas.List.{length-drop}
+use Rattle.std.proofs.lemmas.List.{length-append, length-drop}
 use Rattle.pmem_base.specs.declared.commands.Posted.{Posted}
 use Rattle.pmem_base.specs.declared.lines.Ctr.{Ctr}
 use Rattle.pmem_base.specs.declared.commands.Command.TheVariants as Do
@@ -13,7 +13,7 @@ use Rattle.pmem_base.specs.declared.answers.Answer.TheVariants as Say
 use Rattle.pmem_base.specs.declared.answers.Mark.{Mark}
 use Rattle.pmem_base.specs.declared.answers.Place.{Place}
 use Rattle.pmem_base.specs.WaitingWrites.{queue_of}
-use Rattle.seal_ledger.specs.Ledger.{LedgerState}
+use Rattle.seal_ledger.specs.Notes.{HasRoom}
 use Rattle.suite.specs.Formulas.{Formulas}
 use Rattle.suite.specs.Setup.{Setup}
 use Rattle.plain_model.specs.State.{PlainState}
@@ -34,28 +34,35 @@ use Rattle.pmem_replay.proofs.Drains.DrainedLaws.{fenced-good, fenced-after}
 use Rattle.pmem_replay.proofs.Drains.FenceSteps.{IsFencing, fence-put, fence-meta, fence-tag, fence-spent, fence-kept, fence-lost, fence-shown}
 use Rattle.pmem_replay.proofs.Steps.PartsOfWorld.{since}
 use Rattle.pmem_replay.proofs.Marks.OpenPages.{whole_pages}
-use Rattle.pmem_replay.proofs.Steps.ReservedRoom.{with_spare, room_is, same_room, room_before}
+use Rattle.pmem_replay.proofs.Steps.ReservedRoom.{same_room}
 use Rattle.pmem_replay.proofs.Steps.WorldSteps.{stepped_by_engine}
 use Rattle.pmem_replay.proofs.Table.UnchangedSteps.{lit_in}
 
 -- ---- a fence before which room was made
 
 -- its first write is drained as well before room was made
-drained_before : (setup : Setup) (old new : WorldState) (spare : ℕ) → old.ledger.spare ≤ spare → (write : Posted) (one : Answer)
-    → HasDrained setup write (record old { ledger = with_spare old.ledger spare }) one new → HasDrained setup write old one new
-drained_before setup old new spare more write one it = search (rules, room_before)
+drained_before : (setup : Setup) (old new : WorldState) (capacity : ℕ) → old.capacity ≤ capacity → (write : Posted) (one : Answer)
+    → HasDrained setup write (record old { capacity = capacity }) one new → HasDrained setup write old one new
+drained_before setup old new capacity grown write one it = search (rules, arith)
 
 -- and so are all its writes
-fenced_before : (setup : Setup) (old new : WorldState) (spare : ℕ) → old.ledger.spare ≤ spare → (answer : Answer) (queue : List Posted)
-    → HasFenced setup queue 0 0 (record old { ledger = with_spare old.ledger spare }) answer new → HasFenced setup queue 0 0 old answer new
-fenced_before setup old new spare more answer [] it = (
-  record { board = it.0.board; engine = it.0.engine; room = room_before old.ledger new.ledger spare 0 more it.0.room; tags = it.0.tags; digests = it.0.digests },
+fenced_before : (setup : Setup) (old new : WorldState) (capacity : ℕ) → old.capacity ≤ capacity → (answer : Answer) (queue : List Posted)
+    → HasFenced setup queue 0 0 (record old { capacity = capacity }) answer new → HasFenced setup queue 0 0 old answer new
+fenced_before setup old new capacity grown answer [] it = (
+  record {
+    board = it.0.board;
+    engine = it.0.engine;
+    ledger = it.0.ledger;
+    capacity = omega (arith, grown, it.0.capacity);
+    tags = it.0.tags;
+    digests = it.0.digests;
+  },
   it.1,
 )
-fenced_before setup old new spare more answer (write ∷ later) it =
+fenced_before setup old new capacity grown answer (write ∷ later) it =
     elim it [
-      | inl ends ↦ inl (ends.0, drained_before setup old new spare more write ends.0 ends.1, ends.2)
-      | inr on ↦ inr (on.0, on.1, drained_before setup old on.1 spare more write (Say.Drained on.0) on.2, on.3)
+      | inl ends ↦ inl (ends.0, drained_before setup old new capacity grown write ends.0 ends.1, ends.2)
+      | inr on ↦ inr (on.0, on.1, drained_before setup old on.1 capacity grown write (Say.Drained on.0) on.2, on.3)
     ]
 
 -- ---- the loop
@@ -68,7 +75,7 @@ pub record IsDraining (formulas_of : List ℕ → Formulas) (mid now : WorldStat
   pub made : List Mark
   pub fencing : IsFencing (setup_of_world formulas_of mid) mid now port done made steps
   pub on : IsSome now.engine
-  pub room : 66 * count ≤ now.ledger.spare + 66 * done
+  pub room : length now.ledger.marks + 66 * count ≤ now.capacity + 66 * done
   pub within : done ≤ count
 
 pub some_engine : (engine : Option EngineState) → IsSome engine → (found : EngineState) × (engine ≡ Some found)
@@ -76,7 +83,7 @@ some_engine None some = absurd (true≢false (sym some))
 some_engine (Some found) some = (found, refl)
 
 pub fence_starts : (formulas_of : List ℕ → Formulas) (mid : WorldState) (port count : ℕ) → IsWorld (setup_of_world formulas_of mid) mid → mid.shown ≡ false
-    → IsSome mid.engine → 66 * count ≤ mid.ledger.spare → IsDraining formulas_of mid mid port count 0 0
+    → IsSome mid.engine → HasRoom mid.ledger mid.capacity (66 * count) → IsDraining formulas_of mid mid port count 0 0
 fence_starts formulas_of mid port count whole unshown on room =
     let found = some_engine mid.engine on in
     record {
@@ -160,13 +167,13 @@ module _ (formulas_of : List ℕ → Formulas) (mid now new : WorldState) (port 
       let few = asked_few setup.formulas g.write g.written.made
       (asked_form setup.shape setup.formulas (moment_of now.state (view_in setup now)) g.write g.written.made
       (whole_pages setup now.board.regs now.ledger on.trusted.anchored) asked) in
-      let spare = (g.written.done on.trusted.not_down).gone.spare in
+      let marks = ap length g.marks ∙ length-append now.ledger.marks g.written.made in
       let next = fence-put setup mid now new port small done draining.made steps whole draining.fencing it.0 k it.1 (omega (arith, below, most)) in
       record {
         made = draining.made ++ g.written.made;
         fencing = subst (λ (n : ℕ). IsFencing setup mid new port n (draining.made ++ g.written.made) (steps + k)) {x = suc done} {y = done + 1} (omega arith) next;
         on = subst (λ (e : Option EngineState). IsSome e) (sym it.1.engine) refl;
-        room = omega (arith, draining.room, spare, few);
+        room = omega (arith, draining.room, marks, g.capacity, few);
         within = omega (arith, below);
       }
 
@@ -222,7 +229,7 @@ fence_done formulas_of mid now port count done steps small whole counted most dr
     let f = draining.fencing in
     let waits = still_waits formulas_of mid now now port count done steps small whole counted most draining in
     let none : queue_of now.state.queues port ≡ [] = no_writes_left (queue_of now.state.queues port) (omega (arith, waits, past)) in
-    let here : HasSameParts now now = record { board = refl; engine = refl; room = same_room now.ledger; tags = refl; digests = refl } in
+    let here : HasSameParts now now = record { board = refl; engine = refl; ledger = refl; capacity = same_room now.capacity; tags = refl; digests = refl } in
     let all : done ≡ length (queue_of mid.state.queues port) = omega (arith, past, draining.within, counted) in
     since setup mid now (Do.Fence port) draining.made (Say.Fenced done steps)
     (stepped_by_engine setup mid now (Do.Fence port) (record { marks = draining.made; answer = Say.Fenced done steps })
@@ -279,11 +286,9 @@ pub fence_before : (formulas_of : List ℕ → Formulas) (old mid new : WorldSta
     → HasStepped (setup_of_world formulas_of mid) mid (Do.Fence port) (with_marks_since mid new answer) new
     → HasStepped (setup_of_world formulas_of old) old (Do.Fence port) (with_marks_since old new answer) new
 fence_before formulas_of old mid new port more made lit answer step =
-    let before : WorldState = record old { ledger = with_spare old.ledger mid.ledger.spare } in
-    let same : mid ≡ before =
-    made.same ∙ ap (λ (l : LedgerState). record old { ledger = l }) (room_is old.ledger mid.ledger more made.room) in
+    let before : WorldState = record old { capacity = mid.capacity } in
     let its : HasStepped (setup_of_world formulas_of old) before (Do.Fence port) (with_marks_since before new answer) new =
-    subst (λ (w : WorldState). HasStepped (setup_of_world formulas_of w) w (Do.Fence port) (with_marks_since w new answer) new) same step in
+    subst (λ (w : WorldState). HasStepped (setup_of_world formulas_of w) w (Do.Fence port) (with_marks_since w new answer) new) made.same step in
     let none : decided_answer old.shape old.state (Do.Fence port) ≡ None = rw lit refl in
     record {
       same_shape = its.same_shape;
@@ -302,7 +307,7 @@ fence_before formulas_of old mid new port more made lit answer step =
           (HasFenced (setup_of_world formulas_of old) (queue_of old.state.queues port) 0 0 before answer new)
           (HasFenced (setup_of_world formulas_of old) (queue_of old.state.queues port) 0 0 old answer new)
           (λ answer. IsByTable before (Do.Fence port) answer new) (λ answer. IsByTable old (Do.Fence port) answer new)
-          (fenced_before (setup_of_world formulas_of old) old new mid.ledger.spare made.room.never_falls answer (queue_of old.state.queues port))
+          (fenced_before (setup_of_world formulas_of old) old new mid.capacity made.never_falls answer (queue_of old.state.queues port))
           none its.parts;
       seen = seen_before (setup_of_world formulas_of old) old before new port answer its.seen;
     }

@@ -98,7 +98,7 @@ module _ (setup : Setup) (mid now new : WorldState) (port : ℕ) (small : port <
         → new.board.powered ≡ not (is_cut one)
         → (is_shown one ≡ false → steps_of one ≡ steps_in given.taken)
         → HasDrained setup given.write now one new
-    drained_one one says kept power steps = given_drained setup now new now.ledger 0 (same_room now.ledger) port answer given one says kept power steps
+    drained_one one says kept power steps = given_drained setup now new now.capacity (same_room now.capacity) port answer given one says kept power steps
 
     -- a step of the engine's, by what a drain of the write that ends it would answer
     one_step : (one said : Answer) → IsGood setup mid (Do.Fence port) (record { marks = made ++ given.written.made; answer = said }) → IsAnswer said

@@ -127,6 +127,7 @@ module _ (setup : Setup) (old new : WorldState) (port : ℕ) (small : port < 8) 
           start = w.call.start;
           written = w.related;
           marks = done.gone.marks;
+          capacity = w.capacity;
         }
 
     -- the marks that were made, by the law and by the write

@@ -41,7 +41,7 @@ use Rattle.pmem_replay.specs.World.{WorldState, WorldParts, IsOff, IsWorld, stat
 use Rattle.watched_board.specs.Watching.{none_taken, steps_in, device_during}
 use Rattle.pmem_replay.specs.During.{IsTakenApart}
 use Rattle.pmem_replay.specs.Replies.{without_marks}
-use Rattle.pmem_replay.specs.Stepped.{HasStepped, IsOnAnswer, IsSeenOnDevice, engine_given}
+use Rattle.pmem_replay.specs.Stepped.{HasStepped, IsOnAnswer, IsSeenOnDevice, board_after_on, engine_given}
 use Rattle.pmem_replay.proofs.Steps.GoodReplies.{IsGood}
 use Rattle.pmem_replay.proofs.Steps.WorldsAfterCalls.{cut_counted, uncut_counted}
 use Rattle.pmem_base.specs.Counts.{HasRisen}
@@ -61,7 +61,7 @@ module _ (s : RecoveryCall) where
 
   -- the parts with this engine and board
   abbrev pub left_with : Option EngineState → BoardMemory → WorldParts
-  left_with engine board = called s.parts s.keys board s.parts.ledger engine s.tags s.digests s.steps
+  left_with engine board = called s.parts s.keys board s.parts.ledger s.parts.capacity engine s.tags s.digests s.steps
 
   abbrev old : WorldState
   old = world_of setup s.parts
@@ -113,9 +113,8 @@ module _ (s : RecoveryCall) where
   powered : (answer : Result (EngineState × Work) RecFault) → Has answer → (said : Answer) (new : WorldState)
       → IsGood setup old Do.On (without_marks said) → IsAnswer said
       → new.shape ≡ setup.shape → new.keys ≡ s.keys → new.start ≡ s.parts.start → new.shown ≡ is_shown said
-      → new.ledger ≡ s.parts.ledger → new.tags ≡ s.tags → new.digests ≡ s.digests → new.engine ≡ engine_given answer
-      → new.board.lines ≡ s.board.lines → new.board.regs ≡ s.board.regs → new.board.snapshot ≡ s.board.snapshot
-      → new.board.reads ≡ s.board.reads → new.board.writes ≡ s.board.writes → new.board.latches ≡ s.board.latches → new.board.cuts ≡ s.board.cuts
+      → new.ledger ≡ s.parts.ledger → new.capacity ≡ s.parts.capacity → new.tags ≡ s.tags → new.digests ≡ s.digests → new.engine ≡ engine_given answer
+      → new.board ≡ board_after_on answer s.board
       → s.board.powered ≡ not (is_cut said)
       → (is_shown said ≡ false → steps_of said ≡ steps_in s.taken)
       → IsOnAnswer answer said
@@ -123,7 +122,7 @@ module _ (s : RecoveryCall) where
       → (is_shown said ≡ false → IsWorld setup new)
       → IsSeenOnDevice setup old Do.On said new
       → HasStepped setup old Do.On (without_marks said) new
-  powered answer has said new good its shape new_keys start shown ledger new_tags new_digests engine lines regs snapshot reads writes latches cuts power its_steps answered state world seen =
+  powered answer has said new good its shape new_keys start shown ledger capacity new_tags new_digests engine board power its_steps answered state world seen =
       stepped_by_engine setup old new Do.On (without_marks said) undecided good its
       (record { shape = shape; keys = new_keys ∙ has.keys; start = start })
       shown
@@ -132,8 +131,8 @@ module _ (s : RecoveryCall) where
       (record {
         left = s.board;
         taken = s.taken;
+        follows_on = s.served.watched.follows;
         steps = its_steps;
-        few = s.served.watched.follows.few;
         outcome = answer;
         suite_old = suite_state s.parts.keys s.pads s.parts.tags s.parts.digests;
         suite_new = suite_state s.keys s.pads_new s.tags s.digests;
@@ -145,18 +144,18 @@ module _ (s : RecoveryCall) where
         recovered = has;
         answered = answered;
         engine = engine;
-        lines = lines;
-        regs = regs;
-        snapshot = snapshot ∙ s.served.watched.follows.snapshot;
+        board = board;
         ledger = ledger;
-        reads = reads;
-        writes = writes ∙ s.served.watched.follows.writes;
-        latches = latches ∙ s.served.watched.follows.latches;
-        cuts = cuts ∙ s.served.watched.follows.cuts;
-        cut = λ is. subst (λ n. HasRisen s.parts.board.cuts n) (sym cuts) (cut_counted s.served.watched.follows power is);
-        uncut = λ is. cuts ∙ uncut_counted s.served.watched.follows power is;
+        capacity = capacity;
+        cut = λ is. subst (λ n. HasRisen s.parts.board.cuts n) (sym (cuts answer board)) (cut_counted s.served.watched.follows power is);
+        uncut = λ is. cuts answer board ∙ uncut_counted s.served.watched.follows power is;
       })
       seen
+    where
+      cuts : (answer : Result (EngineState × Work) RecFault) → new.board ≡ board_after_on answer s.board → new.board.cuts ≡ s.board.cuts
+      cuts (Ok done) board = ap (λ (b : BoardMemory). b.cuts) board
+      cuts (Err Fail.Cut) board = ap (λ (b : BoardMemory). b.cuts) board
+      cuts (Err fault) board = ap (λ (b : BoardMemory). b.cuts) board
 
   -- the answer as the program has it, with the engine in its place
   abbrev EndsOn : Answer → WorldParts → Type 0
@@ -201,7 +200,7 @@ module _ (s : RecoveryCall) where
       powered (Ok (found, work)) has (Say.Recovered work.trials work.digests (steps_in s.taken)) new
       (recovered-good setup old new s.board s.taken found work call)
       (few_trials, few_digests, few)
-      refl refl refl s.served.going.unshown refl refl refl refl refl refl refl refl refl refl refl lasting
+      refl refl refl s.served.going.unshown refl refl refl refl refl refl lasting
       (λ quiet. refl) (refl, refl)
       (λ quiet. its_state)
       (λ quiet. recovered-world setup old new s.board s.taken found work call its_state refl refl
@@ -247,7 +246,7 @@ module _ (s : RecoveryCall) where
       powered (Err Fail.Cut) has (Say.Cut (steps_in s.taken)) new
       (cut-good setup old new s.board s.taken call fewer)
       few
-      refl refl refl s.served.going.unshown refl refl refl refl refl refl refl refl refl refl refl dark
+      refl refl refl s.served.going.unshown refl refl refl refl refl refl dark
       (λ quiet. refl) tt
       (λ quiet. its_state)
       (λ quiet. cut-world setup old new s.board s.taken call its_state refl refl)
@@ -290,7 +289,7 @@ module _ (s : RecoveryCall) where
       powered (Err (Fail.NoCounter at)) has (Say.NoCounter at (steps_in s.taken)) new
       (counter-good setup old new s.board s.taken at call)
       (small_line setup.shape s.served.going.whole.whole_shape at (undecided_line setup (lines_in old) s.parts.board.regs at refused.0).0.on_device, few)
-      refl refl refl s.served.going.unshown refl refl refl refl refl refl refl refl refl refl refl lasting
+      refl refl refl s.served.going.unshown refl refl refl refl refl refl lasting
       (λ quiet. refl) refl
       (λ quiet. its_state)
       (λ quiet. refused-world setup old new s.board s.taken (Fail.NoCounter at) call call.recovered.regs call.recovered.unchanged
@@ -320,7 +319,7 @@ module _ (s : RecoveryCall) where
       powered (Err (Fail.Root kept found)) has (Say.WrongRoot kept found (steps_in s.taken)) new
       (root-good setup old new s.board s.taken kept found call)
       (kept_tag, found_tag, few)
-      refl refl refl s.served.going.unshown refl refl refl refl refl refl refl refl refl refl refl lasting
+      refl refl refl s.served.going.unshown refl refl refl refl refl refl lasting
       (λ quiet. refl) (refl, refl)
       (λ quiet. its_state)
       (λ quiet. refused-world setup old new s.board s.taken (Fail.Root kept found) call call.recovered.regs call.recovered.unchanged
@@ -357,7 +356,7 @@ module _ (s : RecoveryCall) where
         whole_cipher,
         whole_tag,
       )
-      refl refl refl refl refl refl refl refl refl refl refl refl refl refl refl (has.power.live refl)
+      refl refl refl refl refl refl refl refl refl refl (has.power.live refl)
       (λ quiet. absurd (true≢false quiet)) refl
       (λ quiet. absurd (true≢false quiet))
       (λ quiet. absurd (true≢false quiet)) (
@@ -417,9 +416,9 @@ module _ (s : RecoveryCall) where
       let writes : s.taken.writes ≡ 0 = ap (λ d. d.writes) same in
       let latches : s.taken.latches ≡ 0 = ap (λ d. d.latches) same in
       let its_steps : s.steps ≡ s.parts.steps = omega (arith, s.served.counted, writes, latches, s.served.going.whole.steps.in_range) in
-      ap (λ (x : List ℕ). called s.parts x rested s.parts.ledger s.engine s.tags s.digests s.steps) (ap (λ (st : SuiteState). st.keys) has.uncounted)
-      ∙ ap (λ (x : BoardMemory). called s.parts s.parts.keys x s.parts.ledger s.engine s.tags s.digests s.steps) (rest ∙ unmoved has)
-      ∙ ap (λ (x : Option EngineState). called s.parts s.parts.keys s.parts.board s.parts.ledger x s.tags s.digests s.steps) (apart.0 ∙ sym s.served.was_off)
+      ap (λ (x : List ℕ). called s.parts x rested s.parts.ledger s.parts.capacity s.engine s.tags s.digests s.steps) (ap (λ (st : SuiteState). st.keys) has.uncounted)
+      ∙ ap (λ (x : BoardMemory). called s.parts s.parts.keys x s.parts.ledger s.parts.capacity s.engine s.tags s.digests s.steps) (rest ∙ unmoved has)
+      ∙ ap (λ (x : Option EngineState). called s.parts s.parts.keys s.parts.board s.parts.ledger s.parts.capacity x s.tags s.digests s.steps) (apart.0 ∙ sym s.served.was_off)
       ∙ ap (λ (x : ℕ). record (s.parts) { tags = x; digests = s.digests; steps = s.steps }) (ap (λ (st : SuiteState). st.tags) has.uncounted)
       ∙ ap (λ (x : ℕ). record (s.parts) { digests = x; steps = s.steps }) (ap (λ (st : SuiteState). st.digests) has.uncounted)
       ∙ ap (λ (x : ℕ). record (s.parts) { steps = x }) its_steps

@@ -16,9 +16,9 @@ use Rattle.pmem_replay.proofs.Table.UnchangedSteps.{IsGoingOn}
 -- ---- after a call
 
 -- the parts after a call
-abbrev pub called : WorldParts → List ℕ → BoardMemory → LedgerState → Option EngineState → ℕ → ℕ → ℕ → WorldParts
-called p keys board ledger engine tags digests steps =
-    record p { keys = keys; board = board; ledger = ledger; engine = engine; tags = tags; digests = digests; steps = steps }
+abbrev pub called : WorldParts → List ℕ → BoardMemory → LedgerState → ℕ → Option EngineState → ℕ → ℕ → ℕ → WorldParts
+called p keys board ledger capacity engine tags digests steps =
+    record p { keys = keys; board = board; ledger = ledger; capacity = capacity; engine = engine; tags = tags; digests = digests; steps = steps }
 
 -- what surrounds a call: where room for marks was made before, `p` has it
 pub record IsServed (setup : Setup) (p : WorldParts) (keys : List ℕ) (board : BoardMemory) (steps : ℕ) (engine : EngineState) (taken : Taken) :

@@ -191,7 +191,7 @@ none-decided g s (Do.Loss n) =
 -- a call takes no more than the limit
 few_called : {relation : Parts → Parts → Type 0} (old new : WorldState) (answer : Answer) → HasCalled relation old new answer
     → is_shown answer ≡ false → steps_of answer ≤ step_limit
-few_called old new answer called quiet = omega (arith, called.steps quiet, called.few)
+few_called old new answer called quiet = omega (arith, called.steps quiet, called.follows_on.few)
 
 -- the write that ends a fence
 few_last : (n spent : ℕ) (one answer : Answer) → EndsFence n spent one answer → spent ≤ step_limit * n
@@ -233,7 +233,7 @@ few_stat world answer told = absurd told
 
 few_on : (setup : Setup) (old new : WorldState) (answer : Answer) → HasPoweredOn setup old new answer
     → is_shown answer ≡ false → steps_of answer ≤ most_command_steps
-few_on setup old new answer on quiet = omega (arith, on.steps quiet, on.few)
+few_on setup old new answer on quiet = omega (arith, on.steps quiet, on.follows_on.few)
 
 -- no queue has more than sixteen writes
 short_queue : (queues : List (List Posted)) → ArePorts queues → (port : ℕ) → length (queue_of queues port) ≤ 16

@@ -24,12 +24,13 @@ use Rattle.pmem_replay.proofs.Steps.WorldsAfterCalls.{on_in}
 use Rattle.pmem_replay.proofs.Steps.WorldSteps.{holds_after}
 use Rattle.pmem_replay.proofs.Table.UnchangedSteps.{IsGoingOn, dark_in, lit_in}
 
-abbrev pub held : List ℕ → BoardMemory → LedgerState → Option EngineState → ℕ → ℕ → List (List Posted) → Tampering → Dirtying → ℕ → Stat → Bool → WorldParts
-held keys board ledger engine tags digests queues tampering dirtying steps start shown =
+abbrev pub held : List ℕ → BoardMemory → LedgerState → ℕ → Option EngineState → ℕ → ℕ → List (List Posted) → Tampering → Dirtying → ℕ → Stat → Bool → WorldParts
+held keys board ledger capacity engine tags digests queues tampering dirtying steps start shown =
     record {
       keys = keys;
       board = board;
       ledger = ledger;
+      capacity = capacity;
       engine = engine;
       tags = tags;
       digests = digests;

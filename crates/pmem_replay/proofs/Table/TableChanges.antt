@@ -78,7 +78,7 @@ module _ (setup : Setup) (p : WorldParts) (going : IsGoingOn setup (world_of set
       refl tt
       (record { marks_asked = refl; peek_true = tt; steps_counted = tt; flush_true = tt; within_bounds = tt })
       (record { shape = refl; keys = refl; start = refl }) going.unshown
-      (record { board = refl; engine = refl; ledger = refl; tags = refl; digests = refl })
+      (record { board = refl; engine = refl; ledger = refl; capacity = refl; tags = refl; digests = refl })
       (ap (λ (queues : List (List Posted)). record (state_in setup p) { queues = queues }) is
       ∙ sym (counted_zero (after_post (state_in setup p) port (posted_line at line)) range))
       (posted engine there port (posted_line at line) queues small room its on_memory is) tt
@@ -95,7 +95,7 @@ module _ (setup : Setup) (p : WorldParts) (going : IsGoingOn setup (world_of set
       refl tt
       (record { marks_asked = refl; peek_true = tt; steps_counted = tt; flush_true = tt; within_bounds = tt })
       (record { shape = refl; keys = refl; start = refl }) going.unshown
-      (record { board = refl; engine = refl; ledger = refl; tags = refl; digests = refl })
+      (record { board = refl; engine = refl; ledger = refl; capacity = refl; tags = refl; digests = refl })
       (ap (λ (queues : List (List Posted)). record (state_in setup p) { queues = queues }) is
       ∙ sym (counted_zero (after_post (state_in setup p) port (posted_part at from count line)) range))
       (posted engine there port (posted_part at from count line) queues small room its on_memory is) tt
@@ -109,7 +109,7 @@ module _ (setup : Setup) (p : WorldParts) (going : IsGoingOn setup (world_of set
       (stepped_by_table setup old (world_of setup (record p { board = record (p.board) { fuse = Some n } })) (Do.Cut n) Say.Ok refl refl tt
       (record { marks_asked = refl; peek_true = tt; steps_counted = tt; flush_true = tt; within_bounds = tt })
       (record { shape = refl; keys = refl; start = refl }) going.unshown
-      (record { board = refl; engine = refl; ledger = refl; tags = refl; digests = refl })
+      (record { board = refl; engine = refl; ledger = refl; capacity = refl; tags = refl; digests = refl })
       (sym (counted_zero (record (state_in setup p) { fuse = Some n }) range))
       (world-armed setup old (world_of setup (record p { board = record (p.board) { fuse = Some n } })) n going.whole
       (record { shape = refl; start = refl; board = refl; ledger = refl; engine = refl; state = refl })) tt)
@@ -121,7 +121,7 @@ module _ (setup : Setup) (p : WorldParts) (going : IsGoingOn setup (world_of set
       (stepped_by_table setup old (world_of setup (record p { board = record (p.board) { snapshot = Some p.board.lines } })) Do.Snap Say.Ok refl refl tt
       (record { marks_asked = refl; peek_true = tt; steps_counted = tt; flush_true = tt; within_bounds = tt })
       (record { shape = refl; keys = refl; start = refl }) going.unshown
-      (record { board = refl; engine = refl; ledger = refl; tags = refl; digests = refl })
+      (record { board = refl; engine = refl; ledger = refl; capacity = refl; tags = refl; digests = refl })
       (sym (counted_zero (record (state_in setup p) { snapped = true }) range))
       (world-snapped setup old (world_of setup (record p { board = record (p.board) { snapshot = Some p.board.lines } })) going.whole
       (record { shape = refl; start = refl; board = refl; ledger = refl; engine = refl; state = refl })) tt)
@@ -142,7 +142,7 @@ module _ (setup : Setup) (p : WorldParts) (going : IsGoingOn setup (world_of set
           (rw (lit_in setup old engine going.whole on) refl) refl tt
           (record { marks_asked = refl; peek_true = tt; steps_counted = tt; flush_true = tt; within_bounds = tt })
           (record { shape = refl; keys = refl; start = refl }) going.unshown
-          (record { board = refl; engine = refl; ledger = refl; tags = refl; digests = refl })
+          (record { board = refl; engine = refl; ledger = refl; capacity = refl; tags = refl; digests = refl })
           (sym (counted_zero (after_power_loss (state_in setup p)) range))
           (world-off setup old (world_of setup (record p { board = record (p.board) { powered = false; fuse = None }; queues = no_writes; engine = None })) engine going.whole on
           (record { shape = refl; start = refl; board = refl; ledger = refl; engine = refl; state = refl })) tt))
@@ -200,7 +200,7 @@ module _ (setup : Setup) (p : WorldParts) (going : IsGoingOn setup (world_of set
       (rw (lt-ltb d (layout.device_lines setup.shape) on_device) refl) refl tt
       (record { marks_asked = refl; peek_true = tt; steps_counted = tt; flush_true = tt; within_bounds = tt })
       (record { shape = refl; keys = refl; start = refl }) going.unshown
-      (record { board = is; engine = refl; ledger = refl; tags = refl; digests = refl })
+      (record { board = is; engine = refl; ledger = refl; capacity = refl; tags = refl; digests = refl })
       (now.0 ∙ sym (tampered_still false d on_device)) now.1 tt
 
   pub flip-ok : (d bit : ℕ) (board : BoardMemory) (flags : Tampering) → d < layout.device_lines setup.shape → bit ≤ 511
@@ -215,7 +215,7 @@ module _ (setup : Setup) (p : WorldParts) (going : IsGoingOn setup (world_of set
       (rw (lt-ltb d (layout.device_lines setup.shape) on_device) (rw (le-leb bit 511 small) refl)) refl tt
       (record { marks_asked = refl; peek_true = tt; steps_counted = tt; flush_true = tt; within_bounds = tt })
       (record { shape = refl; keys = refl; start = refl }) going.unshown
-      (record { board = is; engine = refl; ledger = refl; tags = refl; digests = refl })
+      (record { board = is; engine = refl; ledger = refl; capacity = refl; tags = refl; digests = refl })
       (now.0 ∙ sym (tampered_still true d on_device)) now.1 tt
 
   pub move-ok : (from to : ℕ) (board : BoardMemory) (flags : Tampering) → from < layout.device_lines setup.shape → to < layout.device_lines setup.shape
@@ -229,7 +229,7 @@ module _ (setup : Setup) (p : WorldParts) (going : IsGoingOn setup (world_of set
       (rw (lt-ltb from (layout.device_lines setup.shape) from_device) (rw (lt-ltb to (layout.device_lines setup.shape) to_device) refl)) refl tt
       (record { marks_asked = refl; peek_true = tt; steps_counted = tt; flush_true = tt; within_bounds = tt })
       (record { shape = refl; keys = refl; start = refl }) going.unshown
-      (record { board = is; engine = refl; ledger = refl; tags = refl; digests = refl })
+      (record { board = is; engine = refl; ledger = refl; capacity = refl; tags = refl; digests = refl })
       (now.0 ∙ sym (tampered_still false to to_device)) now.1 tt
 
   -- a line of the copy
@@ -252,7 +252,7 @@ module _ (setup : Setup) (p : WorldParts) (going : IsGoingOn setup (world_of set
           (rw (lt-ltb d (layout.device_lines setup.shape) on_device) (rw snapped refl)) refl tt
           (record { marks_asked = refl; peek_true = tt; steps_counted = tt; flush_true = tt; within_bounds = tt })
           (record { shape = refl; keys = refl; start = refl }) going.unshown
-          (record { board = is; engine = refl; ledger = refl; tags = refl; digests = refl })
+          (record { board = is; engine = refl; ledger = refl; capacity = refl; tags = refl; digests = refl })
           (now.0 ∙ sym (tampered_still false d on_device)) now.1 tt
 
   -- ---- looks
@@ -266,7 +266,7 @@ module _ (setup : Setup) (p : WorldParts) (going : IsGoingOn setup (world_of set
       (subst IsLine (sym is) (IsLine-line_at p.board.lines d going.whole.whole_lines.each))
       (record { shape = refl; keys = refl; start = refl }) going.unshown (sym (append-nil p.ledger.marks))
       (λ unshown. sym (counted_zero (state_in setup p) range)) (λ unshown. going.whole)
-      (record { board = refl; engine = refl; ledger = refl; tags = refl; digests = refl }, ap (λ l. Say.Raw l) is) tt
+      (record { board = refl; engine = refl; ledger = refl; capacity = refl; tags = refl; digests = refl }, ap (λ l. Say.Raw l) is) tt
 
   pub stat-ok : (counts : Stat) → IsStat counts → IsStatOf old counts → HasStepped setup old Do.Stat (without_marks (Say.Counts counts)) old
   stat-ok counts its counted =
@@ -286,6 +286,6 @@ module _ (setup : Setup) (p : WorldParts) (going : IsGoingOn setup (world_of set
         shown = going.unshown;
         state = λ unshown. sym (counted_zero (state_in setup p) range);
         holds = λ unshown. going.whole;
-        parts = (record { board = refl; engine = refl; ledger = refl; tags = refl; digests = refl }, counted);
+        parts = (record { board = refl; engine = refl; ledger = refl; capacity = refl; tags = refl; digests = refl }, counted);
         seen = tt;
       }

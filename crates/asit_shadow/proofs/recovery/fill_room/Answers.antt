@@ -10,7 +10,7 @@ use Rattle.suite.specs.Setup.{Setup}
 use Rattle.counter_tree.specs.Shadow.{IsShadowTree, shadow_digests, shadow_height, shadow_root}
 use Rattle.counter_tree.proofs.HeightLemmas.{shadow_height-room}
 use Rattle.asit_shadow.specs.Recovering.{rest_of, AreSlotsRead, IsReadFinished}
-use Rattle.asit_shadow.proofs.RecoverEnds.{read_finished, slots-read, root-is, refused_end, shown_end}
+use Rattle.asit_shadow.proofs.RecoverEnds.{read_finished, slots-read, root-is, interrupted_end, unread_end, refused_end, shown_end, shown_usable}
 use Rattle.asit_shadow.proofs.recovery.fill_room.Given.{Over}
 use Rattle.asit_shadow.proofs.recovery.fill_room.Goals.{After-regs}
 use Rattle.asit_shadow.proofs.recovery.fill_room.Goals as goal
@@ -20,6 +20,20 @@ fill-found-requires g c =
     let room = shadow_height-room (shape_of c.args.geo.now) c.layout_is_one_to_one.ensures.ranges in
     subst (λ h. length c.read_slots.new.slots ≤ 4 ^ h) (sym c.requires.height)
     (omega (arith, room, c.requires.slots, c.read_slots.auto.slots))
+
+pub returns-in-Err-clause-filled : goal.returns-in-Err-clause-filled
+returns-in-Err-clause-filled g c =
+    interrupted_end (record { shape = shape_of c.args.geo.now; formulas = g.S.Suite.formulas_of (g.S.Suite.keys c.args.suite.now) })
+    (rest_of (g.B.Board.device c.args.board.now) (g.W.Watch.watched c.args.watch.now)) (rest_of (g.B.Board.device c.finish.new.board) (g.W.Watch.watched c.args.watch.now))
+    (g.S.Suite.digests c.args.suite.now) (g.S.Suite.digests c.args.suite.now) c.requires.usable.board.its_size (g.met.B.Board.whole c.finish.new.board)
+    (λ none. absurd (cc ((c.in-Err.ensures.empty none).0))) c.in-Err.ensures.cut refl refl
+
+pub returns-in-Err-read_slots-clause-filled : goal.returns-in-Err-read_slots-clause-filled
+returns-in-Err-read_slots-clause-filled g c =
+    unread_end (record { shape = shape_of c.args.geo.now; formulas = g.S.Suite.formulas_of (g.S.Suite.keys c.args.suite.now) })
+    (rest_of (g.B.Board.device c.args.board.now) (g.W.Watch.watched c.args.watch.now)) (rest_of (g.B.Board.device c.read_slots.new.board) (g.W.Watch.watched c.args.watch.now))
+    (g.B.Board.device c.finish.new.board) (g.S.Suite.digests c.args.suite.now) (g.S.Suite.digests c.args.suite.now) c.in-Ok.ensures.ok
+    c.in-Err-read_slots.ensures.cut c.in-Err-read_slots.ensures.only_off refl refl
 
 module _ (g : Over) (c : After-regs g) where
   setup : Setup
@@ -66,6 +80,12 @@ returns-in-Stop-clause-filled g c =
     (rest_of (g.B.Board.device c.args.board.now) (g.W.Watch.watched c.args.watch.now)) (rest_of (g.B.Board.device c.read_slots.new.board) (g.W.Watch.watched c.see_slots.new.self))
     (g.S.Suite.digests c.args.suite.now) (g.S.Suite.digests c.fill-found.new.suite) c.layout_is_one_to_one.ensures.ranges (g.met.S.Suite.in_range c.args.suite.now)
     (finished g before) (read g before) (sym (root g before) ∙ (sym same ∙ kept g before)) c.in-Stop.ensures.0 c.in-Stop.ensures.1.1 c.in-Stop.ensures.1.2 (counted g before)
+
+pub returns-in-Stop-clause-usable : goal.returns-in-Stop-clause-usable
+returns-in-Stop-clause-usable g c =
+    let before = (goal.at.returns-in-Stop-clause-usable g c).After-regs in
+    shown_usable (shape_of c.args.geo.now) (rest_of (g.B.Board.device c.args.board.now) (g.W.Watch.watched c.args.watch.now))
+    (rest_of (g.B.Board.device c.read_slots.new.board) (g.W.Watch.watched c.see_slots.new.self)) c.in-Stop.ensures.1.0 (finished g before) c.in-Stop.ensures.1.2 c.requires.usable
 
 pub returns-clause-filled : goal.returns-clause-filled
 returns-clause-filled g c =

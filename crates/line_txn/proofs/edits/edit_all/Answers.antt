@@ -24,7 +24,8 @@ edits-preserved g c =
           edits_more _ c.args.edits.now c.edits.edit-index _ _ _ _ c.edits-test.true c.edits.invariant.edited
           (edit_under g.S.Suite.formulas_of c.args.engine.now.shape c.edits.engine.shape (g.S.Suite.keys c.args.suite.now)
           (g.S.Suite.keys c.edits.suite) c.edits.invariant.shape c.edits.invariant.keys _ _ _ _ c.in_default.ensures.edited);
-      room = omega (arith, c.in_default.ensures.room, c.edits.invariant.room);
+      few = omega (arith, c.in_default.ensures.few, c.edits.invariant.few);
+      capacity = c.edit_line.ensures.capacity ∙ c.edits.invariant.capacity;
       keys = c.in_default.ensures.keys ∙ c.edits.invariant.keys;
       usable =
           usable_as c.edits.engine.shape c.args.engine.now.shape c.edit_line.new.engine

@@ -1,4 +1,4 @@
-use Rattle.std.proofs.Common.{◌≡◌, ◌≤◌, ◌+◌, ◌*◌, take, Ok}
+use Rattle.std.proofs.Common.{◌≡◌, ◌≤◌, ◌+◌, ◌*◌, length, take, Ok}
 use Rattle.pmem_engine.specs.Parts.{parts_of}
 use Rattle.pmem_engine.specs.Calls.{IsUsable}
 use Rattle.line_txn.specs.Edits.{AreEdited}
@@ -13,7 +13,8 @@ invariant-edits g l =
           (parts_of l.fn.engine (g.B.Board.device l.fn.board) (g.A.Audit.ledger l.fn.audit) (g.S.Suite.tags l.fn.suite) (g.S.Suite.digests l.fn.suite))
           (parts_of l.engine (g.B.Board.device l.board) (g.A.Audit.ledger l.audit) (g.S.Suite.tags l.suite) (g.S.Suite.digests l.suite))
           (Ok tt);
-      room : (g.A.Audit.ledger l.fn.audit).spare ≤ (g.A.Audit.ledger l.audit).spare + 66 * l.edit-index;
+      few : length (g.A.Audit.ledger l.audit).marks ≤ length (g.A.Audit.ledger l.fn.audit).marks + 66 * l.edit-index;
+      capacity : g.A.Audit.capacity l.audit ≡ g.A.Audit.capacity l.fn.audit;
       keys : g.S.Suite.keys l.suite ≡ g.S.Suite.keys l.fn.suite;
       usable : IsUsable l.fn.engine.shape l.engine (g.B.Board.device l.board) (g.A.Audit.ledger l.audit);
       shape : l.engine.shape ≡ l.fn.engine.shape;

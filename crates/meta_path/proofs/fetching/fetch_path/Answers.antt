@@ -1,5 +1,12 @@
 -- The levels so far and the next one, whether it is fetched or not.
-use Rattle.std.proofs.Common.{ℕ, List, rules, sym, subst, subst₂, ◌∙◌, arith}
+use Rattle.std.proofs.Common.{◌≡◌, ℕ, ◌+◌, ◌<◌, List, Result, rules, refl, sym, ap, subst, subst₂, ◌∙◌, arith}
+use Rattle.std.specs.Prelude.{slice_index_or}
+use Rattle.pmem_base.specs.Shape.{Shape}
+use Rattle.pmem_base.specs.declared.registers.Regs.{Regs}
+use Rattle.board.specs.Device.{Device}
+use Rattle.call_plan.specs.Following.{Follows}
+use Rattle.call_plan.proofs.Steps.{ended_err}
+use Rattle.call_plan.proofs.Loops.{turns_start, turn_ok, turn_err, turns_end}
 use Rattle.pmem_base.specs.Geo.{shape_of}
 use Rattle.suite.specs.Formulas.{Formulas}
 use Rattle.seal_ledger.specs.Ledger.{LedgerState}
@@ -7,7 +14,9 @@ use Rattle.meta_cache.specs.State.{CacheState}
 use Rattle.meta_path.specs.Blocks.{path_at}
 use Rattle.meta_path.specs.Work.{FetchState}
 use Rattle.meta_path.specs.Levels.{HasParent, IsLevelFetched, IsLevelFault}
+use Rattle.meta_path.specs.declared.faults.PathFault.{PathFault}
 use Rattle.meta_path.specs.Fetching.{IsFetchedTo}
+use Rattle.meta_path.specs.FetchPlans.{FetchParts, fetch_parts, level_plan, fetch_turn}
 use Rattle.meta_path.proofs.FetchLemmas.{HasParent-at, IsPathCached-fetched}
 use Rattle.meta_path.proofs.PathFacts.{position_is, all_levels}
 use Rattle.meta_path.proofs.RunLaws.{IsRun, IsRunEnded, banks_of_run, keeps_of_run, fetched_next, fault_of_end, keeps_of_end, cause_of_end, dirty_of_end, undisturbed_of_end, truth_of_end, IsUndisturbed-cached, fault_handed_on, same_fault}
@@ -46,6 +55,65 @@ fetch_level-requires-clause-parent g c =
     (HasParent-at (shape_of c.args.geo.now) (g.A.Audit.ledger c.args.audit.now).truth c.args.page c.levels.bank
     c.args.cache.now c.levels.cache c.requires.page (omega (arith, c.levels-test.true, c.levels-bank-end.ensures))
     c.levels.invariant.fetched.cache)
+
+-- ---- its plan, level by level
+
+abbrev parts : (g : Over) → CacheState → g.row.A.Denot → g.row.S.Denot → FetchParts
+parts g cache audit suite = fetch_parts cache (g.A.Audit.ledger audit) (g.S.Suite.digests suite)
+
+module _ (g : Over) (c : After-fetch_level-arg-in-levels-3-1 g) where
+  more : c.levels.bank < c.args.cache.now.shape.levels + 1
+  more = omega (arith, c.levels-test.true, c.levels-bank-end.ensures, ap (λ (s : Shape). s.levels) c.requires.shape)
+
+  position : slice_index_or c.as_slice.result.now c.from.result 0 ≡ path_at c.args.cache.now.shape c.args.page c.levels.bank
+  position =
+      position_is _ c.as_slice.result.now c.from.result c.levels.bank (c.as_slice.ensures.value ∙ c.path-path.ensures.value) c.from.ensures
+      ∙ ap (λ (s : Shape). path_at s c.args.page c.levels.bank) (sym c.requires.shape)
+
+  root : (g.B.Board.device c.levels.board).regs.root ≡ (g.B.Board.device c.args.board.now).regs.root
+  root = ap (λ (regs : Regs). regs.root) c.levels.invariant.fetched.work.regs
+
+  -- the level's plan is the turn's
+  level_turn : (new : Device) (end : Result (FetchParts × Unit {0}) (FetchParts × PathFault))
+      → Follows (level_plan (formulas g c.levels.suite) (g.B.Board.device c.levels.board).regs.root c.levels.bank
+      (slice_index_or c.as_slice.result.now c.from.result 0) (parts g c.levels.cache c.levels.audit c.levels.suite))
+      (g.B.Board.device c.levels.board) new end
+      → Follows (level_plan (formulas g c.args.suite.now) (g.B.Board.device c.args.board.now).regs.root c.levels.bank
+      (path_at c.args.cache.now.shape c.args.page c.levels.bank) (parts g c.levels.cache c.levels.audit c.levels.suite))
+      (g.B.Board.device c.levels.board) new end
+  level_turn new end it =
+      let at : FetchParts = parts g c.levels.cache c.levels.audit c.levels.suite in
+      let now : Device = g.B.Board.device c.levels.board in
+      subst (λ x. Follows (level_plan (formulas g c.args.suite.now) (g.B.Board.device c.args.board.now).regs.root c.levels.bank x at) now new end) position
+      (subst₂ (λ (keys : List ℕ) (r : List ℕ). Follows (level_plan (g.S.Suite.formulas_of keys) r c.levels.bank
+      (slice_index_or c.as_slice.result.now c.from.result 0) at) now new end) c.levels.invariant.keys root it)
+
+pub levels-init : goal.levels-init
+levels-init g c =
+    record {
+      fetched = search rules;
+      reached =
+          turns_start
+          (fetch_turn (formulas g c.args.suite.now) (g.B.Board.device c.args.board.now).regs.root c.args.cache.now.shape c.args.page)
+          (c.args.cache.now.shape.levels + 1) (parts g c.args.cache.now c.args.audit.now c.args.suite.now, tt)
+          (g.B.Board.device c.args.board.now);
+      ledger = refl;
+      capacity = refl;
+      keys = refl;
+      pads = refl;
+      tags = refl;
+    }
+
+pub returns-in_err-fetch_level-clause-plan : goal.returns-in_err-fetch_level-clause-plan
+returns-in_err-fetch_level-clause-plan g c =
+    let place = (goal.at.returns-in_err-fetch_level-clause-plan g c).After-fetch_level-arg-in-levels-3-1 in
+    ended_err c.from_residual.result c.from_residual.ensures.1
+    (turn_err c.levels.invariant.reached (more g place) (level_turn g place (g.B.Board.device c.fetch_level.new.board) _ c.in_err-fetch_level.ensures.plan))
+
+pub returns-clause-plan : goal.returns-clause-plan
+returns-clause-plan g c =
+    turns_end c.levels.invariant.reached
+    (omega (arith, c.levels-test.false, c.levels-bank-end.ensures, ap (λ (s : Shape). s.levels) c.requires.shape))
 
 -- ---- an end at a level
 
@@ -114,7 +182,12 @@ levels-preserved g c =
           (at g c.fetch_level.new.cache c.fetch_level.new.board c.fetch_level.new.suite)) c.levels.invariant.keys
           (position_is _ c.as_slice.result.now c.from.result c.levels.bank (c.as_slice.ensures.value ∙ c.path-path.ensures.value) c.from.ensures)
           c.in_ok-fetch_level.ensures.ok));
+      reached =
+          let place = (goal.at.levels-preserved g c).After-fetch_level-arg-in-levels-3-1 in
+          turn_ok c.levels.invariant.reached (more g place)
+          (level_turn g place (g.B.Board.device c.fetch_level.new.board) _ c.in_ok-fetch_level.ensures.plan);
       ledger = c.in_ok-fetch_level.ensures.ledger ∙ c.levels.invariant.ledger;
+      capacity = c.fetch_level.ensures.capacity ∙ c.levels.invariant.capacity;
       keys = c.in_ok-fetch_level.ensures.keys ∙ c.levels.invariant.keys;
       pads = c.in_ok-fetch_level.ensures.pads ∙ c.levels.invariant.pads;
       tags = c.in_ok-fetch_level.ensures.tags ∙ c.levels.invariant.tags;

@@ -1,11 +1,19 @@
 -- The levels so far and the next one, whether its entry is written or cut.
-use Rattle.std.proofs.Common.{◌≡◌, ℕ, ◌+◌, ◌<◌, ◌≤◌, subst, ◌∙◌, arith}
+use Rattle.std.proofs.Common.{rules, ◌≡◌, ℕ, ◌+◌, ◌<◌, ◌≤◌, List, Result, Ok, Err, subst, ◌∙◌, arith}
 use Rattle.std.specs.Prelude.{slice_index_or}
 use Rattle.pmem_base.specs.Geo.{shape_of}
 use Rattle.pmem_base.specs.Layout.{slots}
+use Rattle.pmem_base.specs.declared.faults.Cut.{Cut}
+use Rattle.pmem_base.specs.declared.lines.Line.{Line}
+use Rattle.board.specs.Device.{Device}
+use Rattle.call_plan.specs.Plans.{the_cut}
+use Rattle.call_plan.specs.Following.{Follows}
+use Rattle.call_plan.proofs.Steps.{ended_err}
+use Rattle.call_plan.proofs.Loops.{turns_start, turn_ok, turn_err, turns_end}
 use Rattle.shadow_tables.specs.Naming.{Names}
 use Rattle.meta_path.specs.Blocks.{path_at, number_in}
 use Rattle.meta_path.specs.Naming.{path_number, IsSlotNamed, IsSlotCut, IsNamedTo}
+use Rattle.meta_path.specs.Plans.{slot_plan, naming_turn}
 use Rattle.meta_path.proofs.PathFacts.{position_is, all_levels}
 use Rattle.meta_path.proofs.NameLemmas.{IsNamedTo-more, IsNamingCut-at, on_err, path_number_low, length-naming_writes}
 use Rattle.meta_path.proofs.naming.make_dirty.Given.{Over}
@@ -26,6 +34,36 @@ module _ (g : Over) (c : After-from g) where
   low j h =
       path_number_low (shape_of c.args.geo.now) c.args.cache.now c.args.page c.args.geo.now.has_sets.0 c.requires.shape
       c.are_banks.ensures.cache c.requires.cached j (omega (arith, h, le))
+
+  -- the slot's plan, at the position of the path
+  abbrev FollowsLevel : Device → Result (List Line × Unit {0}) (List Line × Cut) → ℕ → Type 0
+  FollowsLevel new end x =
+      Follows (slot_plan (shape_of c.args.geo.now) c.levels.bank (number_in (shape_of c.args.geo.now) c.args.cache.now.banks c.levels.bank x) x c.levels.mirror)
+      (g.B.Board.device c.levels.board) new end
+
+  levels_end : c.levels.bank < (shape_of c.args.geo.now).levels + 1
+  levels_end = omega (arith, le)
+
+pub levels-init : goal.levels-init
+levels-init g c =
+    record {
+      named = search rules;
+      reached =
+          turns_start (naming_turn (shape_of c.args.geo.now) c.args.cache.now.banks c.args.page) ((shape_of c.args.geo.now).levels + 1)
+          (c.args.mirror.now, tt) (g.B.Board.device c.args.board.now);
+      long = c.requires.mirror;
+    }
+
+pub returns-in_err-name_level-clause-plan : goal.returns-in_err-name_level-clause-plan
+returns-in_err-name_level-clause-plan g c =
+    let place = (goal.at.returns-in_err-name_level-clause-plan g c).After-from in
+    ended_err c.from_residual.result c.from_residual.ensures.1
+    (turn_err c.levels.invariant.reached (levels_end g place)
+    (subst (FollowsLevel g place (g.B.Board.device c.name_level.new.board) (Err (c.name_level.new.mirror, the_cut))) (at g place)
+    c.in_err-name_level.ensures.plan))
+
+pub returns-clause-plan : goal.returns-clause-plan
+returns-clause-plan g c = turns_end c.levels.invariant.reached (omega (arith, c.levels-test.false, c.levels-bank-end.ensures))
 
 pub returns-in_err-name_level-clause-cut : goal.returns-in_err-name_level-clause-cut
 returns-in_err-name_level-clause-cut g c =
@@ -57,6 +95,10 @@ levels-preserved g c =
           (subst (λ x. IsSlotNamed shape c.levels.bank (number_in shape c.args.cache.now.banks c.levels.bank x) x c.levels.mirror
           c.name_level.new.mirror (g.B.Board.device c.levels.board) (g.B.Board.device c.name_level.new.board)) (at g place)
           c.in_ok-name_level.ensures.ok);
+      reached =
+          turn_ok c.levels.invariant.reached (levels_end g place)
+          (subst (FollowsLevel g place (g.B.Board.device c.name_level.new.board) (Ok (c.name_level.new.mirror, tt))) (at g place)
+          c.in_ok-name_level.ensures.plan);
       long = c.name_level.ensures.long;
     }
 

@@ -15,6 +15,7 @@ levels-init g c =
     record {
       stored = λ page path. IsStoredTo-none c.args.cache.now.shape page c.args.persisted c.args.path.now.lines.items c.args.cache.now;
       told = HasMetaLines-none (g.A.Audit.ledger c.args.audit.now);
+      capacity = refl;
     }
 
 pub store_level-requires-clause-bank : goal.store_level-requires-clause-bank
@@ -71,6 +72,7 @@ levels-preserved g c =
           c.store_level.ensures.cache);
       told =
           HasMetaLines-more lines c.levels.bank _ _ past _ _ _ within (sym entry) c.levels.invariant.told c.store_level.ensures.ledger;
+      capacity = c.store_level.ensures.capacity ∙ c.levels.invariant.capacity;
     }
 
 pub returns-clause-cache : goal.returns-clause-cache

@@ -1,4 +1,4 @@
-use Rattle.std.proofs.Common.{ℕ, take}
+use Rattle.std.proofs.Common.{◌≡◌, ℕ, take}
 use Rattle.meta_path.specs.Storing.{IsPathOf, IsStoredTo, HasMetaLines}
 use Rattle.meta_path.proofs.renewal.store_path.Given as goal
 
@@ -10,4 +10,5 @@ invariant-levels g l =
       stored :
           (page : ℕ) → IsPathOf shape page lines → IsStoredTo shape page l.fn.persisted lines l.bank l.fn.cache l.cache;
       told : HasMetaLines (take l.bank lines) (g.A.Audit.ledger l.fn.audit) (g.A.Audit.ledger l.audit);
+      capacity : g.A.Audit.capacity l.audit ≡ g.A.Audit.capacity l.fn.audit;
     }

@@ -9,6 +9,8 @@ use Rattle.meta_path.specs.Blocks.{slots_at}
 use Rattle.meta_path.specs.Storing.{IsOneWrittenBack}
 use Rattle.meta_path.proofs.PathFacts.{AreSets}
 use Rattle.meta_path.proofs.WriteLemmas.{IsMarkedSet, dirty_is_cached, dirty_on_tree, dirty_count-cleaned, KeepsCleaned-from, IsMarkedSet-with_mark, AreInTheirBanks-marked, AreCachedTrue-marked}
+use Rattle.call_plan.proofs.Steps.{ended_err}
+use Rattle.meta_path.proofs.WritePlans.{oldest_none, oldest_ok, oldest_err}
 use Rattle.meta_path.proofs.writing.write_back_one.Given.{Over}
 use Rattle.meta_path.proofs.writing.write_back_one.Goals.{In-Some, In_ok-write_back}
 use Rattle.meta_path.proofs.writing.write_back_one.Goals as goal
@@ -58,3 +60,17 @@ returns-clause-banks g c =
 pub returns-clause-lines : goal.returns-clause-lines
 returns-clause-lines g c truth is_true =
     AreCachedTrue-marked _ _ _ _ _ truth (marked g (goal.at.returns-clause-lines g c).In_ok-write_back) is_true
+
+pub returns-in_err-write_back-clause-plan : goal.returns-in_err-write_back-clause-plan
+returns-in_err-write_back-clause-plan g c =
+    ended_err c.from_residual.result c.from_residual.ensures.1
+    (oldest_err c.args.cache.now c.write_back.new.cache c.in-Some.bank c.in-Some.x (g.B.Board.device c.args.board.now)
+    (g.B.Board.device c.write_back.new.board) (sym c.oldest_dirty.ensures.value ∙ c.in-Some.is) c.in_err-write_back.ensures.plan)
+
+pub returns-clause-plan : goal.returns-clause-plan
+returns-clause-plan g c =
+    oldest_ok c.args.cache.now c.write_back.new.cache c.in-Some.bank c.in-Some.x (g.B.Board.device c.args.board.now)
+    (g.B.Board.device c.write_back.new.board) (sym c.oldest_dirty.ensures.value ∙ c.in-Some.is) c.in_ok-write_back.ensures.plan
+
+pub returns-in_default-clause-plan : goal.returns-in_default-clause-plan
+returns-in_default-clause-plan g c = oldest_none c.args.cache.now (g.B.Board.device c.args.board.now) (sym c.in_default.ensures.value)

@@ -1,5 +1,6 @@
 use Rattle.std.proofs.Common.{ℕ, true, ◌≡◌, ◌+◌, ◌-◌, ◌*◌, ◌/◌, ◌^◌, ◌++◌, ◌∷◌, [], Bool, List, sym, ap, subst, refl, ◌∙◌, lit<, arith}
 use Rattle.std.proofs.lemmas.Result.{err_from_is_err_and}
+use Rattle.board.proofs.CountLemmas.{RisesBy-once}
 use Rattle.pmem_base.specs.declared.lines.Line.{Line}
 use Rattle.pmem_base.specs.Geo.{shape_of}
 use Rattle.pmem_base.specs.Layout.{page_of, index_in_page}
@@ -67,12 +68,12 @@ returns-in_err-fixed-clause-stopped_reads g c =
     let page : ℕ = c.args.x - (c.pages.result - 1) / 3 in
     let fault = c.in_err-fixed.field-0.0 in
     IfErr-exit c.from_residual-in_err-fixed.result fault _ (err_from_is_err_and c.from_residual-in_err-fixed.result c.from_residual-in_err-fixed.ensures.1)
-    (read_at_after (λ a. page_of a ≡ page) (λ a. counter_position shape (page_of a) ≡ c.args.x) (λ a. page_reads items page (index_in_page a + 1)) (λ a. 1 + page_reads items (page_of a) (index_in_page a + 1)) 1 fault _ _ _ c.in_ok-read.ensures.ok.reads
+    (read_at_after (λ a. page_of a ≡ page) (λ a. counter_position shape (page_of a) ≡ c.args.x) (λ a. page_reads items page (index_in_page a + 1)) (λ a. 1 + page_reads items (page_of a) (index_in_page a + 1)) 1 fault _ _ _ (RisesBy-once c.in_ok-read.ensures.ok.reads)
     (block_stop shape items c.pages.result c.args.x c.pages.ensures.value c.requires.block) c.in_err-fixed.ensures.stopped_reads)
 
 pub returns-clause-exact_reads : goal.returns-clause-exact_reads
 returns-clause-exact_reads g c =
-    block_read (shape_of c.args.geo.now) c.args.regs.now c.pages.result c.args.x _ _ _ c.pages.ensures.value c.in_ok-read.ensures.ok.reads c.in_ok-fixed.ensures.exact_reads
+    block_read (shape_of c.args.geo.now) c.args.regs.now c.pages.result c.args.x _ _ _ c.pages.ensures.value (RisesBy-once c.in_ok-read.ensures.ok.reads) c.in_ok-fixed.ensures.exact_reads
 
 pub returns-clause-trials : goal.returns-clause-trials
 returns-clause-trials g c = λ lines told page inside at named.

@@ -32,9 +32,6 @@ returns-clause-counts g c =
     SuiteRise-as (n + 0 + 0) (n + 0 + 0) (0 + (m - 1) + 1) n n m _ _ (omega arith) (omega arith) (omega (arith, some))
     (SuiteRise-then (n + 0) (n + 0) (0 + (m - 1)) 0 0 1 _ _ _ (SuiteRise-then n n 0 0 0 (m - 1) _ _ _ c.seal_lines.ensures.counts c.grow_nodes.ensures.counts) c.latch_root.ensures.counts)
 
-pub returns-clause-spare : goal.returns-clause-spare
-returns-clause-spare g c = omega (arith, c.seal_lines.ensures.ledger.spare, c.write_metadata.ensures.ledger.spare)
-
 pub returns-clause-formatted : goal.returns-clause-formatted
 returns-clause-formatted g c =
     let formulas : List ℕ → Formulas = λ keys. g.S.Suite.formulas_of keys in

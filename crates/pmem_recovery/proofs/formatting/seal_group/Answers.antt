@@ -7,7 +7,7 @@ use Rattle.suite.specs.Formulas.{Formulas}
 use Rattle.pmem_recovery.specs.Parts.{setup_of}
 use Rattle.pmem_recovery.specs.Formatting.{first_cipher, first_tag, HasSealedFrom, StaysSteady}
 use Rattle.pmem_recovery.proofs.PartLaws.{SuiteRise-then, SuiteRise-as}
-use Rattle.pmem_recovery.proofs.FormatSteps.{IsGroupTo, StaysSteady-then, StaysSteady-written, HasSealedFrom-then, IsGroupTo-more, HasSealedGroup-written, slots-more}
+use Rattle.pmem_recovery.proofs.FormatSteps.{IsGroupTo, StaysSteady-then, StaysSteady-written, HasSealedFrom-then, sealed_count, IsGroupTo-more, HasSealedGroup-written, slots-more}
 use Rattle.pmem_recovery.proofs.formatting.seal_group.Goals as goal
 
 pub overflow_mul-group : goal.overflow_mul-group
@@ -15,6 +15,10 @@ overflow_mul-group g c = omega (arith, c.requires.group, pages-most (shape_of c.
 
 pub overflow_add-group : goal.overflow_add-group
 overflow_add-group g c = omega (arith, c.requires.group, c.lines-test, pages-most (shape_of c.args.geo.now).levels c.args.geo.now.has_levels.1)
+
+pub seal_one-requires-clause-room : goal.seal_one-requires-clause-room
+seal_one-requires-clause-room g c =
+    omega (arith, c.lines-test, c.requires.room, c.lines.invariant.capacity, sealed_count _ _ _ _ _ c.lines.invariant.ledger)
 
 pub lines-preserved : goal.lines-preserved
 lines-preserved g c =
@@ -32,6 +36,7 @@ lines-preserved g c =
     subst (λ k. tag_slot c.seal_one.new.tags at ≡ first_tag (setup_of c.args.geo.now (formulas k)) at) c.lines.invariant.keys c.seal_one.ensures.here in
     record {
       keys = c.seal_one.ensures.keys ∙ c.lines.invariant.keys;
+      capacity = c.seal_one.ensures.capacity ∙ c.lines.invariant.capacity;
       counts = SuiteRise-then c.lines.i c.lines.i 0 1 1 0 _ _ _ c.lines.invariant.counts c.seal_one.ensures.counts;
       steady = StaysSteady-then c.lines.i 1 start mid new c.lines.invariant.steady (StaysSteady-written mid at (first_cipher setup at) new written);
       ledger = HasSealedFrom-then setup (4 * c.args.group) c.lines.i at 1 _ _ _ refl c.lines.invariant.ledger sealed;

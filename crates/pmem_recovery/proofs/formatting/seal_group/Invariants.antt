@@ -12,6 +12,7 @@ invariant-lines g l =
     let now = g.B.Board.device l.board in
     record {
       keys : g.S.Suite.keys l.suite ≡ g.S.Suite.keys l.initial.suite;
+      capacity : g.A.Audit.capacity l.audit ≡ g.A.Audit.capacity l.initial.audit;
       counts : SuiteRise l.i l.i 0 (suite_state (g.S.Suite.keys l.initial.suite) (g.S.Suite.pads l.initial.suite) (g.S.Suite.tags l.initial.suite) (g.S.Suite.digests l.initial.suite)) (suite_state (g.S.Suite.keys l.suite) (g.S.Suite.pads l.suite) (g.S.Suite.tags l.suite) (g.S.Suite.digests l.suite));
       steady : StaysSteady l.i start now;
       ledger : HasSealedFrom setup (4 * l.group) l.i (g.A.Audit.ledger l.initial.audit) (g.A.Audit.ledger l.audit);

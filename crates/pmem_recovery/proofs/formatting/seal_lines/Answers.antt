@@ -5,8 +5,12 @@ use Rattle.suite.specs.Formulas.{Formulas}
 use Rattle.pmem_recovery.specs.Parts.{setup_of}
 use Rattle.pmem_recovery.specs.Formatting.{HasSealedFrom, HasSealedGroup, StaysSteady}
 use Rattle.pmem_recovery.proofs.PartLaws.{SuiteRise-as, SuiteRise-then}
-use Rattle.pmem_recovery.proofs.FormatSteps.{told_long, StaysSteady-then, HasSealedFrom-then, HasSealedAll-more}
+use Rattle.pmem_recovery.proofs.FormatSteps.{told_long, StaysSteady-then, HasSealedFrom-then, HasSealedAll-more, sealed_count}
 use Rattle.pmem_recovery.proofs.formatting.seal_lines.Goals as goal
+
+pub seal_group-requires-clause-room : goal.seal_group-requires-clause-room
+seal_group-requires-clause-room g c =
+    omega (arith, c.groups-test, c.requires.room, c.groups.invariant.capacity, sealed_count _ _ _ _ _ c.groups.invariant.ledger)
 
 pub groups-preserved : goal.groups-preserved
 groups-preserved g c =
@@ -27,6 +31,7 @@ groups-preserved g c =
     let five : 5 * n + 5 ≡ 5 * (n + 1) = omega arith in
     record {
       keys = c.seal_group.ensures.keys ∙ c.groups.invariant.keys;
+      capacity = c.seal_group.ensures.capacity ∙ c.groups.invariant.capacity;
       counts = SuiteRise-as _ _ 0 _ _ 0 _ _ next next refl (SuiteRise-then (4 * n) (4 * n) 0 4 4 0 _ _ _ c.groups.invariant.counts c.seal_group.ensures.counts);
       steady = subst (λ k. StaysSteady k start new) five (StaysSteady-then (5 * n) 5 start mid new c.groups.invariant.steady c.seal_group.ensures.steady);
       ledger = subst (λ k. HasSealedFrom setup 0 k first after) next (HasSealedFrom-then setup 0 (4 * n) (4 * n) 4 first before after (omega arith) c.groups.invariant.ledger sealed);

@@ -8,6 +8,7 @@ invariant-groups g l =
     let setup = setup_of l.geo (g.S.Suite.formulas_of (g.S.Suite.keys l.initial.suite)) in
     record {
       keys : g.S.Suite.keys l.suite ≡ g.S.Suite.keys l.initial.suite;
+      capacity : g.A.Audit.capacity l.audit ≡ g.A.Audit.capacity l.initial.audit;
       counts : SuiteRise (4 * l.group) (4 * l.group) 0 (suite_state (g.S.Suite.keys l.initial.suite) (g.S.Suite.pads l.initial.suite) (g.S.Suite.tags l.initial.suite) (g.S.Suite.digests l.initial.suite)) (suite_state (g.S.Suite.keys l.suite) (g.S.Suite.pads l.suite) (g.S.Suite.tags l.suite) (g.S.Suite.digests l.suite));
       steady : StaysSteady (5 * l.group) (g.B.Board.device l.initial.board) (g.B.Board.device l.board);
       ledger : HasSealedFrom setup 0 (4 * l.group) (g.A.Audit.ledger l.initial.audit) (g.A.Audit.ledger l.audit);

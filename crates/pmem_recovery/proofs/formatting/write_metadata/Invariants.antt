@@ -1,3 +1,4 @@
+use Rattle.std.proofs.Common.{◌≡◌}
 use Rattle.pmem_base.specs.Geo.{shape_of}
 use Rattle.pmem_recovery.specs.Formatting.{StaysSteady, HasToldMeta, HasWrittenMeta}
 use Rattle.pmem_recovery.proofs.formatting.write_metadata.Given as goal
@@ -8,6 +9,7 @@ invariant-lines g l =
     let now = g.B.Board.device l.board in
     record {
       steady : StaysSteady l.x start now;
+      capacity : g.A.Audit.capacity l.audit ≡ g.A.Audit.capacity l.initial.audit;
       ledger : HasToldMeta (shape_of l.geo) l.truth l.x (g.A.Audit.ledger l.initial.audit) (g.A.Audit.ledger l.audit);
       lines : HasWrittenMeta (shape_of l.geo) l.truth l.x start now;
     }

@@ -1,5 +1,5 @@
 -- The path was fetched, or not: in both cases what the fetch of the path ensures is what a fetch of the engine has to say.
-use Rattle.std.proofs.Common.{◌≡◌, ◌<◌, ◌+◌, ◌∙◌, Result, Ok, Err, refl, sym, ap, subst}
+use Rattle.std.proofs.Common.{ℕ, ◌≡◌, ◌<◌, ◌+◌, ◌∙◌, Result, Ok, Err, refl, sym, ap, subst}
 use Rattle.std.specs.Prelude.{is_ok}
 use Rattle.std.proofs.lemmas.Bool.{false≢true}
 use Rattle.pmem_base.specs.Layout.{pages, device_lines}
@@ -15,6 +15,11 @@ use Rattle.pmem_engine.specs.Parts.{parts_of}
 use Rattle.pmem_engine.specs.Inner.{HasFetched}
 use Rattle.pmem_engine.proofs.CallEnds.ErrorAnswers.{is_err_of}
 use Rattle.pmem_engine.proofs.CheckedReads.FetchCalls.{of_states, fetch_ok, fetch_err}
+use Rattle.meta_path.specs.FetchPlans.{fetch_parts}
+use Rattle.call_plan.specs.Following.{Follows}
+use Rattle.call_plan.proofs.Steps.{ended_err}
+use Rattle.pmem_engine.specs.Plans.{chip_of, fetch_path_plan}
+use Rattle.pmem_engine.proofs.PlannedCalls.CachePlans.{its_fetch}
 use Rattle.pmem_engine.proofs.engine.Engine.fetch.Goals as goal
 
 pub returns-clause-fetched : goal.returns-clause-fetched
@@ -89,3 +94,54 @@ returns-in_err-fetch_path-clause-fetched g c =
     c.self.invariant.0 shapes c.in_err-fetch_path.ensures.fault)
     c.in_err-fetch_path.ensures.cause
     (λ is_cut live. c.fetch_path.ensures.dirty_left (c.in_err-fetch_path.was ∙ ap (λ (f : PathFault). Err f) is_cut) live)))
+
+pub returns-clause-plan : goal.returns-clause-plan
+returns-clause-plan g c =
+    let shape : Shape = shape_of c.self.inside.geo in
+    let formulas = g.S.Suite.formulas_of (g.S.Suite.keys c.args.suite.now) in
+    let new : EngineState = record { shape = shape; cache = c.fetch_path.new.cache.banks; mirror = c.self.inside.mirror; down = c.self.inside.down } in
+    let before : Device = g.B.Board.device c.args.board.now in
+    subst (λ (e : EngineState). Follows (fetch_path_plan (record { shape = e.shape; formulas = formulas }) before.regs.root c.args.page
+    (chip_of e (g.A.Audit.ledger c.args.audit.now) (g.S.Suite.tags c.args.suite.now) (g.S.Suite.digests c.args.suite.now))) before
+    (g.B.Board.device c.fetch_path.new.board) (Ok (
+      chip_of new (g.A.Audit.ledger c.fetch_path.new.audit) (g.S.Suite.tags c.fetch_path.new.suite)
+          (g.S.Suite.digests c.fetch_path.new.suite),
+      tt,
+    ))) c.self.view_is
+    (subst (λ (tags : ℕ). Follows (fetch_path_plan (record { shape = shape; formulas = formulas }) before.regs.root c.args.page
+    (chip_of (record new { cache = c.self.inside.cache.banks }) (g.A.Audit.ledger c.args.audit.now) (g.S.Suite.tags c.args.suite.now)
+    (g.S.Suite.digests c.args.suite.now))) before (g.B.Board.device c.fetch_path.new.board) (Ok (
+      chip_of new (g.A.Audit.ledger c.fetch_path.new.audit) tags
+          (g.S.Suite.digests c.fetch_path.new.suite),
+      tt,
+    ))) (sym c.fetch_path.ensures.tags)
+    (its_fetch shape c.self.inside.mirror c.self.inside.down c.self.inside.cache c.self.invariant.0 formulas before.regs.root c.args.page
+    (g.A.Audit.ledger c.args.audit.now) (g.S.Suite.tags c.args.suite.now) (g.S.Suite.digests c.args.suite.now)
+    (fetch_parts c.fetch_path.new.cache (g.A.Audit.ledger c.fetch_path.new.audit) (g.S.Suite.digests c.fetch_path.new.suite)) (Ok tt)
+    c.in_ok-fetch_path.ensures.plan))
+
+pub returns-in_err-fetch_path-clause-plan : goal.returns-in_err-fetch_path-clause-plan
+returns-in_err-fetch_path-clause-plan g c =
+    let shape : Shape = shape_of c.self.inside.geo in
+    let formulas = g.S.Suite.formulas_of (g.S.Suite.keys c.args.suite.now) in
+    let new : EngineState = record { shape = shape; cache = c.fetch_path.new.cache.banks; mirror = c.self.inside.mirror; down = c.self.inside.down } in
+    let before : Device = g.B.Board.device c.args.board.now in
+    ended_err c.from_residual.result c.from_residual.ensures.1
+    (subst (λ (e : EngineState). Follows (fetch_path_plan (record { shape = e.shape; formulas = formulas }) before.regs.root c.args.page
+    (chip_of e (g.A.Audit.ledger c.args.audit.now) (g.S.Suite.tags c.args.suite.now) (g.S.Suite.digests c.args.suite.now))) before
+    (g.B.Board.device c.fetch_path.new.board) (Err (
+      chip_of new (g.A.Audit.ledger c.fetch_path.new.audit) (g.S.Suite.tags c.fetch_path.new.suite)
+          (g.S.Suite.digests c.fetch_path.new.suite),
+      c.in_err-fetch_path.field-0.0,
+    ))) c.self.view_is
+    (subst (λ (tags : ℕ). Follows (fetch_path_plan (record { shape = shape; formulas = formulas }) before.regs.root c.args.page
+    (chip_of (record new { cache = c.self.inside.cache.banks }) (g.A.Audit.ledger c.args.audit.now) (g.S.Suite.tags c.args.suite.now)
+    (g.S.Suite.digests c.args.suite.now))) before (g.B.Board.device c.fetch_path.new.board) (Err (
+      chip_of new (g.A.Audit.ledger c.fetch_path.new.audit) tags
+          (g.S.Suite.digests c.fetch_path.new.suite),
+      c.in_err-fetch_path.field-0.0,
+    ))) (sym c.fetch_path.ensures.tags)
+    (its_fetch shape c.self.inside.mirror c.self.inside.down c.self.inside.cache c.self.invariant.0 formulas before.regs.root c.args.page
+    (g.A.Audit.ledger c.args.audit.now) (g.S.Suite.tags c.args.suite.now) (g.S.Suite.digests c.args.suite.now)
+    (fetch_parts c.fetch_path.new.cache (g.A.Audit.ledger c.fetch_path.new.audit) (g.S.Suite.digests c.fetch_path.new.suite)) (Err c.in_err-fetch_path.field-0.0)
+    c.in_err-fetch_path.ensures.plan)))

@@ -1,6 +1,11 @@
 -- So many lines of the page were sealed anew.
-use Rattle.std.proofs.Common.{◌≡◌}
+use Rattle.std.proofs.Common.{◌≡◌, length}
+use Rattle.pmem_base.specs.Registers.{not_done}
+use Rattle.call_plan.proofs.Loops.{AreTurnsLeft}
 use Rattle.pmem_engine.specs.Parts.{parts_at, setup_at}
+use Rattle.pmem_engine.specs.Plans.{chip_at, register_at}
+use Rattle.pmem_engine.specs.WritePlans.{finish_turn}
+use Rattle.pmem_engine.proofs.PlannedCalls.FinishPlans.{page_turns}
 use Rattle.pmem_engine.specs.Finishing.{HasResealedFirst}
 use Rattle.pmem_engine.proofs.engine.Engine.finish_page.Given as goal
 
@@ -12,5 +17,13 @@ invariant-lines g l =
           l._line
           (parts_at g.B.Board g.S.Suite g.A.Audit l.fn.self l.fn.board l.fn.suite l.fn.audit)
           (parts_at g.B.Board g.S.Suite g.A.Audit l.fn.self l.board l.suite l.audit);
+      reached :
+          AreTurnsLeft
+          (page_turns (setup_at g.S.Suite l.fn.self l.fn.suite) l.fn.n (g.B.Board.device l.fn.board).regs
+          (chip_at g.S.Suite g.A.Audit l.fn.self l.fn.suite l.fn.audit))
+          (g.B.Board.device l.fn.board) (finish_turn (setup_at g.S.Suite l.fn.self l.fn.suite) l.fn.n) l._line
+          (length (not_done (register_at (g.B.Board.device l.fn.board).regs l.fn.n)))
+          (chip_at g.S.Suite g.A.Audit l.fn.self l.suite l.audit, (g.B.Board.device l.board).regs) (g.B.Board.device l.board);
+      capacity : g.A.Audit.capacity l.audit ≡ g.A.Audit.capacity l.fn.audit;
       keys : g.S.Suite.keys l.suite ≡ g.S.Suite.keys l.fn.suite;
     }

@@ -1,5 +1,5 @@
 -- The path was named, or a cut came before one of its entries was written.
-use Rattle.std.proofs.Common.{◌≡◌, ◌<◌, ◌≤◌, ◌+◌, ◌∙◌, List, Result, Ok, ℕ, refl, sym, ap, subst, subst₂}
+use Rattle.std.proofs.Common.{◌≡◌, ◌<◌, ◌≤◌, ◌+◌, ◌∙◌, List, Result, Ok, Err, ℕ, refl, sym, ap, subst, subst₂}
 use Rattle.std.specs.Prelude.{All, length}
 use Rattle.std.proofs.lemmas.Result.{err_from_is_err_and}
 use Rattle.pmem_base.specs.declared.faults.Cut.{Cut}
@@ -18,6 +18,10 @@ use Rattle.pmem_engine.specs.Parts.{parts_of}
 use Rattle.pmem_engine.specs.Inner.{HasNamedPath}
 use Rattle.pmem_engine.proofs.PathNaming.PathNames.{IsMirror, named_mirror}
 use Rattle.pmem_engine.proofs.PathNaming.NamingOutcomes.{path_named, path_cut}
+use Rattle.call_plan.specs.Following.{Follows}
+use Rattle.call_plan.proofs.Steps.{ended_err}
+use Rattle.pmem_engine.specs.Plans.{name_plan}
+use Rattle.pmem_engine.proofs.PlannedCalls.CachePlans.{its_names}
 use Rattle.pmem_engine.proofs.engine.Engine.name_path.Goals as goal
 
 -- the copy's lines are lines still
@@ -101,3 +105,21 @@ returns-in_err-make_dirty-clause-named g c = λ setup ledger tags digests same.
     (c.requires.size ∙ ap (λ (s : Shape). device_lines s) (sym same)) (g.met.B.Board.whole c.args.board.now) answer.0
     (subst (λ (s : Shape). IsNamingCut s old.cache c.args.page old.mirror new.mirror before after) its
     c.in_err-make_dirty.ensures.cut))
+
+pub returns-clause-plan : goal.returns-clause-plan
+returns-clause-plan g c =
+    let shape : Shape = shape_of c.self.inside.geo in
+    let old : EngineState = record { shape = shape; cache = c.self.inside.cache.banks; mirror = c.self.inside.mirror; down = c.self.inside.down } in
+    let new : EngineState = record { shape = shape; cache = c.self.inside.cache.banks; mirror = c.make_dirty.new.mirror; down = c.self.inside.down } in
+    subst (λ (e : EngineState). Follows (name_plan c.args.page e) (g.B.Board.device c.args.board.now) (g.B.Board.device c.make_dirty.new.board)
+    (Ok (new, tt))) c.self.view_is (its_names old c.args.page c.make_dirty.new.mirror (Ok tt) c.in_ok-make_dirty.ensures.plan)
+
+pub returns-in_err-make_dirty-clause-plan : goal.returns-in_err-make_dirty-clause-plan
+returns-in_err-make_dirty-clause-plan g c =
+    let shape : Shape = shape_of c.self.inside.geo in
+    let old : EngineState = record { shape = shape; cache = c.self.inside.cache.banks; mirror = c.self.inside.mirror; down = c.self.inside.down } in
+    let new : EngineState = record { shape = shape; cache = c.self.inside.cache.banks; mirror = c.make_dirty.new.mirror; down = c.self.inside.down } in
+    ended_err c.from_residual.result c.from_residual.ensures.1
+    (subst (λ (e : EngineState). Follows (name_plan c.args.page e) (g.B.Board.device c.args.board.now) (g.B.Board.device c.make_dirty.new.board)
+    (Err (new, c.in_err-make_dirty.field-0.0))) c.self.view_is
+    (its_names old c.args.page c.make_dirty.new.mirror (Err c.in_err-make_dirty.field-0.0) c.in_err-make_dirty.ensures.plan))

@@ -7,6 +7,9 @@ use Rattle.pmem_engine.specs.Parts.{Parts, parts_at, setup_at}
 use Rattle.pmem_engine.specs.Writing.{HasMadePlain}
 use Rattle.pmem_engine.proofs.CallEnds.ErrorAnswers.{is_err_of}
 use Rattle.pmem_engine.proofs.PostedWrites.PlainMakings.{plain_whole, plain_unsealed}
+use Rattle.call_plan.proofs.Steps.{ended_err}
+use Rattle.pmem_engine.specs.Plans.{chip_at}
+use Rattle.pmem_engine.proofs.PlannedCalls.FinishPlans.{plain_whole_line, plain_opened, plain_refused}
 use Rattle.pmem_engine.proofs.engine.Engine.plain_after.Goals as goal
 
 pub returns-then-write-eq64-clause-made : goal.returns-then-write-eq64-clause-made
@@ -43,3 +46,22 @@ returns-in_err-unsealed-clause-made g c =
     (plain_unsealed setup c.args.write.now c.counter-ctr.result old new shorter
     (λ trusted cached. c.counter-ctr.ensures.last setup (g.A.Audit.ledger c.args.audit.now) trusted cached)
     (Err c.in_err-unsealed.field-0.0) c.in_err-unsealed.ensures.unsealed)
+
+pub returns-then-write-eq64-clause-plan : goal.returns-then-write-eq64-clause-plan
+returns-then-write-eq64-clause-plan g c =
+    plain_whole_line (setup_at g.S.Suite c.args.self.now c.args.suite.now) (g.B.Board.device c.args.board.now).regs c.args.write.now
+    (chip_at g.S.Suite g.A.Audit c.args.self.now c.args.suite.now c.args.audit.now) (g.B.Board.device c.args.board.now) c.if-write-eq64.true
+
+pub returns-clause-plan : goal.returns-clause-plan
+returns-clause-plan g c =
+    plain_opened (setup_at g.S.Suite c.args.self.now c.args.suite.now) (g.B.Board.device c.args.board.now).regs c.args.write.now
+    (chip_at g.S.Suite g.A.Audit c.args.self.now c.args.suite.now c.args.audit.now) c.counter-ctr.result c.counter-ctr.ensures.cached c.if-write-eq64.false
+    (chip_at g.S.Suite g.A.Audit c.args.self.now c.unseal_line.new.suite c.unseal_line.new.audit) c.in_ok-unsealed.unsealed c.line_with.result
+    c.line_with.ensures c.in_ok-unsealed.ensures.plan
+
+pub returns-in_err-unsealed-clause-plan : goal.returns-in_err-unsealed-clause-plan
+returns-in_err-unsealed-clause-plan g c =
+    ended_err c.from_residual.result c.from_residual.ensures.1
+    (plain_refused (setup_at g.S.Suite c.args.self.now c.args.suite.now) (g.B.Board.device c.args.board.now).regs c.args.write.now
+    (chip_at g.S.Suite g.A.Audit c.args.self.now c.args.suite.now c.args.audit.now) c.counter-ctr.result c.counter-ctr.ensures.cached c.if-write-eq64.false
+    c.in_err-unsealed.ensures.plan)

@@ -1,22 +1,31 @@
 -- The line isn't unsealed, or its group is cut, or it is sealed anew.
-use Rattle.std.proofs.Common.{ℕ, ◌≡◌, ◌≤◌, ◌+◌, ◌-◌, [], Ok, Err, get_or, length, refl, sym, ap, subst, ◌∙◌, arith}
+use Rattle.std.proofs.Common.{ℕ, ◌≡◌, ◌≤◌, ◌+◌, ◌-◌, [], Result, Ok, Err, get_or, length, refl, sym, ap, ap₂, subst, subst₂, ◌∙◌, arith}
 use Rattle.std.proofs.lemmas.List.{get_or_default}
+use Rattle.pmem_base.specs.declared.faults.Cut.{Cut}
 use Rattle.pmem_base.specs.declared.registers.Progress.{Progress}
+use Rattle.pmem_base.specs.Counts.{risen}
 use Rattle.pmem_base.specs.Layout.{pages}
 use Rattle.pmem_base.specs.Registers.{not_done, empty_progress}
 use Rattle.pmem_base.proofs.LayoutLemmas.{pages-most}
 use Rattle.suite.specs.Setup.{Setup}
 use Rattle.board.specs.Device.{Device, IsDevice}
 use Rattle.seal_ledger.specs.Ledger.{LedgerState}
+use Rattle.pmem_base.specs.declared.registers.Regs.{Regs}
+use Rattle.call_plan.specs.Following.{Follows}
+use Rattle.call_plan.proofs.Steps.{ended_err}
 use Rattle.pmem_engine.specs.declared.fault.LineFault.TheVariants as AtLine
+use Rattle.pmem_engine.specs.declared.resealing.HeldLine.{HeldLine}
 use Rattle.pmem_engine.specs.declared.resealing.NextSeal.{NextSeal}
-use Rattle.pmem_engine.specs.Parts.{Parts, parts_of}
+use Rattle.pmem_engine.specs.Parts.{Parts, parts_of, setup_at}
 use Rattle.pmem_engine.specs.Committing.{next_seal_of}
 use Rattle.pmem_engine.specs.Resealing.{IsNextHeld, IsResealCut, HasResealCommitted, HasResealed}
+use Rattle.pmem_engine.specs.Plans.{Chip, chip_of, chip_at, held_of, register_at, unseal_plan, commit_plan, reseal_plan}
+use Rattle.pmem_engine.proofs.PlannedCalls.Chips.{same_chip}
+use Rattle.pmem_engine.proofs.PlannedCalls.ResealPlans.{held_is, reseal_unopened, reseal_cut, reseal_done}
 use Rattle.pmem_engine.proofs.CallEnds.ErrorAnswers.{is_err_of}
 use Rattle.pmem_engine.proofs.PageLines.ResealOutcomes.{not_unsealed, resealing_exits}
 use Rattle.pmem_engine.proofs.engine.Engine.reseal.Given.{Over}
-use Rattle.pmem_engine.proofs.engine.Engine.reseal.Goals.{After-commit_reseal}
+use Rattle.pmem_engine.proofs.engine.Engine.reseal.Goals.{After-held_line-held, After-commit_reseal}
 use Rattle.pmem_engine.proofs.engine.Engine.reseal.Goals as goal
 
 -- what a read past the registers' end gives
@@ -125,3 +134,84 @@ returns-clause-resealed g c =
     (exits g end).1 (c.held_line-held.result.at, c.left.result - 1) refl (omega (arith, left, some))
     (subst (λ (next : NextSeal). HasResealCommitted c.args.self.now.shape next (mid g end).device (new g end).device
     (mid g end).ledger (new g end).ledger) (sealing g end) c.in_ok-commit_reseal.ensures.ok)
+
+-- ---- the plan
+
+module _ (g : Over) (c : After-held_line-held g) where
+  abbrev chip : Chip
+  chip = chip_at g.S.Suite g.A.Audit c.args.self.now c.args.suite.now c.args.audit.now
+
+  abbrev regs : Regs
+  regs = (g.B.Board.device c.args.board.now).regs
+
+  its_register : get_or c.deref.result.now c.args.n no_register ≡ register_at regs c.args.n
+  its_register =
+      ap (λ list. get_or list c.args.n no_register) (c.deref.ensures.0 ∙ ap (λ regs. regs.progress.items) c.regs.ensures)
+      ∙ get_or_default regs.progress.items c.args.n no_register empty_progress c.requires.register
+
+  its_line : c.held_line-held.result ≡ held_of (register_at regs c.args.n)
+  its_line =
+      held_is (register_at regs c.args.n) c.held_line-held.result
+      (subst (λ register. IsNextHeld register c.held_line-held.result) its_register c.held_line-held.ensures)
+
+pub returns-in_err-unsealed-clause-plan : goal.returns-in_err-unsealed-clause-plan
+returns-in_err-unsealed-clause-plan g c =
+    let here = (goal.at.returns-in_err-unsealed-clause-plan g c).After-held_line-held in
+    let setup : Setup = setup_at g.S.Suite c.args.self.now c.args.suite.now in
+    let end : Chip = chip_at g.S.Suite g.A.Audit c.args.self.now c.unseal_line.new.suite c.unseal_line.new.audit in
+    ended_err c.from_residual.result c.from_residual.ensures.1
+    (reseal_unopened setup c.args.n (regs g here) (chip g here)
+    (subst (λ (h : HeldLine). Follows (unseal_plan setup h.at h.now (chip g here)) (g.B.Board.device c.args.board.now)
+    (g.B.Board.device c.unseal_line.new.board) (Err (end, c.in_err-unsealed.field-0.0))) (its_line g here) c.in_err-unsealed.ensures.plan))
+
+module _ (g : Over) (c : After-commit_reseal g) where
+  abbrev register : Progress
+  register = register_at (old g c).device.regs c.args.n
+
+  abbrev was : Chip
+  was = chip_at g.S.Suite g.A.Audit c.args.self.now c.args.suite.now c.args.audit.now
+
+  abbrev after : Chip
+  after = chip_at g.S.Suite g.A.Audit c.args.self.now c.unseal_line.new.suite c.unseal_line.new.audit
+
+  at_place : c.held_line-held.result ≡ held_of register
+  at_place =
+      held_is register c.held_line-held.result
+      (subst (λ register. IsNextHeld register c.held_line-held.result) (same g c) c.held_line-held.ensures)
+
+  first : Follows (unseal_plan (setup g c) (held_of register).at (held_of register).now was) (old g c).device (mid g c).device
+      (Ok (after, c.in_ok-unsealed.unsealed))
+  first =
+      subst (λ (h : HeldLine). Follows (unseal_plan (setup g c) h.at h.now was) (old g c).device (mid g c).device (Ok (after, c.in_ok-unsealed.unsealed)))
+      at_place c.in_ok-unsealed.ensures.plan
+
+  its_commit : (end : Result (LedgerState × Unit {0}) (LedgerState × Cut))
+      → Follows (commit_plan (setup g c).shape c.next_seal-next.result (mid g c).device.regs (mid g c).ledger) (mid g c).device (new g c).device end
+      → Follows (commit_plan (setup g c).shape (next_seal_of (setup g c).formulas (held_of register).at (held_of register).next
+      c.in_ok-unsealed.unsealed.plain c.in_ok-unsealed.unsealed.tag_line) (old g c).device.regs (mid g c).ledger) (mid g c).device (new g c).device end
+  its_commit end it =
+      subst₂ (λ (next : NextSeal) (regs : Regs). Follows (commit_plan (setup g c).shape next regs (mid g c).ledger) (mid g c).device (new g c).device end)
+      (sealing g c ∙ ap (λ (h : HeldLine). next_seal_of (setup g c).formulas h.at h.next c.in_ok-unsealed.unsealed.plain
+      c.in_ok-unsealed.unsealed.tag_line) at_place) c.in_ok-unsealed.ensures.unsealed.regs it
+
+  its_chip : chip_at g.S.Suite g.A.Audit c.args.self.now c.next_seal-next.new.suite c.commit_reseal.new.audit
+      ≡ chip_of c.args.self.now (new g c).ledger (risen (mid g c).tags) (mid g c).digests
+  its_chip = same_chip c.args.self.now (refl {a = (new g c).ledger}) c.next_seal-next.ensures.tags c.next_seal-next.ensures.digests
+
+pub returns-in_err-commit_reseal-clause-plan : goal.returns-in_err-commit_reseal-clause-plan
+returns-in_err-commit_reseal-clause-plan g c =
+    let end : After-commit_reseal g = (goal.at.returns-in_err-commit_reseal-clause-plan g c).After-commit_reseal in
+    ended_err c.from_residual-in_err-commit_reseal.result c.from_residual-in_err-commit_reseal.ensures.1
+    (subst (λ (chip : Chip). Follows (reseal_plan (setup g end) c.args.n (old g end).device.regs (was g end)) (old g end).device (new g end).device
+    (Err (chip, AtLine.Cut))) (sym (its_chip g end))
+    (reseal_cut (setup g end) c.args.n (old g end).device.regs (was g end) (after g end) c.in_ok-unsealed.unsealed (first g end) (new g end).ledger
+    c.in_err-commit_reseal.field-0.0 (its_commit g end _ c.in_err-commit_reseal.ensures.plan)))
+
+pub returns-clause-plan : goal.returns-clause-plan
+returns-clause-plan g c =
+    let end : After-commit_reseal g = (goal.at.returns-clause-plan g c).After-commit_reseal in
+    subst₂ (λ (chip : Chip) (answer : ℕ × ℕ). Follows (reseal_plan (setup g end) c.args.n (old g end).device.regs (was g end)) (old g end).device
+    (new g end).device (Ok (chip, answer))) (sym (its_chip g end))
+    (sym (ap₂ (λ (h : HeldLine) n. (h.at, n - 1)) (at_place g end) (c.left.ensures.number ∙ ap (λ register. length (not_done register)) (same g end))))
+    (reseal_done (setup g end) c.args.n (old g end).device.regs (was g end) (after g end) c.in_ok-unsealed.unsealed (first g end) (new g end).ledger
+    (its_commit g end _ c.in_ok-commit_reseal.ensures.plan))

@@ -1,5 +1,5 @@
 -- The oldest dirty block was written back, or a cut came before its write.
-use Rattle.std.proofs.Common.{◌≡◌, ◌∙◌, Option, Result, Ok, ℕ, refl, sym, subst, subst₂}
+use Rattle.std.proofs.Common.{◌≡◌, ◌∙◌, Option, Result, Ok, Err, ℕ, refl, sym, subst, subst₂}
 use Rattle.std.proofs.lemmas.Result.{err_from_is_err_and}
 use Rattle.pmem_base.specs.declared.faults.Cut.{Cut}
 use Rattle.pmem_base.specs.Shape.{Shape}
@@ -11,6 +11,10 @@ use Rattle.pmem_engine.specs.Engine.{EngineState}
 use Rattle.pmem_engine.specs.Flushed.{HasWrittenOldest}
 use Rattle.pmem_engine.proofs.CheckedReads.FetchCalls.{of_states}
 use Rattle.pmem_engine.proofs.BlockWrites.FlushOutcomes.{oldest_written, oldest_cut}
+use Rattle.call_plan.specs.Following.{Follows}
+use Rattle.call_plan.proofs.Steps.{ended_err}
+use Rattle.pmem_engine.specs.Plans.{oldest_block_plan}
+use Rattle.pmem_engine.proofs.PlannedCalls.CachePlans.{oldest_block}
 use Rattle.pmem_engine.proofs.engine.Engine.write_back.Goals as goal
 
 pub returns-clause-written : goal.returns-clause-written
@@ -43,3 +47,22 @@ returns-in_err-x-clause-written g c =
     (λ (was now : CacheState). now ≡ was)
     c.self.invariant.0 (c.write_back_one.ensures.shape ∙ c.self.invariant.0) c.in_err-x.ensures.same)
     c.in_err-x.ensures.cut c.in_err-x.ensures.some_dirty answer.0)
+
+pub returns-clause-plan : goal.returns-clause-plan
+returns-clause-plan g c =
+    let shape : Shape = shape_of c.self.inside.geo in
+    let new : EngineState = record { shape = shape; cache = c.write_back_one.new.cache.banks; mirror = c.self.inside.mirror; down = c.self.inside.down } in
+    subst (λ (e : EngineState). Follows (oldest_block_plan e) (g.B.Board.device c.args.board.now) (g.B.Board.device c.write_back_one.new.board)
+    (Ok (new, c.in_ok-x.x))) c.self.view_is
+    (oldest_block shape c.self.inside.mirror c.self.inside.down c.self.inside.cache c.self.invariant.0 c.write_back_one.new.cache (Ok c.in_ok-x.x)
+    c.in_ok-x.ensures.plan)
+
+pub returns-in_err-x-clause-plan : goal.returns-in_err-x-clause-plan
+returns-in_err-x-clause-plan g c =
+    let shape : Shape = shape_of c.self.inside.geo in
+    let new : EngineState = record { shape = shape; cache = c.write_back_one.new.cache.banks; mirror = c.self.inside.mirror; down = c.self.inside.down } in
+    ended_err c.from_residual.result c.from_residual.ensures.1
+    (subst (λ (e : EngineState). Follows (oldest_block_plan e) (g.B.Board.device c.args.board.now) (g.B.Board.device c.write_back_one.new.board)
+    (Err (new, c.in_err-x.field-0.0))) c.self.view_is
+    (oldest_block shape c.self.inside.mirror c.self.inside.down c.self.inside.cache c.self.invariant.0 c.write_back_one.new.cache (Err c.in_err-x.field-0.0)
+    c.in_err-x.ensures.plan))

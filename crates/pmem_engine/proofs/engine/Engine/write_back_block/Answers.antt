@@ -1,5 +1,5 @@
 -- A dirty counter block is cached on the tree; its line is written, and then its mark cleared.
-use Rattle.std.proofs.Common.{◌≡◌, ◌+◌, ◌∙◌, ◌∷◌, Some, ℕ, true, false, refl, sym, ap, subst, subst₂, arith}
+use Rattle.std.proofs.Common.{◌≡◌, ◌+◌, ◌∙◌, ◌∷◌, Some, Ok, Err, ℕ, true, false, refl, sym, ap, subst, subst₂, arith}
 use Rattle.pmem_base.specs.Shape.{Shape}
 use Rattle.pmem_base.specs.Geo.{shape_of}
 use Rattle.pmem_base.specs.Layout.{meta_line}
@@ -18,6 +18,14 @@ use Rattle.pmem_engine.proofs.BlockWrites.FlushOutcomes.{written_block}
 use Rattle.pmem_engine.proofs.BlockWrites.DirtyCounts.{dirty_in_bank-cleaned}
 use Rattle.pmem_engine.proofs.BlockWrites.OldestFirst.{order_cleaned}
 use Rattle.pmem_engine.proofs.BlockWrites.LossBlocks.{cleaned_block}
+use Rattle.call_plan.specs.Following.{Follows}
+use Rattle.call_plan.proofs.Steps.{ended_err}
+use Rattle.call_plan.specs.Plans.{the_cut}
+use Rattle.meta_cache.specs.State.{CacheState}
+use Rattle.meta_path.specs.Plans.{write_back_plan}
+use Rattle.meta_path.proofs.WritePlans.{block_written, block_cut}
+use Rattle.pmem_engine.specs.Plans.{block_plan}
+use Rattle.pmem_engine.proofs.PlannedCalls.CachePlans.{its_block}
 use Rattle.pmem_engine.proofs.engine.Engine.write_back_block.Goals as goal
 
 pub meta_line-requires : goal.meta_line-requires
@@ -120,3 +128,32 @@ returns-clause-order g c =
     ≡ c.args.x ∷ dirty_order (bank_of c.set_clean.new.self.banks e.shape.levels))
     c.self.view_is
     (order_cleaned shape c.self.inside.cache c.set_clean.new.self shape.levels c.args.x (omega arith) was now changes oldest)
+
+pub returns-clause-plan : goal.returns-clause-plan
+returns-clause-plan g c =
+    let shape : Shape = shape_of c.self.inside.geo in
+    let cache : CacheState = c.self.inside.cache in
+    let new : EngineState = record { shape = shape; cache = c.set_clean.new.self.banks; mirror = c.self.inside.mirror; down = c.self.inside.down } in
+    let before : Device = g.B.Board.device c.args.board.now in
+    let after : Device = g.B.Board.device c.write_line.new.self in
+    let changes : ChangesSet cache c.set_clean.new.self shape.levels (set_index cache.shape c.args.x)
+    (with_mark (slots_of cache shape.levels c.args.x) c.args.x false) =
+    subst (λ (bank : ℕ). ChangesSet cache c.set_clean.new.self bank (set_index cache.shape c.args.x)
+    (with_mark (slots_of cache bank c.args.x) c.args.x false)) c.levels.ensures c.set_clean.ensures in
+    subst (λ (e : EngineState). Follows (block_plan e.shape.levels c.args.x e) before after (Ok (new, tt))) c.self.view_is
+    (its_block shape c.self.inside.mirror c.self.inside.down cache c.self.invariant.0 shape.levels c.args.x c.set_clean.new.self (Ok tt)
+    (subst (λ (now : CacheState). Follows (write_back_plan cache shape.levels c.args.x) before after (Ok (now, tt))) (sym changes.exact)
+    (block_written cache shape.levels c.args.x before after c.meta_line.result c.block_line.result.now
+    (c.meta_line.ensures.value ∙ ap (λ (s : Shape). meta_line s c.args.x) (sym c.self.invariant.0))
+    (c.block_line.ensures ∙ ap (λ (e : EngineState). line_in e.shape e.cache e.shape.levels c.args.x) (sym c.self.view_is)
+    ∙ ap (λ (s : Shape). line_in s cache.banks shape.levels c.args.x) (sym c.self.invariant.0)) c.in_ok-write_line.ensures.ok)))
+
+pub returns-in_err-write_line-clause-plan : goal.returns-in_err-write_line-clause-plan
+returns-in_err-write_line-clause-plan g c =
+    let shape : Shape = shape_of c.self.inside.geo in
+    let cache : CacheState = c.self.inside.cache in
+    ended_err c.from_residual.result c.from_residual.ensures.1
+    (subst (λ (e : EngineState). Follows (block_plan e.shape.levels c.args.x e) (g.B.Board.device c.args.board.now) (g.B.Board.device c.write_line.new.self)
+    (Err (e, the_cut))) c.self.view_is
+    (its_block shape c.self.inside.mirror c.self.inside.down cache c.self.invariant.0 shape.levels c.args.x cache (Err the_cut)
+    (block_cut cache shape.levels c.args.x (g.B.Board.device c.args.board.now) (g.B.Board.device c.write_line.new.self) c.in_err-write_line.ensures.cut)))

@@ -6,7 +6,7 @@ use Rattle.pmem_base.specs.Geo.{shape_of}
 use Rattle.pmem_base.specs.Layout as layout
 use Rattle.pmem_base.specs.Shape.{Shape}
 use Rattle.board.specs.MemBoard.{memory_of}
-use Rattle.seal_ledger.specs.View.{ledger_of}
+use Rattle.seal_ledger.specs.View.{capacity_of, ledger_of}
 use Rattle.suite.specs.Setup.{Setup}
 use Rattle.plain_model.specs.State.{PlainState}
 use Rattle.plain_model.specs.After.{after_marks}
@@ -28,7 +28,7 @@ use Rattle.pmem_replay.proofs.world.World.call.Goals as goal
 module _ (g : Over) (c : After-saturating_add-self-inside g) where
   abbrev p : WorldParts
   p =
-      held (g.S.Suite.keys c.self.inside.suite) (memory_of c.self.inside.board) (ledger_of c.self.inside.ledger) c.self.inside.engine
+      held (g.S.Suite.keys c.self.inside.suite) (memory_of c.self.inside.board) (ledger_of c.self.inside.ledger) (capacity_of c.self.inside.ledger) c.self.inside.engine
       (g.S.Suite.tags c.self.inside.suite) (g.S.Suite.digests c.self.inside.suite) c.self.inside.ports c.self.inside.tampered
       c.self.inside.dirtied c.self.inside.steps c.self.inside.start c.self.inside.shown
 
@@ -63,13 +63,13 @@ module _ (g : Over) (c : After-saturating_add-self-inside g) where
 
   longer : length p.ledger.marks ≤ length (ledger_of c.make-done.new.ledger).marks
   longer =
-      marks_longer setup p _ _ _ _ _ _ c.in-Some.engine c.make-done.new.engine c.make-done.result.taken served (g.C.Call.relation c.args.call.now)
+      marks_longer setup p _ _ _ (capacity_of c.make-done.new.ledger) _ _ _ c.in-Some.engine c.make-done.new.engine c.make-done.result.taken served c.make-done.ensures.capacity (g.C.Call.relation c.args.call.now)
       (g.C.Call.write c.args.call.now) c.make-done.result.answer made within
 
   -- the parts afterwards
   abbrev after : Option EngineState → List (List Posted) → Tampering → Dirtying → WorldParts
   after e queues tampering dirtying =
-      parts_made p (g.S.Suite.keys c.make-done.new.suite) (memory_of c.make-done.new.board) (ledger_of c.make-done.new.ledger) e
+      parts_made p (g.S.Suite.keys c.make-done.new.suite) (memory_of c.make-done.new.board) (ledger_of c.make-done.new.ledger) (capacity_of c.make-done.new.ledger) e
       (g.S.Suite.tags c.make-done.new.suite) (g.S.Suite.digests c.make-done.new.suite) c.saturating_add-self-inside.result queues tampering dirtying
 
 pub returns-then-is_shown : goal.returns-then-is_shown
@@ -77,10 +77,10 @@ returns-then-is_shown g c =
     let at = (goal.at.returns-then-is_shown g c).After-saturating_add-self-inside in
     moved (λ setup old new. WasCalled setup (g.C.Call.relation c.args.call.now) (g.C.Call.write c.args.call.now) old c.make-done.result.taken c.make-done.result.answer new)
     g.S.Suite.formulas_of (shape_of c.self.inside.geo) (p g at)
-    (record (called (p g at) (g.S.Suite.keys c.make-done.new.suite) (memory_of c.make-done.new.board) (ledger_of c.make-done.new.ledger) (Some c.make-done.new.engine)
+    (record (called (p g at) (g.S.Suite.keys c.make-done.new.suite) (memory_of c.make-done.new.board) (ledger_of c.make-done.new.ledger) (capacity_of c.make-done.new.ledger) (Some c.make-done.new.engine)
     (g.S.Suite.tags c.make-done.new.suite) (g.S.Suite.digests c.make-done.new.suite) c.saturating_add-self-inside.result) { shown = true })
     c.args.self.now c.self.view_is c.make-done.ensures.keys
-    (was_shown (setup g at) (p g at) _ _ _ _ _ _ c.in-Some.engine c.make-done.new.engine c.make-done.result.taken (served g at) (g.C.Call.relation c.args.call.now)
+    (was_shown (setup g at) (p g at) _ _ _ (capacity_of c.make-done.new.ledger) _ _ _ c.in-Some.engine c.make-done.new.engine c.make-done.result.taken (served g at) c.make-done.ensures.capacity (g.C.Call.relation c.args.call.now)
     (g.C.Call.write c.args.call.now) c.make-done.result.answer (made g at) (within g at) (sym c.is_shown.ensures ∙ c.if-is_shown.true))
 
 pub note_since-requires-clause-from : goal.note_since-requires-clause-from
@@ -96,7 +96,7 @@ heal-requires-clause-from g c =
 pub note_since-requires-clause-marks : goal.note_since-requires-clause-marks
 note_since-requires-clause-marks g c =
     let at = (goal.at.note_since-requires-clause-marks g c).After-saturating_add-self-inside in
-    marks_whole (setup g at) (p g at) _ _ _ _ _ _ c.in-Some.engine c.make-done.new.engine c.make-done.result.taken (served g at) (g.C.Call.relation c.args.call.now)
+    marks_whole (setup g at) (p g at) _ _ _ (capacity_of c.make-done.new.ledger) _ _ _ c.in-Some.engine c.make-done.new.engine c.make-done.result.taken (served g at) c.make-done.ensures.capacity (g.C.Call.relation c.args.call.now)
     (g.C.Call.write c.args.call.now) c.make-done.result.answer (made g at) (within g at) (sym c.is_shown.ensures ∙ c.if-is_shown.false)
 
 pub invariant_of-self-2 : goal.invariant_of-self-2
@@ -106,7 +106,7 @@ invariant_of-self-2 g c =
     subst (λ (k : List ℕ). c.self.inside.shown ≡ false → IsWorld (record { shape = shape_of c.self.inside.geo; formulas = g.S.Suite.formulas_of k })
     (world_of (record { shape = shape_of c.self.inside.geo; formulas = g.S.Suite.formulas_of k })
     (after g at c.lose_if.new.engine c.lose_if.new.ports c.heal.new.tampered c.note_since.new.self))) (sym c.make-done.ensures.keys)
-    (was_called (setup g at) (p g at) _ _ _ _ _ _ c.in-Some.engine c.make-done.new.engine c.make-done.result.taken (served g at) (g.C.Call.relation c.args.call.now)
+    (was_called (setup g at) (p g at) _ _ _ (capacity_of c.make-done.new.ledger) _ _ _ c.in-Some.engine c.make-done.new.engine c.make-done.result.taken (served g at) c.make-done.ensures.capacity (g.C.Call.relation c.args.call.now)
     (g.C.Call.write c.args.call.now) c.make-done.result.answer (made g at) (within g at)
     c.lose_if.new.engine c.lose_if.new.ports c.heal.new.tampered c.note_since.new.self
     c.is_cut.result (sym c.is_shown.ensures ∙ c.if-is_shown.false) c.is_cut.ensures c.lose_if.ensures.engine c.lose_if.ensures.ports
@@ -124,7 +124,7 @@ returns g c =
     g.S.Suite.formulas_of (shape_of c.self.inside.geo) (p g at)
     (after g at c.lose_if.new.engine c.lose_if.new.ports c.heal.new.tampered c.note_since.new.self)
     c.args.self.now c.self.view_is c.make-done.ensures.keys
-    (was_called (setup g at) (p g at) _ _ _ _ _ _ c.in-Some.engine c.make-done.new.engine c.make-done.result.taken (served g at) (g.C.Call.relation c.args.call.now)
+    (was_called (setup g at) (p g at) _ _ _ (capacity_of c.make-done.new.ledger) _ _ _ c.in-Some.engine c.make-done.new.engine c.make-done.result.taken (served g at) c.make-done.ensures.capacity (g.C.Call.relation c.args.call.now)
     (g.C.Call.write c.args.call.now) c.make-done.result.answer (made g at) (within g at)
     c.lose_if.new.engine c.lose_if.new.ports c.heal.new.tampered c.note_since.new.self
     c.is_cut.result (sym c.is_shown.ensures ∙ c.if-is_shown.false) c.is_cut.ensures c.lose_if.ensures.engine c.lose_if.ensures.ports

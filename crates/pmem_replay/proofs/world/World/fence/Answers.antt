@@ -15,5 +15,5 @@ pub returns-in_err-make_room-clause-wanting : goal.returns-in_err-make_room-clau
 returns-in_err-make_room-clause-wanting g c =
     on_err _ (CanWantMemory c.args.self.now.state (Do.Fence c.args.port)) (
       on_lit _ c.args.self.now c.holds.ensures (search (rules, c.is_on.ensures, c.if-not-is_on.false)),
-      omega (arith, c.in_err-make_room.ensures.wanting, c.waiting-count.ensures.value),
+      omega (arith, c.in_err-make_room.ensures.some, c.waiting-count.ensures.value),
     )

@@ -4,7 +4,7 @@ use Rattle.pmem_base.specs.Geo.{shape_of}
 use Rattle.pmem_base.specs.Layout.{device_lines}
 use Rattle.board.specs.MemBoard.{memory_of}
 use Rattle.board.specs.Memory.{BoardMemory, device_of}
-use Rattle.seal_ledger.specs.View.{ledger_of}
+use Rattle.seal_ledger.specs.View.{capacity_of, ledger_of}
 use Rattle.suite.specs.Setup.{Setup}
 use Rattle.pmem_replay.specs.World.{WorldParts, IsWorld, world_of}
 use Rattle.pmem_replay.specs.Stepped.{IsNewWorld}
@@ -17,7 +17,7 @@ use Rattle.pmem_replay.proofs.world.World.new.Goals as goal
 module _ (g : Over) (c : After-new-5 g) where
   abbrev q : WorldParts
   q =
-      held (g.S.Suite.keys c.format.new.suite) (memory_of c.format.new.board) (ledger_of c.format.new.ledger) c.format.new.engine
+      held (g.S.Suite.keys c.format.new.suite) (memory_of c.format.new.board) (ledger_of c.format.new.ledger) (capacity_of c.format.new.ledger) c.format.new.engine
       (g.S.Suite.tags c.format.new.suite) (g.S.Suite.digests c.format.new.suite) c.new-5.result c.in_ok-tampered.tampered
       c.in_ok-dirtied.dirtied 0 c.counts_of-start.result false
 

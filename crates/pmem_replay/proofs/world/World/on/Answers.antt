@@ -4,7 +4,7 @@ use Rattle.std.specs.Prelude.{false}
 use Rattle.pmem_base.specs.Geo.{shape_of}
 use Rattle.board.specs.MemBoard.{memory_of}
 use Rattle.board.specs.Memory.{BoardMemory}
-use Rattle.seal_ledger.specs.View.{ledger_of}
+use Rattle.seal_ledger.specs.View.{capacity_of, ledger_of}
 use Rattle.pmem_recovery.specs.Parts.{suite_state}
 use Rattle.pmem_replay.specs.World.{WorldParts, WorldState, IsWorld, world_of}
 use Rattle.watched_board.specs.Watching.{none_taken, device_during, IsWatched}
@@ -22,7 +22,7 @@ use Rattle.pmem_replay.proofs.world.World.on.Goals as goal
 module _ (g : Over) (c : After-saturating_add-self-inside g) where
   abbrev p : WorldParts
   p =
-      held (g.S.Suite.keys c.self.inside.suite) (memory_of c.self.inside.board) (ledger_of c.self.inside.ledger) c.self.inside.engine
+      held (g.S.Suite.keys c.self.inside.suite) (memory_of c.self.inside.board) (ledger_of c.self.inside.ledger) (capacity_of c.self.inside.ledger) c.self.inside.engine
       (g.S.Suite.tags c.self.inside.suite) (g.S.Suite.digests c.self.inside.suite) c.self.inside.ports c.self.inside.tampered
       c.self.inside.dirtied c.self.inside.steps c.self.inside.start c.self.inside.shown
 

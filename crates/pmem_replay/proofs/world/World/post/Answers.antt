@@ -8,7 +8,7 @@ use Rattle.pmem_recovery.proofs.ResultLaws.{from_no_error}
 use Rattle.pmem_replay.proofs.Steps.PartsOfWorld.{engine_some}
 use Rattle.pmem_base.specs.Geo.{shape_of}
 use Rattle.board.specs.MemBoard.{memory_of}
-use Rattle.seal_ledger.specs.View.{ledger_of}
+use Rattle.seal_ledger.specs.View.{capacity_of, ledger_of}
 use Rattle.pmem_base.specs.declared.commands.Command.TheVariants as Do
 use Rattle.pmem_base.specs.WaitingWrites.{queue_of}
 use Rattle.pmem_replay.specs.World.{WorldParts}
@@ -22,7 +22,7 @@ invariant_of-self-2 g c =
     let inside = c.self.inside in
     let geo = shape_of inside.geo in
     let p : WorldParts =
-    held (g.S.Suite.keys inside.suite) (memory_of inside.board) (ledger_of inside.ledger) inside.engine (g.S.Suite.tags inside.suite)
+    held (g.S.Suite.keys inside.suite) (memory_of inside.board) (ledger_of inside.ledger) (capacity_of inside.ledger) inside.engine (g.S.Suite.tags inside.suite)
     (g.S.Suite.digests inside.suite) inside.ports inside.tampered inside.dirtied inside.steps inside.start inside.shown in
     let going = going_in formulas_of geo p c.args.self.now c.self.view_is c.requires.shown c.self.invariant in
     let found = engine_some p.engine c.is_none.result c.is_none.ensures c.if-is_none.false in
@@ -39,7 +39,7 @@ returns g c =
     let inside = c.self.inside in
     let geo = shape_of inside.geo in
     let p : WorldParts =
-    held (g.S.Suite.keys inside.suite) (memory_of inside.board) (ledger_of inside.ledger) inside.engine (g.S.Suite.tags inside.suite)
+    held (g.S.Suite.keys inside.suite) (memory_of inside.board) (ledger_of inside.ledger) (capacity_of inside.ledger) inside.engine (g.S.Suite.tags inside.suite)
     (g.S.Suite.digests inside.suite) inside.ports inside.tampered inside.dirtied inside.steps inside.start inside.shown in
     let going = going_in formulas_of geo p c.args.self.now c.self.view_is c.requires.shown c.self.invariant in
     let found = engine_some p.engine c.is_none.result c.is_none.ensures c.if-is_none.false in

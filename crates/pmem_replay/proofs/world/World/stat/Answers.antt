@@ -5,7 +5,7 @@ use Rattle.pmem_replay.proofs.Table.TableChanges.{stat-ok}
 use Rattle.pmem_replay.proofs.Table.PeekLaws.{all_told}
 use Rattle.pmem_base.specs.Geo.{shape_of}
 use Rattle.board.specs.MemBoard.{memory_of}
-use Rattle.seal_ledger.specs.View.{ledger_of}
+use Rattle.seal_ledger.specs.View.{capacity_of, ledger_of}
 use Rattle.pmem_base.specs.declared.commands.Command.TheVariants as Do
 use Rattle.pmem_replay.specs.World.{WorldParts, AreExact}
 use Rattle.pmem_replay.proofs.Steps.PartsOfWorld.{held, setup_in, going_in, seen_still}
@@ -17,7 +17,7 @@ returns g c =
     let inside = c.self.inside in
     let geo = shape_of inside.geo in
     let p : WorldParts =
-    held (g.S.Suite.keys inside.suite) (memory_of inside.board) (ledger_of inside.ledger) inside.engine (g.S.Suite.tags inside.suite)
+    held (g.S.Suite.keys inside.suite) (memory_of inside.board) (ledger_of inside.ledger) (capacity_of inside.ledger) inside.engine (g.S.Suite.tags inside.suite)
     (g.S.Suite.digests inside.suite) inside.ports inside.tampered inside.dirtied inside.steps inside.start inside.shown in
     let going = going_in formulas_of geo p c.args.self.now c.self.view_is c.requires c.self.invariant in
     let counted = c.counts_of-now.ensures in

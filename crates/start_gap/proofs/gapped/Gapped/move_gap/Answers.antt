@@ -22,10 +22,10 @@ pub write-requires-2-clause-room : goal.write-requires-2-clause-room
 write-requires-2-clause-room g c =
     room_after_write (setup_at g c.read.new.self c.read.new.suite) _
     (at g c.read.new.self c.read.new.board c.read.new.suite c.read.new.audit)
-    (at g c.write.new.self c.write.new.board c.write.new.suite c.write.new.audit) c.in_ok-write.field-0 66 c.in_ok-write.ensures.written
+    (at g c.write.new.self c.write.new.board c.write.new.suite c.write.new.audit) c.in_ok-write.field-0 66 _ _ c.in_ok-write.ensures.written c.write.ensures.capacity
     (room_after_read (setup_at g c.args.self.now.engine c.args.suite.now) _
     (at g c.args.self.now.engine c.args.board.now c.args.suite.now c.args.audit.now)
-    (at g c.read.new.self c.read.new.board c.read.new.suite c.read.new.audit) c.in_ok-copy.copy 132 c.in_ok-copy.ensures.read
+    (at g c.read.new.self c.read.new.board c.read.new.suite c.read.new.audit) c.in_ok-copy.copy 132 _ _ c.in_ok-copy.ensures.read c.read.ensures.capacity
     c.requires.room)
 
 pub returns-in_err-write-2-clause-moved : goal.returns-in_err-write-2-clause-moved

@@ -3,6 +3,7 @@ use Rattle.std.proofs.Common.{◌≡◌, ◌≤◌, ◌<◌, ◌+◌, refl, arit
 use Rattle.suite.specs.Setup.{Setup}
 use Rattle.pmem_engine.specs.Engine.{EngineState}
 use Rattle.pmem_engine.specs.Parts.{Parts, parts_of}
+use Rattle.start_gap.proofs.EngineLines.{room_after_write}
 use Rattle.start_gap.proofs.LevelledCalls.{write_as, move_as, wear_over, counted, tried_as}
 use Rattle.start_gap.proofs.gapped.Gapped.write_and_move.Given.{Over}
 use Rattle.start_gap.proofs.gapped.Gapped.write_and_move.Goals as goal
@@ -14,6 +15,13 @@ setup_at g engine suite = record { shape = engine.shape; formulas = g.S.Suite.fo
 abbrev at : (g : Over) → EngineState → g.row.B.Denot → g.row.S.Denot → g.row.A.Denot → Parts
 at g engine board suite audit =
     parts_of engine (g.B.Board.device board) (g.A.Audit.ledger audit) (g.S.Suite.tags suite) (g.S.Suite.digests suite)
+
+pub move_gap-tried-requires-clause-room : goal.move_gap-tried-requires-clause-room
+move_gap-tried-requires-clause-room g c =
+    room_after_write (setup_at g c.args.self.now.engine c.args.suite.now) _
+    (at g c.args.self.now.engine c.args.board.now c.args.suite.now c.args.audit.now)
+    (at g c.write.new.self c.write.new.board c.write.new.suite c.write.new.audit) c.in_default.field-0 132 _ _ c.in_default.ensures.written
+    c.write.ensures.capacity c.requires.room
 
 pub returns-then-self-clause-written : goal.returns-then-self-clause-written
 returns-then-self-clause-written g c =

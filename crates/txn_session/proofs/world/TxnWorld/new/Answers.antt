@@ -37,7 +37,7 @@ module _ (g : Over) (c : After-open g) where
         engine = c.in_ok-engine.engine;
         formatted = c.in_ok-engine.ensures.formatted;
         ledger_before = ledger_of c.reserve.new.self;
-        room = c.in_ok-reserve.ensures.ok;
+        same_ledger = c.reserve.ensures.ledger;
         board = memory_of c.open.new.board;
         ledger = ledger_of c.open.new.audit;
         tags = g.S.Suite.tags c.format.new.suite;

@@ -32,7 +32,7 @@ module _ (g : Over) (c : After-steps-steps g) where
               txn = option_map (λ txn. txn.items) c.self.inside.txn;
             };
         ledger_before = ledger_of c.reserve.new.self;
-        room = search (rules, c.reserve.ensures, c.in_default);
+        same_ledger = c.reserve.ensures.ledger;
         now = c.args.self.now;
         is = c.self.view_is;
         world = c.self.invariant;

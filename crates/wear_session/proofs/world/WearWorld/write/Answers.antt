@@ -30,7 +30,7 @@ module _ (g : Over) (c : After-steps-steps g) where
               gapped = c.self.inside.gapped;
             };
         ledger_before = ledger_of c.reserve.new.self;
-        room = c.in_ok-reserve.ensures.ok;
+        same_ledger = c.reserve.ensures.ledger;
         now = c.args.self.now;
         is = c.self.view_is;
         world = c.self.invariant;

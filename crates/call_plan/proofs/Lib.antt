@@ -1,0 +1,9 @@
+pub mod Steps
+pub mod Bind
+pub mod Keeping
+pub mod Loops
+pub mod Leaves
+pub mod Spending
+pub mod Determined
+pub mod DeterminedCalls
+pub mod Ascents

@@ -1,0 +1,5 @@
+pub mod Plans
+pub mod Following
+pub mod Bounds
+pub mod Runs
+pub mod Laws

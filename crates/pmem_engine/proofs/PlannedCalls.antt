@@ -1,0 +1,11 @@
+-- Calls told by their plans: the ends of each plan.
+pub mod Chips
+pub mod UnsealPlans
+pub mod CommitPlans
+pub mod ResealPlans
+pub mod CalledEngines
+pub mod TurnPlans
+pub mod CachePlans
+pub mod ReadPlans
+pub mod LossPlans
+pub mod FinishPlans
