@@ -14,6 +14,7 @@ use Rattle.trace_text.specs.Talks.{Sort, skipped, asked, faulty}
 use Rattle.trace_text.specs.Conversations.{Protocol, line_sort, TalkEnds}
 use Rattle.pmem_cli.specs.declared.options.Task.{Task}
 use Rattle.pmem_cli.specs.HasRun.{HasRun, TaskOutcome, IsInGrammar, IsComplete}
+use Rattle.pmem_cli.specs.Logged.{LoggedEnds, HasLoggedRun, steps_logged}
 use Rattle.pmem_cli.specs.Sessions.{Session, session_protocol, HasSession}
 use Rattle.pmem_cli.specs.Talked.{HasTalked, IsNoFault, IsInLanguage, IsRunThrough, IsTalkComplete}
 use Rattle.pmem_cli.specs.Tree.{tree_chosen}
@@ -41,6 +42,26 @@ run_complete : (setup : Setup) (status : ℕ) (trace left before after : Option 
 run_complete setup status None left before after reads writes run read write = tt
 run_complete setup status (Some bytes) left before after reads writes run read write = λ grammar no_fault.
     through_by run.stop setup status bytes left run.steps run.ends (run.its_status (λ four. no_fault (inr (write four))))
+    (λ three. no_fault (inl (read three))) (λ four. no_fault (inr (write four))) grammar
+
+-- so it is with a log, for which memory may be wanted
+through_logged : (stop : Stop) (setup : Setup) (status : ℕ) (trace : List ℕ) (left : Option (List ℕ)) (steps : List Step) → LoggedEnds setup stop trace left steps
+    → status ≡ status_of stop → status ≢ 3 → status ≢ 4 → IsInGrammar trace → IsRunThrough status
+through_logged Memory setup status trace left steps ends is read write grammar = inr (inr is)
+through_logged Finished setup status trace left steps ends is read write grammar = through_by Finished setup status trace left steps ends is read write grammar
+through_logged Words setup status trace left steps ends is read write grammar = through_by Words setup status trace left steps ends is read write grammar
+through_logged ReadFault setup status trace left steps ends is read write grammar = through_by ReadFault setup status trace left steps ends is read write grammar
+through_logged WriteFault setup status trace left steps ends is read write grammar = through_by WriteFault setup status trace left steps ends is read write grammar
+through_logged (Refused number kind) setup status trace left steps ends is read write grammar =
+    through_by (Refused number kind) setup status trace left steps ends is read write grammar
+through_logged Shown setup status trace left steps ends is read write grammar = through_by Shown setup status trace left steps ends is read write grammar
+through_logged TooManyLines setup status trace left steps ends is read write grammar = through_by TooManyLines setup status trace left steps ends is read write grammar
+
+logged_complete : (setup : Setup) (status : ℕ) (trace left before after : Option (List ℕ)) (reads writes : Type 0) → HasLoggedRun setup status reads trace left before after
+    → (status ≡ 3 → reads) → (status ≡ 4 → writes) → IfSome trace (λ bytes. IsInGrammar bytes → ¬ (reads ⊎ writes) → IsRunThrough status)
+logged_complete setup status None left before after reads writes run read write = tt
+logged_complete setup status (Some bytes) left before after reads writes run read write = λ grammar no_fault.
+    through_logged run.stop setup status bytes left (steps_logged run.all) run.ends (run.its_status (λ four. no_fault (inr (write four))))
     (λ three. no_fault (inl (read three))) (λ four. no_fault (inr (write four))) grammar
 
 -- ---- a session's trace
@@ -92,6 +113,7 @@ session_complete session status (Some bytes) left before after reads writes done
 pub complete : (task : Task) (status : ℕ) (trace left before after : Option (List ℕ)) (reads writes : Type 0) → TaskOutcome task status reads trace left before after
     → (status ≡ 3 → reads) → (status ≡ 4 → writes) → IsComplete task status trace (reads ⊎ writes)
 complete (Task.Run c) status trace left before after reads writes done read write = run_complete _ status trace left before after reads writes done read write
+complete (Task.Log c) status trace left before after reads writes done read write = logged_complete _ status trace left before after reads writes done read write
 complete (Task.Wear c) status trace left before after reads writes done read write =
     session_complete (wear_chosen c) status trace left before after reads writes done read write
 complete (Task.Tree c) status trace left before after reads writes done read write =

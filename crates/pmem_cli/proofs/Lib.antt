@@ -6,6 +6,7 @@ pub mod RunLemmas
 pub mod PrintLemmas
 pub mod FaultLemmas
 pub mod MarkLines
+pub mod AccessLines
 pub mod MakeLemmas
 pub mod TalkLemmas
 pub mod TurnLemmas
@@ -14,6 +15,7 @@ pub mod KeyLemmas
 pub mod WordLemmas
 pub mod SampleLemmas
 pub mod WorldTalks
+pub mod LoggedTalks
 pub mod ReplayLemmas
 pub mod Untampering
 pub mod StepSums

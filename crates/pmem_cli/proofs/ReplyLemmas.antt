@@ -21,6 +21,7 @@ use Rattle.pmem_cli.specs.Endings.{ending_text}
 use Rattle.pmem_cli.specs.Keys.{setup_chosen}
 use Rattle.pmem_cli.specs.Printed.{Output, Prints, PrintsFront, PutsAtLeast, with_waiting}
 use Rattle.pmem_cli.specs.RepliesFirst.{PullsWithinLine, HasRepliedFirst, TaskRepliesFirst}
+use Rattle.pmem_cli.specs.Logged.{logged_protocol, logged_texts, HasRepliedLoggedFirst}
 use Rattle.pmem_cli.specs.Pulling.{RemembersLeft}
 use Rattle.pmem_cli.specs.Standing.{standing_of}
 use Rattle.pmem_cli.specs.Replies.{world_protocol}
@@ -32,6 +33,7 @@ use Rattle.pmem_cli.specs.Txn.{txn_chosen}
 use Rattle.pmem_cli.specs.Wear.{wear_chosen}
 use Rattle.pmem_cli.proofs.StandingLemmas.{new_setup, new_machine}
 use Rattle.pmem_cli.proofs.WorldTalks.{replied_of_told}
+use Rattle.pmem_cli.proofs.LoggedTalks.{replied_of_logged}
 
 -- ---- pulls
 
@@ -190,11 +192,44 @@ replied_new first last f shape keys world a told p put is same (inr before) =
     inr (subst (λ machine. HasRepliedFirst setup machine a told p put) (new_machine f setup world is)
     (subst (λ (u : Setup). HasRepliedFirst u (standing_of f world).machine a told p put) (new_setup f shape keys world is same) replied))
 
+-- so it is with a log
+replied_logged_more : (setup : Setup) (machine : Machine) (a told : Option (List ℕ)) (p : Output) (put later : Option (List ℕ)) (more : List ℕ)
+    → HasRepliedLoggedFirst setup machine a told p put → Appends put later more → HasRepliedLoggedFirst setup machine a told p later
+replied_logged_more setup machine None told p put later more replied grown = tt
+replied_logged_more setup machine (Some bytes) None p put later more replied grown = tt
+replied_logged_more setup machine (Some bytes) (Some behind) p put later more (given, cut, are) grown = (
+  given,
+  cut,
+  record {
+    lines = are.lines;
+    part = are.part;
+    cut = are.cut;
+    whole = are.whole;
+    unfinished = are.unfinished;
+    all = are.all;
+    run = are.run;
+    replied = puts_more p put later (logged_texts are.all) more are.replied grown;
+  },
+)
+
+pub replied_logged_new : {T : Type 0} (first last : T) (f : List ℕ → Formulas) (shape : Shape) (keys : List ℕ) (world : WorldState) (a told : Option (List ℕ)) (p : Output)
+    (put : Option (List ℕ)) → IsNewWorld (record { shape = shape; formulas = f keys }) world → world.keys ≡ keys
+    → (last ≡ first) ⊎ HasToldFirst (logged_protocol f) world a told p put
+    → (last ≡ first) ⊎ HasRepliedLoggedFirst (record { shape = shape; formulas = f keys }) (start (record { shape = shape; formulas = f keys })) a told p put
+replied_logged_new first last f shape keys world a told p put is same (inl kept) = inl kept
+replied_logged_new first last f shape keys world a told p put is same (inr before) =
+    let setup : Setup = record { shape = shape; formulas = f keys } in
+    let replied = replied_of_logged f world a told p put is.not_shown before in
+    inr (subst (λ machine. HasRepliedLoggedFirst setup machine a told p put) (new_machine f setup world is)
+    (subst (λ (u : Setup). HasRepliedLoggedFirst u (standing_of f world).machine a told p put) (new_setup f shape keys world is same) replied))
+
 -- and after the last line
 pub task_replied_more : (task : Task) (a left told : Option (List ℕ)) (p : Output) (put later : Option (List ℕ)) (more : List ℕ)
     → TaskRepliesFirst task a left told p put → Appends put later more → TaskRepliesFirst task a left told p later
 task_replied_more (Task.Run c) a left told p put later more replies grown =
     λ given. replied_more (setup_chosen c) (start (setup_chosen c)) a told p put later more (replies given) grown
+task_replied_more (Task.Log c) a left told p put later more replies grown =
+    λ given. replied_logged_more (setup_chosen c) (start (setup_chosen c)) a told p put later more (replies given) grown
 task_replied_more (Task.Wear c) a left told p put later more replies grown = λ given. said_more (wear_chosen c) a told p put later more (replies given) grown
 task_replied_more (Task.Tree c) a left told p put later more replies grown = λ given. said_more (tree_chosen c) a told p put later more (replies given) grown
 task_replied_more (Task.Txn c) a left told p put later more replies grown = λ given. said_more (txn_chosen c) a told p put later more (replies given) grown

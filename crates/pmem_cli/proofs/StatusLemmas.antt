@@ -22,6 +22,7 @@ use Rattle.pmem_cli.specs.Endings.{ending_text, ending_status}
 use Rattle.pmem_cli.specs.HasRun.{HasRun, HasTextPut, HasSampled, HasCheckedTrace, TaskOutcome, TextOutcome, HasReplayed, HasRunSample, CheckEnds, HasEnded}
 use Rattle.trace_text.specs.Conversations.{Protocol, texts_of}
 use Rattle.pmem_cli.specs.Sessions.{Session, session_protocol, HasConversed, HasSession}
+use Rattle.pmem_cli.specs.Logged.{LoggedEnds, HasLoggedRun, HasReplayedLogged, steps_logged, logged_texts}
 use Rattle.pmem_cli.specs.Sums.{AreStepSums}
 use Rattle.pmem_cli.specs.Talked.{HasTalked}
 use Rattle.pmem_cli.specs.Turns.{HasStopped}
@@ -29,6 +30,7 @@ use Rattle.pmem_cli.specs.Tree.{tree_chosen}
 use Rattle.pmem_cli.specs.Txn.{txn_chosen}
 use Rattle.pmem_cli.specs.Untampered.{IsUntampered}
 use Rattle.pmem_cli.specs.Wear.{wear_chosen}
+use Rattle.pmem_cli.proofs.LoggedTalks.{ends_plain, replayed_plain}
 use Rattle.pmem_cli.proofs.SampleLemmas.{sample_answered}
 use Rattle.pmem_cli.proofs.StepSums.{summed}
 use Rattle.pmem_cli.proofs.RunLemmas.{ends_answered}
@@ -74,6 +76,30 @@ run_done setup stop status pull_failed trace left before after between run read 
   whole = said_whole stop status before after between (steps_text run.steps) run.said finished;
   front = said_front stop status before after between (steps_text run.steps) run.said finished;
 }
+
+-- a run with its log came to its stop
+logged_done : (setup : Setup) (stop : Stop) (status : ℕ) (pull_failed : Type 0) (trace left before after : Option (List ℕ)) (between : Output)
+    → HasReplayedLogged setup stop trace left (with_waiting before []) between → (Stopped stop ≡ Stopped ReadFault → pull_failed) → IsFinished (Stopped stop) status between after
+    → HasLoggedRun setup status pull_failed trace left before after
+logged_done setup stop status pull_failed trace left before after between run read finished =
+    let steps = steps_logged run.all in
+    let replayed = replayed_plain setup run.all run.replayed in
+    record {
+      stop = stop;
+      all = run.all;
+      ends = run.ends;
+      replayed = run.replayed;
+      untampered =
+          IfSome-map trace (λ bytes. LoggedEnds setup stop bytes left steps) (λ bytes. IsUntampered setup steps)
+          (λ bytes is ends. let its = ends_plain setup stop bytes left steps ends in untampered setup steps (ends_answered its.0 setup bytes left steps its.1)) run.ends;
+      summed =
+          IfSome-map trace (λ bytes. LoggedEnds setup stop bytes left steps) (λ bytes. AreStepSums setup (start setup) steps)
+          (λ bytes is ends. let its = ends_plain setup stop bytes left steps ends in summed its.0 setup bytes left steps its.1 replayed) run.ends;
+      read = λ same. read (ap Stopped same);
+      its_status = finished.its_status;
+      whole = said_whole stop status before after between (logged_texts run.all) run.said finished;
+      front = said_front stop status before after between (logged_texts run.all) run.said finished;
+    }
 
 -- a session's trace came to its stop
 pub talk_done : {S X : Type 0} (p : Protocol S X) (first : S) (stop : Stop) (status : ℕ) (pull_failed : Type 0) (trace left before after : Option (List ℕ)) (between : Output)
@@ -137,6 +163,9 @@ pub TaskOutcome-finished : (task : Task) (ending : Ending) (status : ℕ) (pull_
     → TaskOutcome task status pull_failed trace left before after
 TaskOutcome-finished (Task.Run c) ending status pull_failed trace left before after between ended read finished =
     run_done (setup_chosen c) ended.stop status pull_failed trace left before after between ended.run (λ same. read (ended.its_stop ∙ same))
+    (subst (λ (e : Ending). IsFinished e status between after) ended.its_stop finished)
+TaskOutcome-finished (Task.Log c) ending status pull_failed trace left before after between ended read finished =
+    logged_done (setup_chosen c) ended.stop status pull_failed trace left before after between ended.run (λ same. read (ended.its_stop ∙ same))
     (subst (λ (e : Ending). IsFinished e status between after) ended.its_stop finished)
 TaskOutcome-finished (Task.Make seed count) ending status pull_failed trace left before after between ended read finished =
     put_done (commands_text (sample_trace seed count)) ended.stop status before after between ended.made

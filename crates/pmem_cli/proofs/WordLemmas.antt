@@ -1,11 +1,12 @@
 -- The parts of an option's word.
-use Rattle.std.proofs.Common.{◌≡◌, ◌∙◌, ◌-◌, ◌<◌, ◌≤◌, ℕ, true, List, [], ◌∷◌, take, drop, get_or, refl, sym, ap, arith, lt-ltb}
-use Rattle.std.specs.Prelude.{Some, None, codes, length, Option, IfNone}
+use Rattle.std.proofs.Common.{◌≡◌, ◌∙◌, ◌-◌, ◌<◌, ◌≤◌, ℕ, Bool, true, false, List, [], ◌∷◌, take, drop, get_or, refl, sym, ap, arith, lt-ltb}
+use Rattle.std.specs.Prelude.{Some, None, codes, length, Option, IfNone, if◌then◌else◌}
 use Rattle.std.specs.List.{position_or_len}
 use Rattle.std.specs.Str.{bytes_eq}
+use Rattle.std.proofs.lemmas.Bool.{true≢false}
 use Rattle.std.proofs.lemmas.List.{drop-drop, take_all}
 use Rattle.collision_witness.specs.Words.{Word}
-use Rattle.pmem_cli.specs.Words.{is_equals, option_parts, choose, some_or, next_value, take_options, ◌>>=◌}
+use Rattle.pmem_cli.specs.Words.{is_equals, is_flag, option_parts, choose, choose_log, some_or, next_value, take_options, ◌>>=◌}
 use Rattle.pmem_cli.specs.declared.options.Allowed.{Allowed}
 use Rattle.pmem_cli.specs.declared.options.Choices.{Choices}
 
@@ -42,12 +43,30 @@ parts_step : (found : Option (Word × Option Word)) (f g : Word × Option Word �
 parts_step None f g same = refl
 parts_step (Some its) f g same = same its
 
+if_false : {A : Type 0} (b : Bool) (x y : A) → b ≡ false → (if b then x else y) ≡ y
+if_false true x y is = absurd (true≢false is)
+if_false false x y is = refl
+
+if_true : {A : Type 0} (b : Bool) (x y : A) → b ≡ true → (if b then x else y) ≡ x
+if_true true x y is = refl
+if_true false x y is = absurd (true≢false (sym is))
+
 -- an option is its word, its value and a choice, and the others follow
-pub options-step : (allowed : Allowed) (c : Choices) (word : Word) (words : List Word) → take_options allowed c (word ∷ words)
+pub options-step : (allowed : Allowed) (c : Choices) (word : Word) (words : List Word) → is_flag allowed word ≡ false → take_options allowed c (word ∷ words)
     ≡ (option_parts word >>= λ its. next_value its.1 words >>= λ found. choose allowed c its.0 found.0 >>= λ more. take_options allowed more found.1)
 unfolding take_options
-options-step allowed c word [] = parts_step (option_parts word) _ _ (λ its. last_step allowed c its.0 its.1)
-options-step allowed c word (next ∷ words) = parts_step (option_parts word) _ _ (λ its. next_step allowed c its.0 next words its.1)
+options-step allowed c word [] valued = if_false (is_flag allowed word) _ _ valued ∙ parts_step (option_parts word) _ _ (λ its. last_step allowed c its.0 its.1)
+options-step allowed c word (next ∷ words) valued =
+    if_false (is_flag allowed word) _ _ valued ∙ parts_step (option_parts word) _ _ (λ its. next_step allowed c its.0 next words its.1)
+
+-- a flag is a choice alone
+pub flag-step : (allowed : Allowed) (c : Choices) (word : Word) (words : List Word) (chosen : Option Choices) → is_flag allowed word ≡ true → chosen ≡ choose_log c
+    → take_options allowed c (word ∷ words) ≡ (chosen >>= λ more. take_options allowed more words)
+unfolding take_options
+flag-step allowed c word [] chosen flag is =
+    if_true (is_flag allowed word) _ _ flag ∙ sym is ∙ chosen_alone allowed chosen
+flag-step allowed c word (next ∷ words) chosen flag is =
+    if_true (is_flag allowed word) _ _ flag ∙ ap (λ (its : Option Choices). its >>= λ more. take_options allowed more (next ∷ words)) (sym is)
 
 -- a list by its first element, and the others by their range
 pub one_first : {A : Type 0} (xs : List A) (a : A) → 1 ≤ length xs → a ≡ get_or xs 0 a → xs ≡ a ∷ take (length xs - 1) (drop 1 xs)
@@ -61,23 +80,23 @@ one_first (x ∷ xs) a some first =
 abbrev Taken : Type 0
 Taken = Option Choices
 
-pub taken-no_parts : (allowed : Allowed) (c : Choices) (word : Word) (words : List Word) → None ≡ option_parts word → ◌≡◌ {A = Taken} (take_options allowed c (word ∷ words)) None
-taken-no_parts allowed c word words split =
-    options-step allowed c word words
+pub taken-no_parts : (allowed : Allowed) (c : Choices) (word : Word) (words : List Word) → is_flag allowed word ≡ false → None ≡ option_parts word → ◌≡◌ {A = Taken} (take_options allowed c (word ∷ words)) None
+taken-no_parts allowed c word words valued split =
+    options-step allowed c word words valued
     ∙ sym (ap (λ (found : Option (Word × Option Word)). found >>= λ its. next_value its.1 words >>= λ found. choose allowed c its.0 found.0 >>= λ more. take_options allowed more found.1) split)
 
 pub taken-no_value : (allowed : Allowed) (c : Choices) (word : Word) (words : List Word) (name : Word) (own : Option Word)
-    → Some (name, own) ≡ option_parts word → None ≡ next_value own words → ◌≡◌ {A = Taken} (take_options allowed c (word ∷ words)) None
-taken-no_value allowed c word words name own split value =
-    options-step allowed c word words
+    → is_flag allowed word ≡ false → Some (name, own) ≡ option_parts word → None ≡ next_value own words → ◌≡◌ {A = Taken} (take_options allowed c (word ∷ words)) None
+taken-no_value allowed c word words name own valued split value =
+    options-step allowed c word words valued
     ∙ sym (ap (λ (found : Option (Word × Option Word)). found >>= λ its. next_value its.1 words >>= λ found. choose allowed c its.0 found.0 >>= λ more. take_options allowed more found.1) split)
     ∙ sym (ap (λ (found : Option (Word × List Word)). found >>= λ found. choose allowed c name found.0 >>= λ more. take_options allowed more found.1) value)
 
 pub taken-on : (allowed : Allowed) (c : Choices) (word : Word) (words rest : List Word) (name value : Word) (own : Option Word) (chosen : Option Choices)
-    → Some (name, own) ≡ option_parts word → Some (value, rest) ≡ next_value own words → chosen ≡ choose allowed c name value
+    → is_flag allowed word ≡ false → Some (name, own) ≡ option_parts word → Some (value, rest) ≡ next_value own words → chosen ≡ choose allowed c name value
     → take_options allowed c (word ∷ words) ≡ (chosen >>= λ more. take_options allowed more rest)
-taken-on allowed c word words rest name value own chosen split found same =
-    options-step allowed c word words
+taken-on allowed c word words rest name value own chosen valued split found same =
+    options-step allowed c word words valued
     ∙ sym (ap (λ (found : Option (Word × Option Word)). found >>= λ its. next_value its.1 words >>= λ found. choose allowed c its.0 found.0 >>= λ more. take_options allowed more found.1) split)
     ∙ sym (ap (λ (found : Option (Word × List Word)). found >>= λ found. choose allowed c name found.0 >>= λ more. take_options allowed more found.1) found)
     ∙ sym (ap (λ (chosen : Option Choices). chosen >>= λ more. take_options allowed more rest) same)

@@ -18,6 +18,7 @@ use Rattle.pmem_cli.specs.Causes.{Rose}
 use Rattle.pmem_cli.specs.Checked.{IsChecked}
 use Rattle.pmem_cli.specs.Endings.{ending_text, ending_status}
 use Rattle.pmem_cli.specs.Keys.{formulas_of, setup_chosen}
+use Rattle.pmem_cli.specs.Logged.{HasLoggedRun, LoggedRunEnds}
 use Rattle.pmem_cli.specs.Printed.{Output, AppendsFront}
 use Rattle.pmem_cli.specs.Sampled.{HasSaidText, SampleEnds}
 use Rattle.pmem_cli.specs.Sessions.{session_protocol, HasSession, SessionEnds}
@@ -79,6 +80,7 @@ pub record HasCheckedTrace (choices : Choices) (status : ℕ) (pull_failed : Typ
 -- what the status says, by what was asked for
 abbrev pub TaskOutcome : Task → ℕ → Type 0 → Option (List ℕ) → Option (List ℕ) → Option (List ℕ) → Option (List ℕ) → Type 0
 TaskOutcome (Task.Run c) status pull_failed trace left before after = HasRun (setup_chosen c) status pull_failed trace left before after
+TaskOutcome (Task.Log c) status pull_failed trace left before after = HasLoggedRun (setup_chosen c) status pull_failed trace left before after
 TaskOutcome (Task.Make seed count) status pull_failed trace left before after = HasTextPut (commands_text (sample_trace seed count)) status before after
 TaskOutcome (Task.Sample seed count) status pull_failed trace left before after =
     HasSampled default_setup (sample_trace seed count) status before after
@@ -94,6 +96,7 @@ IsInGrammar bytes = All (λ line. IsOk (reading_of line)) (lines_of bytes) × (l
 -- a run goes through where all lines are in the grammar and within the limit, and no fault came
 abbrev pub IsComplete : Task → ℕ → Option (List ℕ) → Type 0 → Type 0
 IsComplete (Task.Run c) status trace fault = IfSome trace (λ bytes. IsInGrammar bytes → ¬ fault → IsRunThrough status)
+IsComplete (Task.Log c) status trace fault = IfSome trace (λ bytes. IsInGrammar bytes → ¬ fault → IsRunThrough status)
 IsComplete (Task.Wear c) status trace fault = IsTalkComplete (session_protocol (wear_chosen c)) status trace fault
 IsComplete (Task.Tree c) status trace fault = IsTalkComplete (session_protocol (tree_chosen c)) status trace fault
 IsComplete (Task.Txn c) status trace fault = IsTalkComplete (session_protocol (txn_chosen c)) status trace fault
@@ -155,6 +158,7 @@ pub record CheckEnds (choices : Choices) (ending : Ending) (trace left : Option 
 -- what was asked for was done, but for the last line
 abbrev pub HasEnded : Task → Ending → Option (List ℕ) → Option (List ℕ) → Output → Output → Type 0
 HasEnded (Task.Run c) ending trace left from to = RunEnds (setup_chosen c) ending trace left from to
+HasEnded (Task.Log c) ending trace left from to = LoggedRunEnds (setup_chosen c) ending trace left from to
 HasEnded (Task.Make seed count) ending trace left from to = MakeEnds (commands_text (sample_trace seed count)) ending from to
 HasEnded (Task.Sample seed count) ending trace left from to = SampleStops default_setup (sample_trace seed count) ending from to
 HasEnded (Task.Check c) ending trace left from to = CheckEnds c ending trace left from to

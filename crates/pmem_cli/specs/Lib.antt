@@ -19,5 +19,6 @@ pub mod Sessions
 pub mod Wear
 pub mod Tree
 pub mod Txn
+pub mod Logged
 pub mod RepliesFirst
 pub mod HasRun

@@ -7,6 +7,7 @@ use Rattle.plain_model.specs.Lines.{IsWithin, ended}
 use Rattle.plain_model.specs.Run.{Machine, Step, start, steps_text, IsRunFrom}
 use Rattle.pmem_cli.specs.declared.options.Task.{Task}
 use Rattle.pmem_cli.specs.Keys.{setup_chosen}
+use Rattle.pmem_cli.specs.Logged.{HasRepliedLoggedFirst}
 use Rattle.pmem_cli.specs.Printed.{Output, PutsAtLeast}
 use Rattle.pmem_cli.specs.Sessions.{HasSaidFirst}
 use Rattle.pmem_cli.specs.Tree.{tree_chosen}
@@ -37,6 +38,7 @@ HasRepliedFirst setup machine trace left_before from put =
 -- A run that was given any byte is so, whatever its status.
 abbrev pub TaskRepliesFirst : Task → Option (List ℕ) → Option (List ℕ) → Option (List ℕ) → Output → Option (List ℕ) → Type 0
 TaskRepliesFirst (Task.Run c) trace left left_before from put = left ≢ trace → HasRepliedFirst (setup_chosen c) (start (setup_chosen c)) trace left_before from put
+TaskRepliesFirst (Task.Log c) trace left left_before from put = left ≢ trace → HasRepliedLoggedFirst (setup_chosen c) (start (setup_chosen c)) trace left_before from put
 TaskRepliesFirst (Task.Wear c) trace left left_before from put = left ≢ trace → HasSaidFirst (wear_chosen c) trace left_before from put
 TaskRepliesFirst (Task.Tree c) trace left left_before from put = left ≢ trace → HasSaidFirst (tree_chosen c) trace left_before from put
 TaskRepliesFirst (Task.Txn c) trace left left_before from put = left ≢ trace → HasSaidFirst (txn_chosen c) trace left_before from put

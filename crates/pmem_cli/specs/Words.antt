@@ -1,5 +1,5 @@
 -- What the words of the command line ask for.
-use Rattle.std.specs.Prelude.{ℕ, ◌≤◌, ◌+◌, ◌==◌, ⊤, nat_lt, nat_le, Bool, ◌&&◌, List, [], ◌∷◌, length, take, drop, codes, Option, Some, None, IfSome, IsTrue, Result, Ok, Err, if◌then◌else◌}
+use Rattle.std.specs.Prelude.{ℕ, ◌≤◌, ◌+◌, ◌==◌, ⊤, nat_lt, nat_le, Bool, true, false, ◌&&◌, List, [], ◌∷◌, length, take, drop, codes, Option, Some, None, IfSome, IsTrue, Result, Ok, Err, if◌then◌else◌}
 use Rattle.std.specs.List.{position_or_len}
 use Rattle.std.specs.Str.{bytes_eq}
 use Rattle.pmem_base.specs.declared.commands.Kind.{Kind}
@@ -64,6 +64,7 @@ no_choices =
       key = None;
       tag_key = None;
       every = None;
+      log = false;
     }
 
 -- the options of the suite
@@ -95,11 +96,16 @@ choose_wear c name value =
     if bytes_eq name (codes "every") then once c.every (number_where (is_up_to 1_000_000) value) (λ n. record c { every = Some n })
     else choose_run c name value
 
+-- that the log is told
+abbrev pub choose_log : Choices → Option Choices
+choose_log c = if c.log then None else Some (record c { log = true })
+
 -- those that a task takes
 abbrev pub choose : Allowed → Choices → Word → Word → Option Choices
 choose Allowed.Suite c name value = choose_suite c name value
 choose Allowed.Tree c name value = choose_tree c name value
 choose Allowed.Run c name value = choose_run c name value
+choose Allowed.Log c name value = choose_run c name value
 choose Allowed.Wear c name value = choose_wear c name value
 
 -- ---- the words of options
@@ -128,16 +134,24 @@ next_value (Some value) words = Some (value, words)
 next_value None [] = None
 next_value None (next ∷ words) = Some (next, words)
 
--- what is chosen by these words, after earlier choices: options as `--name value` or `--name=value`
+-- the word is a flag that the task takes, which has no value
+abbrev pub is_flag : Allowed → Word → Bool
+is_flag Allowed.Log word = bytes_eq word (codes "--log")
+is_flag allowed word = false
+
+-- what is chosen by these words, after earlier choices: options as `--name value` or `--name=value`, or the flag
 unfoldable pub take_options : Allowed → Choices → List Word → Option Choices
 take_options allowed c [] = Some c
 take_options allowed c (word ∷ []) =
-    option_parts word >>= λ parts. some_or parts.1 (λ value. choose allowed c parts.0 value) None
+    if is_flag allowed word then choose_log c
+    else (option_parts word >>= λ parts. some_or parts.1 (λ value. choose allowed c parts.0 value) None)
 take_options allowed c (word ∷ next ∷ words) =
-    option_parts word
+    if is_flag allowed word then (choose_log c >>= λ more. take_options allowed more (next ∷ words))
+    else
+    (option_parts word
     >>= λ parts. some_or parts.1
     (λ value. choose allowed c parts.0 value >>= λ more. take_options allowed more (next ∷ words))
-    (choose allowed c parts.0 next >>= λ more. take_options allowed more words)
+    (choose allowed c parts.0 next >>= λ more. take_options allowed more words))
 
 -- ---- the whole command line
 
@@ -153,7 +167,7 @@ seed_and_count words = None
 unfoldable pub task_of : List Word → Option Task
 task_of [] = None
 task_of (name ∷ words) =
-    if bytes_eq name (codes "run") then (take_options Allowed.Run no_choices words >>= λ c. Some (Task.Run c))
+    if bytes_eq name (codes "run") then (take_options Allowed.Log no_choices words >>= λ c. Some (if c.log then Task.Log c else Task.Run c))
     else if bytes_eq name (codes "check") then (take_options Allowed.Suite no_choices words >>= λ c. Some (Task.Check c))
     else if bytes_eq name (codes "make") then (seed_and_count words >>= λ found. Some (Task.Make found.0 found.1))
     else if bytes_eq name (codes "sample") then (seed_and_count words >>= λ found. Some (Task.Sample found.0 found.1))
@@ -173,6 +187,7 @@ AreChosen c =
 
 abbrev pub HasChosen : Task → Type 0
 HasChosen (Task.Run c) = AreChosen c
+HasChosen (Task.Log c) = AreChosen c
 HasChosen (Task.Check c) = AreChosen c
 HasChosen (Task.Wear c) = AreChosen c
 HasChosen (Task.Tree c) = AreChosen c
@@ -184,6 +199,7 @@ abbrev pub PullsNothing : Task → Type 0
 PullsNothing (Task.Make seed count) = ⊤
 PullsNothing (Task.Sample seed count) = ⊤
 PullsNothing (Task.Run c) = ⊥
+PullsNothing (Task.Log c) = ⊥
 PullsNothing (Task.Check c) = ⊥
 PullsNothing (Task.Wear c) = ⊥
 PullsNothing (Task.Tree c) = ⊥

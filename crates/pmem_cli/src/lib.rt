@@ -5,6 +5,7 @@
 mod checking;
 mod ending;
 mod lines;
+mod logging;
 mod making;
 mod options;
 mod printer;

@@ -1,12 +1,12 @@
 //! What the words of the command line ask for.
-ghost use Rattle.std.specs.Prelude.{◌≡◌, ◌≤◌, ◌∷◌, ◌++◌, [], length, map, string_bytes, Some, None, IfSome, IfNone, IsTrue, take, unwrap_or};
+ghost use Rattle.std.specs.Prelude.{◌≡◌, ◌≤◌, ◌∷◌, ◌++◌, [], length, map, string_bytes, Some, None, IfSome, IfNone, IsTrue, take, unwrap_or, false};
 ghost use Rattle.std.specs.List.{position_or_len};
 ghost use Rattle.pmem_base.specs.Shape.{is_loss};
 ghost use Rattle.pmem_base.specs.Geo.{shape_of};
 ghost use Rattle.suite.specs.Suites.{aes_keys, weak_keys};
 ghost use Rattle.suite.specs.Weak.{blur_flag};
 ghost use Rattle.pmem_cli.specs.Keys.{chosen_key, chosen_tag_key, shape_chosen, every_chosen};
-ghost use Rattle.pmem_cli.specs.Words.{suite_named, number_where, value_of, is_up_to, choose_suite, choose_tree, choose_run, choose_wear, choose, no_choices, is_equals, option_parts, next_value, take_options, seed_and_count, task_of, AreChosen, HasChosen, map_some};
+ghost use Rattle.pmem_cli.specs.Words.{suite_named, number_where, value_of, is_up_to, choose_log, is_flag, choose_suite, choose_tree, choose_run, choose_wear, choose, no_choices, is_equals, option_parts, next_value, take_options, seed_and_count, task_of, AreChosen, HasChosen, map_some};
 
 use collision_witness::{read_number, read_number_up_to, read_tag};
 use pmem_base::{Geo, Line};
@@ -43,6 +43,7 @@ pub(crate) struct Choices {
     pub key: Option<[u8; 16]>,
     pub tag_key: Option<(u8, Line)>,
     pub every: Option<u32>,
+    pub log: bool,
 }
 
 /// Which options a task takes: each kind takes those of the kinds before it, and more.
@@ -54,6 +55,8 @@ pub(crate) enum Allowed {
     Tree,
     /// Those of a run.
     Run,
+    /// Those of a run that may tell its log.
+    Log,
     /// Those of a levelled memory.
     Wear,
 }
@@ -63,6 +66,8 @@ pub(crate) enum Allowed {
 pub(crate) enum Task {
     /// Run a trace.
     Run(Choices),
+    /// Run a trace, and tell its log.
+    Log(Choices),
     /// Print a sample trace of `count` commands.
     Make { seed: u64, count: u32 },
     /// Run that trace, and print its last line.
@@ -137,6 +142,7 @@ impl Choices {
             key: None,
             tag_key: None,
             every: None,
+            log: false,
         }
     }
 
@@ -313,8 +319,33 @@ impl Choices {
             Allowed::Suite => self.with_suite(name, value),
             Allowed::Tree => self.with_tree(name, value),
             Allowed::Run => self.with_run(name, value),
+            Allowed::Log => self.with_run(name, value),
             Allowed::Wear => self.with_wear(name, value),
         }
+    }
+}
+
+/// These choices, and that the log is told, where a word says so.
+fn with_log(choices: Choices) -> Option<Choices>
+    requires { AreChosen choices }
+    ensures choices { result ≡ choose_log choices }
+    ensures chosen { IfSome result AreChosen }
+{
+    if choices.log {
+        return None;
+    }
+    let mut more = choices;
+    more.log = true;
+    Some(more)
+}
+
+/// Whether a word is the flag of a log, which has no value.
+fn is_log_flag(allowed: Allowed, word: &str) -> bool
+    ensures { result ≡ is_flag allowed word.now }
+{
+    match allowed {
+        Allowed::Log => word == "--log",
+        _ => false,
     }
 }
 
@@ -368,6 +399,7 @@ fn take_option<'a>(
     words: &'a [String],
 ) -> Option<(Choices, &'a [String])>
     requires chosen { AreChosen choices }
+    requires valued { is_flag allowed word.now ≡ false }
     ensures none { IfNone result (take_options allowed choices (word.now ∷ map string_bytes words.now) ≡ None) }
     ensures more { IfSome result (λ found. take_options allowed choices (word.now ∷ map string_bytes words.now)
         ≡ take_options allowed found.0 (map string_bytes found.1.now)) }
@@ -380,6 +412,27 @@ fn take_option<'a>(
     Some((more, rest))
 }
 
+/// Takes an option after earlier choices: a flag alone, or a word with its value.
+fn take_choice<'a>(
+    allowed: Allowed,
+    choices: Choices,
+    word: &'a str,
+    words: &'a [String],
+) -> Option<(Choices, &'a [String])>
+    requires chosen { AreChosen choices }
+    ensures none { IfNone result (take_options allowed choices (word.now ∷ map string_bytes words.now) ≡ None) }
+    ensures more { IfSome result (λ found. take_options allowed choices (word.now ∷ map string_bytes words.now)
+        ≡ take_options allowed found.0 (map string_bytes found.1.now)) }
+    ensures fewer { IfSome result (λ found. length found.1.now ≤ length words.now) }
+    ensures chosen { IfSome result (λ found. AreChosen found.0) }
+{
+    if !is_log_flag(allowed, word) {
+        return take_option(allowed, choices, word, words);
+    }
+    let more = with_log(choices)?;
+    Some((more, words))
+}
+
 /// What is chosen by words.
 #[tactic(auto, unfolding(crate::specs::Words::take_options))]
 fn read_options(allowed: Allowed, words: &[String]) -> Option<Choices>
@@ -389,7 +442,7 @@ fn read_options(allowed: Allowed, words: &[String]) -> Option<Choices>
     let mut choices = Choices::none();
     let mut rest = words;
     'options: while let [word, words @ ..] = rest {
-        match take_option(allowed, choices, word.as_str(), words) {
+        match take_choice(allowed, choices, word.as_str(), words) {
             None => return None,
             Some((more, behind)) => {
                 choices = more;
@@ -422,7 +475,14 @@ pub(crate) fn read_task(words: &[String]) -> Option<Task>
         return None;
     };
     match name.as_str() {
-        "run" => Some(Task::Run(read_options(Allowed::Run, words)?)),
+        "run" => {
+            let choices = read_options(Allowed::Log, words)?;
+            if choices.log {
+                Some(Task::Log(choices))
+            } else {
+                Some(Task::Run(choices))
+            }
+        }
         "check" => Some(Task::Check(read_options(Allowed::Suite, words)?)),
         "make" => {
             let (seed, count) = read_seed_and_count(words)?;

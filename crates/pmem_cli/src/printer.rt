@@ -1,14 +1,17 @@
 //! Replies on their way to a sink, held back so that many go in one push.
-ghost use Rattle.std.specs.Prelude.{◌≡◌, ◌≤◌, [], length, OnOk, OnErr};
+ghost use Rattle.std.specs.Prelude.{◌≡◌, ◌<◌, ◌≤◌, [], length, OnOk, OnErr};
 ghost use Rattle.pmem_cli.specs.Causes.{HasCause};
 ghost use Rattle.plain_model.specs.Texts.{answer_text, command_text, mark_text, marks_text, as_line};
 ghost use Rattle.trace_text.specs.Commands.{IsWritable};
 ghost use Rattle.trace_text.specs.Answers.{HasSmallMinors};
+ghost use Rattle.pmem_cli.specs.Logged.{access_text, accesses_text, work_text};
 ghost use Rattle.pmem_cli.specs.Printed.{Prints, PrintsFront, with_waiting};
 
 use crate::sink::{Sink, push_all};
 use crate::source::Failed;
+use access_log::Access;
 use arrayvec::ArrayVec;
+use collision_witness::push_counts;
 use pmem_base::{Answer, Command, Mark};
 use std::marker::Model;
 use trace_text::{push_answer, push_bytes, push_mark, write_command};
@@ -140,6 +143,39 @@ impl Printer {
         print_text(&mut self.waiting, out, self.text.as_slice())
     }
 
+    /// Prints the text of an access, with its LF.
+    fn print_access<K: Sink>(&mut self, out: &mut K, access: &Access) -> Result<(), Failed>
+        ensures ok { OnOk result (Prints (with_waiting (K.put out.old) self.old) (with_waiting (K.put out.new) self.new)
+            (as_line (access_text access.now))) }
+        ensures err { OnErr result (PrintsFront (with_waiting (K.put out.old) self.old) (with_waiting (K.put out.new) self.new)
+            (as_line (access_text access.now))) }
+        ensures cause { HasCause (K.faults out.old) (K.faults out.new) result }
+    {
+        self.text.clear();
+        push_access(&mut self.text, access);
+        push_bytes(&mut self.text, b"\n");
+        print_text(&mut self.waiting, out, self.text.as_slice())
+    }
+
+    /// Prints how many tags and digests were made, with its LF.
+    pub fn print_work<K: Sink>(
+        &mut self,
+        out: &mut K,
+        tags: u64,
+        digests: u64,
+    ) -> Result<(), Failed>
+        ensures ok { OnOk result (Prints (with_waiting (K.put out.old) self.old) (with_waiting (K.put out.new) self.new)
+            (as_line (work_text tags digests))) }
+        ensures err { OnErr result (PrintsFront (with_waiting (K.put out.old) self.old) (with_waiting (K.put out.new) self.new)
+            (as_line (work_text tags digests))) }
+        ensures cause { HasCause (K.faults out.old) (K.faults out.new) result }
+    {
+        self.text.clear();
+        push_work(&mut self.text, tags, digests);
+        push_bytes(&mut self.text, b"\n");
+        print_text(&mut self.waiting, out, self.text.as_slice())
+    }
+
     /// Prints the text of a command, with its LF.
     pub fn print_command<K: Sink>(&mut self, out: &mut K, command: &Command) -> Result<(), Failed>
         requires { IsWritable command.now }
@@ -169,6 +205,48 @@ pub(crate) fn print_marks<K: Sink>(
 {
     'each: for mark in marks {
         printer.print_mark(out, mark)?;
+    }
+    Ok(())
+}
+
+/// Puts the text of an access into an empty text, without its LF.
+#[tactic(auto, unfolding(crate::specs::Logged::access_text))]
+fn push_access(text: &mut ArrayVec<u8, 512>, access: &Access)
+    requires { text.old.items ≡ [] }
+    ensures text { text.new.items ≡ access_text access.now }
+    ensures room { length text.new.items < 512 }
+{
+    match access {
+        Access::Read { at } => push_counts(text, b"look", &[u64::from(*at)]),
+        Access::Write { at, line: _ } => push_counts(text, b"line", &[u64::from(*at)]),
+        Access::Latch { armed } => push_counts(text, b"latch", &[u64::from(*armed)]),
+    }
+}
+
+/// Puts the text of so many tags and digests into an empty text, without its LF.
+#[tactic(auto, unfolding(crate::specs::Logged::work_text))]
+fn push_work(text: &mut ArrayVec<u8, 512>, tags: u64, digests: u64)
+    requires { text.old.items ≡ [] }
+    ensures text { text.new.items ≡ work_text tags digests }
+    ensures room { length text.new.items < 512 }
+{
+    push_counts(text, b"work", &[tags, digests]);
+}
+
+/// Prints the texts of accesses, in order, each with its LF.
+pub(crate) fn print_accesses<K: Sink>(
+    accesses: &[Access],
+    printer: &mut Printer,
+    out: &mut K,
+) -> Result<(), Failed>
+    ensures ok { OnOk result (Prints (with_waiting (K.put out.old) printer.old) (with_waiting (K.put out.new) printer.new)
+        (accesses_text accesses.now)) }
+    ensures err { OnErr result (PrintsFront (with_waiting (K.put out.old) printer.old) (with_waiting (K.put out.new) printer.new)
+        (accesses_text accesses.now)) }
+    ensures cause { HasCause (K.faults out.old) (K.faults out.new) result }
+{
+    'each: for access in accesses {
+        printer.print_access(out, access)?;
     }
     Ok(())
 }

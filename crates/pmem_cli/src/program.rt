@@ -16,6 +16,7 @@ ghost use Rattle.pmem_cli.specs.HasRun.{TaskOutcome, HasEnded, HasReplayed, IsCo
 
 use crate::checking::check;
 use crate::ending::{Ending, finish};
+use crate::logging::log_trace;
 use crate::making::make;
 use crate::options::{Choices, SuiteName, Task, read_task};
 use crate::printer::Printer;
@@ -99,6 +100,7 @@ fn do_task<S: Source, K: Sink>(
 {
     match task {
         Task::Run(choices) => Ending::Stopped(run_trace(alloc, &choices, trace, printer, out)),
+        Task::Log(choices) => Ending::Stopped(log_trace(alloc, &choices, trace, printer, out)),
         Task::Make { seed, count } => Ending::Stopped(make(seed, count, printer, out)),
         Task::Sample { seed, count } => {
             Ending::Stopped(sample(alloc, seed, count, printer, out))

@@ -54,7 +54,7 @@ pub(crate) fn is_shown(answer: &Answer) -> bool
 }
 
 /// Prints a reply: its marks in the order made, and its answer.
-fn print_reply<U: Counted + Drop, K: Sink>(
+pub(crate) fn print_reply<U: Counted + Drop, K: Sink>(
     world: &World<U>,
     reply: &Reply,
     printer: &mut Printer,

@@ -6,3 +6,4 @@ pub mod Given
 pub mod Replies
 pub mod Stamps
 pub mod Stepped
+pub mod Logged

@@ -6,6 +6,7 @@ ghost use Rattle.pmem_base.specs.WaitingWrites.{no_writes};
 ghost use Rattle.seal_ledger.specs.Notes.{HasRoom};
 ghost use Rattle.seal_ledger.specs.View.{ledger_of};
 ghost use Rattle.pmem_engine.specs.Outcomes.{is_sealed_by};
+ghost use Rattle.access_log.specs.Traced.{GoesOn};
 ghost use Rattle.pmem_replay.specs.Called.{WasCalled, CanStop, IsFaultAnswered, cut_answer};
 ghost use Rattle.pmem_replay.specs.Flagged.{healed};
 ghost use Rattle.pmem_replay.specs.Given.{HasMarkRoom};
@@ -14,6 +15,7 @@ ghost use Rattle.pmem_replay.specs.World.{IsWorld, setup_of_world};
 use crate::World;
 use crate::calls::{self, Call, Done};
 use crate::tampered::Tampered;
+use access_log::AccessLog;
 use pmem_base::{Answer, Exhibit, Mark, MemFault, Place};
 use pmem_engine::{Engine, Fault};
 use seal_ledger::{Audit, Ledger};
@@ -22,13 +24,18 @@ use write_ports::Ports;
 
 impl<S: Counted + Drop> World<S> {
     /// Makes a call of the engine, with power on. Its steps are counted, and what its marks leave dirty is noted. In a
-    /// cut the engine and what waits are lost; an exhibit ends the run.
-    pub(crate) fn call<C: Call>(&mut self, call: &C) -> Done<Result<C::Value, Fault>>
+    /// cut the engine and what waits are lost; an exhibit ends the run. Its accesses of the board are logged.
+    pub(crate) fn call<C: Call>(
+        &mut self,
+        call: &C,
+        log: &mut AccessLog,
+    ) -> Done<Result<C::Value, Fault>>
         requires shown { self.old.shown ≡ false }
         requires on { IsSome self.old.engine }
         requires can { C.can call.now self.old.shape self.old.ledger self.old.capacity }
         requires within { IfSome (C.write call.now) (λ w. w.at < data_lines self.old.shape) }
-        ensures { WasCalled (setup_of_world S.formulas_of self.old) (C.relation call.now) (C.write call.now) self.old result.taken result.answer self.new }
+        ensures called { WasCalled (setup_of_world S.formulas_of self.old) (C.relation call.now) (C.write call.now) self.old result.taken result.answer self.new }
+        ensures logged { GoesOn log.old self.old.board log.new self.new.board }
     {
         let Some(engine) = &mut self.engine else {
             unreachable!()
@@ -40,6 +47,7 @@ impl<S: Counted + Drop> World<S> {
             &mut self.board,
             &mut self.suite,
             &mut self.ledger,
+            log,
         );
         engine.has_banks();
         self.steps = self.steps.saturating_add(done.taken.steps());

@@ -20,9 +20,11 @@ ghost use Rattle.pmem_engine.specs.Outcomes.{outcome_of, is_sealed_by};
 ghost use Rattle.pmem_engine.specs.Calls.{IsUsable, HasReadLine, HasTurned, HasFlushed, HasSetLoss, HasWrittenLine};
 ghost use Rattle.pmem_recovery.specs.Parts.{suite_state};
 ghost use Rattle.watched_board.specs.Watching.{IsWatched, device_during, none_taken};
+ghost use Rattle.access_log.specs.Traced.{GoesOn};
 ghost use Rattle.pmem_replay.specs.During.{WasFormatted, IsTakenApart, WasRecovered};
 ghost use Rattle.pmem_replay.specs.Called.{IsLawfulCall, is_outcome_shown, is_outcome_cut};
 
+use access_log::{AccessLog, Entry, Logged};
 use board::{Board, MemBoard};
 use pmem_base::{Ctr, Geo, Line, MemFault, Posted};
 use pmem_engine::{Engine, Fault};
@@ -31,7 +33,7 @@ use seal_ledger::Ledger;
 use std::alloc::Global;
 use std::marker::Brand;
 use suite::Suite;
-use watched_board::{Kept, Left, Made, Start, Taken, Watched};
+use watched_board::{Kept, Left, Made, Start, Taken};
 
 /// A call's answer, and the steps that it took.
 #[derive(Drop)]
@@ -219,13 +221,14 @@ impl Call for SetLoss {
     }
 }
 
-/// Makes a call over the watched board.
+/// Makes a call over the watched board, whose accesses are logged.
 pub(crate) fn make<C: Call, S: Suite>(
     call: &C,
     engine: &mut Engine,
     board: &mut MemBoard,
     suite: &mut S,
     ledger: &mut Ledger,
+    log: &mut AccessLog,
 ) -> Done<Result<C::Value, Fault>>
     requires can { C.can call.now engine.old.shape (ledger_of ledger.old) (capacity_of ledger.old) }
     requires on { (memory_of board.old).powered ≡ true }
@@ -235,10 +238,11 @@ pub(crate) fn make<C: Call, S: Suite>(
         (parts_of engine.new (device_during (memory_of board.new) result.taken) (ledger_of ledger.new) (S.tags suite.new) (S.digests suite.new)) result.answer }
     ensures watched { IsWatched (memory_of board.old) (memory_of board.new) result.taken }
     ensures capacity { capacity_of ledger.new ≡ capacity_of ledger.old }
+    ensures logged { GoesOn log.old (memory_of board.old) log.new (memory_of board.new) }
     ensures keys { S.keys suite.new ≡ S.keys suite.old }
 {
     let mut outcome = None;
-    let left = make_watched::<Brand, C, S>(call, engine, board, suite, ledger, &mut outcome);
+    let left = make_logged::<Brand, C, S>(call, engine, board, suite, ledger, log, &mut outcome);
     let Left {
         board: _,
         taken,
@@ -250,17 +254,19 @@ pub(crate) fn make<C: Call, S: Suite>(
     }
 }
 
-fn make_watched<'a, K: Start, C: Call, S: Suite>(
+fn make_logged<'a, K: Start + Entry, C: Call, S: Suite>(
     call: &C,
     engine: &mut Engine,
     board: &'a mut MemBoard,
     suite: &mut S,
     ledger: &mut Ledger,
+    log: &mut AccessLog,
     outcome: &mut Option<Result<C::Value, Fault>>,
 ) -> Left<'a, ()>
     requires can { C.can call.now engine.old.shape (ledger_of ledger.old) (capacity_of ledger.old) }
     requires start { memory_of board.old ≡ K.start }
     requires name { board.ghost_name ≡ K.name }
+    requires log { log.old ≡ K.log }
     requires on { (memory_of board.old).powered ≡ true }
     requires usable { IsUsable engine.old.shape engine.old (device_during (memory_of board.old) none_taken) (ledger_of ledger.old) }
     ensures name { result.board.ghost_name ≡ K.name }
@@ -270,11 +276,12 @@ fn make_watched<'a, K: Start, C: Call, S: Suite>(
     ensures some { IsSome outcome.new }
     ensures watched { IsWatched K.start (memory_of result.board.now) result.taken }
     ensures capacity { capacity_of ledger.new ≡ capacity_of ledger.old }
+    ensures logged { GoesOn K.log K.start log.new (memory_of result.board.now) }
     ensures keys { S.keys suite.new ≡ S.keys suite.old }
 {
-    let mut watched = Watched::<K>::new(board);
-    *outcome = Some(call.make(engine, &mut watched, suite, ledger));
-    watched.left(())
+    let mut logged = Logged::<K>::new(board, log.take());
+    *outcome = Some(call.make(engine, &mut logged, suite, ledger));
+    logged.left((), log)
 }
 
 /// Whether an exhibit ended the call.
@@ -370,6 +377,7 @@ pub(crate) fn recover<S: Suite>(
     suite: &mut S,
     ledger: &Ledger,
     engine: &mut Option<Engine>,
+    log: &mut AccessLog,
 ) -> Done<Result<Work, RecFault>>
     requires size { length (memory_of board.old).lines ≡ device_lines (shape_of geo.now) }
     requires on { (memory_of board.old).powered ≡ true }
@@ -381,8 +389,9 @@ pub(crate) fn recover<S: Suite>(
         (suite_state (S.keys suite.old) (S.pads suite.old) (S.tags suite.old) (S.digests suite.old))
         (suite_state (S.keys suite.new) (S.pads suite.new) (S.tags suite.new) (S.digests suite.new)) engine.new result.answer }
     ensures watched { IsWatched (memory_of board.old) (memory_of board.new) result.taken }
+    ensures logged { GoesOn log.old (memory_of board.old) log.new (memory_of board.new) }
 {
-    let left = recover_watched::<Brand, S>(alloc, geo, board, suite, ledger, engine);
+    let left = recover_logged::<Brand, S>(alloc, geo, board, suite, ledger, engine, log);
     let Left {
         board: _,
         taken,
@@ -391,17 +400,19 @@ pub(crate) fn recover<S: Suite>(
     Done { taken, answer }
 }
 
-fn recover_watched<'a, K: Start, S: Suite>(
+fn recover_logged<'a, K: Start + Entry, S: Suite>(
     alloc: Global,
     geo: &Geo,
     board: &'a mut MemBoard,
     suite: &mut S,
     ledger: &Ledger,
     engine: &mut Option<Engine>,
+    log: &mut AccessLog,
 ) -> Left<'a, Result<Work, RecFault>>
     requires size { length (memory_of board.old).lines ≡ device_lines (shape_of geo.now) }
     requires start { memory_of board.old ≡ K.start }
     requires name { board.ghost_name ≡ K.name }
+    requires log { log.old ≡ K.log }
     requires on { (memory_of board.old).powered ≡ true }
     requires regs { IsValidRegs (shape_of geo.now) (memory_of board.old).regs }
     requires ledger { IsOfShape (shape_of geo.now) (ledger_of ledger.now) }
@@ -412,11 +423,12 @@ fn recover_watched<'a, K: Start, S: Suite>(
         (suite_state (S.keys suite.old) (S.pads suite.old) (S.tags suite.old) (S.digests suite.old))
         (suite_state (S.keys suite.new) (S.pads suite.new) (S.tags suite.new) (S.digests suite.new)) engine.new result.answer }
     ensures watched { IsWatched K.start (memory_of result.board.now) result.taken }
+    ensures logged { GoesOn K.log K.start log.new (memory_of result.board.now) }
 {
-    let mut watched = Watched::<K>::new(board);
-    let answer = pmem_recovery::recover(alloc, geo, &mut watched, suite, ledger);
+    let mut logged = Logged::<K>::new(board, log.take());
+    let answer = pmem_recovery::recover(alloc, geo, &mut logged, suite, ledger);
     let outcome = taken_apart(answer, engine);
-    watched.left(outcome)
+    logged.left(outcome, log)
 }
 
 /// Puts a recovery's engine in its place.

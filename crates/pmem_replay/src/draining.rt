@@ -5,6 +5,7 @@ ghost use Rattle.pmem_base.specs.WaitingWrites.{queue_of};
 ghost use Rattle.seal_ledger.specs.Notes.{HasRoom};
 ghost use Rattle.plain_model.specs.After.{steps_of};
 ghost use Rattle.pmem_engine.specs.Outcomes.{is_sealed_by};
+ghost use Rattle.access_log.specs.Traced.{GoesOn};
 ghost use Rattle.pmem_replay.specs.Called.{IsWriteTaken};
 ghost use Rattle.pmem_replay.specs.Given.{HasWriteGiven, CanEndFence};
 ghost use Rattle.pmem_replay.specs.Replies.{with_marks_since};
@@ -14,6 +15,7 @@ ghost use Rattle.pmem_replay.specs.World.{setup_of_world};
 use crate::World;
 use crate::calling::is_sealed_since;
 use crate::calls::WriteLine;
+use access_log::AccessLog;
 use pmem_base::{Answer, MemFault, Posted};
 use suite::Counted;
 
@@ -28,12 +30,13 @@ impl<S: Counted + Drop> World<S> {
     }
 
     /// The port's oldest write is drained.
-    pub(crate) fn drain(&mut self, port: u8) -> Result<Answer, MemFault>
+    pub(crate) fn drain(&mut self, port: u8, log: &mut AccessLog) -> Result<Answer, MemFault>
         requires shown { self.old.shown ≡ false }
         requires port { port < 8 }
         ensures stepped { IfOk result (λ answer. HasStepped (setup_of_world S.formulas_of self.old) self.old (Do.Drain port) (with_marks_since self.old self.new answer) self.new) }
         ensures err { OnErr result (self.new ≡ self.old) }
         ensures wanting { OnErr result (CanWantMemory self.old.state (Do.Drain port)) }
+        ensures logged { GoesOn log.old self.old.board log.new self.new.board }
     {
         self.holds();
         if !self.is_on() {
@@ -43,16 +46,17 @@ impl<S: Counted + Drop> World<S> {
             return Ok(Answer::Empty);
         }
         self.make_room(66)?;
-        Ok(self.give(port))
+        Ok(self.give(port, log))
     }
 
     /// All writes of the port are drained, the oldest first.
-    pub(crate) fn fence(&mut self, port: u8) -> Result<Answer, MemFault>
+    pub(crate) fn fence(&mut self, port: u8, log: &mut AccessLog) -> Result<Answer, MemFault>
         requires shown { self.old.shown ≡ false }
         requires port { port < 8 }
         ensures stepped { IfOk result (λ answer. HasStepped (setup_of_world S.formulas_of self.old) self.old (Do.Fence port) (with_marks_since self.old self.new answer) self.new) }
         ensures err { OnErr result (self.new ≡ self.old) }
         ensures wanting { OnErr result (CanWantMemory self.old.state (Do.Fence port)) }
+        ensures logged { GoesOn log.old self.old.board log.new self.new.board }
     {
         self.holds();
         if !self.is_on() {
@@ -60,24 +64,25 @@ impl<S: Counted + Drop> World<S> {
         }
         let count = self.waiting(port);
         self.make_room(66 * u32::from(count))?;
-        Ok(self.drain_all(port, count))
+        Ok(self.drain_all(port, count, log))
     }
 
     /// The writes of the port, so many, are drained.
-    fn drain_all(&mut self, port: u8, count: u8) -> Answer
+    fn drain_all(&mut self, port: u8, count: u8, log: &mut AccessLog) -> Answer
         requires shown { self.old.shown ≡ false }
         requires port { port < 8 }
         requires on { IsSome self.old.engine }
         requires count { count ≡ length (queue_of self.old.state.queues port) }
         requires most { count < 17 }
         requires room { HasRoom self.old.ledger self.old.capacity (66 * count) }
-        ensures { HasStepped (setup_of_world S.formulas_of self.old) self.old (Do.Fence port) (with_marks_since self.old self.new result) self.new }
+        ensures stepped { HasStepped (setup_of_world S.formulas_of self.old) self.old (Do.Fence port) (with_marks_since self.old self.new result) self.new }
+        ensures logged { GoesOn log.old self.old.board log.new self.new.board }
     {
         self.holds();
         let mut done: u8 = 0;
         let mut steps: u64 = 0;
         'writes: while done < count {
-            let more = match self.give(port) {
+            let more = match self.give(port, log) {
                 Answer::Drained { steps } => steps,
                 stopped => return ended(stopped, done, steps),
             };
@@ -91,19 +96,20 @@ impl<S: Counted + Drop> World<S> {
     }
 
     /// The port's oldest write is given to the engine. The answer is that of a drain.
-    pub(crate) fn give(&mut self, port: u8) -> Answer
+    pub(crate) fn give(&mut self, port: u8, log: &mut AccessLog) -> Answer
         requires shown { self.old.shown ≡ false }
         requires port { port < 8 }
         requires on { IsSome self.old.engine }
         requires some { 0 < length (queue_of self.old.state.queues port) }
         requires room { HasRoom self.old.ledger self.old.capacity 66 }
-        ensures { HasWriteGiven (setup_of_world S.formulas_of self.old) self.old port result self.new }
+        ensures given { HasWriteGiven (setup_of_world S.formulas_of self.old) self.old port result self.new }
+        ensures logged { GoesOn log.old self.old.board log.new self.new.board }
     {
         self.holds();
         let write = self.take(port);
         let at = write.at;
         let from = self.marks().len();
-        let done = self.call(&WriteLine { write });
+        let done = self.call(&WriteLine { write }, log);
         let steps = done.taken.steps();
         match done.answer {
             Ok(_) => Answer::Drained { steps },

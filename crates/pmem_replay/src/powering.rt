@@ -1,12 +1,14 @@
 //! Power, and recovery.
-ghost use Rattle.std.specs.Prelude.{◌≡◌, false, IfOk, OnErr};
+ghost use Rattle.std.specs.Prelude.{◌≡◌, false, IfOk, OnOk, OnErr};
 ghost use Rattle.pmem_base.specs.Lines.{AreBytes, IsTag};
 ghost use Rattle.pmem_base.specs.declared.commands.Command.TheVariants as Do;
+ghost use Rattle.access_log.specs.Traced.{GoesOn};
 ghost use Rattle.pmem_replay.specs.World.{setup_of_world};
 ghost use Rattle.pmem_replay.specs.Replies.{without_marks};
 ghost use Rattle.pmem_replay.specs.Stepped.{HasStepped, CanWantMemory};
 
 use crate::{World, calls};
+use access_log::AccessLog;
 use pmem_base::{Answer, Exhibit, MemFault, Tag};
 use pmem_recovery::RecFault;
 use std::alloc::Global;
@@ -38,11 +40,12 @@ impl<S: Counted + Drop> World<S> {
     }
 
     /// Power comes on, with recovery. The one error is want of memory.
-    pub(crate) fn on(&mut self, alloc: Global) -> Result<Answer, MemFault>
+    pub(crate) fn on(&mut self, alloc: Global, log: &mut AccessLog) -> Result<Answer, MemFault>
         requires { self.old.shown ≡ false }
         ensures stepped { IfOk result (λ answer. HasStepped (setup_of_world S.formulas_of self.old) self.old Do.On (without_marks answer) self.new) }
         ensures err { OnErr result (self.new ≡ self.old) }
         ensures wanting { OnErr result (CanWantMemory self.old.state Do.On) }
+        ensures logged { OnOk result (GoesOn log.old self.old.board log.new self.new.board) }
     {
         if self.engine.is_some() {
             return Ok(Answer::Already);
@@ -55,6 +58,7 @@ impl<S: Counted + Drop> World<S> {
             &mut self.suite,
             &self.ledger,
             &mut self.engine,
+            log,
         );
         let steps = done.taken.steps();
         self.steps = self.steps.saturating_add(steps);

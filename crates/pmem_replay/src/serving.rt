@@ -6,6 +6,7 @@ ghost use Rattle.pmem_base.specs.Layout.{data_lines, meta_lines};
 ghost use Rattle.pmem_base.specs.WaitingWrites.{queue_of, writes_to};
 ghost use Rattle.plain_model.specs.State.{with_flag};
 ghost use Rattle.plain_model.specs.After.{after_clean};
+ghost use Rattle.access_log.specs.Traced.{GoesOn};
 ghost use Rattle.pmem_replay.specs.World.{setup_of_world};
 ghost use Rattle.pmem_replay.specs.Replies.{without_marks, with_marks_since};
 ghost use Rattle.pmem_replay.specs.Stepped.{HasStepped, CanWantMemory};
@@ -13,6 +14,7 @@ ghost use Rattle.pmem_replay.specs.Called.{IsOverlayOf, IsCleanIn, IsCleanAt};
 
 use crate::World;
 use crate::calls::{FlushBlock, ReadLine, SetLoss, TurnPage};
+use access_log::AccessLog;
 use board::Board;
 use pmem_base::{Answer, MemFault};
 use suite::Counted;
@@ -36,10 +38,11 @@ impl<S: Counted + Drop> World<S> {
     }
 
     /// A data line as the port sees it.
-    pub(crate) fn read(&mut self, port: u8, at: u64) -> Answer
+    pub(crate) fn read(&mut self, port: u8, at: u64, log: &mut AccessLog) -> Answer
         requires shown { self.old.shown ≡ false }
         requires port { port < 8 }
-        ensures { HasStepped (setup_of_world S.formulas_of self.old) self.old (Do.Read port at) (without_marks result) self.new }
+        ensures stepped { HasStepped (setup_of_world S.formulas_of self.old) self.old (Do.Read port at) (without_marks result) self.new }
+        ensures logged { GoesOn log.old self.old.board log.new self.new.board }
     {
         self.holds();
         if !self.is_on() {
@@ -56,7 +59,7 @@ impl<S: Counted + Drop> World<S> {
                 steps: 0,
             };
         }
-        let done = self.call(&ReadLine { at: at as u32 });
+        let done = self.call(&ReadLine { at: at as u32 }, log);
         let steps = done.taken.steps();
         match done.answer {
             Ok(line) => {
@@ -72,18 +75,19 @@ impl<S: Counted + Drop> World<S> {
 
     /// One line of the oldest page under re-encryption is sealed anew. Its seal has the minor 0, so it
     /// leaves no block dirty.
-    pub(crate) fn turn(&mut self) -> Result<Answer, MemFault>
+    pub(crate) fn turn(&mut self, log: &mut AccessLog) -> Result<Answer, MemFault>
         requires { self.old.shown ≡ false }
         ensures stepped { IfOk result (λ answer. HasStepped (setup_of_world S.formulas_of self.old) self.old Do.Turn (with_marks_since self.old self.new answer) self.new) }
         ensures err { OnErr result (self.new ≡ self.old) }
         ensures wanting { OnErr result (CanWantMemory self.old.state Do.Turn) }
+        ensures logged { GoesOn log.old self.old.board log.new self.new.board }
     {
         self.holds();
         if !self.is_on() {
             return Ok(Answer::Off);
         }
         self.make_room(1)?;
-        let done = self.call(&TurnPage);
+        let done = self.call(&TurnPage, log);
         let steps = done.taken.steps();
         match done.answer {
             Ok(None) => Ok(Answer::Idle),
@@ -97,15 +101,16 @@ impl<S: Counted + Drop> World<S> {
     }
 
     /// The oldest dirty block is written back.
-    pub(crate) fn flush(&mut self) -> Answer
+    pub(crate) fn flush(&mut self, log: &mut AccessLog) -> Answer
         requires { self.old.shown ≡ false }
-        ensures { HasStepped (setup_of_world S.formulas_of self.old) self.old Do.Flush (without_marks result) self.new }
+        ensures stepped { HasStepped (setup_of_world S.formulas_of self.old) self.old Do.Flush (without_marks result) self.new }
+        ensures logged { GoesOn log.old self.old.board log.new self.new.board }
     {
         self.holds();
         if !self.is_on() {
             return Answer::Off;
         }
-        let done = self.call(&FlushBlock);
+        let done = self.call(&FlushBlock, log);
         let steps = done.taken.steps();
         match done.answer {
             Ok(None) => {
@@ -147,9 +152,10 @@ impl<S: Counted + Drop> World<S> {
     }
 
     /// The stop-loss number is set.
-    pub(crate) fn loss(&mut self, n: u64) -> Answer
+    pub(crate) fn loss(&mut self, n: u64, log: &mut AccessLog) -> Answer
         requires { self.old.shown ≡ false }
-        ensures { HasStepped (setup_of_world S.formulas_of self.old) self.old (Do.Loss n) (without_marks result) self.new }
+        ensures stepped { HasStepped (setup_of_world S.formulas_of self.old) self.old (Do.Loss n) (without_marks result) self.new }
+        ensures logged { GoesOn log.old self.old.board log.new self.new.board }
     {
         self.holds();
         if !self.is_on() {
@@ -161,7 +167,7 @@ impl<S: Counted + Drop> World<S> {
         if n == u64::from(self.loss_now()) {
             return Answer::LossSet { steps: 0 };
         }
-        let done = self.call(&SetLoss { n: n as u8 });
+        let done = self.call(&SetLoss { n: n as u8 }, log);
         let steps = done.taken.steps();
         match done.answer {
             Ok(_) => Answer::LossSet { steps },

@@ -123,6 +123,14 @@ impl<S: Counted + Drop> World<S> {
         })
     }
 
+    /// The counts of the tags and digests that were made.
+    pub fn work(&self) -> (u64, u64)
+        ensures { result ≡ (self.now.tags, self.now.digests) }
+    {
+        let (_, tags, digests) = self.suite.counts();
+        (tags, digests)
+    }
+
     /// The marks of the run in order, those of formatting first.
     pub fn marks(&self) -> &[Mark]
         ensures { result.now ≡ self.now.ledger.marks }

@@ -79,7 +79,11 @@ fn answers_traces(rt: HostRuntime) -> Result<(), Fail> {
 
         run --suite blur --loss 2
         post 0 0 [00] / drain 0 / off / on
-        6: ok / seal 0 0.1 {50} / ok 7 / ok / twin 0 0 0 1 [01..] {50}",
+        6: ok / seal 0 0.1 {50} / ok 7 / ok / twin 0 0 0 1 [01..] {50}
+
+        run --log --suite weak
+        read 0 0 / post 0 0 [11] / drain 0 / flush / loss 2 / off / read 0 0
+        0: look 1280 / look 1281 / look 1285 / look 0 / look 1024 / work 1 3 / line [00] 0 / work 0 0 / ok / line 1302 / line 1302 / line 1301 / look 1024 / latch 2 / line 0 / line 1024 / latch 0 / work 1 3 / seal 0 0.1 {51} / ok 7 / line 1280 / work 0 0 / ok 0 1 / line 1285 / latch 0 / work 0 0 / ok 2 / work 0 0 / ok / work 0 0 / off",
     )
 }
 
@@ -337,6 +341,9 @@ const REFUSED: &str = "ran
     run --levels 7
     run --sets=0
     run --ways 2 --ways 2
+    run --log --log
+    run --log=1
+    check --log
     make 1
     make 1 1000000
     make 1 2 3

@@ -129,6 +129,7 @@ const REFUSED: &str = "wear x
     txn --every 1
     txn --levels 7
     txn --loss 3
+    txn --log
     tree x
     tree --every 1
     tree --ways 1

@@ -8,6 +8,16 @@ returns-in-Run-clause-reads g c = CountsFault-map _ _ _ _ _ (λ same. cc) (λ sa
 pub returns-in-Run-clause-writes : goal.returns-in-Run-clause-writes
 returns-in-Run-clause-writes g c = CountsFault-map _ _ _ _ _ (λ same. cc) (λ same. cc) refl c.run_trace.ensures.cause.writes
 
+pub returns-in-Log-clause-reads : goal.returns-in-Log-clause-reads
+returns-in-Log-clause-reads g c = CountsFault-map _ _ _ _ _ (λ same. cc) (λ same. cc) refl c.log_trace.ensures.cause.reads
+
+pub returns-in-Log-clause-writes : goal.returns-in-Log-clause-writes
+returns-in-Log-clause-writes g c = CountsFault-map _ _ _ _ _ (λ same. cc) (λ same. cc) refl c.log_trace.ensures.cause.writes
+
+pub returns-in-Log-clause-replies_first : goal.returns-in-Log-clause-replies_first
+returns-in-Log-clause-replies_first g c =
+    rw c.in-Log.is (λ given. elim c.log_trace.ensures.replies_first [ inl same ↦ absurd (given (ap g.S.Source.left same)) | inr replied ↦ replied ])
+
 pub returns-in-Make-clause-reads : goal.returns-in-Make-clause-reads
 returns-in-Make-clause-reads g c = CountsFault-none _ _ _ (λ same. elim c.make.ensures.made.its_stop [ inl is ↦ cc | inr is ↦ cc ]) refl
 

@@ -72,9 +72,9 @@ module _ (g : Over) (c : After-saturating_add-self-inside g) where
       parts_made p (g.S.Suite.keys c.make-done.new.suite) (memory_of c.make-done.new.board) (ledger_of c.make-done.new.ledger) (capacity_of c.make-done.new.ledger) e
       (g.S.Suite.tags c.make-done.new.suite) (g.S.Suite.digests c.make-done.new.suite) c.saturating_add-self-inside.result queues tampering dirtying
 
-pub returns-then-is_shown : goal.returns-then-is_shown
-returns-then-is_shown g c =
-    let at = (goal.at.returns-then-is_shown g c).After-saturating_add-self-inside in
+pub returns-then-is_shown-clause-called : goal.returns-then-is_shown-clause-called
+returns-then-is_shown-clause-called g c =
+    let at = (goal.at.returns-then-is_shown-clause-called g c).After-saturating_add-self-inside in
     moved (λ setup old new. WasCalled setup (g.C.Call.relation c.args.call.now) (g.C.Call.write c.args.call.now) old c.make-done.result.taken c.make-done.result.answer new)
     g.S.Suite.formulas_of (shape_of c.self.inside.geo) (p g at)
     (record (called (p g at) (g.S.Suite.keys c.make-done.new.suite) (memory_of c.make-done.new.board) (ledger_of c.make-done.new.ledger) (capacity_of c.make-done.new.ledger) (Some c.make-done.new.engine)
@@ -116,9 +116,9 @@ invariant_of-self-2 g c =
     ≡ after_marks (shape_of c.self.inside.geo) (with_dirtying s (p g at).dirtying) (drop k (ledger_of c.make-done.new.ledger).marks)) n c.note_since.ensures)
     c.has_banks.ensures).holds
 
-pub returns : goal.returns
-returns g c =
-    let at = (goal.at.returns g c).After-saturating_add-self-inside in
+pub returns-clause-called : goal.returns-clause-called
+returns-clause-called g c =
+    let at = (goal.at.returns-clause-called g c).After-saturating_add-self-inside in
     let n : length c.marks-from.result.now ≡ length (p g at).ledger.marks = ap length c.marks-from.ensures in
     moved (λ setup old new. WasCalled setup (g.C.Call.relation c.args.call.now) (g.C.Call.write c.args.call.now) old c.make-done.result.taken c.make-done.result.answer new)
     g.S.Suite.formulas_of (shape_of c.self.inside.geo) (p g at)

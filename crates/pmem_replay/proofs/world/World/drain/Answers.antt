@@ -10,7 +10,7 @@ use Rattle.pmem_replay.proofs.world.World.drain.Goals as goal
 pub returns-clause-stepped : goal.returns-clause-stepped
 returns-clause-stepped g c =
     drained_as g.S.Suite.formulas_of c.args.self.now c.make_room.new.self c.give.new.self c.args.port c.requires.port c.requires.shown
-    c.holds.ensures c.in_ok-make_room.ensures.ok c.give.result c.give.ensures
+    c.holds.ensures c.in_ok-make_room.ensures.ok c.give.result c.give.ensures.given
 
 pub returns-in_err-make_room-clause-wanting : goal.returns-in_err-make_room-clause-wanting
 returns-in_err-make_room-clause-wanting g c =

@@ -9,7 +9,7 @@ use Rattle.pmem_replay.proofs.world.World.fence.Goals as goal
 pub returns-clause-stepped : goal.returns-clause-stepped
 returns-clause-stepped g c =
     fence_before g.S.Suite.formulas_of c.args.self.now c.make_room.new.self c.drain_all.new.self c.args.port _ c.in_ok-make_room.ensures.ok
-    (on_lit _ c.args.self.now c.holds.ensures (search (rules, c.is_on.ensures, c.if-not-is_on.false))) c.drain_all.result c.drain_all.ensures
+    (on_lit _ c.args.self.now c.holds.ensures (search (rules, c.is_on.ensures, c.if-not-is_on.false))) c.drain_all.result c.drain_all.ensures.stepped
 
 pub returns-in_err-make_room-clause-wanting : goal.returns-in_err-make_room-clause-wanting
 returns-in_err-make_room-clause-wanting g c =

@@ -25,7 +25,7 @@ module _ (g : Over) (c : After-steps-steps g) where
   abbrev served : (answer : Result (Option ℕ) Fault) → c.call-done.result.answer ≡ answer → Serving FlushesBlock None answer
   served answer is =
       serving setup c.args.self.now c.call-done.result.taken c.call-done.new.self
-      (subst (λ (r : Result (Option ℕ) Fault). WasCalled setup FlushesBlock None c.args.self.now c.call-done.result.taken r c.call-done.new.self) is c.call-done.ensures)
+      (subst (λ (r : Result (Option ℕ) Fault). WasCalled setup FlushesBlock None c.args.self.now c.call-done.result.taken r c.call-done.new.self) is c.call-done.ensures.called)
 
 pub note_clean-requires-clause-clean : goal.note_clean-requires-clause-clean
 note_clean-requires-clause-clean g c =
@@ -37,25 +37,25 @@ note_flushed-requires-clause-clean g c =
     let at = (goal.at.note_flushed-requires-clause-clean g c).After-steps-steps in
     flush_clean_at c.in-Ok-Some.x (served g at (Ok (Some c.in-Ok-Some.x)) (let h = c.in-Ok-Some.is in search rules))
 
-pub returns-in-Ok-None : goal.returns-in-Ok-None
-returns-in-Ok-None g c =
-    let at = (goal.at.returns-in-Ok-None g c).After-steps-steps in
+pub returns-in-Ok-None-clause-stepped : goal.returns-in-Ok-None-clause-stepped
+returns-in-Ok-None-clause-stepped g c =
+    let at = (goal.at.returns-in-Ok-None-clause-stepped g c).After-steps-steps in
     let s = served g at (Ok None) (let h = c.in-Ok-None.is in search rules) in
     let mid = c.call-done.new.self in
     subst (λ (w : WorldState). HasStepped (setup g at) c.args.self.now Do.Flush (without_marks Say.Clean) w)
     (sym (c.note_clean.ensures ∙ ap (λ (shape : Shape). record mid { state = after_clean shape mid.state }) (same_shape (Ok None) s)))
     (flush_clean s)
 
-pub returns-in-Ok-Some : goal.returns-in-Ok-Some
-returns-in-Ok-Some g c =
-    let at = (goal.at.returns-in-Ok-Some g c).After-steps-steps in
+pub returns-in-Ok-Some-clause-stepped : goal.returns-in-Ok-Some-clause-stepped
+returns-in-Ok-Some-clause-stepped g c =
+    let at = (goal.at.returns-in-Ok-Some-clause-stepped g c).After-steps-steps in
     let s = served g at (Ok (Some c.in-Ok-Some.x)) (let h = c.in-Ok-Some.is in search rules) in
     subst (λ (w : WorldState). HasStepped (setup g at) c.args.self.now Do.Flush (without_marks (Say.Flushed c.in-Ok-Some.x c.steps-steps.result)) w) (sym c.note_flushed.ensures)
     (subst (λ n. HasStepped (setup g at) c.args.self.now Do.Flush (without_marks (Say.Flushed c.in-Ok-Some.x n)) (record (c.call-done.new.self) { state = flushed_state c.in-Ok-Some.x c.call-done.new.self.state })) (sym c.steps-steps.ensures)
     (flush_flushed c.in-Ok-Some.x s))
 
-pub returns-in-Err : goal.returns-in-Err
-returns-in-Err g c =
-    let at = (goal.at.returns-in-Err g c).After-steps-steps in
+pub returns-in-Err-clause-stepped : goal.returns-in-Err-clause-stepped
+returns-in-Err-clause-stepped g c =
+    let at = (goal.at.returns-in-Err-clause-stepped g c).After-steps-steps in
     flush_stopped c.in-Err.fault (served g at (Err c.in-Err.fault) c.in-Err.is) c.stopped.result
     (subst (λ n. IsFaultAnswered c.call-done.new.self.ledger.exhibit None c.in-Err.fault n c.stopped.result) c.steps-steps.ensures c.stopped.ensures)

@@ -24,7 +24,7 @@ module _ (g : Over) (c : After-steps-steps g) where
   abbrev served : (answer : Result ℕ Fault) → c.call-done.result.answer ≡ answer → Serving (Sets c.args.n) None answer
   served answer is =
       serving setup c.args.self.now c.call-done.result.taken c.call-done.new.self
-      (subst (λ (r : Result ℕ Fault). WasCalled setup (Sets c.args.n) None c.args.self.now c.call-done.result.taken r c.call-done.new.self) is c.call-done.ensures)
+      (subst (λ (r : Result ℕ Fault). WasCalled setup (Sets c.args.n) None c.args.self.now c.call-done.result.taken r c.call-done.new.self) is c.call-done.ensures.called)
 
   some : IsTrue (is_loss c.args.n)
   some = search (rules, c.is_loss.ensures, c.if-not-is_loss.false)
@@ -32,14 +32,14 @@ module _ (g : Over) (c : After-steps-steps g) where
   other : c.args.n ≢ c.args.self.now.state.loss
   other same = c.if-n-from.false (same ∙ sym (c.from.ensures ∙ c.loss_now.ensures))
 
-pub returns-in-Ok : goal.returns-in-Ok
-returns-in-Ok g c =
-    let at = (goal.at.returns-in-Ok g c).After-steps-steps in
+pub returns-in-Ok-clause-stepped : goal.returns-in-Ok-clause-stepped
+returns-in-Ok-clause-stepped g c =
+    let at = (goal.at.returns-in-Ok-clause-stepped g c).After-steps-steps in
     subst (λ n. HasStepped (setup g at) c.args.self.now (Do.Loss c.args.n) (without_marks (Say.LossSet n)) c.call-done.new.self) (sym c.steps-steps.ensures)
     (loss_set c.args.n c.in-Ok.field-0 (served g at (Ok c.in-Ok.field-0) c.in-Ok.is) (some g at) (other g at))
 
-pub returns-in-Err : goal.returns-in-Err
-returns-in-Err g c =
-    let at = (goal.at.returns-in-Err g c).After-steps-steps in
+pub returns-in-Err-clause-stepped : goal.returns-in-Err-clause-stepped
+returns-in-Err-clause-stepped g c =
+    let at = (goal.at.returns-in-Err-clause-stepped g c).After-steps-steps in
     loss_stopped c.args.n c.in-Err.fault (served g at (Err c.in-Err.fault) c.in-Err.is) (some g at) (other g at) c.stopped.result
     (subst (λ n. IsFaultAnswered c.call-done.new.self.ledger.exhibit None c.in-Err.fault n c.stopped.result) c.steps-steps.ensures c.stopped.ensures)

@@ -9,6 +9,8 @@ use Rattle.pmem_recovery.specs.Parts.{suite_state}
 use Rattle.pmem_replay.specs.World.{WorldParts, WorldState, IsWorld, world_of}
 use Rattle.watched_board.specs.Watching.{none_taken, device_during, IsWatched}
 use Rattle.pmem_replay.specs.During.{WasRecovered}
+use Rattle.access_log.specs.Traced.{traced_of}
+use Rattle.access_log.proofs.TraceLemmas.{goes_on-between}
 use Rattle.pmem_replay.proofs.Power.OnLaws.{lit}
 use Rattle.pmem_replay.proofs.Power.RecoveryCalls.{RecoveryCall, none_there}
 use Rattle.pmem_replay.proofs.Power.OnSteps.{on-recovered, on-cut, on-counter, on-root, on-twin, on-memory}
@@ -139,3 +141,24 @@ returns-in-Err-Memory-clause-wanting g c =
     let setup = setup_in g.S.Suite.formulas_of (shape_of c.self.inside.geo) (p g place) in
     subst (λ (w : WorldState). w.state.power ≡ false) c.self.view_is
     (dark_in setup (world_of setup (p g place)) (call g place).served.going.whole (call g place).served.was_off)
+
+pub returns-in-Err-NoCounter-clause-logged : goal.returns-in-Err-NoCounter-clause-logged
+returns-in-Err-NoCounter-clause-logged g c =
+    goes_on-between c.args.log.now c.recover-done.new.log c.args.self.now.board (memory_of c.power.new.self) (memory_of c.recover-done.new.board)
+    (memory_of c.rest-in-Err-NoCounter.new.self)
+    (ap traced_of c.power.ensures ∙ ap (λ (w : WorldState). traced_of w.board) c.self.view_is) (ap traced_of c.rest-in-Err-NoCounter.ensures)
+    c.recover-done.ensures.logged
+
+pub returns-in-Err-Root-clause-logged : goal.returns-in-Err-Root-clause-logged
+returns-in-Err-Root-clause-logged g c =
+    goes_on-between c.args.log.now c.recover-done.new.log c.args.self.now.board (memory_of c.power.new.self) (memory_of c.recover-done.new.board)
+    (memory_of c.rest-in-Err-Root.new.self)
+    (ap traced_of c.power.ensures ∙ ap (λ (w : WorldState). traced_of w.board) c.self.view_is) (ap traced_of c.rest-in-Err-Root.ensures)
+    c.recover-done.ensures.logged
+
+pub returns-in-Err-Twin-clause-logged : goal.returns-in-Err-Twin-clause-logged
+returns-in-Err-Twin-clause-logged g c =
+    goes_on-between c.args.log.now c.recover-done.new.log c.args.self.now.board (memory_of c.power.new.self) (memory_of c.recover-done.new.board)
+    (memory_of c.rest-in-Err-Twin.new.self)
+    (ap traced_of c.power.ensures ∙ ap (λ (w : WorldState). traced_of w.board) c.self.view_is) (ap traced_of c.rest-in-Err-Twin.ensures)
+    c.recover-done.ensures.logged

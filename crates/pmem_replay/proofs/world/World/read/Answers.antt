@@ -28,7 +28,7 @@ module _ (g : Over) (c : After-steps-steps g) where
   abbrev served : (answer : Result Line Fault) → c.call-done.result.answer ≡ answer → Serving (ReadsLine c.args.at) None answer
   served answer is =
       serving setup c.args.self.now c.call-done.result.taken c.call-done.new.self
-      (subst (λ (r : Result Line Fault). WasCalled setup (ReadsLine c.args.at) None c.args.self.now c.call-done.result.taken r c.call-done.new.self) is c.call-done.ensures)
+      (subst (λ (r : Result Line Fault). WasCalled setup (ReadsLine c.args.at) None c.args.self.now c.call-done.result.taken r c.call-done.new.self) is c.call-done.ensures.called)
 
   within : c.args.at < layout.data_lines setup.shape
   within = omega (arith, c.if-at-from.false, c.from.ensures, c.lines.ensures)
@@ -37,8 +37,8 @@ module _ (g : Over) (c : After-steps-steps g) where
   uncovered = uncovered_by c.args.self.now.state c.args.port c.args.at c.look-seen.result.mask c.look-seen.ensures.full c.if-seen.false
 
 -- all bytes are waiting ones
-pub returns-then-seen : goal.returns-then-seen
-returns-then-seen g c =
+pub returns-then-seen-clause-stepped : goal.returns-then-seen-clause-stepped
+returns-then-seen-clause-stepped g c =
     let setup = setup_of_world g.S.Suite.formulas_of c.args.self.now in
     let found = some_engine c.args.self.now.engine (search (rules, c.is_on.ensures, c.if-not-is_on.false)) in
     read-forwarded setup c.args.self.now (record { whole = c.holds.ensures; unshown = c.requires.shown }) found.0 found.1 c.args.port c.args.at c.requires.port
@@ -51,15 +51,15 @@ stopped-requires g c =
     let at = (goal.at.stopped-requires g c).After-steps-steps in
     can_stop c.in-Err.fault (served g at (Err c.in-Err.fault) c.in-Err.is).called
 
-pub returns-in-Ok : goal.returns-in-Ok
-returns-in-Ok g c =
-    let at = (goal.at.returns-in-Ok g c).After-steps-steps in
+pub returns-in-Ok-clause-stepped : goal.returns-in-Ok-clause-stepped
+returns-in-Ok-clause-stepped g c =
+    let at = (goal.at.returns-in-Ok-clause-stepped g c).After-steps-steps in
     subst (λ n. HasStepped (setup g at) c.args.self.now (Do.Read c.args.port c.args.at) (without_marks (Say.Got c.overlay.result n)) c.call-done.new.self) (sym c.steps-steps.ensures)
     (read_got c.args.port c.args.at c.in-Ok.line c.overlay.result (served g at (Ok c.in-Ok.line) c.in-Ok.is) (within g at) (uncovered g at)
     (c.overlay.ensures.value ∙ c.look-seen.ensures.over c.in-Ok.line c.is_whole-in-Ok.ensures.long) c.overlay.ensures.whole)
 
-pub returns-in-Err : goal.returns-in-Err
-returns-in-Err g c =
-    let at = (goal.at.returns-in-Err g c).After-steps-steps in
+pub returns-in-Err-clause-stepped : goal.returns-in-Err-clause-stepped
+returns-in-Err-clause-stepped g c =
+    let at = (goal.at.returns-in-Err-clause-stepped g c).After-steps-steps in
     read_stopped c.args.port c.args.at c.in-Err.fault (served g at (Err c.in-Err.fault) c.in-Err.is) (within g at) (uncovered g at) c.stopped.result
     (subst (λ n. IsFaultAnswered c.call-done.new.self.ledger.exhibit None c.in-Err.fault n c.stopped.result) c.steps-steps.ensures c.stopped.ensures)

@@ -25,7 +25,7 @@ module _ (g : Over) (c : After-steps-steps g) where
   served answer is =
       serving_roomy TurnsPage None answer g.S.Suite.formulas_of c.args.self.now c.make_room.new.self 1 c.in_ok-make_room.ensures.ok c.call-done.result.taken c.call-done.new.self
       (subst (λ (r : Result (Option (ℕ × ℕ)) Fault). WasCalled (setup_of_world g.S.Suite.formulas_of c.make_room.new.self) TurnsPage None c.make_room.new.self c.call-done.result.taken r c.call-done.new.self)
-      is c.call-done.ensures)
+      is c.call-done.ensures.called)
 
 pub returns-in-Ok-None-clause-stepped : goal.returns-in-Ok-None-clause-stepped
 returns-in-Ok-None-clause-stepped g c =
