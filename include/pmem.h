@@ -11,10 +11,11 @@
  *     pmem_close(&memory);
  *
  * Three layers. `pmem_answer` is the proved program as one call: for all bytes that it may be given it is safe, ends, and answers as the
- * program does. A session, from `pmem_open` to `pmem_close`, is C over it: it keeps the lines that it was told, and a line is answered by a
- * run of them all, so a call takes as long as the run so far (about 1 ms, and what the lines before it took). The typed calls are inline C over
- * `pmem_tell`: they spell a command as a line, and read its answer from the text. docs/LIBRARY.md tells what is proved, and how to link;
- * docs/FORMATS.md and docs/MACHINE.md what commands and answers mean.
+ * program does. A session, from `pmem_open` to `pmem_close`, answers lines one by one. What opens it, answers a line, keeps the reply and
+ * closes it is proved: the reply is the one that the program's own world or session gives, and the state after is the state before with
+ * that line answered. A little C around it reads the words of a session, and keeps the lines, for copies. The typed calls are inline C over
+ * `pmem_tell`: they spell a command as a line, and read its answer from the text. docs/LIBRARY.md tells what is proved, what a call costs,
+ * and how to link; docs/FORMATS.md and docs/MACHINE.md what commands and answers mean.
  *
  * Pointers and lengths. Each pointer is to as many bytes as the length behind it says; where that is 0, the pointer isn't used, and may
  * be NULL. Blocks given to one call must not overlap. No call keeps a pointer, but for what a handle owns.
@@ -44,10 +45,10 @@ typedef enum pmem_status {
     PMEM_OK = 0,             /* done; of pmem_answer: the trace was read to its end, or the exhibit holds */
     PMEM_NO_MEMORY = 1,      /* memory could not be had; nothing was done, and the handle is as it was */
     PMEM_BAD_WORDS = 2,      /* the words break their rules, or aren't UTF-8, or name no session */
-    PMEM_REPLY_LOST = 4,     /* pmem_answer: memory could not be had for all that was to be written */
+    PMEM_REPLY_LOST = 4,     /* memory could not be had for the text of a reply, or of pmem_answer for all of it */
     PMEM_BAD_LINE = 5,       /* pmem_answer: a line isn't in the grammar */
     PMEM_SHOWN = 6,          /* the answer is an exhibit, the evidence of a break, and ends the session */
-    PMEM_TOO_MANY_LINES = 7, /* there are more than 1,000,000 lines */
+    PMEM_TOO_MANY_LINES = 7, /* pmem_answer: there are more than 1,000,000 lines */
     PMEM_HOLDS_NOT = 8,      /* pmem_answer: the exhibit to be checked doesn't hold */
 
     /* pmem_tell: the line isn't in the grammar; nothing was done, and the session goes on */
@@ -61,7 +62,8 @@ typedef enum pmem_status {
     /* a handle used wrongly; nothing was done */
     PMEM_NOT_OPEN = 64,      /* the handle is closed */
     PMEM_IS_OPEN = 65,       /* the handle is open already */
-    PMEM_OVER = 66           /* an exhibit ended the session; it can only be closed */
+    PMEM_OVER = 66,          /* an exhibit ended the session; it can only be copied or closed */
+    PMEM_FORGOTTEN = 67      /* pmem_copy: the session's lines were forgotten */
 } pmem_status;
 
 /* ---- the program as one call */
@@ -100,19 +102,26 @@ uint8_t pmem_open(pmem *handle, const uint8_t *words, size_t words_len);
  *           on a line, and then its answer, each line with its LF; exactly what the program writes for this line. A blank line or a
  *           comment has no reply.
  *   whole   how many bytes the reply has.
- * PMEM_OK: the line was answered, or skipped. PMEM_SHOWN: the reply ends with an exhibit, and the session is over. PMEM_NO_MEMORY,
- * PMEM_TOO_MANY_LINES (1,000,000 commands were answered), PMEM_LINE_WORD to PMEM_LINE_LONG, PMEM_NOT_OPEN, PMEM_OVER: nothing was done,
- * and `whole` is 0. */
+ * PMEM_OK: the line was answered, or skipped. PMEM_SHOWN: the reply ends with an exhibit, and the session is over. PMEM_REPLY_LOST: the
+ * line was answered, but there was no memory for the text of the reply; the session goes on, or is over where the answer was an exhibit.
+ * PMEM_NO_MEMORY, PMEM_LINE_WORD to PMEM_LINE_LONG, PMEM_NOT_OPEN, PMEM_OVER: nothing was done. At all but the first two `whole` is 0.
+ * A session has no greatest number of lines, as a trace of the program has. It keeps the marks of its writes, and the lines that it
+ * answered, as they were told. */
 uint8_t pmem_tell(pmem *handle, const uint8_t *line, size_t line_len, uint8_t *out, size_t room, size_t *whole);
 
 /* Gives the kept reply again, from its byte `from` on: as many bytes as there is room for. Bytes after those stay. Returns how many bytes
  * all of it has; 0 where there is none, or the handle is closed. */
 size_t pmem_reply(pmem *handle, size_t from, uint8_t *out, size_t room);
 
-/* Copies an open session into a closed handle: a step back for whoever tries something on the copy. The two go on by themselves.
+/* Copies an open session into a closed handle: a step back for whoever tries something on the copy. The two go on by themselves. The copy
+ * is told all lines again, so it takes as long as the run so far.
  * PMEM_OK: the copy is open, and stands where the session stands. PMEM_NOT_OPEN: there is no session. PMEM_IS_OPEN: the copy's handle was open.
- * PMEM_NO_MEMORY. In the last three the copy's handle is as it was. */
+ * PMEM_FORGOTTEN: the session's lines were forgotten. PMEM_NO_MEMORY. In the last four the copy's handle is as it was. */
 uint8_t pmem_copy(const pmem *handle, pmem *copy);
+
+/* Forgets the lines that the session answered, and keeps none from here on: for a long run, of which no copy is wanted.
+ * PMEM_OK: it can't be copied any more. PMEM_NOT_OPEN. */
+uint8_t pmem_forget(pmem *handle);
 
 /* Closes a handle, and gives its memory back. PMEM_OK: it was open. PMEM_NOT_OPEN: it was closed. It is closed after. */
 uint8_t pmem_close(pmem *handle);

@@ -18,7 +18,7 @@ from .errors import (
 )
 from .grammar import MOST_NUMBER, MOST_PORT, WORD, fault_of, is_skipped, words_of
 from .traces import Trace, check, code, suite_words, table
-from .ways import BAD_WORDS, FAULT, NO_MEMORY, OK, SHOWN, TOO_MANY_LINES, Channel, Through, way_of
+from .ways import BAD_WORDS, FAULT, NO_MEMORY, OK, REPLY_LOST, SHOWN, TOO_MANY_LINES, Channel, Through, way_of
 
 Bytes = Union[bytes, bytearray, memoryview]
 A = TypeVar("A", bound=Answer)
@@ -179,6 +179,8 @@ class Session:
             return LineFault(status - FAULT)
         if status == NO_MEMORY:
             return NoMemory("no memory for this command")
+        if status == REPLY_LOST:
+            return ProgramFailed("the command was done, but there was no memory for the text of its reply")
         if status == TOO_MANY_LINES:
             return TooManyLines("a session has at most 1,000,000 commands")
         if status == BAD_WORDS:

@@ -12,7 +12,7 @@ from typing import List, Optional, Sequence, Tuple, Union
 from .errors import BadWords, NoMemory, NotFound, ProgramFailed
 
 # Statuses: 0 to 8 are the program's; from 51 on those of a line that a session doesn't take, as include/pmem.h has them.
-OK, NO_MEMORY, BAD_WORDS, SHOWN, TOO_MANY_LINES, FAULT = 0, 1, 2, 6, 7, 50
+OK, NO_MEMORY, BAD_WORDS, REPLY_LOST, SHOWN, TOO_MANY_LINES, FAULT = 0, 1, 2, 4, 6, 7, 50
 MOST_LINES = 1_000_000
 CHECKOUT = Path(__file__).resolve().parents[2]
 EXHIBITS = (b"clash ", b"forged ", b"twin ")
@@ -207,25 +207,25 @@ class Program(Way):
         return ProgramChannel(self, words)
 
 
-def _is_built(program: Path, top: Path) -> bool:
-    """Whether a checkout's program is built from its sources as they stand, by the rule of its ./pmem: nothing of them is newer."""
-    if not os.access(program, os.X_OK):
+def _is_built(path: Path, top: Path) -> bool:
+    """Whether a checkout's program or library is built from its sources as they stand, by the rule of its ./pmem: nothing of them is newer."""
+    if not os.access(path, os.X_OK):
         return False
-    built = program.stat().st_mtime
+    built = path.stat().st_mtime
     folders = [folder for name in ("src", "specs", "proofs") for folder in top.glob(f"crates/*/{name}")]
     return all(path.stat().st_mtime <= built for folder in folders for path in (folder, *folder.rglob("*")))
 
 
 @lru_cache(maxsize=None)
-def _checkout_program(top: Path) -> Optional[str]:
-    """The program of a checkout, where it is built. A call from Python begins no proof of twenty minutes: ./pmem does."""
-    program = top / "crates" / "pmem" / "out" / "pmem"
-    return str(program) if (top / "crates.txt").exists() and _is_built(program, top) else None
+def _checkout_file(top: Path, *names: str) -> Optional[str]:
+    """A file of a checkout, where it is built. A call from Python begins no proof of twenty minutes: ./pmem and tools/library do."""
+    path = top.joinpath(*names)
+    return str(path) if (top / "crates.txt").exists() and _is_built(path, top) else None
 
 
 def find_program() -> Optional[str]:
     """The program: PMEM_PROGRAM, else `pmem` on the PATH, else the checkout's, where it is built from the sources as they stand."""
-    return os.environ.get("PMEM_PROGRAM") or shutil.which("pmem") or _checkout_program(CHECKOUT)
+    return os.environ.get("PMEM_PROGRAM") or shutil.which("pmem") or _checkout_file(CHECKOUT, "crates", "pmem", "out", "pmem")
 
 
 # ---- the library
@@ -327,21 +327,21 @@ class Library(Way):
 
 
 def find_library() -> Optional[str]:
-    """The library: the file PMEM_LIBRARY, or `libpmem.so` in that folder; else out/libpmem.so of the checkout. No place of the system is
-    searched: the library of another project has the same name."""
+    """The library: the file PMEM_LIBRARY, or `libpmem.so` in that folder; else out/libpmem.so of the checkout, where it is built from the
+    sources as they stand. No place of the system is searched: the library of another project has the same name."""
     given = os.environ.get("PMEM_LIBRARY")
-    path = Path(given) if given else CHECKOUT / "out"
-    if path.is_dir():
-        path = path / "libpmem.so"
-    return str(path) if path.exists() or given else None
+    if given:
+        path = Path(given)
+        return str(path / "libpmem.so" if path.is_dir() else path)
+    return _checkout_file(CHECKOUT, "out", "libpmem.so")
 
 
 Through = Union[None, str, Way]
 
 
 def way_of(through: Through = None) -> Way:
-    """The way that is asked for: `program`, `library`, or one that is there already. Where none is asked for it is the program, whose
-    session takes the same time for each line; else the library.
+    """The way that is asked for: `program`, `library`, or one that is there already. Where none is asked for it is the library, whose calls stay in
+    this process; but the program where PMEM_PROGRAM names one and PMEM_LIBRARY names none, or where the library isn't there.
 
     Raises:
         NotFound: what is asked for isn't there.
@@ -351,14 +351,12 @@ def way_of(through: Through = None) -> Way:
         return through
     if through not in (None, "program", "library"):
         raise ValueError(f"through is program or library, not {through!r}")
-    if through != "library":
-        program = find_program()
-        if program:
-            return Program(program)
-    if through != "program":
-        library = find_library()
-        if library:
-            return Library(library)
+    library = find_library() if through != "program" else None
+    program = find_program() if through != "library" else None
+    if library and not (program and os.environ.get("PMEM_PROGRAM") and not os.environ.get("PMEM_LIBRARY")):
+        return Library(library)
+    if program:
+        return Program(program)
     what = {"program": "the program isn't there", "library": "the library isn't there"}.get(through or "", "neither the program nor the library is there")
     raise NotFound(f"{what}: set PMEM_PROGRAM to the program pmem, put it on the PATH, or set PMEM_LIBRARY to the folder of libpmem.so; in a "
                    "checkout ./pmem proves and builds the one, and tools/library the other")

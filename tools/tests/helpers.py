@@ -5,6 +5,7 @@ import subprocess
 import sys
 import tempfile
 import unittest
+from functools import lru_cache
 from pathlib import Path
 from typing import Any, List, Optional
 
@@ -23,6 +24,22 @@ TWIN = f"post 0 0 {ONES}\ncut 5\ndrain 0\non\n"
 def program_path() -> str:
     """The program that the tests ask."""
     return os.environ.get("PMEM_PROGRAM") or str(TOOLS.parent / "pmem")
+
+
+@lru_cache(maxsize=None)
+def library_folder() -> Path:
+    """The folder of libpmem.a and libpmem.so: PMEM_LIBRARY, else out/, where tools/library makes them of what is proved. Where that, a
+    compiler or the toolchain is missing, the tests that ask are skipped."""
+    given = os.environ.get("PMEM_LIBRARY")
+    if given:
+        return Path(given)
+    made = subprocess.run([str(TOOLS / "library"), "--of-proved"], stdin=subprocess.DEVNULL, stdout=subprocess.PIPE, stderr=subprocess.PIPE,
+                          universal_newlines=True, check=False)
+    if made.returncode in (126, 127):
+        raise unittest.SkipTest(made.stderr.strip())
+    if made.returncode:
+        raise AssertionError(made.stderr)
+    return TOOLS.parent / "out"
 
 
 class ExploreTest(unittest.TestCase):
@@ -50,6 +67,15 @@ class ExploreTest(unittest.TestCase):
     def script(self, name: str, text: str) -> str:
         """Writes a program in Python."""
         path = self.file(name, f"#!{sys.executable}\n{text}")
+        os.chmod(path, 0o755)
+        return path
+
+    def older_program(self) -> str:
+        """The program as it was before it had `--log`."""
+        path = self.file("older", f"""#!/bin/sh
+for word in "$@"; do if [ "$word" = --log ]; then echo "stop words"; exit 2; fi; done
+exec '{os.path.abspath(program_path())}' "$@"
+""")
         os.chmod(path, 0o755)
         return path
 

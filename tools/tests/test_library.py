@@ -1,19 +1,21 @@
 """The library: the header, what the program answers through C, wrong use, random calls, refused memory, and the examples.
 
-They use the libraries that PMEM_LIBRARY's folder has, else those that tools/library made in out/. They prove nothing: where there are none,
-these tests are skipped, since the gate leaves no static library."""
+They use the libraries that PMEM_LIBRARY's folder has, else those that tools/library makes in out/ of what is proved: the gate leaves all below
+them proved. Where that isn't so, or no compiler is there, these tests are skipped."""
 import os
+import random
 import shutil
 import subprocess
 import unittest
 from pathlib import Path
 from typing import Dict, List, Optional, Tuple
 
-from .helpers import EXAMPLES, TOOLS, ExploreTest, lesson_words, program_path
+from .helpers import EXAMPLES, TOOLS, ExploreTest, lesson_words, library_folder, program_path
 from .test_outputs import SESSIONS, WORDS, read_session
 
 TOP = TOOLS.parent
 HEADER = TOP / "include"
+C_OF_LIBRARY = sorted(str(path) for path in (TOP / "library").glob("*.c"))
 SOURCES = Path(__file__).resolve().parent / "library"
 STRICT = ["-Wall", "-Wextra", "-Wpedantic", "-Wconversion", "-Wshadow", "-Werror"]
 C, CPP = ["-std=c11"], ["-std=c++17"]
@@ -73,23 +75,21 @@ class HeaderTest(ExploreTest):
 @unittest.skipUnless(compiler_of("gcc", "clang"), "neither gcc nor clang is there")
 class LibraryTest(ExploreTest):
     folder: Path
+    sanitized = ("-fsanitize=address,undefined", "-fno-sanitize-recover=all")
 
     @classmethod
     def setUpClass(cls) -> None:
-        given = os.environ.get("PMEM_LIBRARY")
-        cls.folder = Path(given or TOP / "out")
-        if given:
-            return
-        if not (cls.folder / "libpmem.a").exists():
-            raise unittest.SkipTest("no library is built (tools/library proves and builds it)")
+        cls.folder = library_folder()
 
     def built(self, source: Path, *options: str, shared: bool = False) -> str:
-        """A program of this source, linked with the library."""
+        """A program of this source, linked with the library. Under a sanitizer the C of the library is built with it too."""
         is_cpp = source.suffix == ".cc"
         compiler = compiler_of("g++", "clang++") if is_cpp else compiler_of("gcc", "clang")
         if not compiler:
             self.skipTest("no compiler of C++ is there")
         library = [f"-L{self.folder}", f"-Wl,-rpath,{self.folder}", "-lpmem"] if shared else [str(self.folder / "libpmem.a")]
+        if options:
+            library = C_OF_LIBRARY + library
         program = self.path(source.stem)
         subprocess.run([compiler, *(CPP if is_cpp else C), *STRICT, "-O1", "-g", *options, f"-I{HEADER}", str(source), "-o", program, *library],
                        check=True)
@@ -108,11 +108,31 @@ class LibraryTest(ExploreTest):
         found = cases()
         self.assertGreater(len(found), 60)
         for name, (words, given) in found.items():
-            # Told line by line, a trace costs the square of its lines, so a session gets the first hundred.
-            front = b"".join(given.splitlines(True)[:100])
-            for how, trace in (("answer", given), ("tell", front)):
+            for how in ("answer", "tell"):
                 with self.subTest(name, how=how):
-                    self.assertEqual(output_of([static, how, *words], trace), output_of([program_path(), *words], trace))
+                    self.assertEqual(output_of([static, how, *words], given), output_of([program_path(), *words], given))
+
+    def test_words(self) -> None:
+        """A session opens exactly on the words that the program takes."""
+        static = self.built(SOURCES / "program.c", *self.sanitized)
+        chance, taken = random.Random(7), 0
+        values = {"levels": ("1", "2", "0", "7", "002"), "sets": ("1", "64", "65", "256", ""), "ways": ("8", "9", "1x", "01"),
+                  "loss": ("1", "2", "4", "8", "16", "3", "260"), "major": ("0", str(2**64 - 1), str(2**64), "9" * 21, "-1"),
+                  "suite": ("weak", "blur", "aes", "Weak", ""), "key": ("0f" * 16, "0F" * 16, "0f" * 15, "0g" * 16),
+                  "tag-key": ("aB", "0" * 128, "a", "", "0" * 130), "every": ("1", "1000000", "1000001", "0", str(2**32)), "nothing": ("1",)}
+        strange: List[List[str]] = [[], ["Run"], ["ru"], ["", "run"]]
+        for _ in range(400):
+            words = [chance.choice(("run", "wear", "txn", "tree"))] if chance.randrange(40) else [*chance.choice(strange)]
+            for name in chance.sample(list(values), chance.randrange(4)):
+                value = chance.choice(values[name][:2]) if chance.randrange(4) else chance.choice(values[name])
+                words += [f"--{name}={value}"] if chance.randrange(2) else [f"--{name}", value]
+            if chance.randrange(20) == 0:
+                words += chance.choice((words[-1:], ["--suite"], ["-"], ["--"], ["suite", "weak"], ["--suite==weak"], ["\u00e9"], words[-2:]))
+            due = output_of([program_path(), *words])
+            taken += due[0] == 0
+            self.assertEqual(output_of([static, "tell", *words]), due, words)
+        self.assertGreater(taken, 100)
+        self.assertLess(taken, 300)
 
     def test_shared_library(self) -> None:
         shared = self.built(SOURCES / "program.c", shared=True)
@@ -120,23 +140,23 @@ class LibraryTest(ExploreTest):
         for how in ("answer", "tell"):
             self.assertEqual(output_of([shared, how, "run"], trace), (0, (EXAMPLES / "power_cut.out").read_bytes()))
         names = self.runs(["nm", "-D", "--defined-only", str(self.folder / "libpmem.so")]).split()[2::3]
-        self.assertEqual(sorted(names), ["pmem_answer", "pmem_close", "pmem_copy", "pmem_open", "pmem_reply", "pmem_tell"])
+        self.assertEqual(sorted(names), ["pmem_answer", "pmem_close", "pmem_copy", "pmem_forget", "pmem_open", "pmem_reply", "pmem_tell"])
 
     def test_typed_calls(self) -> None:
         self.assertEqual(self.runs([self.built(SOURCES / "typed.c")]), "")
 
     def test_wrong_use(self) -> None:
-        self.assertEqual(self.runs([self.built(SOURCES / "misuse.c")]), "")
+        self.assertEqual(self.runs([self.built(SOURCES / "misuse.c", *self.sanitized)]), "")
 
     def test_random_calls(self) -> None:
         """No call leaves its blocks, gives memory back twice, or keeps it."""
-        program = self.built(SOURCES / "random_calls.c", "-fsanitize=address,undefined", "-fno-sanitize-recover=all")
+        program = self.built(SOURCES / "random_calls.c", *self.sanitized)
         said = self.runs([program, "100000", "7"])
         for status in (0, 6, 51, 52, 53, 54, 55, 56, 64, 66):
             self.assertIn(f"status {status}: ", said)
 
     def test_refused_memory(self) -> None:
-        said = self.runs([self.built(SOURCES / "growths.c", "-fsanitize=address,undefined", "-fno-sanitize-recover=all")])
+        said = self.runs([self.built(SOURCES / "growths.c", *self.sanitized)])
         self.assertEqual(len(said.splitlines()), 2, said)
 
     def test_store(self) -> None:
@@ -165,7 +185,7 @@ class ScriptTest(ExploreTest):
         self.assertEqual(self.script_says(["--where"]), (0, f"{TOP / 'out'}\n", ""))
         status, said, why = self.script_says(["now"])
         self.assertEqual((status, said), (2, ""))
-        self.assertIn("unknown word: now", why)
+        self.assertIn("unknown words: now", why)
 
     def test_no_compiler(self) -> None:
         for name in ("dirname", "readlink", "bash"):

@@ -1,5 +1,5 @@
-"""The Python package, by the program and, where it is built, by the library: outputs byte for byte, typed calls, copies, wrong use,
-random calls."""
+"""The Python package, by the program and, where it can be built of what is proved, by the library: outputs byte for byte, typed calls,
+copies, wrong use, random calls."""
 import ast
 import copy
 import doctest
@@ -18,7 +18,7 @@ from pathlib import Path
 from typing import Any, Callable, Dict, Iterator, List, Optional, Tuple
 from unittest import mock
 
-from .helpers import EXAMPLES, FORGED, TOOLS, ExploreTest, lesson_words, program_path
+from .helpers import EXAMPLES, FORGED, TOOLS, ExploreTest, lesson_words, library_folder, program_path
 from .test_outputs import SESSIONS, WORDS, read_session
 
 TOP = TOOLS.parent
@@ -76,9 +76,7 @@ class WayTest:
     """What both ways have to pass. `by` is the way."""
 
     by: ways.Way
-    longest: int
-    random_calls: int
-    longest_random: int
+    random_calls, longest_random = 100_000, 200
 
     def controller(self, **options: Any) -> pmem.Controller:
         controller = pmem.Controller(through=self.by, **options)
@@ -94,8 +92,6 @@ class WayTest:
                 self.assertEqual((whole.status, whole.data), (status, output))
                 self.assertEqual("".join(answer.reply for answer in whole.answers), whole.text)
                 count += 1
-                if given.count(b"\n") > self.longest:
-                    continue
                 with opened(words, self.by) as session:
                     told = [session.tell(line) for line in pmem.Trace(given).lines]
                     self.assertEqual("".join(answer.reply for answer in told if answer), output.decode())
@@ -298,6 +294,19 @@ class WayTest:
         self.assertEqual((wrong, len(controller.trace.commands)), ([], 4 * 17))
         self.assertEqual([controller.read(7, 8 * port).data[0] for port in range(4)], [0, 1, 2, 3])
 
+    def test_fork(self: Any) -> None:
+        """A forked process has the session too, and the two go on by themselves."""
+        with pmem.Controller(through=self.by) as controller:
+            controller.post(0, 0, ONES)
+            child = os.fork()
+            if child == 0:
+                try:
+                    os._exit(controller.drain(0).steps)
+                finally:
+                    os._exit(1)
+            self.assertEqual(os.waitpid(child, 0)[1] >> 8, 7)
+            self.assertEqual(controller.drain(0).steps, 7)
+
     def test_random_calls(self: Any) -> None:
         """Each random session answers line by line what one run of its trace answers; lines that aren't in the grammar leave nothing
         behind."""
@@ -334,8 +343,6 @@ def random_line(chance: random.Random, session: str) -> str:
 
 
 class ProgramTest(WayTest, unittest.TestCase):
-    longest, random_calls, longest_random = 5000, 100_000, 200
-
     @classmethod
     def setUpClass(cls) -> None:
         cls.by = ways.Program(os.environ["PMEM_PROGRAM"])
@@ -351,19 +358,6 @@ class ProgramTest(WayTest, unittest.TestCase):
                 controller.stat()
             self.assertEqual(controller.drain(0).steps, 7)
             self.assertEqual(len(controller.trace.commands), 2)
-
-    def test_fork(self) -> None:
-        """A forked process has the session too, by a child of its own."""
-        with pmem.Controller(through=self.by) as controller:
-            controller.post(0, 0, ONES)
-            child = os.fork()
-            if child == 0:
-                try:
-                    os._exit(controller.drain(0).steps)
-                finally:
-                    os._exit(1)
-            self.assertEqual(os.waitpid(child, 0)[1] >> 8, 7)
-            self.assertEqual(controller.drain(0).steps, 7)
 
     def test_children_end(self) -> None:
         """A session that is left without being closed ends its child."""
@@ -382,16 +376,19 @@ class ProgramTest(WayTest, unittest.TestCase):
 
 
 class LibraryTest(WayTest, unittest.TestCase):
-    """A line is answered by a run of all lines so far, so sessions are short here."""
-
-    longest, random_calls, longest_random = 60, 500, 60
-
     @classmethod
     def setUpClass(cls) -> None:
-        path = ways.find_library()
-        if path is None:
-            raise unittest.SkipTest("no library is built")
-        cls.by = ways.Library(path)
+        cls.by = ways.Library(library_folder() / "libpmem.so")
+
+    def test_faults_of_lines(self) -> None:
+        """What the library answers to lines that the package itself refuses before they are told."""
+        channel = self.by.open(["run", "--suite", "weak"])
+        told = [channel.tell(line) for line in (b"STAT", b"read 0", b"read x 0", b"read 9 0", b"poke 0 0", b"x" * 1025, b"stat\n", b" # stat", b"")]
+        self.assertEqual(told, [(status, b"") for status in (51, 52, 53, 54, 55, 56, 51, 0, 0)])
+        self.assertEqual(channel.tell(b"stat"), (0, b"stat 0 0 0 0 0\n"))
+        channel.close()
+        channel.close()
+        self.assertEqual(channel.tell(b"stat"), (64, b""))
 
 
 class ChildTest(ExploreTest):
@@ -431,20 +428,32 @@ class ChildTest(ExploreTest):
         self.assertIn("NotFound: neither the program nor the library is there: set PMEM_PROGRAM", ended.stderr)
 
     def test_places(self) -> None:
-        """The program of a checkout is taken where it is built from the sources as they stand."""
-        program = self.directory / "crates" / "pmem" / "out" / "pmem"
+        """The program and the library of a checkout are taken where they are built from the sources as they stand."""
+        program, library = ("crates", "pmem", "out", "pmem"), ("out", "libpmem.so")
         source = self.directory / "crates" / "pmem" / "src" / "main.rt"
-        for path in (program, source):
+        self.file("crates.txt", "")
+        for path in (source, *(self.directory.joinpath(*names) for names in (program, library))):
             path.parent.mkdir(parents=True, exist_ok=True)
             path.write_text("")
-        self.file("crates.txt", "")
-        program.chmod(0o755)
-        os.utime(program, (2e9, 2e9))
-        self.assertEqual(ways._checkout_program.__wrapped__(self.directory), str(program))
-        os.utime(source, (2.1e9, 2.1e9))
-        self.assertIsNone(ways._checkout_program.__wrapped__(self.directory))
+            path.chmod(0o755)
+        for names in (program, library):
+            path = self.directory.joinpath(*names)
+            os.utime(path, (2e9, 2e9))
+            os.utime(source, (1.9e9, 1.9e9))
+            self.assertEqual(ways._checkout_file.__wrapped__(self.directory, *names), str(path))
+            os.utime(source, (2.1e9, 2.1e9))
+            self.assertIsNone(ways._checkout_file.__wrapped__(self.directory, *names))
         with mock.patch.dict(os.environ, {"PMEM_PROGRAM": "here", "PMEM_LIBRARY": str(self.directory)}):
             self.assertEqual((ways.find_program(), ways.find_library()), ("here", str(self.directory / "libpmem.so")))
+
+    def test_which_way(self) -> None:
+        """The library comes first, unless the program alone is named."""
+        with mock.patch.object(ways, "Library", lambda path: ("library", path)), mock.patch.object(ways, "Program", lambda path: ("program", path)):
+            for library, program, due_way in (("l", "p", "library"), ("", "p", "program"), ("l", "", "library")):
+                with mock.patch.dict(os.environ, {"PMEM_LIBRARY": library, "PMEM_PROGRAM": program}):
+                    self.assertEqual(pmem.way_of()[0], due_way)  # type: ignore[index]
+                    if program:
+                        self.assertEqual(pmem.way_of("program"), ("program", "p"))
 
 
 class TextTest(unittest.TestCase):

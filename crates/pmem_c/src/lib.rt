@@ -1,16 +1,32 @@
-//! The controller behind C: the whole program as one call.
+//! The controller behind C: the whole program as one call, and sessions behind handles that answer lines one by one.
 #![tactic(auto)]
 
 mod answering;
 mod ends;
+mod handle;
+mod opening;
+mod session;
 mod words;
 
-ghost use Rattle.std.specs.Prelude.{◌≡◌, ℕ, List, length};
+ghost use Rattle.std.specs.Prelude.{◌≡◌, ℕ, List, drop, length};
 ghost use Rattle.pmem_c.specs.Answered.{IsAnswer, IsCopied};
+ghost use Rattle.pmem_c.specs.Sessions.{IsHandle, HasOpened, HasToldHeld, HasClosed, reply_held};
 
 use crate::answering::{answer, copy_out};
 use crate::ends::HeapSink;
+use crate::handle::Handle;
+use crate::opening::boxed_session;
+use loose::Loose;
 use std::alloc::Global;
+use std::mem;
+
+/// A handle as C has it: open exactly where it holds a session.
+#[repr(C)]
+#[derive(Drop)]
+pub struct Pmem {
+    is_open: bool,
+    handle: Handle,
+}
 
 /// Runs the whole program over the words and the trace. Puts as much of what it says as there is room for, and how
 /// long all of it is, and gives the status.
@@ -29,4 +45,118 @@ pub extern "C" fn pmem_answer(
     copy_out(sink.bytes(), out);
     *whole = sink.bytes().len();
     status
+}
+
+/// Opens a closed handle on a new session: its kind is 0 `run`, 1 `wear`, 2 `txn` or 3 `tree`, its suite 0 `aes`,
+/// 1 `weak` or 2 `blur`, and the other numbers are those of the options. Gives a status: 0 where it is open now, 1
+/// where there was no memory, 2 where a number or the tag key's length is out of its range, and 65 where it was open.
+#[unsafe(no_mangle)]
+pub extern "C" fn pmem_session_open(
+    alloc: Global,
+    pmem: &mut Pmem,
+    kind: u8,
+    suite: u8,
+    levels: u8,
+    sets: u8,
+    ways: u8,
+    loss: u8,
+    major: u64,
+    every: u32,
+    key: &[u8; 16],
+    tag_key: &[u8],
+) -> u8
+    requires handle { IsHandle pmem.old }
+    ensures handle { IsHandle pmem.new }
+    ensures opened { HasOpened pmem.old.handle.held kind suite (record { levels = levels; sets = sets; ways = ways; loss = loss; major = major })
+        every key.now tag_key.now result pmem.new.handle.held }
+{
+    if pmem.is_open {
+        return 65;
+    }
+    match boxed_session(
+        alloc, kind, suite, levels, sets, ways, loss, major, every, key, tag_key,
+    ) {
+        Ok(kept) => {
+            *pmem = Pmem {
+                is_open: true,
+                handle: Handle::of(Loose::of(kept)),
+            };
+            0
+        }
+        Err(status) => status,
+    }
+}
+
+/// Tells the session a line, and gives a status. Puts as much of the reply's text as there is room for, and how long
+/// all of it is. A closed handle gives 64.
+#[unsafe(no_mangle)]
+pub extern "C" fn pmem_session_tell(
+    alloc: Global,
+    pmem: &mut Pmem,
+    line: &[u8],
+    out: &mut [u8],
+    whole: &mut usize,
+) -> u8
+    requires handle { IsHandle pmem.old }
+    ensures handle { IsHandle pmem.new }
+    ensures told { HasToldHeld pmem.old.handle.held line.now result pmem.new.handle.held }
+    ensures out { IsCopied (reply_held pmem.new.handle.held) out.old out.new }
+    ensures whole { whole.new ≡ length (reply_held pmem.new.handle.held) }
+{
+    *whole = 0;
+    if !pmem.is_open {
+        return 64;
+    }
+    let mut kept = mem::replace(&mut pmem.handle, Handle::closed(alloc))
+        .into_loose(alloc)
+        .into_box();
+    let status = kept.tell(alloc, line);
+    copy_out(kept.reply(), out);
+    *whole = kept.reply().len();
+    pmem.handle = Handle::of(Loose::of(kept));
+    status
+}
+
+/// Puts as much of the kept reply's text, from a byte on, as there is room for, and gives how long all of it is.
+#[unsafe(no_mangle)]
+pub extern "C" fn pmem_session_reply(
+    alloc: Global,
+    pmem: &mut Pmem,
+    from: usize,
+    out: &mut [u8],
+) -> usize
+    requires handle { IsHandle pmem.old }
+    ensures handle { IsHandle pmem.new }
+    ensures same { pmem.new.handle.held ≡ pmem.old.handle.held }
+    ensures out { IsCopied (drop from (reply_held pmem.old.handle.held)) out.old out.new }
+    ensures whole { result ≡ length (reply_held pmem.old.handle.held) }
+{
+    if !pmem.is_open {
+        return 0;
+    }
+    let kept = mem::replace(&mut pmem.handle, Handle::closed(alloc))
+        .into_loose(alloc)
+        .into_box();
+    let reply = kept.reply();
+    let whole = reply.len();
+    copy_out(reply.split_at(from.min(whole)).1, out);
+    pmem.handle = Handle::of(Loose::of(kept));
+    whole
+}
+
+/// Closes a handle, and gives a status: 0 where it was open, and 64 where it was closed.
+#[unsafe(no_mangle)]
+pub extern "C" fn pmem_session_close(alloc: Global, pmem: &mut Pmem) -> u8
+    requires handle { IsHandle pmem.old }
+    ensures handle { IsHandle pmem.new }
+    ensures closed { HasClosed pmem.old.handle.held result pmem.new.handle.held }
+{
+    if !pmem.is_open {
+        return 64;
+    }
+    mem::replace(&mut pmem.handle, Handle::closed(alloc))
+        .into_loose(alloc)
+        .into_box();
+    pmem.is_open = false;
+    0
 }

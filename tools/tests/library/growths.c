@@ -1,5 +1,5 @@
-/* Refuses the first growth of memory, then the second, and so on: each call says so by its status, a session that was refused goes on as if
- * nothing had been, and in the end all memory is given back. */
+/* Refuses the first growth of the proved code's memory, then the second, and so on: each call says so by its status, a session that was refused goes
+ * on as if nothing had been, and in the end all memory is given back. */
 #include "pmem.h"
 #include <stdio.h>
 #include <stdlib.h>
@@ -47,57 +47,74 @@ void rattle_dealloc(void *at) {
 static const char *const lines[] = {"post 0 0 11", "snap", "cut 4", "drain 0", "on", "fence 0", "read 0 0", "stat"};
 static const char *const stores[] = {"begin", "put 0 11", "commit", "read 0"};
 
-/* Tells each line; one that is refused is told again, with memory. Gives all replies, one after the other. */
-static size_t told(pmem *memory, const char *const *script, size_t count, uint8_t *text, size_t room, unsigned *refusals) {
-    size_t len = 0, whole;
-    for (size_t i = 0; i < count; i++) {
-        uint8_t line[PMEM_TEXT_BYTES];
-        size_t line_len = strlen(script[i]);
-        memcpy(line, script[i], line_len);
-        if (line_len > 2 && memcmp(line + line_len - 2, "11", 2) == 0)
-            for (; line[line_len - 1] == '1' && line_len < 128 + strlen(script[i]) - 2; line_len++) line[line_len] = '1';
-        uint8_t status = pmem_tell(memory, line, line_len, text + len, room - len, &whole);
-        if (status == PMEM_NO_MEMORY) {
-            *refusals += 1;
-            status = pmem_tell(memory, line, line_len, text + len, room - len, &whole);
-        }
-        if (status != PMEM_OK) return SIZE_MAX;
-        len += whole;
-    }
+enum { LINES = 8, REPLY_BYTES = 1024 };
+
+typedef struct replies {
+    size_t lens[LINES]; /* 0 where the reply was lost */
+    uint8_t texts[LINES][REPLY_BYTES];
+    unsigned refused, lost;
+} replies;
+
+static size_t spelled(uint8_t *line, const char *text) {
+    size_t len = strlen(text), end = len + 126;
+    memcpy(line, text, len);
+    if (len > 2 && memcmp(line + len - 2, "11", 2) == 0)
+        for (; len < end; len++) line[len] = '1';
     return len;
 }
 
+/* Tells each line; one that is refused is told again, with memory. */
+static bool told(pmem *memory, const char *const *script, size_t count, replies *all) {
+    memset(all, 0, sizeof *all);
+    for (size_t i = 0; i < count; i++) {
+        uint8_t line[PMEM_TEXT_BYTES];
+        size_t len = spelled(line, script[i]);
+        uint8_t status = pmem_tell(memory, line, len, all->texts[i], REPLY_BYTES, &all->lens[i]);
+        if (status == PMEM_NO_MEMORY) {
+            all->refused++;
+            status = pmem_tell(memory, line, len, all->texts[i], REPLY_BYTES, &all->lens[i]);
+        }
+        if (status == PMEM_REPLY_LOST && all->lens[i] == 0) all->lost++;
+        else if (status != PMEM_OK || all->lens[i] == 0) return false;
+    }
+    return true;
+}
+
+/* All replies that weren't lost are those that are due. */
+static bool are_due(const replies *all, const replies *due) {
+    for (size_t i = 0; i < LINES; i++) {
+        bool is_lost = all->lost != 0 && all->lens[i] == 0;
+        if (!is_lost && (all->lens[i] != due->lens[i] || memcmp(all->texts[i], due->texts[i], due->lens[i]) != 0)) return false;
+    }
+    return true;
+}
+
 static int tried_session(const char *words, const char *const *script, size_t count) {
-    uint8_t due[4096], text[4096];
-    size_t due_len = 0;
+    static replies due, all;
     int failures = 0;
-    unsigned refused = 0, closed = 0;
+    unsigned refused = 0, lost = 0, closed = 0;
     for (long at = -1;; at++) {
         pmem memory = PMEM_CLOSED;
         made = freed = 0;
         left = at;
-        unsigned refusals = 0;
         pmem_status status = pmem_open_text(&memory, words);
-        size_t len = 0;
-        if (status == PMEM_OK) len = told(&memory, script, count, text, sizeof text, &refusals);
-        bool was_refused = at >= 0 && left < 0;
+        bool went = status == PMEM_OK && told(&memory, script, count, &all), was_refused = at >= 0 && left < 0;
         left = -1;
         if (status == PMEM_OK) pmem_close(&memory);
         if (made != freed || memory.is_open) failures++;
         if (at == -1) {
-            due_len = len;
-            memcpy(due, text, sizeof due);
-            if (status != PMEM_OK || len > sizeof due || len == 0) return 1;
+            due = all;
+            if (!went || all.lost != 0) return 1;
             continue;
         }
         if (!was_refused) break;
         if (status == PMEM_NO_MEMORY) closed++;
-        else if (status != PMEM_OK || refusals != 1) failures++;
-        else if (len != due_len || memcmp(text, due, len) != 0) failures++;
-        else refused++;
+        else if (!went || all.refused + all.lost != 1 || !are_due(&all, &due)) failures++;
+        refused += status == PMEM_OK ? all.refused : 0;
+        lost += status == PMEM_OK ? all.lost : 0;
     }
-    printf("%s: of the refused growths %u were of an open, and %u of a line\n", words, closed, refused);
-    return failures != 0 || closed == 0 || refused == 0;
+    printf("%s: of the refused growths %u were of an open, %u of a line, and %u of a reply\n", words, closed, refused, lost);
+    return failures != 0 || closed == 0 || refused == 0 || lost == 0;
 }
 
 /* The same of pmem_answer: status 1 with `stop memory` or nothing, or 4 with a front of what is due. */

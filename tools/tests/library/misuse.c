@@ -56,6 +56,11 @@ static void lines(void) {
     IS(pmem_tell(&handle, long_line, 1024, NULL, 0, &whole) == PMEM_OK && pmem_tell(&handle, long_line, 1025, NULL, 0, &whole) == PMEM_LINE_LONG);
     IS(tell(&handle, "stat", &whole) == PMEM_OK && whole > 0);
     IS(pmem_close(&handle) == PMEM_OK && tell(&handle, "stat", &whole) == PMEM_NOT_OPEN);
+    for (int i = 0; i < 3; i++) {
+        static const char *const words[] = {"wear --suite weak", "txn --suite weak", "tree --suite weak"};
+        IS(pmem_open_text(&handle, words[i]) == PMEM_OK && pmem_tell(&handle, long_line, 1024, NULL, 0, &whole) == PMEM_OK);
+        IS(pmem_tell(&handle, long_line, 1025, NULL, 0, &whole) == PMEM_LINE_LONG && pmem_close(&handle) == PMEM_OK);
+    }
 }
 
 /* `line 00..00 0` and its LF: each front of it, and each end. */
@@ -104,6 +109,35 @@ static void copies(void) {
     IS(pmem_read(&second, 0, 0).line[0] == 0 && pmem_close(&second) == PMEM_OK);
 }
 
+/* Where the lines are forgotten, the session goes on, and can't be copied. */
+static void forgotten(void) {
+    pmem first = PMEM_CLOSED, second = PMEM_CLOSED;
+    uint8_t line[PMEM_LINE_BYTES] = {3};
+    IS(pmem_forget(&first) == PMEM_NOT_OPEN && pmem_open_text(&first, "run --suite weak") == PMEM_OK);
+    IS(pmem_post(&first, 0, 9, line).kind == PMEM_DONE && pmem_forget(&first) == PMEM_OK && pmem_forget(&first) == PMEM_OK);
+    IS(pmem_copy(&first, &second) == PMEM_FORGOTTEN && !second.is_open && second.session == NULL);
+    IS(pmem_drain(&first, 0).kind == PMEM_DONE && pmem_read(&first, 1, 9).line[0] == 3 && pmem_close(&first) == PMEM_OK);
+}
+
+/* An exhibit ends a session. It can be copied: the copy is over too, and has the same reply. */
+static void over(void) {
+    pmem first = PMEM_CLOSED, second = PMEM_CLOSED;
+    uint8_t shown[PMEM_TEXT_BYTES], copied[PMEM_TEXT_BYTES], long_line[1025] = {0};
+    size_t whole = 0, len;
+    IS(pmem_open_text(&first, "run --suite weak") == PMEM_OK);
+    IS(pmem_flip(&first, 5, 0).kind == PMEM_DONE && pmem_flip(&first, 5, 8).kind == PMEM_DONE);
+    pmem_result result = pmem_read(&first, 0, 5);
+    IS(result.status == PMEM_SHOWN && result.kind == PMEM_EXHIBIT && result.reply_len > 7);
+    len = pmem_reply(&first, 0, shown, sizeof shown);
+    IS(len == result.reply_len && memcmp(shown, "forged ", 7) == 0 && pmem_copy(&first, &second) == PMEM_OK);
+    IS(pmem_reply(&second, 0, copied, sizeof copied) == len && memcmp(shown, copied, len) == 0);
+    IS(tell(&second, "stat", &whole) == PMEM_OVER && whole == 0 && pmem_reply(&second, 0, NULL, 0) == 0 && pmem_close(&second) == PMEM_OK);
+    IS(tell(&first, "", &whole) == PMEM_OVER && tell(&first, "a\n", &whole) == PMEM_OVER && tell(&first, "nonsense", &whole) == PMEM_OVER);
+    IS(pmem_tell(&first, long_line, sizeof long_line, NULL, 0, &whole) == PMEM_OVER && whole == 0);
+    IS(pmem_copy(&first, &second) == PMEM_OK && pmem_reply(&second, 0, NULL, 0) == 0 && tell(&second, "on", &whole) == PMEM_OVER);
+    IS(pmem_close(&second) == PMEM_OK && pmem_close(&first) == PMEM_OK);
+}
+
 static void answers(void) {
     size_t whole = 77;
     uint8_t out[16];
@@ -120,6 +154,8 @@ int main(void) {
     buffers();
     two();
     copies();
+    forgotten();
+    over();
     answers();
     return failures != 0;
 }

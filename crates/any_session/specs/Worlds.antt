@@ -1,0 +1,35 @@
+-- The world behind a run, as what answers lines one by one.
+use Rattle.std.specs.Prelude.{ℕ, ◌≡◌, true, false, List, Some, Ok}
+use Rattle.pmem_base.specs.declared.commands.Command.{Command}
+use Rattle.suite.specs.Formulas.{Formulas}
+use Rattle.plain_model.specs.Answers.{is_shown}
+use Rattle.plain_model.specs.Grammar.{reading_of}
+use Rattle.plain_model.specs.Run.{Step, step_text}
+use Rattle.pmem_replay.specs.Stepped.{HasStepped, AddsFewSteps, CanWantMemory}
+use Rattle.pmem_replay.specs.World.{WorldState, setup_of_world}
+use Rattle.trace_text.specs.Conversations.{Protocol}
+use Rattle.trace_text.specs.Entries.{sort_of_reading}
+
+-- the line's command was answered so by the world, with these marks
+pub record IsStepAt (formulas_of : List ℕ → Formulas) (old : WorldState) (line : List ℕ) (step : Step) (new : WorldState) : Type 0 where
+  pub reading : reading_of line ≡ Ok (Some step.command)
+  pub stepped : HasStepped (setup_of_world formulas_of old) old step.command step.reply new
+  pub few : AddsFewSteps old new
+
+-- the line asks for a command for whose answer memory may be wanted
+pub record IsWorldStarvedOf (old : WorldState) (line : List ℕ) : Type 0 where
+  pub command : Command
+  pub reading : reading_of line ≡ Ok (Some command)
+  pub wanted : CanWantMemory old.state command
+
+-- A reply is a command with its marks and its answer, as the world's own clause has it.
+abbrev pub world_lines : (List ℕ → Formulas) → Protocol WorldState Step
+world_lines formulas_of =
+    record {
+      sort_of = λ line. sort_of_reading (reading_of line);
+      answers = λ old line step new. IsStepAt formulas_of old line step new × (is_shown step.reply.answer ≡ false);
+      shows = λ old line step. (new : WorldState) × IsStepAt formulas_of old line step new × (is_shown step.reply.answer ≡ true);
+      text_of = step_text;
+      wants_memory = IsWorldStarvedOf;
+      runs = λ world. world.shown ≡ false;
+    }

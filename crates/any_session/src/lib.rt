@@ -1,0 +1,29 @@
+//! A session of any kind and suite, which answers lines one by one: the world behind a run, a levelled memory, a
+//! memory that is written by transactions, and one over a counter tree.
+#![tactic(auto)]
+
+mod kinds;
+mod replies;
+mod talks;
+mod world;
+
+pub use kinds::AnySession;
+use pmem_base::Kind;
+pub use talks::TalkSession;
+pub use world::WorldSession;
+
+/// What came of a line that a session was told.
+#[derive(Clone, Copy, Debug, PartialEq, Eq)]
+pub enum Told {
+    /// It is blank or a comment, and nothing was done.
+    Skipped,
+    /// It was answered: by an exhibit, which ends the session, or not. The text of the reply is kept, or there was
+    /// no memory for it.
+    Replied { over: bool, kept: bool },
+    /// Memory was wanted for the answer, and nothing was done.
+    NoMemory,
+    /// It isn't in the grammar, and nothing was done.
+    Faulty(Kind),
+    /// An exhibit had ended the session, and nothing was done.
+    Over,
+}
