@@ -1,5 +1,6 @@
 """Tests of tools/try_edits, with a stand-in for the toolchain's rt."""
 import os
+import re
 import shutil
 import signal
 import subprocess
@@ -14,6 +15,7 @@ TOOLS = Path(__file__).resolve().parents[1]
 # It says of each edit what stands in it, and which source is tried; an edit `waits` keeps it at work.
 RT = r"""#!/usr/bin/env bash
 echo "$*: $(cat "crates/$2/src/lib.rt")" >>"$STATE/calls"
+(cd crates && find . -path '*/out/*' -type f | sort) >"$STATE/begun"
 echo "rt: $2: begins with what a check kept"
 status=0
 for edit in crates/"$2"/must-fail/*.edit; do
@@ -42,7 +44,8 @@ class TryEditsTest(unittest.TestCase):
             path.mkdir(parents=True)
         for crate in ("high", "low"):
             self.write(f"crates/{crate}/src/lib.rt", f"{crate} as it stands\n")
-            self.write(f"crates/{crate}/out/kept", "what was built\n")
+            for kept in ("kept", "rlib/stamp", f"rlib/{crate}.rlib/format", "incremental/one"):
+                self.write(f"crates/{crate}/out/{kept}", "what was built\n")
         self.write("crates.txt", "high: low\nlow:\n")
         self.write("HANDLES", "Handles allowed: none.\n")
         shutil.copy(TOOLS / "try_edits", self.root / "tools" / "try_edits")
@@ -81,6 +84,9 @@ class TryEditsTest(unittest.TestCase):
                                                           "must-fail low/two.edit: refused, as it must be (only by a limit): c"])
         self.assertEqual(result.stdout.splitlines()[-1], "2 passed, 0 failed")
         self.assertEqual((self.state / "calls").read_text(), "must-fail low: low as it stands\n")
+        kept = ("incremental/one", "rlib/{}.rlib/format", "rlib/stamp")
+        self.assertEqual((self.state / "begun").read_text().split(),
+                         [f"./{crate}/out/{name.format(crate)}" for crate in ("high", "low") for name in kept])
 
     def test_all_crates_where_none_is_named(self) -> None:
         self.write("edits/low/one.edit", "refused, as it must be: b\n")
@@ -156,6 +162,16 @@ class TryEditsTest(unittest.TestCase):
         files = [*root.glob("crates/*/must-fail/*.edit"), *root.glob("edits/*/*.edit")]
         self.assertEqual(len(self.edits_told(result.stdout)), len(files))
 
+    def test_pages_count_both_tiers(self) -> None:
+        top = TOOLS.parent
+        first, second = (len(list(top.glob(files))) for files in ("crates/*/must-fail/*.edit", "edits/*/*.edit"))
+        for page in ("README.md", "docs/PROMISES.md"):
+            with self.subTest(page):
+                text = " ".join((top / page).read_text(encoding="utf-8").split())
+                counted = re.search(r"(\d+) edits in .*?(\d+) (?:more|edits in `edits/NAME/`)", text)
+                assert counted
+                self.assertEqual((int(counted[1]), int(counted[2])), (first, second))
+
     def test_interrupted(self) -> None:
         self.write("edits/low/waits.edit", "refused, as it must be: b\n")
         child = subprocess.Popen(self.words("low"), env=self.environment, stdin=subprocess.DEVNULL, stdout=subprocess.PIPE,
@@ -167,7 +183,7 @@ class TryEditsTest(unittest.TestCase):
             time.sleep(0.05)
         place = Path((self.state / "place").read_text().strip())
         self.assertTrue((place / "crates.txt").exists())
-        self.assertFalse((place / "crates" / "low" / "out").exists())
+        self.assertFalse((place / "crates" / "low" / "out" / "kept").exists())
         os.killpg(child.pid, signal.SIGINT)
         _, complained = child.communicate(timeout=60)
         self.assertEqual(child.returncode, 130)
