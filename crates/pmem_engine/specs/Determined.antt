@@ -4,9 +4,13 @@ use Rattle.board.specs.Memory.{BoardMemory}
 use Rattle.watched_board.specs.declared.taken.Taken.{Taken}
 use Rattle.call_plan.specs.Plans.{Plan}
 use Rattle.call_plan.specs.Runs.{IsOutcome}
+use Rattle.pmem_base.specs.declared.lines.Line.{Line}
+use Rattle.pmem_base.specs.declared.commands.Posted.{Posted}
 use Rattle.suite.specs.Setup.{Setup}
 use Rattle.pmem_engine.specs.Engine.{EngineState}
+use Rattle.pmem_engine.specs.Calls.{whole_write}
 use Rattle.pmem_engine.specs.Plans.{Chip, read_plan, turn_plan, flush_plan, set_loss_plan}
+use Rattle.pmem_engine.specs.WritePlans.{write_plan}
 
 -- the answers are the same, and so are what the call left beside the board, the boards, and what was taken of them
 abbrev pub IsDetermined : {S A F : Type 0} → BoardMemory → Plan (S × F) (S × A) → Type 0
@@ -24,6 +28,16 @@ TurnIsDetermined = (setup : Setup) (chip : Chip) (old : BoardMemory) → IsDeter
 abbrev pub ReadIsDetermined : Type 0
 ReadIsDetermined =
     (setup : Setup) (at : ℕ) (chip : Chip) (old : BoardMemory) → IsDetermined old (read_plan setup old.regs at chip)
+
+abbrev pub WriteIsDetermined : Type 0
+WriteIsDetermined =
+    (setup : Setup) (at : ℕ) (line : Line) (chip : Chip) (old : BoardMemory)
+    → IsDetermined old (write_plan setup old.regs (whole_write at line) chip)
+
+abbrev pub WritePartIsDetermined : Type 0
+WritePartIsDetermined =
+    (setup : Setup) (write : Posted) (chip : Chip) (old : BoardMemory)
+    → IsDetermined old (write_plan setup old.regs write chip)
 
 abbrev pub SetLossIsDetermined : Type 0
 SetLossIsDetermined = (n : ℕ) (engine : EngineState) (old : BoardMemory) → IsDetermined old (set_loss_plan n old.regs engine)

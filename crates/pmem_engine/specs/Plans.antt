@@ -1,5 +1,5 @@
 -- What the engine's calls do of the board, as plans: functions of the state beside it, and of the registers.
-use Rattle.std.specs.Prelude.{ℕ, ◌+◌, ◌-◌, ◌==◌, nat_lt, List, [], ◌∷◌, length, slice_index_or, Option, Some, None, if◌then◌else◌}
+use Rattle.std.specs.Prelude.{ℕ, ◌+◌, ◌-◌, ◌==◌, nat_lt, List, [], ◌∷◌, length, slice_index_or, Option, Some, None, Result, Ok, Err, if◌then◌else◌}
 use Rattle.pmem_base.specs.declared.faults.Cut.{Cut}
 use Rattle.pmem_base.specs.declared.lines.Line.{Line}
 use Rattle.pmem_base.specs.declared.lines.Ctr.{Ctr}
@@ -13,7 +13,7 @@ use Rattle.pmem_base.specs.Layout as layout
 use Rattle.pmem_base.specs.Layout.{page_of}
 use Rattle.pmem_base.specs.Lines.{tag_slot}
 use Rattle.pmem_base.specs.Marks.{last_seal}
-use Rattle.pmem_base.specs.Registers.{not_done, old_major, empty_progress}
+use Rattle.pmem_base.specs.Registers.{not_done, old_major, empty_progress, without_group}
 use Rattle.call_plan.specs.Plans.{Plan, done, stop, read, latch, bind, mapped, lifted, for_each, the_cut}
 use Rattle.commit_regs.specs.Plans.{finish_plan}
 use Rattle.split_counters.specs.Blocks.{unpacked, block_counter}
@@ -61,6 +61,11 @@ chip_of engine ledger tags digests =
 module _ {S A : Type 0} (suite : SuiteOf S) (audit : AuditOf A) where
   abbrev pub chip_at : EngineState → S → A → Chip
   chip_at engine s a = chip_of engine (audit.ledger a) (suite.tags s) (suite.digests s)
+
+-- the end of a part after which others need the registers: where it is done, with those that it leaves
+abbrev pub ended_with : {S F : Type 0} → Result (Unit {0}) F → S → Regs → Result (S × Regs) (S × F)
+ended_with (Ok value) state regs = Ok (state, regs)
+ended_with (Err fault) state regs = Err (state, fault)
 
 abbrev pub with_engine : Chip → EngineState → Chip
 with_engine chip engine = chip_of engine chip.ledger chip.tags chip.digests
@@ -194,6 +199,15 @@ read_line_plan setup regs at chip =
 abbrev pub read_plan : Setup → Regs → ℕ → Chip → Plan (Chip × Fault) (Chip × Line)
 read_plan setup regs at chip = chip_call (λ fault. fault) chip (read_line_plan setup regs at chip)
 
+-- ---- a group of one mark
+
+-- The registers are latched with their group, from then on the state is the next one, and the group is
+-- finished. It ends with the registers that are left.
+unfoldable pub group_plan : {S : Type 0} → Regs → S → S → Plan (S × Cut) (S × Regs)
+group_plan armed before after =
+    latch (before, the_cut) armed
+    (mapped (λ cut. (after, cut)) (λ finished. (after, without_group armed)) (finish_plan armed))
+
 -- ---- a held line sealed anew
 
 -- the registers with the seal's line done, and its group
@@ -211,9 +225,7 @@ with_seal ledger next = noted ledger (Seal next.at next.ctr next.cipher next.tag
 -- the seal's group is armed, told to the ledger, and finished
 unfoldable pub commit_plan : Shape → NextSeal → Regs → LedgerState → Plan (LedgerState × Cut) (LedgerState × Unit {0})
 commit_plan g next regs ledger =
-    latch (ledger, the_cut) (armed g next regs)
-    (mapped (λ cut. (with_seal ledger next, cut)) (λ end. (with_seal ledger next, end))
-    (finish_plan (armed g next regs)))
+    mapped (λ left. left) (λ end. (end.0, tt)) (group_plan (armed g next regs) ledger (with_seal ledger next))
 
 -- the lowest line not done of a register's page
 abbrev pub held_of : Progress → HeldLine

@@ -9,8 +9,9 @@ ghost use Rattle.seal_ledger.specs.Notes.{HasRoom};
 ghost use Rattle.pmem_engine.specs.declared.fault.Fault.TheVariants as Fail;
 ghost use Rattle.call_plan.specs.Plans.{ended};
 ghost use Rattle.call_plan.specs.Following.{Follows};
-ghost use Rattle.pmem_engine.specs.Parts.{parts_of, setup_at};
+ghost use Rattle.pmem_engine.specs.Parts.{parts_of, setup_at, parts_at};
 ghost use Rattle.pmem_engine.specs.Plans.{chip_at, read_plan, turn_plan, flush_plan, set_loss_plan};
+ghost use Rattle.pmem_engine.specs.WritePlans.{write_plan};
 ghost use Rattle.pmem_engine.specs.Outcomes.{of_cut, outcome_of, is_going};
 ghost use Rattle.pmem_engine.specs.Inner.{ended_by};
 ghost use Rattle.pmem_engine.specs.Calls.{IsReady, IsUsable, whole_write, HasReadLine, HasWrittenLine, HasTurned, HasFlushed, HasSetLoss};
@@ -33,9 +34,9 @@ impl Engine {
     ) -> Result<Line, Fault>
         requires line { at < data_lines self.old.shape }
         requires usable { IsUsable self.old.shape self.old (B.device board.old) (A.ledger audit.old) }
-        ensures read { HasReadLine (record { shape = self.old.shape; formulas = S.formulas_of (S.keys suite.old) }) at
-            (parts_of self.old (B.device board.old) (A.ledger audit.old) (S.tags suite.old) (S.digests suite.old))
-            (parts_of self.new (B.device board.new) (A.ledger audit.new) (S.tags suite.new) (S.digests suite.new)) result }
+        ensures read { HasReadLine (setup_at S.Suite self.old suite.old) at
+            (parts_at B.Board S.Suite A.Audit self.old board.old suite.old audit.old)
+            (parts_at B.Board S.Suite A.Audit self.new board.new suite.new audit.new) result }
         ensures plan { Follows (read_plan (setup_at S.Suite self.old suite.old) (B.device board.old).regs at
             (chip_at S.Suite A.Audit self.old suite.old audit.old)) (B.device board.old) (B.device board.new)
             (ended result (chip_at S.Suite A.Audit self.new suite.new audit.new)) }
@@ -61,10 +62,13 @@ impl Engine {
         requires line { at < data_lines self.old.shape }
         requires room { HasRoom (A.ledger audit.old) (A.capacity audit.old) 66 }
         requires usable { IsUsable self.old.shape self.old (B.device board.old) (A.ledger audit.old) }
-        ensures written { HasWrittenLine (record { shape = self.old.shape; formulas = S.formulas_of (S.keys suite.old) })
+        ensures written { HasWrittenLine (setup_at S.Suite self.old suite.old)
             (whole_write at line.now)
-            (parts_of self.old (B.device board.old) (A.ledger audit.old) (S.tags suite.old) (S.digests suite.old))
-            (parts_of self.new (B.device board.new) (A.ledger audit.new) (S.tags suite.new) (S.digests suite.new)) result }
+            (parts_at B.Board S.Suite A.Audit self.old board.old suite.old audit.old)
+            (parts_at B.Board S.Suite A.Audit self.new board.new suite.new audit.new) result }
+        ensures plan { Follows (write_plan (setup_at S.Suite self.old suite.old) (B.device board.old).regs (whole_write at line.now)
+            (chip_at S.Suite A.Audit self.old suite.old audit.old)) (B.device board.old) (B.device board.new)
+            (ended result (chip_at S.Suite A.Audit self.new suite.new audit.new)) }
         ensures capacity { A.capacity audit.new ≡ A.capacity audit.old }
         ensures keys { S.keys suite.new ≡ S.keys suite.old }
         ensures usable { IsUsable self.old.shape self.new (B.device board.new) (A.ledger audit.new) }
@@ -93,9 +97,12 @@ impl Engine {
         requires posted { IsPosted write.now }
         requires room { HasRoom (A.ledger audit.old) (A.capacity audit.old) 66 }
         requires usable { IsUsable self.old.shape self.old (B.device board.old) (A.ledger audit.old) }
-        ensures written { HasWrittenLine (record { shape = self.old.shape; formulas = S.formulas_of (S.keys suite.old) }) write.now
-            (parts_of self.old (B.device board.old) (A.ledger audit.old) (S.tags suite.old) (S.digests suite.old))
-            (parts_of self.new (B.device board.new) (A.ledger audit.new) (S.tags suite.new) (S.digests suite.new)) result }
+        ensures written { HasWrittenLine (setup_at S.Suite self.old suite.old) write.now
+            (parts_at B.Board S.Suite A.Audit self.old board.old suite.old audit.old)
+            (parts_at B.Board S.Suite A.Audit self.new board.new suite.new audit.new) result }
+        ensures plan { Follows (write_plan (setup_at S.Suite self.old suite.old) (B.device board.old).regs write.now
+            (chip_at S.Suite A.Audit self.old suite.old audit.old)) (B.device board.old) (B.device board.new)
+            (ended result (chip_at S.Suite A.Audit self.new suite.new audit.new)) }
         ensures capacity { A.capacity audit.new ≡ A.capacity audit.old }
         ensures keys { S.keys suite.new ≡ S.keys suite.old }
         ensures usable { IsUsable self.old.shape self.new (B.device board.new) (A.ledger audit.new) }
@@ -116,9 +123,9 @@ impl Engine {
     ) -> Result<Option<(u32, u8)>, Fault>
         requires room { HasRoom (A.ledger audit.old) (A.capacity audit.old) 1 }
         requires usable { IsUsable self.old.shape self.old (B.device board.old) (A.ledger audit.old) }
-        ensures turned { HasTurned (record { shape = self.old.shape; formulas = S.formulas_of (S.keys suite.old) })
-            (parts_of self.old (B.device board.old) (A.ledger audit.old) (S.tags suite.old) (S.digests suite.old))
-            (parts_of self.new (B.device board.new) (A.ledger audit.new) (S.tags suite.new) (S.digests suite.new)) result }
+        ensures turned { HasTurned (setup_at S.Suite self.old suite.old)
+            (parts_at B.Board S.Suite A.Audit self.old board.old suite.old audit.old)
+            (parts_at B.Board S.Suite A.Audit self.new board.new suite.new audit.new) result }
         ensures plan { Follows (turn_plan (setup_at S.Suite self.old suite.old) (B.device board.old).regs
             (chip_at S.Suite A.Audit self.old suite.old audit.old)) (B.device board.old) (B.device board.new)
             (ended result (chip_at S.Suite A.Audit self.new suite.new audit.new)) }

@@ -1,5 +1,5 @@
 //! That the contracts of the engine's calls leave nothing open.
-ghost use Rattle.pmem_engine.specs.Determined.{FlushIsDetermined, SetLossIsDetermined, TurnIsDetermined, ReadIsDetermined};
+ghost use Rattle.pmem_engine.specs.Determined.{FlushIsDetermined, SetLossIsDetermined, TurnIsDetermined, ReadIsDetermined, WriteIsDetermined, WritePartIsDetermined};
 
 /// A law: two flushes of one engine over one watched board, which has power, that meet the same fuse have the
 /// same answer and leave the same engine and board.
@@ -15,6 +15,16 @@ pub fn turn_is_determined()
 /// A law: the same of two reads of one line.
 pub fn read_is_determined()
     ensures { ReadIsDetermined }
+{}
+
+/// A law: the same of two writes of one line.
+pub fn write_is_determined()
+    ensures { WriteIsDetermined }
+{}
+
+/// A law: the same of two posted writes.
+pub fn write_part_is_determined()
+    ensures { WritePartIsDetermined }
 {}
 
 /// A law: the same of two changes of the stop-loss number, of the engine and the board.

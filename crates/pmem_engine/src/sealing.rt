@@ -10,7 +10,11 @@ ghost use Rattle.meta_path.specs.Blocks.{IsPathCached};
 ghost use Rattle.meta_path.specs.Storing.{IsPathOf, HasMetaLines};
 ghost use Rattle.page_reencrypt.specs.Registers.{registers_with_done, register_of};
 ghost use Rattle.split_counters.specs.Blocks.{packed, minor_of, next_block};
+ghost use Rattle.call_plan.specs.Plans.{ended};
+ghost use Rattle.call_plan.specs.Following.{Follows};
 ghost use Rattle.pmem_engine.specs.Parts.{parts_at, setup_at};
+ghost use Rattle.pmem_engine.specs.Plans.{chip_of, chip_at, ended_with};
+ghost use Rattle.pmem_engine.specs.SealPlans.{with_path, with_true_path, commit_seal_plan, commit_begin_plan, seal_next_plan, begin_page_plan};
 ghost use Rattle.pmem_engine.specs.Calls.{IsUsable, IsPathNamedInMirror};
 ghost use Rattle.pmem_engine.specs.Inner.{cached_block};
 ghost use Rattle.pmem_engine.specs.Sealing.{next_counter_of, raised_block, HasSealedNext, HasBegunPage, HasStoredPath, seal_group, begin_group, HasSealCommitted, IsSealCut, HasBeginCommitted, IsBeginCut};
@@ -49,6 +53,9 @@ impl Engine {
         ensures sealed { HasSealedNext (setup_at S.Suite self.old suite.old) at plain.now
             (parts_at B.Board S.Suite A.Audit self.old board.old suite.old audit.old)
             (parts_at B.Board S.Suite A.Audit self.new board.new suite.new audit.new) result }
+        ensures plan { Follows (seal_next_plan (setup_at S.Suite self.old suite.old) at plain.now (B.device board.old).regs
+            (chip_at S.Suite A.Audit self.old suite.old audit.old)) (B.device board.old) (B.device board.new)
+            (ended result (chip_at S.Suite A.Audit self.new suite.new audit.new)) }
         ensures capacity { A.capacity audit.new ≡ A.capacity audit.old }
         ensures keys { S.keys suite.new ≡ S.keys suite.old }
     {
@@ -56,6 +63,7 @@ impl Engine {
         let (ctr, block) = self.next_counter(at);
         let path = next_path(&self.geo, &self.cache, suite, at / 64, &block);
         let tag_line = board.read_line(self.geo.tag_line(at))?;
+        tag_line.is_whole();
         let next = next_seal(suite, at, ctr, plain, &tag_line);
         let persisted = due(ctr.minor, board.regs().loss);
         self.commit_seal(board, audit, &next, &path, &block, persisted)?;
@@ -97,6 +105,9 @@ impl Engine {
             (parts_at B.Board S.Suite A.Audit self.old board.old suite.old audit.old)
             (parts_at B.Board S.Suite A.Audit self.new board.new suite.new audit.new) result }
         ensures rolled { OnOk result (cached_block self.old.shape self.new page ≡ next_block (cached_block self.old.shape self.old page)) }
+        ensures plan { Follows (begin_page_plan (setup_at S.Suite self.old suite.old) page (B.device board.old).regs
+            (chip_at S.Suite A.Audit self.old suite.old audit.old)) (B.device board.old) (B.device board.new)
+            (ended_with result (chip_at S.Suite A.Audit self.new suite.new audit.new) (B.device board.new).regs) }
         ensures capacity { A.capacity audit.new ≡ A.capacity audit.old }
         ensures keys { S.keys suite.new ≡ S.keys suite.old }
     {
@@ -130,6 +141,10 @@ impl Engine {
             self.old self.new (B.device board.old) (B.device board.new) (A.ledger audit.old) (A.ledger audit.new)) }
         ensures cut { OnErr result (IsSealCut self.old.shape next.now persisted block.now path.now.lines.items path.now.root
             self.old self.new (B.device board.old) (B.device board.new) (A.ledger audit.old) (A.ledger audit.new)) }
+        ensures plan { (tags digests : ℕ) → Follows (commit_seal_plan self.old.shape next.now persisted block.now path.now.lines.items
+            path.now.root (B.device board.old).regs (chip_of self.old (A.ledger audit.old) tags digests))
+            (B.device board.old) (B.device board.new)
+            (ended_with result (chip_of self.new (A.ledger audit.new) tags digests) (B.device board.new).regs) }
         ensures capacity { A.capacity audit.new ≡ A.capacity audit.old }
     {
         let mut regs = Regs::empty();
@@ -190,6 +205,10 @@ impl Engine {
             self.old self.new (B.device board.old) (B.device board.new) (A.ledger audit.old) (A.ledger audit.new)) }
         ensures cut { OnErr result (IsBeginCut self.old.shape page register.now block.now path.now.lines.items path.now.root
             self.old self.new (B.device board.old) (B.device board.new) (A.ledger audit.old) (A.ledger audit.new)) }
+        ensures plan { (tags digests : ℕ) → Follows (commit_begin_plan self.old.shape page register.now block.now path.now.lines.items
+            path.now.root (B.device board.old).regs (chip_of self.old (A.ledger audit.old) tags digests))
+            (B.device board.old) (B.device board.new)
+            (ended_with result (chip_of self.new (A.ledger audit.new) tags digests) (B.device board.new).regs) }
         ensures capacity { A.capacity audit.new ≡ A.capacity audit.old }
     {
         let mut regs = Regs::empty();
@@ -226,7 +245,9 @@ impl Engine {
         requires cached { IsPathCached self.old.shape self.old.cache page }
         requires truth { length (A.ledger audit.old).truth ≡ meta_lines self.old.shape }
         ensures stored { HasStoredPath self.old.shape page persisted path.now.lines.items self.old self.new }
+        ensures exact { self.new ≡ with_path self.old.shape page persisted path.now.lines.items self.old }
         ensures told { HasMetaLines path.now.lines.items (A.ledger audit.old) (A.ledger audit.new) }
+        ensures true_path { A.ledger audit.new ≡ with_true_path path.now.lines.items (A.ledger audit.old) }
         ensures capacity { A.capacity audit.new ≡ A.capacity audit.old }
     {
         self.cache.are_banks();

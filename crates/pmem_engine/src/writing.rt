@@ -10,8 +10,9 @@ ghost use Rattle.meta_path.specs.Blocks.{IsPathCached};
 ghost use Rattle.pmem_engine.specs.Parts.{parts_at, setup_at};
 ghost use Rattle.call_plan.specs.Plans.{ended};
 ghost use Rattle.call_plan.specs.Following.{Follows};
-ghost use Rattle.pmem_engine.specs.Plans.{chip_at};
-ghost use Rattle.pmem_engine.specs.WritePlans.{plain_plan, finish_page_plan, finish_for_plan};
+ghost use Rattle.pmem_engine.specs.Plans.{chip_at, ended_with};
+ghost use Rattle.pmem_engine.specs.SealPlans.{begin_for_plan};
+ghost use Rattle.pmem_engine.specs.WritePlans.{plain_plan, finish_page_plan, finish_for_plan, write_posted_plan};
 ghost use Rattle.pmem_engine.specs.Calls.{IsUsable, IsPathNamedInMirror};
 ghost use Rattle.pmem_engine.specs.Inner.{cached_block};
 ghost use Rattle.pmem_engine.specs.Writing.{overflow_of, HasMadePlain, register_to_finish, HasFinishedPage, HasFinishedFor, HasBegunFor, UpWriteOutcome};
@@ -43,6 +44,9 @@ impl Engine {
         ensures written { UpWriteOutcome (setup_at S.Suite self.old suite.old) write.now
             (parts_at B.Board S.Suite A.Audit self.old board.old suite.old audit.old)
             (parts_at B.Board S.Suite A.Audit self.new board.new suite.new audit.new) result }
+        ensures plan { Follows (write_posted_plan (setup_at S.Suite self.old suite.old) (B.device board.old).regs write.now
+            (chip_at S.Suite A.Audit self.old suite.old audit.old)) (B.device board.old) (B.device board.new)
+            (ended result (chip_at S.Suite A.Audit self.new suite.new audit.new)) }
         ensures capacity { A.capacity audit.new ≡ A.capacity audit.old }
         ensures keys { S.keys suite.new ≡ S.keys suite.old }
     {
@@ -121,7 +125,7 @@ impl Engine {
         ensures not_full { OnOk result (overflows ≡ true → length (B.device board.new).regs.progress.items < 4) }
         ensures plan { Follows (finish_for_plan (setup_at S.Suite self.now suite.old) page overflows (B.device board.old).regs
             (chip_at S.Suite A.Audit self.now suite.old audit.old)) (B.device board.old) (B.device board.new)
-            (ended result (chip_at S.Suite A.Audit self.now suite.new audit.new)) }
+            (ended_with result (chip_at S.Suite A.Audit self.now suite.new audit.new) (B.device board.new).regs) }
         ensures capacity { A.capacity audit.new ≡ A.capacity audit.old }
         ensures keys { S.keys suite.new ≡ S.keys suite.old }
     {
@@ -151,7 +155,7 @@ impl Engine {
             (parts_at B.Board S.Suite A.Audit self.now board.new suite.new audit.new) result }
         ensures plan { Follows (finish_page_plan (setup_at S.Suite self.now suite.old) n (B.device board.old).regs
             (chip_at S.Suite A.Audit self.now suite.old audit.old)) (B.device board.old) (B.device board.new)
-            (ended result (chip_at S.Suite A.Audit self.now suite.new audit.new)) }
+            (ended_with result (chip_at S.Suite A.Audit self.now suite.new audit.new) (B.device board.new).regs) }
         ensures capacity { A.capacity audit.new ≡ A.capacity audit.old }
         ensures keys { S.keys suite.new ≡ S.keys suite.old }
     {
@@ -184,6 +188,9 @@ impl Engine {
             (parts_at B.Board S.Suite A.Audit self.old board.old suite.old audit.old)
             (parts_at B.Board S.Suite A.Audit self.new board.new suite.new audit.new) result }
         ensures rolled { OnOk result (overflows ≡ true → cached_block self.old.shape self.new page ≡ next_block (cached_block self.old.shape self.old page)) }
+        ensures plan { Follows (begin_for_plan (setup_at S.Suite self.old suite.old) page overflows (B.device board.old).regs
+            (chip_at S.Suite A.Audit self.old suite.old audit.old)) (B.device board.old) (B.device board.new)
+            (ended_with result (chip_at S.Suite A.Audit self.new suite.new audit.new) (B.device board.new).regs) }
         ensures capacity { A.capacity audit.new ≡ A.capacity audit.old }
         ensures keys { S.keys suite.new ≡ S.keys suite.old }
     {

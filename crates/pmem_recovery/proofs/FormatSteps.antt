@@ -3,12 +3,12 @@ use Rattle.std.proofs.Common.{rules, ℕ, ◌≡◌, ◌≢◌, ◌<◌, ◌≤�
 use Rattle.std.specs.Prelude.{is_some, replicate, slice_set}
 use Rattle.std.specs.List.{range_with_len}
 use Rattle.std.proofs.lemmas.Bool.{cases_eq, cases_lt}
-use Rattle.std.proofs.lemmas.List.{append_assoc, map-append, length-set, length-append, length-map}
+use Rattle.std.proofs.lemmas.List.{append-nil, append_assoc, map-append, length-set, length-append, length-map}
 use Rattle.std.proofs.lemmas.List.FromFn.{length-range_with_len}
 use Rattle.pmem_base.specs.declared.lines.Line.{Line}
 use Rattle.pmem_base.specs.Shape.{Shape}
 use Rattle.pmem_base.specs.Layout as layout
-use Rattle.pmem_base.specs.Lines.{line_at, tag_slot}
+use Rattle.pmem_base.specs.Lines.{line_at, tag_slot, zero_line}
 use Rattle.pmem_base.proofs.ListLaws.{range_with_len-append}
 use Rattle.board.specs.Device.{Device, AreToldLines}
 use Rattle.board.specs.Steps.{HasWritten}
@@ -23,16 +23,20 @@ use Rattle.bonsai_tree.proofs.NodeLaws.{node_over-same}
 use Rattle.suite.specs.Formulas.{Formulas}
 use Rattle.suite.specs.Setup.{Setup}
 use Rattle.seal_ledger.specs.Ledger.{LedgerState}
+use Rattle.seal_ledger.specs.Notes.{HasMeta}
 use Rattle.pmem_engine.specs.Formatted.{first_seal, first_block}
 use Rattle.pmem_recovery.specs.Parts.{IfLinesTold}
 use Rattle.pmem_recovery.specs.Writing.{IfBothLinesTold}
-use Rattle.pmem_recovery.specs.Formatting.{first_cipher, first_tag, IsFirstSealed, HasSealedFrom, StaysSteady, HasSealedGroup, HasSealedAll}
+use Rattle.pmem_recovery.specs.Formatting.{first_cipher, first_tag, IsFirstSealed, HasSealedFrom, StaysSteady, HasSealedGroup, HasSealedAll, HasToldMeta, HasWrittenMeta, HasClearedTables}
 use Rattle.pmem_recovery.proofs.WriteSteps.{told_earlier}
 
 -- ---- the device
 
 pub told_long : (device : Device) (n : ℕ) → AreToldLines device.size device.lines → device.size ≡ n → (lines : List Line) → device.lines ≡ Some lines → length lines ≡ n
 told_long device n whole size lines told = (whole_lines device.size device.lines lines whole told).count ∙ size
+
+pub StaysSteady-none : (d : Device) → StaysSteady 0 d d
+StaysSteady-none d = search rules
 
 pub StaysSteady-then : (n m : ℕ) (old mid new : Device) → StaysSteady n old mid → StaysSteady m mid new → StaysSteady (n + m) old new
 StaysSteady-then n m old mid new a b =
@@ -68,6 +72,9 @@ written_other old at line now w d apart = search rules
 
 -- ---- the ledger
 
+pub HasSealedFrom-none : (setup : Setup) (a : ℕ) (ledger : LedgerState) → HasSealedFrom setup a 0 ledger ledger
+HasSealedFrom-none setup a ledger = record { marks = sym (append-nil ledger.marks); truth = refl; data_lines = refl; exhibit = refl }
+
 pub HasSealedFrom-then : (setup : Setup) (a k b m : ℕ) (old mid new : LedgerState) → b ≡ a + k → HasSealedFrom setup a k old mid → HasSealedFrom setup b m mid new → HasSealedFrom setup a (k + m) old new
 HasSealedFrom-then setup a k b m old mid new e x y =
     let seals : ℕ → ℕ → List _ = λ c n. map (first_seal setup) (range_with_len c n) in
@@ -99,6 +106,13 @@ pub record IsGroupTo (setup : Setup) (group i : ℕ) (old new : Device) : Type 0
       → (j : ℕ) → j < i → line_at now (4 * group + j) ≡ first_cipher setup (4 * group + j))
   pub others :
       IfBothLinesTold old new (λ lines now. (d : ℕ) → (d < 4 * group) ⊎ (4 * group + i ≤ d) → line_at now d ≡ line_at lines d)
+
+pub IsGroupTo-none : (setup : Setup) (group : ℕ) (d : Device) → IsGroupTo setup group 0 d d
+IsGroupTo-none setup group d =
+    record {
+      written = λ now told long j low. absurd (omega arith);
+      others = λ lines told now after n outside. ap (λ l. line_at l n) (let same : Some now ≡ Some lines = sym after ∙ told in let its : now ≡ lines = cc in its);
+    }
 
 pub IsGroupTo-more : (setup : Setup) (group i at : ℕ) (old mid new : Device) → group < 16 * layout.pages setup.shape → i < 4 → at ≡ 4 * group + i → IsGroupTo setup group i old mid → HasWritten mid at (first_cipher setup at) new → IsGroupTo setup group (i + 1) old new
 IsGroupTo-more setup group i at old mid new inside small here g w =
@@ -216,3 +230,63 @@ nodes_more f first n at line lines small place inside value before x from below 
         line_at-set_other lines at x line other
         ∙ before x (omega (arith, from, place, small, other)) below
         ∙ over x (omega (arith, from, place))
+
+-- ---- the metadata lines and the shadow lines, one more
+
+-- line n of a region that begins at a place is written, and those before it are as they were
+module _ (start n at : ℕ) (line : Line) (told : ℕ → Line) (mid new : Device) (now : List Line) (here : at ≡ start + n) (value : line ≡ told n)
+    (s : IsFirstLineWritten at line mid now) (inside : at < length now) where
+  region_more : ((m : ℕ) → m < n → line_at s.lines (start + m) ≡ told m) → (m : ℕ) → m < n + 1 → line_at now (start + m) ≡ told m
+  region_more before m low = go (cases_eq m n)
+    where
+      go : (m ≡ n) ⊎ (m ≡ n → ⊥) → line_at now (start + m) ≡ told m
+      go (inl same) =
+          let place : at ≡ start + m = omega (arith, here, same) in
+          subst (λ k. line_at now k ≡ told m) place (written_here mid at line now s inside ∙ value ∙ ap told (sym same))
+      go (inr other) = written_other mid at line now s (start + m) (λ e. other (omega (arith, e, here))) ∙ before m (omega (arith, low, other))
+
+pub HasClearedTables-more : (g : Shape) (n at : ℕ) (line : Line) (old mid new : Device) → at ≡ layout.shadow_line g n → line ≡ zero_line
+    → n < layout.shadow_lines g → HasClearedTables g n old mid → HasWritten mid at line new → HasClearedTables g (n + 1) old new
+HasClearedTables-more g n at line old mid new here value small z w =
+    record {
+      zero = λ now after long m low.
+          let s = written_is mid at line new now w after in
+          let size : length s.lines ≡ layout.device_lines g = sym (length-set s.lines at line) ∙ ap length s.set ∙ long in
+          region_more (80 * layout.pages g + layout.meta_lines g) n at line (λ k. zero_line) mid new now here value s (omega (arith, here, small, long))
+          (z.zero s.lines s.told size) m low;
+      others = λ lines told now after d low.
+          let s = written_is mid at line new now w after in
+          written_other mid at line now s d (λ e. omega (arith, e, here, low)) ∙ z.others lines told s.lines s.told d low;
+    }
+
+pub HasWrittenMeta-more : (g : Shape) (truth : List Line) (n at : ℕ) (line : Line) (old mid new : Device) → at ≡ layout.meta_line g n
+    → line ≡ line_at truth n → n < layout.meta_lines g → HasWrittenMeta g truth n old mid → HasWritten mid at line new
+    → HasWrittenMeta g truth (n + 1) old new
+HasWrittenMeta-more g truth n at line old mid new here value small z w =
+    record {
+      meta = λ now after long x low.
+          let s = written_is mid at line new now w after in
+          let size : length s.lines ≡ layout.device_lines g = sym (length-set s.lines at line) ∙ ap length s.set ∙ long in
+          region_more (80 * layout.pages g) n at line (line_at truth) mid new now here value s (omega (arith, here, small, long))
+          (z.meta s.lines s.told size) x low;
+      others = λ lines told now after d low.
+          let s = written_is mid at line new now w after in
+          written_other mid at line now s d (λ e. omega (arith, e, here, low)) ∙ z.others lines told s.lines s.told d low;
+    }
+
+pub HasToldMeta-more : (g : Shape) (truth : List Line) (n : ℕ) (line : Line) (old mid new : LedgerState) → line ≡ line_at truth n → n < length old.truth
+    → HasToldMeta g truth n old mid → HasMeta mid new n line → HasToldMeta g truth (n + 1) old new
+HasToldMeta-more g truth n line old mid new value small z m =
+    record {
+      lines = λ x low. ap (λ t. line_at t x) m.truth ∙ go x low (cases_eq x n);
+      count = m.count ∙ z.count;
+      marks = m.marks ∙ z.marks;
+      data_lines = m.data_lines ∙ z.data_lines;
+      exhibit = m.exhibit ∙ z.exhibit;
+    }
+  where
+    go : (x : ℕ) → x < n + 1 → (x ≡ n) ⊎ (x ≡ n → ⊥) → line_at (slice_set mid.truth n line) x ≡ line_at truth x
+    go x low (inl same) =
+        subst (λ k. line_at (slice_set mid.truth n line) k ≡ line_at truth k) (sym same)
+        (line_at-set_same mid.truth n line (omega (arith, small, z.count)) ∙ value)
+    go x low (inr other) = line_at-set_other mid.truth n x line other ∙ z.lines x (omega (arith, low, other))

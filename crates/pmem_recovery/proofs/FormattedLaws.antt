@@ -1,5 +1,5 @@
 -- What formatting leaves, from its steps.
-use Rattle.std.proofs.Common.{rules, ℕ, ◌≡◌, ◌<◌, ◌*◌, true, List, [], length, map, All, Some, ap, sym, subst, ◌∙◌, inl, arith}
+use Rattle.std.proofs.Common.{rules, ℕ, ◌≡◌, ◌<◌, ◌*◌, true, List, [], length, map, All, Ok, Some, ap, sym, subst, ◌∙◌, inl, arith}
 use Rattle.std.specs.Prelude.{is_some, option_map, IsNone, IsTrue}
 use Rattle.std.specs.List.{range_with_len}
 use Rattle.std.proofs.lemmas.List.{ext_get_or, length-map}
@@ -35,7 +35,9 @@ use Rattle.pmem_engine.specs.Formatted.{first_seal, first_block, IsFormatted}
 use Rattle.pmem_engine.specs.Invariants.{IsAnchored, IsTrusted, IsMendable, IsSound, stored_meta}
 use Rattle.pmem_engine.proofs.Laws.AnchoredFormats.{anchored-formatted, last_first}
 use Rattle.pmem_engine.proofs.Laws.MendableLaws.{IsSound-new_engine}
-use Rattle.pmem_recovery.specs.Formatting.{first_counter, first_cipher, first_tag, first_regs, IsFirstSealed, HasSealedFrom, StaysSteady, HasSealedAll, HasToldMeta, HasWrittenMeta, HasClearedTables, HasFormatted}
+use Rattle.pmem_recovery.specs.Formatting.{first_counter, first_cipher, first_tag, first_regs, IsFirstSealed, HasSealedFrom, StaysSteady, HasSealedAll, HasToldMeta, HasWrittenMeta, HasClearedTables, HasFormatted, seals_plan, metas_plan, zeros_plan}
+use Rattle.call_plan.specs.Following.{Follows}
+use Rattle.pmem_recovery.proofs.FormatPlans.{first_truth_is, format_so}
 use Rattle.pmem_recovery.proofs.AnswerLaws.{IsTrusted-fresh, IsNewEngine-fresh}
 use Rattle.pmem_recovery.proofs.FormatSteps.{StaysSteady-then}
 use Rattle.pmem_recovery.proofs.WriteSteps.{told_earlier}
@@ -68,6 +70,9 @@ pub record HasPut (setup : Setup) (truth : List Line) (old sealed filled cleared
   pub steady_cleared : StaysSteady (layout.shadow_lines setup.shape) filled cleared
   pub tables : HasClearedTables setup.shape (layout.shadow_lines setup.shape) filled cleared
   pub latched : HasLatched cleared (first_regs setup (line_at truth 0)) new
+  pub sealed_so : Follows (seals_plan setup) old sealed (Ok tt)
+  pub filled_so : Follows (metas_plan setup.shape truth) sealed filled (Ok tt)
+  pub cleared_so : Follows (zeros_plan setup.shape) filled cleared (Ok tt)
   pub whole_sealed : AreToldLines sealed.size sealed.lines
   pub whole_filled : AreToldLines filled.size filled.lines
   pub whole : AreToldLines new.size new.lines
@@ -203,7 +208,9 @@ HasFormatted-of setup truth l0 l1 l2 d0 d1 d2 d3 d4 engine shape in_range its ma
       plain = λ a inside.
           ap (option_map (plain_of_seal setup.formulas a)) (noted_last setup truth l0 l1 l2 a l inside)
           ∙ ap (λ line. Some line) (cipher_of-back setup.formulas a (first_counter setup) zero_line in_range (record { major = shape.major_in_range; minor = omega arith }) IsLine-zero_line);
+      truth = same ∙ first_truth_is setup truth made.tree made.blocks shape;
       regs = d.latched.regs ∙ ap (λ t. first_regs setup (line_at t 0)) (sym same);
+      plan = format_so setup truth d0 d1 d2 d3 d4 (first_truth_is setup truth made.tree made.blocks shape) d.sealed_so d.filled_so d.cleared_so d.latched;
       size = d.latched.size ∙ stays.size;
       told = ap is_some d.latched.lines ∙ stays.told;
       steady = d.latched.steady ∙ stays.steady d.steady;

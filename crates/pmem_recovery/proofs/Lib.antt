@@ -8,6 +8,11 @@ pub mod WrittenLaws
 pub mod EndLaws
 pub mod NamedLaws
 pub mod PartLaws
+pub mod WritePlans
+pub mod NamedPlans
+pub mod NodePlans
+pub mod TrialPlans
+pub mod RecoveryPlans
 pub mod TryLaws
 pub mod CounterSteps
 pub mod NodeSteps
@@ -20,6 +25,7 @@ pub mod WorkLaws
 pub mod ReadLaws
 pub mod RecoverLaws
 pub mod FormatSteps
+pub mod FormatPlans
 pub mod FormattedLaws
 pub mod LatchLaws
 pub mod ResultLaws

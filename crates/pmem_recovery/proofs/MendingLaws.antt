@@ -18,7 +18,7 @@ use Rattle.pmem_engine.specs.Mendable.{IsShadowZero}
 use Rattle.pmem_engine.proofs.Laws.MendableLaws.{line_at-shadow_of, shadow_of-same}
 use Rattle.pmem_recovery.specs.declared.entries.Made.{Made}
 use Rattle.pmem_recovery.specs.Parts.{IfLinesTold, KeepsDevice, HasRoot}
-use Rattle.pmem_recovery.specs.Upward.{is_other, IsMadeLine}
+use Rattle.pmem_recovery.specs.Upward.{is_other}
 use Rattle.pmem_recovery.specs.Written.{AreWritten, IsRecovered, count_changed, count_nonzero, differing}
 use Rattle.pmem_recovery.specs.Writing.{IfBothLinesTold, HasWrittenTo, HasWrittenSome, HasZeroedTo, HasZeroedSome}
 use Rattle.pmem_recovery.specs.Mending.{HasMadeAll, most_reads, most_writes, HasMadeWrites, WritesFewer}

@@ -117,6 +117,9 @@ SuiteWorkAtMost-after n m k l p q old mid new few_trials few_digests a b =
 
 -- ---- pads, tags and digests
 
+pub SuiteRise-none : (old : SuiteState) → SuiteRise 0 0 0 old old
+SuiteRise-none old = record { its_keys = refl; its_pads = refl; its_tags = refl; its_digests = refl }
+
 pub SuiteRise-then : (a b c d e f : ℕ) (old mid new : SuiteState) → SuiteRise a b c old mid → SuiteRise d e f mid new → SuiteRise (a + d) (b + e) (c + f) old new
 SuiteRise-then a b c d e f old mid new x y =
     record {

@@ -1,5 +1,5 @@
 -- Laws of how many device lines a recovery reads: line by line, block by block, and in all.
-use Rattle.std.proofs.Common.{ℕ, zero, suc, ◌≡◌, ◌<◌, ◌≤◌, ◌+◌, ◌-◌, ◌*◌, ◌/◌, Bool, true, false, ◌||◌, cond, eqb, List, [], ◌∷◌, All, Some, None, Result, Ok, Err, ◌⊎◌, refl, ap, sym, subst, ◌∙◌, inl, inr, add-one, arith}
+use Rattle.std.proofs.Common.{ℕ, zero, suc, ◌≡◌, ◌<◌, ◌≤◌, ◌+◌, ◌-◌, ◌*◌, ◌/◌, Bool, true, false, ◌||◌, cond, eqb, List, [], ◌∷◌, All, Some, None, Result, Ok, Err, ◌⊎◌, refl, ap, sym, subst, ◌∙◌, inl, add-one, arith}
 use Rattle.std.specs.Prelude.{filter, find, is_some, option_map, sum_by, ⊤}
 use Rattle.std.specs.List.{range_with_len}
 use Rattle.std.specs.Result.{IfErr}
@@ -9,7 +9,7 @@ use Rattle.std.proofs.lemmas.List.Sums.{sum_by-append, sum_by_push}
 use Rattle.pmem_base.specs.declared.lines.Line.{Line}
 use Rattle.pmem_base.specs.declared.registers.Progress.{Progress}
 use Rattle.pmem_base.specs.declared.registers.Regs.{Regs}
-use Rattle.pmem_base.specs.Shape.{Shape, IsShape}
+use Rattle.pmem_base.specs.Shape.{Shape}
 use Rattle.pmem_base.specs.Layout as layout
 use Rattle.pmem_base.specs.Layout.{level_start, page_of, index_in_page}
 use Rattle.pmem_base.specs.Registers.{without_group}
@@ -26,10 +26,10 @@ use Rattle.pmem_engine.specs.Invariants.{is_named}
 use Rattle.pmem_recovery.specs.declared.entries.Made.{Made}
 use Rattle.pmem_recovery.specs.declared.faults.RecFault.{RecFault}
 use Rattle.pmem_recovery.specs.declared.faults.RecFault.TheVariants.{Memory, Cut, NoCounter, Root, Twin}
-use Rattle.pmem_recovery.specs.Named.{names, count_named, IsNextAt, IsNext}
+use Rattle.pmem_recovery.specs.Named.{names, IsNextAt, IsNext}
 use Rattle.pmem_recovery.specs.Upward.{line_made, is_made, IsMadeLine, AreMade, AreMadeTo, AreAllMade}
 use Rattle.pmem_recovery.specs.Parts.{IsCompared, IsUndecided, IsRootFault}
-use Rattle.pmem_recovery.specs.Reads.{sum_named, line_reads, page_reads, block_reads, unmade_reads, children_reads, unnamed_reads, node_reads, all_reads, named_reads, IsRootRead, IsReadToStop, reads_to, IsReadUntil}
+use Rattle.pmem_recovery.specs.Reads.{sum_named, line_reads, page_reads, block_reads, unmade_reads, children_reads, unnamed_reads, node_reads, all_reads, IsRootRead, IsReadToStop, reads_to, IsReadUntil}
 
 -- ---- counts
 

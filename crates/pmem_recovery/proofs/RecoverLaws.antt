@@ -25,7 +25,9 @@ use Rattle.pmem_recovery.specs.Written.{IsRecovered, differing}
 use Rattle.pmem_recovery.specs.Parts.{IfLinesTold, KeepsDevice, IsUncut, StopsBy, SuiteState, SuiteWork, SuiteWorkAtMost, HasRoot, IsFaultShown, IsRefusal, IsStageStopped, StoppedWork, IsAllWork}
 use Rattle.pmem_recovery.specs.Writing.{IfBothLinesTold}
 use Rattle.pmem_recovery.specs.Mending.{IsPartlyMended, most_reads, most_writes, HasMadeWrites, IsStoppedShort}
-use Rattle.pmem_recovery.specs.Recovered.{RegsAfter, PowerAfter, HasOnlyRedone, IsUnchanged, most_recovery_steps, StepsAfter, CountsAtMost, IsTwinValid, IsNoCounterUnmendable, IsMendedAs, HasRecovered, IsUncounted}
+use Rattle.pmem_recovery.specs.Recovered.{RegsAfter, PowerAfter, HasOnlyRedone, IsUnchanged, most_recovery_steps, StepsAfter, CountsAtMost, IsTwinValid, IsNoCounterUnmendable, IsMendedAs, PlanAfter, HasRecovered, IsUncounted}
+use Rattle.call_plan.specs.Following.{Follows}
+use Rattle.pmem_recovery.specs.Plans.{counts_of, recover_plan}
 use Rattle.pmem_recovery.specs.Fronts.{IsFrontWritten}
 use Rattle.pmem_recovery.proofs.PartLaws.{IsUncut-then, IsCutOff-after}
 use Rattle.pmem_recovery.proofs.FrontLaws.{front_partly, front_without, fixed_recovered, fixed_without}
@@ -45,8 +47,8 @@ recovered_memory setup ledger old suite valid =
     let work : (lines : List Line) → StoppedWork setup.shape (redone old.regs.group.items lines) old.regs Memory suite suite = λ lines. stopped_memory setup.shape (redone old.regs.group.items lines) old.regs suite in
     search rules
 
-pub recovered_interrupted : (setup : Setup) (ledger : LedgerState) (old new : Device) (suite : SuiteState) → IsShape setup.shape → old.size ≡ layout.device_lines setup.shape → AreToldLines new.size new.lines → IsValidRegs setup.shape old.regs → (old.regs.group.items ≡ [] → ⊥) → IsInterrupted old.regs.group.items old new → HasRecovered setup ledger old new suite suite (Err Cut)
-recovered_interrupted setup ledger old new suite shape size whole valid armed cut =
+pub recovered_interrupted : (setup : Setup) (ledger : LedgerState) (old new : Device) (suite : SuiteState) → IsShape setup.shape → old.size ≡ layout.device_lines setup.shape → AreToldLines new.size new.lines → IsValidRegs setup.shape old.regs → (old.regs.group.items ≡ [] → ⊥) → IsInterrupted old.regs.group.items old new → Follows (recover_plan setup old.regs (counts_of suite)) old new (Err (counts_of suite, Cut)) → HasRecovered setup ledger old new suite suite (Err Cut)
+recovered_interrupted setup ledger old new suite shape size whole valid armed cut plan =
     let work : (lines : List Line) → StoppedWork setup.shape (redone old.regs.group.items lines) old.regs Cut suite suite = λ lines. stopped_at_once setup.shape (redone old.regs.group.items lines) old.regs suite in
     search rules
 
@@ -223,8 +225,12 @@ module _ (setup : Setup) (ledger : LedgerState) (old mid new : Device) (run : Is
   uncounted_after suite_old suite_new Memory shown = absurd shown
   uncounted_after suite_old suite_new fault shown = tt
 
-  pub recovered_fault : (suite_old suite_new : SuiteState) (fault : RecFault) → IfLinesTold mid.lines (λ lines. length lines ≡ layout.device_lines setup.shape → IsReadUntil setup.shape (shadow_of setup.shape lines) mid.regs fault mid.reads new.reads) → IsStageStopped setup.formulas fault (λ lines. length lines ≡ layout.device_lines setup.shape → IsRefusal setup lines mid.regs fault) mid new → IsStoppedShort setup.shape fault mid new → IfLinesTold mid.lines (λ lines. length lines ≡ layout.device_lines setup.shape → StoppedWork setup.shape lines mid.regs fault suite_old suite_new) → SuiteWorkAtMost (64 * mid.regs.loss * layout.slots setup.shape) (4 * setup.shape.levels * layout.slots setup.shape + 1) suite_old suite_new → HasRecovered setup ledger old new suite_old suite_new (Err fault)
-  recovered_fault suite_old suite_new fault reads s short stopped work =
+  plan_after : (suite_old suite_new : SuiteState) (fault : RecFault) → IsFaultShown setup.formulas fault → Follows (recover_plan setup old.regs (counts_of suite_old)) old new (Err (counts_of suite_new, fault)) → PlanAfter setup (Err fault) old new suite_old suite_new
+  plan_after suite_old suite_new Memory shown it = absurd shown
+  plan_after suite_old suite_new fault shown it = it
+
+  pub recovered_fault : (suite_old suite_new : SuiteState) (fault : RecFault) → Follows (recover_plan setup old.regs (counts_of suite_old)) old new (Err (counts_of suite_new, fault)) → IfLinesTold mid.lines (λ lines. length lines ≡ layout.device_lines setup.shape → IsReadUntil setup.shape (shadow_of setup.shape lines) mid.regs fault mid.reads new.reads) → IsStageStopped setup.formulas fault (λ lines. length lines ≡ layout.device_lines setup.shape → IsRefusal setup lines mid.regs fault) mid new → IsStoppedShort setup.shape fault mid new → IfLinesTold mid.lines (λ lines. length lines ≡ layout.device_lines setup.shape → StoppedWork setup.shape lines mid.regs fault suite_old suite_new) → SuiteWorkAtMost (64 * mid.regs.loss * layout.slots setup.shape) (4 * setup.shape.levels * layout.slots setup.shape + 1) suite_old suite_new → HasRecovered setup ledger old new suite_old suite_new (Err fault)
+  recovered_fault suite_old suite_new fault plan reads s short stopped work =
       record {
         size = run.written.size ∙ run.finished.size;
         told = its_told;
@@ -260,6 +266,7 @@ module _ (setup : Setup) (ledger : LedgerState) (old mid new : Device) (run : Is
         engine = tt;
         trusted = λ a. tt;
         twin = twin_valid fault s.shown;
+        plan = plan_after suite_old suite_new fault s.shown plan;
         lines = λ lines told now after.
             let m = its_lines lines now told after in
             let refused = s.reason (redone old.regs.group.items lines) m.mid_told m.long in
@@ -280,8 +287,8 @@ module _ (setup : Setup) (ledger : LedgerState) (old mid new : Device) (run : Is
 
   -- ---- a new engine
 
-  pub recovered_ok : (suite_old suite_new : SuiteState) (work : Work) → IfLinesTold mid.lines (λ lines. length lines ≡ layout.device_lines setup.shape → RisesBy (all_reads setup.shape (shadow_of setup.shape lines) mid.regs) mid.reads new.reads) → IsUncut mid new → IfBothLinesTold mid new (λ lines now. length lines ≡ layout.device_lines setup.shape → IsRecovered setup lines mid.regs now × HasRoot setup lines mid.regs) → IfLinesTold mid.lines (λ lines. length lines ≡ layout.device_lines setup.shape → IsAllWork setup.shape lines mid.regs work.trials work.digests) → SuiteWork work.trials work.digests suite_old suite_new → work.trials ≤ 64 * mid.regs.loss * layout.slots setup.shape → work.digests ≤ 4 * setup.shape.levels * layout.slots setup.shape + 1 → HasRecovered setup ledger old new suite_old suite_new (Ok (new_engine setup.shape, work))
-  recovered_ok suite_old suite_new work reads goes recovered all_work worked few_trials few_digests =
+  pub recovered_ok : (suite_old suite_new : SuiteState) (work : Work) → Follows (recover_plan setup old.regs (counts_of suite_old)) old new (Ok (counts_of suite_new, (new_engine setup.shape, work))) → IfLinesTold mid.lines (λ lines. length lines ≡ layout.device_lines setup.shape → RisesBy (all_reads setup.shape (shadow_of setup.shape lines) mid.regs) mid.reads new.reads) → IsUncut mid new → IfBothLinesTold mid new (λ lines now. length lines ≡ layout.device_lines setup.shape → IsRecovered setup lines mid.regs now × HasRoot setup lines mid.regs) → IfLinesTold mid.lines (λ lines. length lines ≡ layout.device_lines setup.shape → IsAllWork setup.shape lines mid.regs work.trials work.digests) → SuiteWork work.trials work.digests suite_old suite_new → work.trials ≤ 64 * mid.regs.loss * layout.slots setup.shape → work.digests ≤ 4 * setup.shape.levels * layout.slots setup.shape + 1 → HasRecovered setup ledger old new suite_old suite_new (Ok (new_engine setup.shape, work))
+  recovered_ok suite_old suite_new work plan reads goes recovered all_work worked few_trials few_digests =
       let few : work.trials ≤ 64 * old.regs.loss * layout.slots setup.shape = subst (λ n. work.trials ≤ 64 * n * layout.slots setup.shape) mid_emptied.same_loss few_trials in
       record {
         size = run.written.size ∙ run.finished.size;
@@ -316,6 +323,7 @@ module _ (setup : Setup) (ledger : LedgerState) (old mid new : Device) (run : Is
         engine = refl;
         trusted = λ a. IsTrusted-fresh setup new.regs ledger (its_anchored a) emptied.no_group;
         twin = tt;
+        plan = plan;
         lines = λ lines told now after.
             let m = its_lines lines now told after in
             let r = recovered (redone old.regs.group.items lines) m.mid_told now after m.long in

@@ -1,5 +1,5 @@
 -- What holds of an answer that is no error, and of what isn't there.
-use Rattle.std.proofs.Common.{◌≡◌, Bool, true, false, Option, Some, None, refl, sym, ◌∙◌}
+use Rattle.std.proofs.Common.{◌≡◌, Bool, false, Option, Some, None, refl, sym, ◌∙◌}
 use Rattle.std.specs.Prelude.{Result, Ok, Err, IsErr, OnOk, is_some}
 use Rattle.std.proofs.lemmas.Bool.{true≢false}
 

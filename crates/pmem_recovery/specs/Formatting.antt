@@ -1,6 +1,7 @@
 -- What formatting does to the device and to the ledger, and how it leaves them.
-use Rattle.std.specs.Prelude.{ℕ, ◌≡◌, ◌≢◌, ◌≤◌, ◌<◌, ◌+◌, ◌*◌, ◌⊎◌, true, List, ◌++◌, map, length, is_some, Some, option_map}
+use Rattle.std.specs.Prelude.{ℕ, zero, suc, ◌≡◌, ◌≢◌, ◌≤◌, ◌<◌, ◌+◌, ◌-◌, ◌*◌, ◌⊎◌, true, Ok, List, ◌++◌, map, length, is_some, Some, option_map}
 use Rattle.std.specs.List.{range_with_len}
+use Rattle.pmem_base.specs.declared.faults.Cut.{Cut}
 use Rattle.pmem_base.specs.declared.lines.Line.{Line}
 use Rattle.pmem_base.specs.declared.lines.Ctr.{Ctr}
 use Rattle.pmem_base.specs.declared.registers.Regs.{Regs}
@@ -11,6 +12,12 @@ use Rattle.pmem_base.specs.Marks.{last_seal}
 use Rattle.pmem_base.specs.Registers.{empty_regs}
 use Rattle.board.specs.Counts.{RisesBy}
 use Rattle.board.specs.Device.{Device}
+use Rattle.call_plan.specs.Plans.{Plan, done, write, latch, bind, repeated, the_cut}
+use Rattle.call_plan.specs.Following.{Follows}
+use Rattle.line_seal.specs.Seals.{with_tag}
+use Rattle.split_counters.specs.Blocks.{packed}
+use Rattle.bonsai_tree.specs.Positions.{level_of}
+use Rattle.bonsai_tree.specs.Nodes.{node_over}
 use Rattle.suite.specs.Formulas.{cipher_of}
 use Rattle.suite.specs.Setup.{Setup}
 use Rattle.seal_ledger.specs.Ledger.{LedgerState}
@@ -18,7 +25,7 @@ use Rattle.plain_model.specs.View.{plain_line}
 use Rattle.pmem_engine.specs.Engine.{EngineState}
 use Rattle.pmem_engine.specs.Invariants.{IsAnchored, IsTrusted, IsSound, stored_meta}
 use Rattle.pmem_engine.specs.Mendable.{new_engine}
-use Rattle.pmem_engine.specs.Formatted.{first_seal}
+use Rattle.pmem_engine.specs.Formatted.{first_seal, first_block}
 use Rattle.pmem_recovery.specs.Parts.{IfLinesTold}
 use Rattle.pmem_recovery.specs.Writing.{IfBothLinesTold}
 
@@ -106,6 +113,68 @@ abbrev pub first_regs : Setup → Line → Regs
 first_regs setup top =
     record empty_regs { root = setup.formulas.digest_of 0 top; loss = setup.shape.loss }
 
+-- ---- the metadata lines
+
+-- metadata line x, which has j levels below it
+abbrev pub first_line_above : Setup → ℕ → ℕ → Line
+first_line_above setup zero x = packed (first_block setup.shape)
+first_line_above setup (suc j) x = node_over setup.formulas x (first_line_above setup j)
+
+abbrev pub first_line : Setup → ℕ → Line
+first_line setup x = first_line_above setup (setup.shape.levels - level_of x) x
+
+-- all of them
+unfoldable pub first_truth : Setup → List Line
+first_truth setup = map (first_line setup) (range_with_len 0 (layout.meta_lines setup.shape))
+
+-- ---- the plan, on a board that isn't cut
+
+-- line i of a group is sealed, and its tag takes its slot of the tag line
+abbrev pub seal_turn : Setup → ℕ → ℕ → Line → Plan Cut Line
+seal_turn setup group i tags =
+    write the_cut (4 * group + i) (first_cipher setup (4 * group + i))
+    (done (with_tag tags (4 * group + i) (first_tag setup (4 * group + i))))
+
+-- the four lines of a group, and their tag line
+unfoldable pub group_plan : Setup → ℕ → Plan Cut (Unit {0})
+group_plan setup group =
+    bind (repeated (seal_turn setup group) 0 4 zero_line)
+    (λ tags. write the_cut (layout.tag_line setup.shape (4 * group)) tags (done tt))
+
+abbrev pub group_turn : Setup → ℕ → Unit {0} → Plan Cut (Unit {0})
+group_turn setup group before = group_plan setup group
+
+-- all data lines and tag lines, group by group
+abbrev pub seals_plan : Setup → Plan Cut (Unit {0})
+seals_plan setup = repeated (group_turn setup) 0 (16 * layout.pages setup.shape) tt
+
+abbrev pub meta_turn : Shape → List Line → ℕ → Unit {0} → Plan Cut (Unit {0})
+meta_turn g truth x before = write the_cut (layout.meta_line g x) (line_at truth x) (done tt)
+
+-- the metadata lines, by positions upwards
+abbrev pub metas_plan : Shape → List Line → Plan Cut (Unit {0})
+metas_plan g truth = repeated (meta_turn g truth) 0 (layout.meta_lines g) tt
+
+abbrev pub zero_turn : Shape → ℕ → Unit {0} → Plan Cut (Unit {0})
+zero_turn g n before = write the_cut (layout.shadow_line g n) zero_line (done tt)
+
+-- zero shadow lines, by numbers upwards
+abbrev pub zeros_plan : Shape → Plan Cut (Unit {0})
+zeros_plan g = repeated (zero_turn g) 0 (layout.shadow_lines g) tt
+
+-- then one latch of the root and the stop-loss number
+abbrev pub after_zeros : Setup → List Line → Unit {0} → Plan Cut (Unit {0})
+after_zeros setup truth cleared = latch the_cut (first_regs setup (line_at truth 0)) (done tt)
+
+abbrev pub after_metas : Setup → List Line → Unit {0} → Plan Cut (Unit {0})
+after_metas setup truth told = bind (zeros_plan setup.shape) (after_zeros setup truth)
+
+abbrev pub after_seals : Setup → List Line → Unit {0} → Plan Cut (Unit {0})
+after_seals setup truth sealed = bind (metas_plan setup.shape truth) (after_metas setup truth)
+
+unfoldable pub format_plan : Setup → Plan Cut (Unit {0})
+format_plan setup = bind (seals_plan setup) (after_seals setup (first_truth setup))
+
 -- ---- the whole
 
 -- what formatting leaves: a sound memory of zero lines, each sealed once, with an engine that has nothing
@@ -124,6 +193,7 @@ pub record HasFormatted (setup : Setup) (ledger : LedgerState) (old new : Device
   pub plain :
       (a : ℕ) → a < layout.data_lines setup.shape
       → plain_line setup.formulas ledger.marks a ≡ Some zero_line
+  pub truth : ledger.truth ≡ first_truth setup
   pub regs : new.regs ≡ first_regs setup (line_at ledger.truth 0)
   pub size : new.size ≡ old.size
   pub told : is_some new.lines ≡ is_some old.lines
@@ -133,3 +203,4 @@ pub record HasFormatted (setup : Setup) (ledger : LedgerState) (old new : Device
   pub latches : RisesBy 1 old.latches new.latches
   pub reads : new.reads ≡ old.reads
   pub cuts : new.cuts ≡ old.cuts
+  pub plan : Follows (format_plan setup) old new (Ok tt)

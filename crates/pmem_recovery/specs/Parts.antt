@@ -11,6 +11,7 @@ use Rattle.pmem_base.specs.Layout.{page_of, level_start}
 use Rattle.pmem_base.specs.Shape.{Shape}
 use Rattle.pmem_base.specs.Lines.{line_at, tag_slot}
 use Rattle.board.specs.Device.{Device}
+use Rattle.suite.specs.declared.Suite.{Ghosts as SuiteOf}
 use Rattle.suite.specs.Formulas.{Formulas}
 use Rattle.suite.specs.Setup.{Setup}
 use Rattle.shadow_tables.specs.Entries.{shadow_of}
@@ -71,6 +72,14 @@ pub record SuiteState : Type 0 where
 abbrev pub suite_state : List ℕ → ℕ → ℕ → ℕ → SuiteState
 suite_state keys pads tags digests =
     record { keys = keys; pads = pads; tags = tags; digests = digests }
+
+-- the suite, and the setup of its keys, at a moment of a call
+module _ {S : Type 0} (suite : SuiteOf S) where
+  abbrev pub suite_at : S → SuiteState
+  suite_at s = suite_state (suite.keys s) (suite.pads s) (suite.tags s) (suite.digests s)
+
+  abbrev pub setup_with : Geo → S → Setup
+  setup_with geo s = setup_of geo (suite.formulas_of (suite.keys s))
 
 -- so many tags and digests are made, and no pad
 pub record SuiteWork (n m : ℕ) (old new : SuiteState) : Type 0 where

@@ -9,6 +9,8 @@ use Rattle.pmem_base.specs.Registers.{IsValidRegs, without_group}
 use Rattle.pmem_base.specs.Counts.{risen_times}
 use Rattle.board.specs.Counts.{RisesBy}
 use Rattle.board.specs.Device.{Device}
+use Rattle.call_plan.specs.Plans.{ended}
+use Rattle.call_plan.specs.Following.{Follows}
 use Rattle.commit_regs.specs.Groups.{redone, redone_told, finishing_latches, RisesAtMost}
 use Rattle.shadow_tables.specs.Entries.{shadow_of}
 use Rattle.suite.specs.Formulas.{Formulas}
@@ -29,6 +31,7 @@ use Rattle.pmem_recovery.specs.Reads.{all_reads, named_reads, IsReadUntil}
 use Rattle.pmem_recovery.specs.Writing.{IfBothLinesTold}
 use Rattle.pmem_recovery.specs.Mending.{most_reads, most_writes}
 use Rattle.pmem_recovery.specs.Fronts.{IsFrontWritten, AreFixed}
+use Rattle.pmem_recovery.specs.Plans.{counts_of, recover_plan}
 
 -- a new engine with the work, or why recovery stopped
 abbrev pub Answer : Type 0
@@ -174,6 +177,14 @@ pub record HasMended (setup : Setup) (ledger : LedgerState) (old new : Device) (
       old.regs.group.items ≡ [] → IsShadowZero setup lines
       → (new.writes ≡ old.writes) × (new.latches ≡ old.latches)
 
+-- ---- the plan
+
+-- recovery's plan was followed, unless memory was wanting
+abbrev pub PlanAfter : Setup → Answer → Device → Device → SuiteState → SuiteState → Type 0
+PlanAfter setup (Err Memory) old new suite_old suite_new = ⊤
+PlanAfter setup answer old new suite_old suite_new =
+    Follows (recover_plan setup old.regs (counts_of suite_old)) old new (ended answer (counts_of suite_new))
+
 -- ---- the whole
 
 -- what recovery does: the parts before and after, and the answer
@@ -216,3 +227,4 @@ pub record HasRecovered (setup : Setup) (ledger : LedgerState) (old new : Device
       IsAnchored setup old.regs ledger → IfOk answer (λ done. IsTrusted setup done.0 new.regs ledger)
   pub twin : IfErr answer (IsTwinValid setup.formulas)
   pub lines : IfBothLinesTold old new (λ lines now. HasMended setup ledger old new lines now answer)
+  pub plan : PlanAfter setup answer old new suite_old suite_new

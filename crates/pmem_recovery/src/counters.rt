@@ -17,7 +17,11 @@ ghost use Rattle.board.specs.Counts.{RisesBy};
 ghost use Rattle.commit_regs.specs.Groups.{RisesAtMost};
 ghost use Rattle.pmem_recovery.specs.Named.{count_named};
 ghost use Rattle.pmem_recovery.specs.Reads.{sum_named, line_reads, page_reads, block_reads, reads_to, IsReadToStop};
-ghost use Rattle.pmem_recovery.specs.Parts.{setup_of, IfLinesTold, KeepsDevice, IsUncut, IsCutOff, suite_state, SuiteWork, SuiteWorkAtMost, decided_of, IsDecided, AreOneTried, IsLineRefusal, IsPageRefusal, IsRefusal, IsStageStopped, line_tries, TriesUntil, AddsLine};
+ghost use Rattle.pmem_recovery.specs.Parts.{IfLinesTold, KeepsDevice, IsUncut, IsCutOff, SuiteWork, SuiteWorkAtMost, decided_of, IsDecided, AreOneTried, IsLineRefusal, IsPageRefusal, IsRefusal, IsStageStopped, line_tries, TriesUntil, AddsLine, setup_with, suite_at};
+ghost use Rattle.stop_loss.specs.Trials.{found_among};
+ghost use Rattle.call_plan.specs.Plans.{ended};
+ghost use Rattle.call_plan.specs.Following.{Follows};
+ghost use Rattle.pmem_recovery.specs.Plans.{recovery_parts, counts_at, sealed_plan, trial_plan, minors_plan, fixed_block_plan, blocks_plan};
 
 use crate::RecFault;
 use crate::entries::{Made, is_other};
@@ -49,24 +53,26 @@ pub(crate) fn fix_counters<B: Board, S: Suite>(
     ensures exact_reads { OnOk result (RisesBy (sum_named (shape_of geo.now) shadow.now (block_reads (shape_of geo.now) regs.now) (level_start (shape_of geo.now).levels) (meta_lines (shape_of geo.now))) (B.device board.old).reads (B.device board.new).reads) }
     ensures stopped_reads { IfErr result (λ fault. IsReadToStop (λ a. ⊤) (reads_to (shape_of geo.now) shadow.now regs.now) fault (B.device board.old).reads (B.device board.new).reads) }
     ensures goes { OnOk result (IsUncut (B.device board.old) (B.device board.new)) }
-    ensures worked { IfOk result (λ trials. SuiteWork trials 0 (suite_state (S.keys suite.old) (S.pads suite.old) (S.tags suite.old) (S.digests suite.old))
-        (suite_state (S.keys suite.new) (S.pads suite.new) (S.tags suite.new) (S.digests suite.new))) }
-    ensures at_most { SuiteWorkAtMost (64 * regs.now.loss * slots (shape_of geo.now)) 0 (suite_state (S.keys suite.old) (S.pads suite.old) (S.tags suite.old) (S.digests suite.old))
-        (suite_state (S.keys suite.new) (S.pads suite.new) (S.tags suite.new) (S.digests suite.new)) }
+    ensures worked { IfOk result (λ trials. SuiteWork trials 0 (suite_at S.Suite suite.old)
+        (suite_at S.Suite suite.new)) }
+    ensures at_most { SuiteWorkAtMost (64 * regs.now.loss * slots (shape_of geo.now)) 0 (suite_at S.Suite suite.old)
+        (suite_at S.Suite suite.new) }
     ensures few_trials { IfOk result (λ trials. trials ≤ 64 * regs.now.loss * slots (shape_of geo.now)) }
     ensures few_made { OnOk result (length made.new.items ≤ slots (shape_of geo.now)) }
     ensures on_tree { OnOk result (All (λ entry. entry.at < meta_lines (shape_of geo.now)) made.new.items) }
     ensures capacity { vec_capacity made.new ≡ vec_capacity made.old }
     ensures told { OnOk result (IfLinesTold (B.device board.old).lines (λ lines. shadow.now ≡ shadow_of (shape_of geo.now) lines
-        → AreDecided (setup_of geo.now (S.formulas_of (S.keys suite.old))) lines regs.now (pages (shape_of geo.now))
-        × AreMadeTo (setup_of geo.now (S.formulas_of (S.keys suite.old))) lines regs.now (shape_of geo.now).levels (meta_lines (shape_of geo.now)) made.new.items)) }
+        → AreDecided (setup_with S.Suite geo.now suite.old) lines regs.now (pages (shape_of geo.now))
+        × AreMadeTo (setup_with S.Suite geo.now suite.old) lines regs.now (shape_of geo.now).levels (meta_lines (shape_of geo.now)) made.new.items)) }
     ensures trials { IfOk result (λ trials. IfLinesTold (B.device board.old).lines (λ lines. shadow.now ≡ shadow_of (shape_of geo.now) lines
         → trials ≡ trials_below (shape_of geo.now) lines regs.now (data_lines (shape_of geo.now)))) }
     ensures tries { IfErr result (λ fault. IfLinesTold (B.device board.old).lines (λ lines. shadow.now ≡ shadow_of (shape_of geo.now) lines
-        → TriesUntil (shape_of geo.now) lines regs.now 0 (data_lines (shape_of geo.now)) fault (suite_state (S.keys suite.old) (S.pads suite.old) (S.tags suite.old) (S.digests suite.old))
-        (suite_state (S.keys suite.new) (S.pads suite.new) (S.tags suite.new) (S.digests suite.new)))) }
+        → TriesUntil (shape_of geo.now) lines regs.now 0 (data_lines (shape_of geo.now)) fault (suite_at S.Suite suite.old)
+        (suite_at S.Suite suite.new))) }
     ensures stopped { IfErr result (λ fault. IsStageStopped (S.formulas_of (S.keys suite.old)) fault
-        (λ lines. shadow.now ≡ shadow_of (shape_of geo.now) lines → IsRefusal (setup_of geo.now (S.formulas_of (S.keys suite.old))) lines regs.now fault) (B.device board.old) (B.device board.new)) }
+        (λ lines. shadow.now ≡ shadow_of (shape_of geo.now) lines → IsRefusal (setup_with S.Suite geo.now suite.old) lines regs.now fault) (B.device board.old) (B.device board.new)) }
+    ensures plan { Follows (blocks_plan (setup_with S.Suite geo.now suite.old) regs.now shadow.now (recovery_parts made.old.items (counts_at S.Suite suite.old)))
+        (B.device board.old) (B.device board.new) (ended result (recovery_parts made.new.items (counts_at S.Suite suite.new))) }
 {
     let mut from = (geo.pages() - 1) / 3;
     let mut trials = 0;
@@ -96,26 +102,29 @@ fn fix_counter<B: Board, S: Suite>(
     ensures exact_reads { OnOk result (RisesBy (block_reads (shape_of geo.now) regs.now x) (B.device board.old).reads (B.device board.new).reads) }
     ensures stopped_reads { IfErr result (λ fault. IsReadToStop (λ a. counter_position (shape_of geo.now) (page_of a) ≡ x) (λ a. 1 + page_reads regs.now.progress.items (page_of a) (index_in_page a + 1)) fault (B.device board.old).reads (B.device board.new).reads) }
     ensures goes { OnOk result (IsUncut (B.device board.old) (B.device board.new)) }
-    ensures worked { IfOk result (λ trials. SuiteWork trials 0 (suite_state (S.keys suite.old) (S.pads suite.old) (S.tags suite.old) (S.digests suite.old))
-        (suite_state (S.keys suite.new) (S.pads suite.new) (S.tags suite.new) (S.digests suite.new))) }
-    ensures at_most { SuiteWorkAtMost (64 * regs.now.loss) 0 (suite_state (S.keys suite.old) (S.pads suite.old) (S.tags suite.old) (S.digests suite.old))
-        (suite_state (S.keys suite.new) (S.pads suite.new) (S.tags suite.new) (S.digests suite.new)) }
+    ensures worked { IfOk result (λ trials. SuiteWork trials 0 (suite_at S.Suite suite.old)
+        (suite_at S.Suite suite.new)) }
+    ensures at_most { SuiteWorkAtMost (64 * regs.now.loss) 0 (suite_at S.Suite suite.old)
+        (suite_at S.Suite suite.new) }
     ensures few { IfOk result (λ trials. trials ≤ 64 * regs.now.loss) }
     ensures made { OnOk result (AddsLine x made.old.items made.new.items) }
     ensures capacity { vec_capacity made.new ≡ vec_capacity made.old }
     ensures told { OnOk result (IfLinesTold (B.device board.old).lines (λ lines. (page : ℕ) → page < pages (shape_of geo.now) → x ≡ counter_position (shape_of geo.now) page
-        → (made.new.items ≡ made.old.items ++ block_made (setup_of geo.now (S.formulas_of (S.keys suite.old))) lines regs.now page ∷ [])
-        × AreOneTried (setup_of geo.now (S.formulas_of (S.keys suite.old))) lines regs.now page)) }
+        → (made.new.items ≡ made.old.items ++ block_made (setup_with S.Suite geo.now suite.old) lines regs.now page ∷ [])
+        × AreOneTried (setup_with S.Suite geo.now suite.old) lines regs.now page)) }
     ensures trials { IfOk result (λ trials. IfLinesTold (B.device board.old).lines (λ lines. (page : ℕ) → page < pages (shape_of geo.now) → x ≡ counter_position (shape_of geo.now) page
         → is_named (shape_of geo.now) lines x ≡ true → trials + trials_below (shape_of geo.now) lines regs.now (64 * page) ≡ trials_below (shape_of geo.now) lines regs.now (64 * page + 64))) }
     ensures tries { IfErr result (λ fault. IfLinesTold (B.device board.old).lines (λ lines. (page : ℕ) → page < pages (shape_of geo.now) → x ≡ counter_position (shape_of geo.now) page
-        → is_named (shape_of geo.now) lines x ≡ true → TriesUntil (shape_of geo.now) lines regs.now (64 * page) (64 * page + 64) fault (suite_state (S.keys suite.old) (S.pads suite.old) (S.tags suite.old) (S.digests suite.old))
-        (suite_state (S.keys suite.new) (S.pads suite.new) (S.tags suite.new) (S.digests suite.new)))) }
+        → is_named (shape_of geo.now) lines x ≡ true → TriesUntil (shape_of geo.now) lines regs.now (64 * page) (64 * page + 64) fault (suite_at S.Suite suite.old)
+        (suite_at S.Suite suite.new))) }
     ensures stopped { IfErr result (λ fault. IsStageStopped (S.formulas_of (S.keys suite.old)) fault
         (λ lines. (page : ℕ) → page < pages (shape_of geo.now) → x ≡ counter_position (shape_of geo.now) page
-        → IsPageRefusal (setup_of geo.now (S.formulas_of (S.keys suite.old))) lines regs.now page fault) (B.device board.old) (B.device board.new)) }
+        → IsPageRefusal (setup_with S.Suite geo.now suite.old) lines regs.now page fault) (B.device board.old) (B.device board.new)) }
+    ensures plan { Follows (fixed_block_plan (setup_with S.Suite geo.now suite.old) regs.now x (recovery_parts made.old.items (counts_at S.Suite suite.old)))
+        (B.device board.old) (B.device board.new) (ended result (recovery_parts made.new.items (counts_at S.Suite suite.new))) }
 {
     let read = board.read_line(geo.meta_line(x))?;
+    read.is_whole();
     let page = x - (geo.pages() - 1) / 3;
     let (fixed, trials) = fix_minors(board, suite, geo, regs, page, &unpack(&read))?;
     let line = pack(&fixed);
@@ -145,21 +154,23 @@ fn fix_minors<B: Board, S: Suite>(
     ensures exact_reads { OnOk result (RisesBy (page_reads regs.now.progress.items page 64) (B.device board.old).reads (B.device board.new).reads) }
     ensures stopped_reads { IfErr result (λ fault. IsReadToStop (λ a. page_of a ≡ page) (λ a. page_reads regs.now.progress.items page (index_in_page a + 1)) fault (B.device board.old).reads (B.device board.new).reads) }
     ensures goes { OnOk result (IsUncut (B.device board.old) (B.device board.new)) }
-    ensures worked { IfOk result (λ fixed. SuiteWork fixed.1 0 (suite_state (S.keys suite.old) (S.pads suite.old) (S.tags suite.old) (S.digests suite.old))
-        (suite_state (S.keys suite.new) (S.pads suite.new) (S.tags suite.new) (S.digests suite.new))) }
-    ensures at_most { SuiteWorkAtMost (64 * regs.now.loss) 0 (suite_state (S.keys suite.old) (S.pads suite.old) (S.tags suite.old) (S.digests suite.old))
-        (suite_state (S.keys suite.new) (S.pads suite.new) (S.tags suite.new) (S.digests suite.new)) }
+    ensures worked { IfOk result (λ fixed. SuiteWork fixed.1 0 (suite_at S.Suite suite.old)
+        (suite_at S.Suite suite.new)) }
+    ensures at_most { SuiteWorkAtMost (64 * regs.now.loss) 0 (suite_at S.Suite suite.old)
+        (suite_at S.Suite suite.new) }
     ensures few { IfOk result (λ fixed. fixed.1 ≤ 64 * regs.now.loss) }
     ensures small { IfOk result (λ fixed. All (λ m. m ≤ 127) fixed.0.minors) }
     ensures told { IfOk result (λ fixed. IfLinesTold (B.device board.old).lines (λ lines. stored.now ≡ stored_block (shape_of geo.now) lines page
-        → (fixed.0 ≡ fixed_block (setup_of geo.now (S.formulas_of (S.keys suite.old))) lines regs.now page) × AreOneTried (setup_of geo.now (S.formulas_of (S.keys suite.old))) lines regs.now page)) }
+        → (fixed.0 ≡ fixed_block (setup_with S.Suite geo.now suite.old) lines regs.now page) × AreOneTried (setup_with S.Suite geo.now suite.old) lines regs.now page)) }
     ensures trials { IfOk result (λ fixed. IfLinesTold (B.device board.old).lines (λ lines. stored.now ≡ stored_block (shape_of geo.now) lines page
         → is_named (shape_of geo.now) lines (counter_position (shape_of geo.now) page) ≡ true → fixed.1 + trials_below (shape_of geo.now) lines regs.now (64 * page) ≡ trials_below (shape_of geo.now) lines regs.now (64 * page + 64))) }
     ensures tries { IfErr result (λ fault. IfLinesTold (B.device board.old).lines (λ lines. stored.now ≡ stored_block (shape_of geo.now) lines page
-        → is_named (shape_of geo.now) lines (counter_position (shape_of geo.now) page) ≡ true → TriesUntil (shape_of geo.now) lines regs.now (64 * page) (64 * page + 64) fault (suite_state (S.keys suite.old) (S.pads suite.old) (S.tags suite.old) (S.digests suite.old))
-        (suite_state (S.keys suite.new) (S.pads suite.new) (S.tags suite.new) (S.digests suite.new)))) }
+        → is_named (shape_of geo.now) lines (counter_position (shape_of geo.now) page) ≡ true → TriesUntil (shape_of geo.now) lines regs.now (64 * page) (64 * page + 64) fault (suite_at S.Suite suite.old)
+        (suite_at S.Suite suite.new))) }
     ensures stopped { IfErr result (λ fault. IsStageStopped (S.formulas_of (S.keys suite.old)) fault
-        (λ lines. stored.now ≡ stored_block (shape_of geo.now) lines page → IsPageRefusal (setup_of geo.now (S.formulas_of (S.keys suite.old))) lines regs.now page fault) (B.device board.old) (B.device board.new)) }
+        (λ lines. stored.now ≡ stored_block (shape_of geo.now) lines page → IsPageRefusal (setup_with S.Suite geo.now suite.old) lines regs.now page fault) (B.device board.old) (B.device board.new)) }
+    ensures plan { Follows (minors_plan (setup_with S.Suite geo.now suite.old) regs.now page stored.now (counts_at S.Suite suite.old))
+        (B.device board.old) (B.device board.new) (ended result (counts_at S.Suite suite.new)) }
 {
     let mut fixed = *stored;
     let mut trials = 0;
@@ -191,21 +202,23 @@ fn try_line<B: Board, S: Suite>(
     ensures exact_reads { OnOk result (RisesBy (line_reads regs.now.progress.items at) (B.device board.old).reads (B.device board.new).reads) }
     ensures stopped_reads { IfErr result (λ fault. IsReadToStop (λ a. a ≡ at) (λ a. line_reads regs.now.progress.items at) fault (B.device board.old).reads (B.device board.new).reads) }
     ensures goes { OnOk result (IsUncut (B.device board.old) (B.device board.new)) }
-    ensures worked { IfOk result (λ tried. SuiteWork tried.1 0 (suite_state (S.keys suite.old) (S.pads suite.old) (S.tags suite.old) (S.digests suite.old))
-        (suite_state (S.keys suite.new) (S.pads suite.new) (S.tags suite.new) (S.digests suite.new))) }
-    ensures at_most { SuiteWorkAtMost regs.now.loss 0 (suite_state (S.keys suite.old) (S.pads suite.old) (S.tags suite.old) (S.digests suite.old))
-        (suite_state (S.keys suite.new) (S.pads suite.new) (S.tags suite.new) (S.digests suite.new)) }
+    ensures worked { IfOk result (λ tried. SuiteWork tried.1 0 (suite_at S.Suite suite.old)
+        (suite_at S.Suite suite.new)) }
+    ensures at_most { SuiteWorkAtMost regs.now.loss 0 (suite_at S.Suite suite.old)
+        (suite_at S.Suite suite.new) }
     ensures few { IfOk result (λ tried. tried.1 ≤ regs.now.loss) }
     ensures small { IfOk result (λ tried. tried.0 ≤ 127) }
     ensures told { IfOk result (λ tried. IfLinesTold (B.device board.old).lines (λ lines. stored.now ≡ stored_block (shape_of geo.now) lines (page_of at)
-        → tried_minors (setup_of geo.now (S.formulas_of (S.keys suite.old))) lines regs.now at ≡ tried.0 ∷ [])) }
+        → tried_minors (setup_with S.Suite geo.now suite.old) lines regs.now at ≡ tried.0 ∷ [])) }
     ensures trials { IfOk result (λ tried. IfLinesTold (B.device board.old).lines (λ lines. stored.now ≡ stored_block (shape_of geo.now) lines (page_of at)
         → tried.1 ≡ length (candidates_of (shape_of geo.now) lines regs.now at))) }
     ensures tries { IfErr result (λ fault. IfLinesTold (B.device board.old).lines (λ lines. stored.now ≡ stored_block (shape_of geo.now) lines (page_of at)
-        → SuiteWork (line_tries fault (length (candidates_of (shape_of geo.now) lines regs.now at))) 0 (suite_state (S.keys suite.old) (S.pads suite.old) (S.tags suite.old) (S.digests suite.old))
-        (suite_state (S.keys suite.new) (S.pads suite.new) (S.tags suite.new) (S.digests suite.new)))) }
+        → SuiteWork (line_tries fault (length (candidates_of (shape_of geo.now) lines regs.now at))) 0 (suite_at S.Suite suite.old)
+        (suite_at S.Suite suite.new))) }
     ensures stopped { IfErr result (λ fault. IsStageStopped (S.formulas_of (S.keys suite.old)) fault
-        (λ lines. stored.now ≡ stored_block (shape_of geo.now) lines (page_of at) → IsLineRefusal (setup_of geo.now (S.formulas_of (S.keys suite.old))) lines regs.now at fault) (B.device board.old) (B.device board.new)) }
+        (λ lines. stored.now ≡ stored_block (shape_of geo.now) lines (page_of at) → IsLineRefusal (setup_with S.Suite geo.now suite.old) lines regs.now at fault) (B.device board.old) (B.device board.new)) }
+    ensures plan { Follows (trial_plan (setup_with S.Suite geo.now suite.old) regs.now stored.now at (counts_at S.Suite suite.old))
+        (B.device board.old) (B.device board.new) (ended result (counts_at S.Suite suite.new)) }
 {
     let minor = stored.minors[(at % 64) as usize];
     if is_left(&regs.progress, at) {
@@ -229,9 +242,12 @@ fn read_sealed<B: Board>(board: &mut B, geo: &Geo, at: u32) -> Result<(Line, Tag
     ensures cut { OnErr result (IsCutOff (B.device board.old) (B.device board.new)) }
     ensures told { IfOk result (λ sealed. IfLinesTold (B.device board.old).lines (λ lines. (sealed.0 ≡ line_at lines at)
         × (sealed.1 ≡ tag_slot (line_at lines (tag_line (shape_of geo.now) at)) at))) }
+    ensures plan { Follows (sealed_plan (shape_of geo.now) at) (B.device board.old) (B.device board.new) result }
 {
     let cipher = board.read_line(at)?;
+    cipher.is_whole();
     let tags = board.read_line(geo.tag_line(at))?;
+    tags.is_whole();
     Ok((cipher, tag_at(&tags, at)))
 }
 
@@ -245,10 +261,12 @@ fn try_window<S: Suite>(
     tag: &Tag,
 ) -> Result<u8, RecFault>
     requires { ends.1 ≤ 127 }
-    ensures worked { SuiteWork (length (minors_within ends.0 ends.1)) 0 (suite_state (S.keys suite.old) (S.pads suite.old) (S.tags suite.old) (S.digests suite.old))
-        (suite_state (S.keys suite.new) (S.pads suite.new) (S.tags suite.new) (S.digests suite.new)) }
+    ensures worked { SuiteWork (length (minors_within ends.0 ends.1)) 0 (suite_at S.Suite suite.old)
+        (suite_at S.Suite suite.new) }
     ensures decided { IsDecided (S.formulas_of (S.keys suite.old)) at major cipher.now tag.now
         (matching_minors (S.formulas_of (S.keys suite.old)) at major cipher.now tag.now (minors_within ends.0 ends.1)) result }
+    ensures found { result ≡ decided_of (found_among (matching_minors (S.formulas_of (S.keys suite.old)) at major cipher.now tag.now
+        (minors_within ends.0 ends.1))) at major cipher.now tag.now }
 {
     let found = find(suite, at, major, ends, cipher, tag);
     decided(found, at, major, cipher, tag)

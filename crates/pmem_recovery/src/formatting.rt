@@ -11,8 +11,12 @@ ghost use Rattle.bonsai_tree.specs.Positions.{counter_position};
 ghost use Rattle.bonsai_tree.specs.Nodes.{node_over, IsHashTree};
 ghost use Rattle.pmem_engine.specs.Formatted.{first_block};
 ghost use Rattle.pmem_engine.specs.Mendable.{new_engine};
-ghost use Rattle.pmem_recovery.specs.Parts.{setup_of, suite_state, SuiteRise};
+ghost use Rattle.pmem_recovery.specs.Parts.{SuiteRise, setup_with, suite_at};
 ghost use Rattle.pmem_recovery.specs.Formatting.{first_cipher, first_tag, HasSealedFrom, StaysSteady, HasSealedGroup, HasSealedAll, HasToldMeta, HasWrittenMeta, HasClearedTables, first_regs, HasFormatted};
+ghost use Rattle.std.specs.Prelude.{Ok};
+ghost use Rattle.call_plan.specs.Following.{Follows};
+ghost use Rattle.line_seal.specs.Seals.{with_tag};
+ghost use Rattle.pmem_recovery.specs.Formatting.{group_plan, seals_plan, metas_plan, zeros_plan};
 
 use board::Board;
 use bonsai_tree::node_of;
@@ -28,7 +32,8 @@ use suite::Suite;
 
 /// Makes a device new: each data line is sealed as zeros under the first major and 0, with its tag, the
 /// counter blocks and the nodes over them, zero shadow lines, and the root. The answer is an engine with
-/// nothing cached. The one error is want of memory.
+/// nothing cached. The one error is want of memory. What it does of the board, line by line, is
+/// `format_plan` of `specs/Formatting.antt`.
 pub fn format<B: Board, S: Suite, A: Audit>(
     alloc: Global,
     geo: &Geo,
@@ -41,18 +46,18 @@ pub fn format<B: Board, S: Suite, A: Audit>(
     requires audit { IsOfShape (shape_of geo.now) (A.ledger audit.old) }
     requires no_marks { (A.ledger audit.old).marks ≡ [] }
     requires no_exhibit { IsNone (A.ledger audit.old).exhibit }
-    ensures formatted { IfOk result (λ engine. HasFormatted (setup_of geo.now (S.formulas_of (S.keys suite.old))) (A.ledger audit.new) (B.device board.old) (B.device board.new) engine) }
+    ensures formatted { IfOk result (λ engine. HasFormatted (setup_with S.Suite geo.now suite.old) (A.ledger audit.new) (B.device board.old) (B.device board.new) engine) }
     ensures keys { S.keys suite.new ≡ S.keys suite.old }
-    ensures counts { OnOk result (SuiteRise (data_lines (shape_of geo.now)) (data_lines (shape_of geo.now)) (meta_lines (shape_of geo.now)) (suite_state (S.keys suite.old) (S.pads suite.old) (S.tags suite.old) (S.digests suite.old))
-        (suite_state (S.keys suite.new) (S.pads suite.new) (S.tags suite.new) (S.digests suite.new))) }
+    ensures counts { OnOk result (SuiteRise (data_lines (shape_of geo.now)) (data_lines (shape_of geo.now)) (meta_lines (shape_of geo.now)) (suite_at S.Suite suite.old)
+        (suite_at S.Suite suite.new)) }
     ensures capacity { A.capacity audit.old ≤ A.capacity audit.new }
     ensures err { OnErr result (A.ledger audit.new ≡ A.ledger audit.old) }
     ensures err_capacity { OnErr result (A.capacity audit.new ≡ A.capacity audit.old) }
     ensures err_lines { OnErr result ((B.device board.new).lines ≡ (B.device board.old).lines) }
     ensures err_regs { OnErr result ((B.device board.new).regs ≡ (B.device board.old).regs) }
     ensures err_device { OnErr result (B.device board.new ≡ B.device board.old) }
-    ensures err_counts { OnErr result (SuiteRise 0 0 0 (suite_state (S.keys suite.old) (S.pads suite.old) (S.tags suite.old) (S.digests suite.old))
-        (suite_state (S.keys suite.new) (S.pads suite.new) (S.tags suite.new) (S.digests suite.new))) }
+    ensures err_counts { OnErr result (SuiteRise 0 0 0 (suite_at S.Suite suite.old)
+        (suite_at S.Suite suite.new)) }
 {
     let cache = Cache::new(alloc, geo)?;
     let mirror = Mirror::new(alloc, geo)?;
@@ -79,11 +84,11 @@ fn fill_device<B: Board, S: Suite, A: Audit>(
     requires room { HasRoom (A.ledger audit.old) (A.capacity audit.old) (data_lines (shape_of geo.now)) }
     requires long { length truth.old ≡ meta_lines (shape_of geo.now) }
     requires whole { All IsLine truth.old }
-    ensures formatted { HasFormatted (setup_of geo.now (S.formulas_of (S.keys suite.old))) (A.ledger audit.new) (B.device board.old) (B.device board.new) (new_engine (shape_of geo.now)) }
+    ensures formatted { HasFormatted (setup_with S.Suite geo.now suite.old) (A.ledger audit.new) (B.device board.old) (B.device board.new) (new_engine (shape_of geo.now)) }
     ensures capacity { A.capacity audit.new ≡ A.capacity audit.old }
     ensures keys { S.keys suite.new ≡ S.keys suite.old }
-    ensures counts { SuiteRise (data_lines (shape_of geo.now)) (data_lines (shape_of geo.now)) (meta_lines (shape_of geo.now)) (suite_state (S.keys suite.old) (S.pads suite.old) (S.tags suite.old) (S.digests suite.old))
-        (suite_state (S.keys suite.new) (S.pads suite.new) (S.tags suite.new) (S.digests suite.new)) }
+    ensures counts { SuiteRise (data_lines (shape_of geo.now)) (data_lines (shape_of geo.now)) (meta_lines (shape_of geo.now)) (suite_at S.Suite suite.old)
+        (suite_at S.Suite suite.new) }
 {
     seal_lines(board, suite, audit, geo);
     fill_blocks(geo, truth);
@@ -102,11 +107,12 @@ fn seal_lines<B: Board, S: Suite, A: Audit>(board: &mut B, suite: &mut S, audit:
     requires room { HasRoom (A.ledger audit.old) (A.capacity audit.old) (data_lines (shape_of geo.now)) }
     ensures capacity { A.capacity audit.new ≡ A.capacity audit.old }
     ensures keys { S.keys suite.new ≡ S.keys suite.old }
-    ensures counts { SuiteRise (data_lines (shape_of geo.now)) (data_lines (shape_of geo.now)) (0) (suite_state (S.keys suite.old) (S.pads suite.old) (S.tags suite.old) (S.digests suite.old))
-        (suite_state (S.keys suite.new) (S.pads suite.new) (S.tags suite.new) (S.digests suite.new)) }
+    ensures counts { SuiteRise (data_lines (shape_of geo.now)) (data_lines (shape_of geo.now)) (0) (suite_at S.Suite suite.old)
+        (suite_at S.Suite suite.new) }
     ensures steady { StaysSteady (80 * pages (shape_of geo.now)) (B.device board.old) (B.device board.new) }
-    ensures ledger { HasSealedFrom (setup_of geo.now (S.formulas_of (S.keys suite.old))) 0 (data_lines (shape_of geo.now)) (A.ledger audit.old) (A.ledger audit.new) }
-    ensures lines { HasSealedAll (setup_of geo.now (S.formulas_of (S.keys suite.old))) (data_lines (shape_of geo.now)) (B.device board.new) }
+    ensures ledger { HasSealedFrom (setup_with S.Suite geo.now suite.old) 0 (data_lines (shape_of geo.now)) (A.ledger audit.old) (A.ledger audit.new) }
+    ensures lines { HasSealedAll (setup_with S.Suite geo.now suite.old) (data_lines (shape_of geo.now)) (B.device board.new) }
+    ensures plan { Follows (seals_plan (setup_with S.Suite geo.now suite.old)) (B.device board.old) (B.device board.new) (Ok tt) }
 {
     'groups: for group in 0..16 * geo.pages() {
         seal_group(board, suite, audit, geo, group);
@@ -128,11 +134,12 @@ fn seal_group<B: Board, S: Suite, A: Audit>(
     requires room { HasRoom (A.ledger audit.old) (A.capacity audit.old) 4 }
     ensures capacity { A.capacity audit.new ≡ A.capacity audit.old }
     ensures keys { S.keys suite.new ≡ S.keys suite.old }
-    ensures counts { SuiteRise (4) (4) (0) (suite_state (S.keys suite.old) (S.pads suite.old) (S.tags suite.old) (S.digests suite.old))
-        (suite_state (S.keys suite.new) (S.pads suite.new) (S.tags suite.new) (S.digests suite.new)) }
+    ensures counts { SuiteRise (4) (4) (0) (suite_at S.Suite suite.old)
+        (suite_at S.Suite suite.new) }
     ensures steady { StaysSteady 5 (B.device board.old) (B.device board.new) }
-    ensures ledger { HasSealedFrom (setup_of geo.now (S.formulas_of (S.keys suite.old))) (4 * group) 4 (A.ledger audit.old) (A.ledger audit.new) }
-    ensures lines { HasSealedGroup (setup_of geo.now (S.formulas_of (S.keys suite.old))) group (B.device board.old) (B.device board.new) }
+    ensures ledger { HasSealedFrom (setup_with S.Suite geo.now suite.old) (4 * group) 4 (A.ledger audit.old) (A.ledger audit.new) }
+    ensures lines { HasSealedGroup (setup_with S.Suite geo.now suite.old) group (B.device board.old) (B.device board.new) }
+    ensures plan { Follows (group_plan (setup_with S.Suite geo.now suite.old) group) (B.device board.old) (B.device board.new) (Ok tt) }
 {
     let mut tags = Line::default();
     'lines: for i in 0..4 {
@@ -157,12 +164,13 @@ fn seal_one<B: Board, S: Suite, A: Audit>(
     requires room { HasRoom (A.ledger audit.old) (A.capacity audit.old) 1 }
     ensures capacity { A.capacity audit.new ≡ A.capacity audit.old }
     ensures keys { S.keys suite.new ≡ S.keys suite.old }
-    ensures counts { SuiteRise (1) (1) (0) (suite_state (S.keys suite.old) (S.pads suite.old) (S.tags suite.old) (S.digests suite.old))
-        (suite_state (S.keys suite.new) (S.pads suite.new) (S.tags suite.new) (S.digests suite.new)) }
-    ensures written { HasWritten (B.device board.old) at (first_cipher (setup_of geo.now (S.formulas_of (S.keys suite.old))) at) (B.device board.new) }
-    ensures ledger { HasSealedFrom (setup_of geo.now (S.formulas_of (S.keys suite.old))) at 1 (A.ledger audit.old) (A.ledger audit.new) }
-    ensures here { tag_slot tags.new at ≡ first_tag (setup_of geo.now (S.formulas_of (S.keys suite.old))) at }
+    ensures counts { SuiteRise (1) (1) (0) (suite_at S.Suite suite.old)
+        (suite_at S.Suite suite.new) }
+    ensures written { HasWritten (B.device board.old) at (first_cipher (setup_with S.Suite geo.now suite.old) at) (B.device board.new) }
+    ensures ledger { HasSealedFrom (setup_with S.Suite geo.now suite.old) at 1 (A.ledger audit.old) (A.ledger audit.new) }
+    ensures here { tag_slot tags.new at ≡ first_tag (setup_with S.Suite geo.now suite.old) at }
     ensures others { (other : ℕ) → other % 4 ≢ at % 4 → tag_slot tags.new other ≡ tag_slot tags.old other }
+    ensures tags { tags.new ≡ with_tag tags.old at (first_tag (setup_with S.Suite geo.now suite.old) at) }
 {
     let ctr = Ctr {
         major: geo.major(),
@@ -208,8 +216,8 @@ fn grow_nodes<S: Suite>(suite: &mut S, geo: &Geo, truth: &mut [Line])
     requires long { length truth.old ≡ meta_lines (shape_of geo.now) }
     requires whole { All IsLine truth.old }
     ensures keys { S.keys suite.new ≡ S.keys suite.old }
-    ensures counts { SuiteRise (0) (0) (meta_lines (shape_of geo.now) - 1) (suite_state (S.keys suite.old) (S.pads suite.old) (S.tags suite.old) (S.digests suite.old))
-        (suite_state (S.keys suite.new) (S.pads suite.new) (S.tags suite.new) (S.digests suite.new)) }
+    ensures counts { SuiteRise (0) (0) (meta_lines (shape_of geo.now) - 1) (suite_at S.Suite suite.old)
+        (suite_at S.Suite suite.new) }
     ensures tree { IsHashTree (shape_of geo.now) (S.formulas_of (S.keys suite.old)) truth.new }
     ensures whole { All IsLine truth.new }
     ensures blocks { (x : ℕ) → level_start (shape_of geo.now).levels ≤ x → line_at truth.new x ≡ line_at truth.old x }
@@ -228,8 +236,8 @@ fn node_above<S: Suite>(suite: &mut S, x: u32, truth: &[Line]) -> Line
     requires position { x < 1365 }
     requires children { 4 * x + 4 < length truth.now }
     ensures keys { S.keys suite.new ≡ S.keys suite.old }
-    ensures counts { SuiteRise (0) (0) (4) (suite_state (S.keys suite.old) (S.pads suite.old) (S.tags suite.old) (S.digests suite.old))
-        (suite_state (S.keys suite.new) (S.pads suite.new) (S.tags suite.new) (S.digests suite.new)) }
+    ensures counts { SuiteRise (0) (0) (4) (suite_at S.Suite suite.old)
+        (suite_at S.Suite suite.new) }
     ensures value { result ≡ node_over (S.formulas_of (S.keys suite.old)) x (line_at truth.now) }
 {
     let mut digests = [[0; 16]; 4];
@@ -249,6 +257,7 @@ fn write_metadata<B: Board, A: Audit>(board: &mut B, audit: &mut A, geo: &Geo, t
     ensures steady { StaysSteady (meta_lines (shape_of geo.now)) (B.device board.old) (B.device board.new) }
     ensures ledger { HasToldMeta (shape_of geo.now) truth.now (meta_lines (shape_of geo.now)) (A.ledger audit.old) (A.ledger audit.new) }
     ensures lines { HasWrittenMeta (shape_of geo.now) truth.now (meta_lines (shape_of geo.now)) (B.device board.old) (B.device board.new) }
+    ensures plan { Follows (metas_plan (shape_of geo.now) truth.now) (B.device board.old) (B.device board.new) (Ok tt) }
     ensures capacity { A.capacity audit.new ≡ A.capacity audit.old }
 {
     'lines: for x in 0..geo.metas() {
@@ -264,6 +273,7 @@ fn clear_tables<B: Board>(board: &mut B, geo: &Geo)
     requires steady { (B.device board.old).steady ≡ true }
     ensures steady { StaysSteady (shadow_lines (shape_of geo.now)) (B.device board.old) (B.device board.new) }
     ensures lines { HasClearedTables (shape_of geo.now) (shadow_lines (shape_of geo.now)) (B.device board.old) (B.device board.new) }
+    ensures plan { Follows (zeros_plan (shape_of geo.now)) (B.device board.old) (B.device board.new) (Ok tt) }
 {
     let zero = Line::default();
     'lines: for n in 0..geo.shadows() {
@@ -275,9 +285,9 @@ fn clear_tables<B: Board>(board: &mut B, geo: &Geo)
 fn latch_root<B: Board, S: Suite>(board: &mut B, suite: &mut S, geo: &Geo, top: &Line)
     requires { (B.device board.old).steady ≡ true }
     ensures keys { S.keys suite.new ≡ S.keys suite.old }
-    ensures counts { SuiteRise (0) (0) (1) (suite_state (S.keys suite.old) (S.pads suite.old) (S.tags suite.old) (S.digests suite.old))
-        (suite_state (S.keys suite.new) (S.pads suite.new) (S.tags suite.new) (S.digests suite.new)) }
-    ensures latched { HasLatched (B.device board.old) (first_regs (setup_of geo.now (S.formulas_of (S.keys suite.old))) top.now) (B.device board.new) }
+    ensures counts { SuiteRise (0) (0) (1) (suite_at S.Suite suite.old)
+        (suite_at S.Suite suite.new) }
+    ensures latched { HasLatched (B.device board.old) (first_regs (setup_with S.Suite geo.now suite.old) top.now) (B.device board.new) }
 {
     let mut regs = Regs::empty();
     regs.root = suite.digest(0, top);

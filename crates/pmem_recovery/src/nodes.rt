@@ -10,7 +10,10 @@ ghost use Rattle.pmem_recovery.specs.Upward.{made_or_stored, node_made, AreMadeT
 ghost use Rattle.board.specs.Counts.{RisesBy};
 ghost use Rattle.commit_regs.specs.Groups.{RisesAtMost};
 ghost use Rattle.pmem_recovery.specs.Reads.{sum_named, unmade_reads, children_reads, node_reads, IsRootRead};
-ghost use Rattle.pmem_recovery.specs.Parts.{setup_of, IfLinesTold, KeepsDevice, IsUncut, IsCutOff, suite_state, SuiteWork, SuiteWorkAtMost, IsCompared, IsRootAnswer, IsRootFault, root_digests, StopsBy, AddsLine};
+ghost use Rattle.pmem_recovery.specs.Parts.{IfLinesTold, KeepsDevice, IsUncut, IsCutOff, SuiteWork, SuiteWorkAtMost, IsCompared, IsRootAnswer, IsRootFault, root_digests, StopsBy, AddsLine, setup_with, suite_at};
+ghost use Rattle.call_plan.specs.Plans.{ended};
+ghost use Rattle.call_plan.specs.Following.{Follows};
+ghost use Rattle.pmem_recovery.specs.Plans.{recovery_parts, counts_at, made_plan, children_plan, fixed_node_plan, fixed_level_plan, nodes_plan, root_plan};
 
 use crate::RecFault;
 use crate::entries::{Made, is_other, line_made};
@@ -35,22 +38,24 @@ pub(crate) fn fix_nodes<B: Board, S: Suite>(
     ensures read { KeepsDevice (B.device board.old) (B.device board.new) }
     ensures reads { RisesAtMost (5 * count_named (shape_of geo.now) shadow.now 0 (level_start (shape_of geo.now).levels)) (B.device board.old).reads (B.device board.new).reads }
     ensures exact_reads { OnOk result (IfLinesTold (B.device board.old).lines (λ lines. (regs : Regs) → shadow.now ≡ shadow_of (shape_of geo.now) lines
-        → AreMadeTo (setup_of geo.now (S.formulas_of (S.keys suite.old))) lines regs (shape_of geo.now).levels (meta_lines (shape_of geo.now)) made.old.items
+        → AreMadeTo (setup_with S.Suite geo.now suite.old) lines regs (shape_of geo.now).levels (meta_lines (shape_of geo.now)) made.old.items
         → RisesBy (sum_named (shape_of geo.now) shadow.now (node_reads (shape_of geo.now) shadow.now) 0 (level_start (shape_of geo.now).levels)) (B.device board.old).reads (B.device board.new).reads)) }
     ensures goes { OnOk result (IsUncut (B.device board.old) (B.device board.new)) }
     ensures cut { OnErr result (IsCutOff (B.device board.old) (B.device board.new)) }
-    ensures worked { IfOk result (λ digests. SuiteWork 0 digests (suite_state (S.keys suite.old) (S.pads suite.old) (S.tags suite.old) (S.digests suite.old))
-        (suite_state (S.keys suite.new) (S.pads suite.new) (S.tags suite.new) (S.digests suite.new))) }
-    ensures at_most { SuiteWorkAtMost 0 (4 * count_named (shape_of geo.now) shadow.now 0 (level_start (shape_of geo.now).levels)) (suite_state (S.keys suite.old) (S.pads suite.old) (S.tags suite.old) (S.digests suite.old))
-        (suite_state (S.keys suite.new) (S.pads suite.new) (S.tags suite.new) (S.digests suite.new)) }
+    ensures worked { IfOk result (λ digests. SuiteWork 0 digests (suite_at S.Suite suite.old)
+        (suite_at S.Suite suite.new)) }
+    ensures at_most { SuiteWorkAtMost 0 (4 * count_named (shape_of geo.now) shadow.now 0 (level_start (shape_of geo.now).levels)) (suite_at S.Suite suite.old)
+        (suite_at S.Suite suite.new) }
     ensures digests { IfOk result (λ digests. digests ≡ 4 * count_named (shape_of geo.now) shadow.now 0 (level_start (shape_of geo.now).levels)) }
     ensures counted { OnOk result (length made.new.items
         ≡ length made.old.items + count_named (shape_of geo.now) shadow.now 0 (level_start (shape_of geo.now).levels)) }
     ensures on_tree { OnOk result (All (λ entry. entry.at < meta_lines (shape_of geo.now)) made.old.items
         → All (λ entry. entry.at < meta_lines (shape_of geo.now)) made.new.items) }
     ensures told { OnOk result (IfLinesTold (B.device board.old).lines (λ lines. (regs : Regs) → shadow.now ≡ shadow_of (shape_of geo.now) lines
-        → AreMadeTo (setup_of geo.now (S.formulas_of (S.keys suite.old))) lines regs (shape_of geo.now).levels (meta_lines (shape_of geo.now)) made.old.items
-        → AreMadeTo (setup_of geo.now (S.formulas_of (S.keys suite.old))) lines regs 0 1 made.new.items)) }
+        → AreMadeTo (setup_with S.Suite geo.now suite.old) lines regs (shape_of geo.now).levels (meta_lines (shape_of geo.now)) made.old.items
+        → AreMadeTo (setup_with S.Suite geo.now suite.old) lines regs 0 1 made.new.items)) }
+    ensures plan { Follows (nodes_plan (setup_with S.Suite geo.now suite.old) shadow.now (recovery_parts made.old.items (counts_at S.Suite suite.old)))
+        (B.device board.old) (B.device board.new) (ended result (recovery_parts made.new.items (counts_at S.Suite suite.new))) }
 {
     let mut digests = 0;
     'upward: for above in 0..geo.levels() {
@@ -76,14 +81,14 @@ fn fix_level<B: Board, S: Suite>(
     ensures read { KeepsDevice (B.device board.old) (B.device board.new) }
     ensures reads { RisesAtMost (5 * count_named (shape_of geo.now) shadow.now (level_start level) (level_start (suc level))) (B.device board.old).reads (B.device board.new).reads }
     ensures exact_reads { OnOk result (IfLinesTold (B.device board.old).lines (λ lines. (regs : Regs) → shadow.now ≡ shadow_of (shape_of geo.now) lines
-        → AreMadeTo (setup_of geo.now (S.formulas_of (S.keys suite.old))) lines regs level (level_start level) made.old.items
+        → AreMadeTo (setup_with S.Suite geo.now suite.old) lines regs level (level_start level) made.old.items
         → RisesBy (sum_named (shape_of geo.now) shadow.now (node_reads (shape_of geo.now) shadow.now) (level_start level) (level_start (suc level))) (B.device board.old).reads (B.device board.new).reads)) }
     ensures goes { OnOk result (IsUncut (B.device board.old) (B.device board.new)) }
     ensures cut { OnErr result (IsCutOff (B.device board.old) (B.device board.new)) }
-    ensures worked { IfOk result (λ digests. SuiteWork 0 digests (suite_state (S.keys suite.old) (S.pads suite.old) (S.tags suite.old) (S.digests suite.old))
-        (suite_state (S.keys suite.new) (S.pads suite.new) (S.tags suite.new) (S.digests suite.new))) }
-    ensures at_most { SuiteWorkAtMost 0 (4 * count_named (shape_of geo.now) shadow.now (level_start level) (level_start (suc level))) (suite_state (S.keys suite.old) (S.pads suite.old) (S.tags suite.old) (S.digests suite.old))
-        (suite_state (S.keys suite.new) (S.pads suite.new) (S.tags suite.new) (S.digests suite.new)) }
+    ensures worked { IfOk result (λ digests. SuiteWork 0 digests (suite_at S.Suite suite.old)
+        (suite_at S.Suite suite.new)) }
+    ensures at_most { SuiteWorkAtMost 0 (4 * count_named (shape_of geo.now) shadow.now (level_start level) (level_start (suc level))) (suite_at S.Suite suite.old)
+        (suite_at S.Suite suite.new) }
     ensures digests { IfOk result (λ digests. digests ≡ 4 * count_named (shape_of geo.now) shadow.now (level_start level) (level_start (suc level))) }
     ensures counted { OnOk result (length made.new.items
         ≡ length made.old.items + count_named (shape_of geo.now) shadow.now (level_start level) (level_start (suc level))) }
@@ -91,8 +96,10 @@ fn fix_level<B: Board, S: Suite>(
         → All (λ entry. entry.at < meta_lines (shape_of geo.now)) made.new.items) }
     ensures capacity { vec_capacity made.new ≡ vec_capacity made.old }
     ensures told { OnOk result (IfLinesTold (B.device board.old).lines (λ lines. (regs : Regs) → shadow.now ≡ shadow_of (shape_of geo.now) lines
-        → AreMadeTo (setup_of geo.now (S.formulas_of (S.keys suite.old))) lines regs level (level_start level) made.old.items
-        → AreMadeTo (setup_of geo.now (S.formulas_of (S.keys suite.old))) lines regs level (level_start (suc level)) made.new.items)) }
+        → AreMadeTo (setup_with S.Suite geo.now suite.old) lines regs level (level_start level) made.old.items
+        → AreMadeTo (setup_with S.Suite geo.now suite.old) lines regs level (level_start (suc level)) made.new.items)) }
+    ensures plan { Follows (fixed_level_plan (setup_with S.Suite geo.now suite.old) shadow.now level (recovery_parts made.old.items (counts_at S.Suite suite.old)))
+        (B.device board.old) (B.device board.new) (ended result (recovery_parts made.new.items (counts_at S.Suite suite.new))) }
 {
     let start = first_of_level(level);
     let end = first_of_level(level + 1);
@@ -131,16 +138,19 @@ fn fix_node<B: Board, S: Suite>(
     ensures exact_reads { OnOk result (RisesBy (1 + children_reads made.old.items x 4) (B.device board.old).reads (B.device board.new).reads) }
     ensures goes { OnOk result (IsUncut (B.device board.old) (B.device board.new)) }
     ensures cut { OnErr result (IsCutOff (B.device board.old) (B.device board.new)) }
-    ensures worked { OnOk result (SuiteWork 0 4 (suite_state (S.keys suite.old) (S.pads suite.old) (S.tags suite.old) (S.digests suite.old))
-        (suite_state (S.keys suite.new) (S.pads suite.new) (S.tags suite.new) (S.digests suite.new))) }
-    ensures at_most { SuiteWorkAtMost 0 4 (suite_state (S.keys suite.old) (S.pads suite.old) (S.tags suite.old) (S.digests suite.old))
-        (suite_state (S.keys suite.new) (S.pads suite.new) (S.tags suite.new) (S.digests suite.new)) }
+    ensures worked { OnOk result (SuiteWork 0 4 (suite_at S.Suite suite.old)
+        (suite_at S.Suite suite.new)) }
+    ensures at_most { SuiteWorkAtMost 0 4 (suite_at S.Suite suite.old)
+        (suite_at S.Suite suite.new) }
     ensures made { OnOk result (AddsLine x made.old.items made.new.items) }
     ensures capacity { vec_capacity made.new ≡ vec_capacity made.old }
     ensures told { OnOk result (IfLinesTold (B.device board.old).lines (λ lines.
-        made.new.items ≡ made.old.items ++ node_made (setup_of geo.now (S.formulas_of (S.keys suite.old))) lines made.old.items x ∷ [])) }
+        made.new.items ≡ made.old.items ++ node_made (setup_with S.Suite geo.now suite.old) lines made.old.items x ∷ [])) }
+    ensures plan { Follows (fixed_node_plan (setup_with S.Suite geo.now suite.old) x (recovery_parts made.old.items (counts_at S.Suite suite.old)))
+        (B.device board.old) (B.device board.new) (ended result (recovery_parts made.new.items (counts_at S.Suite suite.new))) }
 {
     let read = board.read_line(geo.meta_line(x))?;
+    read.is_whole();
     let line = node_line(board, suite, geo, x, made)?;
     made.push_reserved(Made {
         at: x,
@@ -165,12 +175,14 @@ fn node_line<B: Board, S: Suite>(
     ensures exact_reads { OnOk result (RisesBy (children_reads made.now x 4) (B.device board.old).reads (B.device board.new).reads) }
     ensures goes { OnOk result (IsUncut (B.device board.old) (B.device board.new)) }
     ensures cut { OnErr result (IsCutOff (B.device board.old) (B.device board.new)) }
-    ensures worked { OnOk result (SuiteWork 0 4 (suite_state (S.keys suite.old) (S.pads suite.old) (S.tags suite.old) (S.digests suite.old))
-        (suite_state (S.keys suite.new) (S.pads suite.new) (S.tags suite.new) (S.digests suite.new))) }
-    ensures at_most { SuiteWorkAtMost 0 4 (suite_state (S.keys suite.old) (S.pads suite.old) (S.tags suite.old) (S.digests suite.old))
-        (suite_state (S.keys suite.new) (S.pads suite.new) (S.tags suite.new) (S.digests suite.new)) }
+    ensures worked { OnOk result (SuiteWork 0 4 (suite_at S.Suite suite.old)
+        (suite_at S.Suite suite.new)) }
+    ensures at_most { SuiteWorkAtMost 0 4 (suite_at S.Suite suite.old)
+        (suite_at S.Suite suite.new) }
     ensures told { IfOk result (λ line. IfLinesTold (B.device board.old).lines (λ lines.
         line ≡ node_over (S.formulas_of (S.keys suite.old)) x (made_or_stored (shape_of geo.now) lines made.now))) }
+    ensures plan { Follows (children_plan (setup_with S.Suite geo.now suite.old) made.now x (counts_at S.Suite suite.old))
+        (B.device board.old) (B.device board.new) (ended result (counts_at S.Suite suite.new)) }
 {
     let mut digests = [[0; 16]; 4];
     'children: for i in 0..4_u8 {
@@ -191,10 +203,15 @@ fn made_or_read<B: Board>(board: &mut B, geo: &Geo, x: u32, made: &[Made]) -> Re
     ensures goes { OnOk result (IsUncut (B.device board.old) (B.device board.new)) }
     ensures cut { OnErr result (IsCutOff (B.device board.old) (B.device board.new)) }
     ensures told { IfOk result (λ line. IfLinesTold (B.device board.old).lines (λ lines. line ≡ made_or_stored (shape_of geo.now) lines made.now x)) }
+    ensures plan { Follows (made_plan (shape_of geo.now) made.now x) (B.device board.old) (B.device board.new) result }
 {
     match line_made(made, x) {
         Some(line) => Ok(line),
-        None => board.read_line(geo.meta_line(x)),
+        None => {
+            let line = board.read_line(geo.meta_line(x))?;
+            line.is_whole();
+            Ok(line)
+        }
     }
 }
 
@@ -214,14 +231,16 @@ pub(crate) fn check_root<B: Board, S: Suite>(
     ensures goes { OnOk result (IsUncut (B.device board.old) (B.device board.new)) }
     ensures kind { IfErr result IsRootFault }
     ensures stops { IfErr result (λ fault. StopsBy fault (B.device board.old) (B.device board.new)) }
-    ensures worked { OnOk result (SuiteWork 0 1 (suite_state (S.keys suite.old) (S.pads suite.old) (S.tags suite.old) (S.digests suite.old))
-        (suite_state (S.keys suite.new) (S.pads suite.new) (S.tags suite.new) (S.digests suite.new))) }
-    ensures at_most { SuiteWorkAtMost 0 1 (suite_state (S.keys suite.old) (S.pads suite.old) (S.tags suite.old) (S.digests suite.old))
-        (suite_state (S.keys suite.new) (S.pads suite.new) (S.tags suite.new) (S.digests suite.new)) }
-    ensures refused { IfErr result (λ fault. SuiteWork 0 (root_digests fault) (suite_state (S.keys suite.old) (S.pads suite.old) (S.tags suite.old) (S.digests suite.old))
-        (suite_state (S.keys suite.new) (S.pads suite.new) (S.tags suite.new) (S.digests suite.new))) }
+    ensures worked { OnOk result (SuiteWork 0 1 (suite_at S.Suite suite.old)
+        (suite_at S.Suite suite.new)) }
+    ensures at_most { SuiteWorkAtMost 0 1 (suite_at S.Suite suite.old)
+        (suite_at S.Suite suite.new) }
+    ensures refused { IfErr result (λ fault. SuiteWork 0 (root_digests fault) (suite_at S.Suite suite.old)
+        (suite_at S.Suite suite.new)) }
     ensures told { IfLinesTold (B.device board.old).lines (λ lines.
         IsRootAnswer (S.formulas_of (S.keys suite.old)) (made_or_stored (shape_of geo.now) lines made.now 0) regs.now.root result) }
+    ensures plan { Follows (root_plan (setup_with S.Suite geo.now suite.old) regs.now.root made.now (counts_at S.Suite suite.old))
+        (B.device board.old) (B.device board.new) (ended result (counts_at S.Suite suite.new)) }
 {
     let top = made_or_read(board, geo, 0, made)?;
     let found = suite.digest(0, &top);

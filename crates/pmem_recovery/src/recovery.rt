@@ -8,11 +8,14 @@ ghost use Rattle.shadow_tables.specs.Entries.{shadow_of};
 ghost use Rattle.board.specs.Counts.{RisesBy};
 ghost use Rattle.commit_regs.specs.Groups.{RisesAtMost};
 ghost use Rattle.pmem_recovery.specs.Reads.{all_reads, named_reads, IsReadUntil};
-ghost use Rattle.pmem_recovery.specs.Parts.{setup_of, IfLinesTold, KeepsDevice, IsUncut, IsCutOff, StopsBy, suite_state, SuiteWork, SuiteWorkAtMost, HasRoot, IsRefusal, IsStageStopped, IsAllWork, StoppedWork};
+ghost use Rattle.pmem_recovery.specs.Parts.{IfLinesTold, KeepsDevice, IsUncut, IsCutOff, StopsBy, SuiteWork, SuiteWorkAtMost, HasRoot, IsRefusal, IsStageStopped, IsAllWork, StoppedWork, setup_with, suite_at};
 ghost use Rattle.pmem_recovery.specs.Writing.{IfBothLinesTold};
 ghost use Rattle.pmem_recovery.specs.Written.{IsRecovered};
 ghost use Rattle.pmem_recovery.specs.Mending.{most_reads, HasMadeAll, HasMadeWrites, IsStoppedShort};
 ghost use Rattle.pmem_recovery.specs.Recovered.{HasRecovered};
+ghost use Rattle.call_plan.specs.Plans.{ended};
+ghost use Rattle.call_plan.specs.Following.{Follows};
+ghost use Rattle.pmem_recovery.specs.Plans.{counts_at, shadow_plan, making_plan, made_end, mend_plan};
 
 use crate::counters::fix_counters;
 use crate::entries::Made;
@@ -36,6 +39,7 @@ use suite::Suite;
 /// It takes all its memory first, so `Memory` changes nothing. `NoCounter` and `Twin` come at the first
 /// line that hasn't exactly one minor, `Root` where each has one and the found root isn't the register.
 /// These change nothing but the redo. `Cut` comes as the board says. The audit isn't told anything.
+/// What it does of the board, step by step, is `recover_plan` of `specs/Plans.antt`.
 pub fn recover<B: Board, S: Suite, A: Audit>(
     alloc: Global,
     geo: &Geo,
@@ -45,9 +49,9 @@ pub fn recover<B: Board, S: Suite, A: Audit>(
 ) -> Result<(Engine, Work), RecFault>
     requires size { (B.device board.old).size ≡ device_lines (shape_of geo.now) }
     requires regs { IsValidRegs (shape_of geo.now) (B.device board.old).regs }
-    ensures { HasRecovered (setup_of geo.now (S.formulas_of (S.keys suite.old))) (A.ledger audit.now) (B.device board.old) (B.device board.new)
-        (suite_state (S.keys suite.old) (S.pads suite.old) (S.tags suite.old) (S.digests suite.old))
-        (suite_state (S.keys suite.new) (S.pads suite.new) (S.tags suite.new) (S.digests suite.new)) result }
+    ensures { HasRecovered (setup_with S.Suite geo.now suite.old) (A.ledger audit.now) (B.device board.old) (B.device board.new)
+        (suite_at S.Suite suite.old)
+        (suite_at S.Suite suite.new) result }
 {
     let _audit = audit;
     let cache = Cache::new(alloc, geo)?;
@@ -93,7 +97,7 @@ fn mend<B: Board, S: Suite>(
     requires made { room.old.made.items ≡ [] }
     requires shadow_room { shadow_lines (shape_of geo.now) ≤ vec_capacity room.old.shadow }
     requires made_room { ((shape_of geo.now).levels + 1) * slots (shape_of geo.now) ≤ vec_capacity room.old.made }
-    ensures written { HasMadeWrites (setup_of geo.now (S.formulas_of (S.keys suite.old))) (B.device board.old).regs (B.device board.old) (B.device board.new) }
+    ensures written { HasMadeWrites (setup_with S.Suite geo.now suite.old) (B.device board.old).regs (B.device board.old) (B.device board.new) }
     ensures few_reads { IfLinesTold (B.device board.old).lines (λ lines. length lines ≡ device_lines (shape_of geo.now)
         → RisesAtMost (named_reads (shape_of geo.now) (shadow_of (shape_of geo.now) lines)) (B.device board.old).reads (B.device board.new).reads) }
     ensures exact_reads { OnOk result (IfLinesTold (B.device board.old).lines (λ lines. length lines ≡ device_lines (shape_of geo.now)
@@ -101,23 +105,25 @@ fn mend<B: Board, S: Suite>(
     ensures stopped_reads { IfErr result (λ fault. IfLinesTold (B.device board.old).lines (λ lines. length lines ≡ device_lines (shape_of geo.now)
         → IsReadUntil (shape_of geo.now) (shadow_of (shape_of geo.now) lines) (B.device board.old).regs fault (B.device board.old).reads (B.device board.new).reads)) }
     ensures goes { OnOk result (IsUncut (B.device board.old) (B.device board.new)) }
-    ensures worked { IfOk result (λ work. SuiteWork work.trials work.digests (suite_state (S.keys suite.old) (S.pads suite.old) (S.tags suite.old) (S.digests suite.old))
-        (suite_state (S.keys suite.new) (S.pads suite.new) (S.tags suite.new) (S.digests suite.new))) }
-    ensures at_most { SuiteWorkAtMost (64 * (B.device board.old).regs.loss * slots (shape_of geo.now)) (4 * (shape_of geo.now).levels * slots (shape_of geo.now) + 1) (suite_state (S.keys suite.old) (S.pads suite.old) (S.tags suite.old) (S.digests suite.old))
-        (suite_state (S.keys suite.new) (S.pads suite.new) (S.tags suite.new) (S.digests suite.new)) }
+    ensures worked { IfOk result (λ work. SuiteWork work.trials work.digests (suite_at S.Suite suite.old)
+        (suite_at S.Suite suite.new)) }
+    ensures at_most { SuiteWorkAtMost (64 * (B.device board.old).regs.loss * slots (shape_of geo.now)) (4 * (shape_of geo.now).levels * slots (shape_of geo.now) + 1) (suite_at S.Suite suite.old)
+        (suite_at S.Suite suite.new) }
     ensures few_trials { IfOk result (λ work. work.trials ≤ 64 * (B.device board.old).regs.loss * slots (shape_of geo.now)) }
     ensures few_digests { IfOk result (λ work. work.digests ≤ 4 * (shape_of geo.now).levels * slots (shape_of geo.now) + 1) }
     ensures recovered { OnOk result (IfBothLinesTold (B.device board.old) (B.device board.new) (λ lines now. length lines ≡ device_lines (shape_of geo.now)
-        → IsRecovered (setup_of geo.now (S.formulas_of (S.keys suite.old))) lines (B.device board.old).regs now
-        × HasRoot (setup_of geo.now (S.formulas_of (S.keys suite.old))) lines (B.device board.old).regs)) }
+        → IsRecovered (setup_with S.Suite geo.now suite.old) lines (B.device board.old).regs now
+        × HasRoot (setup_with S.Suite geo.now suite.old) lines (B.device board.old).regs)) }
     ensures all_work { IfOk result (λ work. IfLinesTold (B.device board.old).lines (λ lines. length lines ≡ device_lines (shape_of geo.now)
         → IsAllWork (shape_of geo.now) lines (B.device board.old).regs work.trials work.digests)) }
     ensures stopped_work { IfErr result (λ fault. IfLinesTold (B.device board.old).lines (λ lines. length lines ≡ device_lines (shape_of geo.now)
-        → StoppedWork (shape_of geo.now) lines (B.device board.old).regs fault (suite_state (S.keys suite.old) (S.pads suite.old) (S.tags suite.old) (S.digests suite.old))
-        (suite_state (S.keys suite.new) (S.pads suite.new) (S.tags suite.new) (S.digests suite.new)))) }
+        → StoppedWork (shape_of geo.now) lines (B.device board.old).regs fault (suite_at S.Suite suite.old)
+        (suite_at S.Suite suite.new))) }
     ensures stopped { IfErr result (λ fault. IsStageStopped (S.formulas_of (S.keys suite.old)) fault (λ lines. length lines ≡ device_lines (shape_of geo.now)
-        → IsRefusal (setup_of geo.now (S.formulas_of (S.keys suite.old))) lines (B.device board.old).regs fault) (B.device board.old) (B.device board.new)) }
+        → IsRefusal (setup_with S.Suite geo.now suite.old) lines (B.device board.old).regs fault) (B.device board.old) (B.device board.new)) }
     ensures short { IfErr result (λ fault. IsStoppedShort (shape_of geo.now) fault (B.device board.old) (B.device board.new)) }
+    ensures plan { Follows (mend_plan (setup_with S.Suite geo.now suite.old) (B.device board.old).regs (counts_at S.Suite suite.old))
+        (B.device board.old) (B.device board.new) (ended result (counts_at S.Suite suite.new)) }
 {
     let regs = board.regs().same();
     let work = make_lines(board, suite, geo, &regs, room)?;
@@ -149,24 +155,26 @@ fn make_lines<B: Board, S: Suite>(
     ensures stopped_reads { IfErr result (λ fault. IfLinesTold (B.device board.old).lines (λ lines. length lines ≡ device_lines (shape_of geo.now)
         → IsReadUntil (shape_of geo.now) (shadow_of (shape_of geo.now) lines) regs.now fault (B.device board.old).reads (B.device board.new).reads)) }
     ensures goes { OnOk result (IsUncut (B.device board.old) (B.device board.new)) }
-    ensures worked { IfOk result (λ work. SuiteWork work.trials work.digests (suite_state (S.keys suite.old) (S.pads suite.old) (S.tags suite.old) (S.digests suite.old))
-        (suite_state (S.keys suite.new) (S.pads suite.new) (S.tags suite.new) (S.digests suite.new))) }
-    ensures at_most { SuiteWorkAtMost (64 * regs.now.loss * slots (shape_of geo.now)) (4 * (shape_of geo.now).levels * slots (shape_of geo.now) + 1) (suite_state (S.keys suite.old) (S.pads suite.old) (S.tags suite.old) (S.digests suite.old))
-        (suite_state (S.keys suite.new) (S.pads suite.new) (S.tags suite.new) (S.digests suite.new)) }
+    ensures worked { IfOk result (λ work. SuiteWork work.trials work.digests (suite_at S.Suite suite.old)
+        (suite_at S.Suite suite.new)) }
+    ensures at_most { SuiteWorkAtMost (64 * regs.now.loss * slots (shape_of geo.now)) (4 * (shape_of geo.now).levels * slots (shape_of geo.now) + 1) (suite_at S.Suite suite.old)
+        (suite_at S.Suite suite.new) }
     ensures few_trials { IfOk result (λ work. work.trials ≤ 64 * regs.now.loss * slots (shape_of geo.now)) }
     ensures few_digests { IfOk result (λ work. work.digests ≤ 4 * (shape_of geo.now).levels * slots (shape_of geo.now) + 1) }
     ensures shadow { OnOk result (length room.new.shadow.items ≡ shadow_lines (shape_of geo.now)) }
     ensures few_made { OnOk result (length room.new.made.items ≤ ((shape_of geo.now).levels + 1) * slots (shape_of geo.now)) }
     ensures on_tree { OnOk result (All (λ entry. entry.at < meta_lines (shape_of geo.now)) room.new.made.items) }
     ensures told { OnOk result (IfLinesTold (B.device board.old).lines (λ lines. length lines ≡ device_lines (shape_of geo.now)
-        → HasMadeAll (setup_of geo.now (S.formulas_of (S.keys suite.old))) lines regs.now room.new.shadow.items room.new.made.items)) }
+        → HasMadeAll (setup_with S.Suite geo.now suite.old) lines regs.now room.new.shadow.items room.new.made.items)) }
     ensures all_work { IfOk result (λ work. IfLinesTold (B.device board.old).lines (λ lines. length lines ≡ device_lines (shape_of geo.now)
         → IsAllWork (shape_of geo.now) lines regs.now work.trials work.digests)) }
     ensures stopped_work { IfErr result (λ fault. IfLinesTold (B.device board.old).lines (λ lines. length lines ≡ device_lines (shape_of geo.now)
-        → StoppedWork (shape_of geo.now) lines regs.now fault (suite_state (S.keys suite.old) (S.pads suite.old) (S.tags suite.old) (S.digests suite.old))
-        (suite_state (S.keys suite.new) (S.pads suite.new) (S.tags suite.new) (S.digests suite.new)))) }
+        → StoppedWork (shape_of geo.now) lines regs.now fault (suite_at S.Suite suite.old)
+        (suite_at S.Suite suite.new))) }
     ensures stopped { IfErr result (λ fault. IsStageStopped (S.formulas_of (S.keys suite.old)) fault (λ lines. length lines ≡ device_lines (shape_of geo.now)
-        → IsRefusal (setup_of geo.now (S.formulas_of (S.keys suite.old))) lines regs.now fault) (B.device board.old) (B.device board.new)) }
+        → IsRefusal (setup_with S.Suite geo.now suite.old) lines regs.now fault) (B.device board.old) (B.device board.new)) }
+    ensures plan { Follows (making_plan (setup_with S.Suite geo.now suite.old) regs.now (counts_at S.Suite suite.old))
+        (B.device board.old) (B.device board.new) (made_end result room.new.shadow.items room.new.made.items (counts_at S.Suite suite.new)) }
 {
     read_shadow(board, geo, &mut room.shadow)?;
     let trials = fix_counters(board, suite, geo, regs, &room.shadow, &mut room.made)?;
@@ -191,9 +199,12 @@ fn read_shadow<B: Board>(board: &mut B, geo: &Geo, shadow: &mut Vec<Line>) -> Re
     ensures long { OnOk result (length shadow.new.items ≡ shadow_lines (shape_of geo.now)) }
     ensures told { OnOk result (IfLinesTold (B.device board.old).lines (λ lines. length lines ≡ device_lines (shape_of geo.now)
         → shadow.new.items ≡ shadow_of (shape_of geo.now) lines)) }
+    ensures plan { Follows (shadow_plan (shape_of geo.now)) (B.device board.old) (B.device board.new) (ended result shadow.new.items) }
 {
     'lines: for n in 0..geo.shadows() {
-        shadow.push_reserved(board.read_line(geo.shadow_line(n))?);
+        let line = board.read_line(geo.shadow_line(n))?;
+        line.is_whole();
+        shadow.push_reserved(line);
     }
     Ok(())
 }

@@ -4,7 +4,9 @@ ghost use Rattle.pmem_base.specs.Geo.{shape_of};
 ghost use Rattle.pmem_base.specs.Layout.{meta_lines, shadow_lines, device_lines};
 ghost use Rattle.board.specs.Steps.{WasCut};
 ghost use Rattle.pmem_recovery.specs.Parts.{IsUncut, IsCutOff};
+ghost use Rattle.call_plan.specs.Following.{Follows};
 ghost use Rattle.pmem_recovery.specs.Writing.{HasWrittenTo, HasWrittenSome, HasZeroedTo, HasZeroedSome, HasWrittenIf};
+ghost use Rattle.pmem_recovery.specs.Plans.{changed_plan, entries_plan, clear_plan};
 
 use crate::entries::{Made, is_other};
 use board::Board;
@@ -18,6 +20,7 @@ pub(crate) fn write_made<B: Board>(board: &mut B, geo: &Geo, made: &[Made]) -> R
     ensures goes { OnOk result (IsUncut (B.device board.old) (B.device board.new)) }
     ensures some { OnErr result (HasWrittenSome (shape_of geo.now) made.now (B.device board.old) (B.device board.new)) }
     ensures cut { OnErr result (IsCutOff (B.device board.old) (B.device board.new)) }
+    ensures plan { Follows (entries_plan (shape_of geo.now) made.now) (B.device board.old) (B.device board.new) result }
 {
     'entries: for entry in made {
         write_changed(board, geo.meta_line(entry.at), &entry.line, entry.changed)?;
@@ -33,6 +36,7 @@ pub(crate) fn clear_shadow<B: Board>(board: &mut B, geo: &Geo, shadow: &[Line]) 
     ensures goes { OnOk result (IsUncut (B.device board.old) (B.device board.new)) }
     ensures some { OnErr result (HasZeroedSome (shape_of geo.now) shadow.now (B.device board.old) (B.device board.new)) }
     ensures cut { OnErr result (IsCutOff (B.device board.old) (B.device board.new)) }
+    ensures plan { Follows (clear_plan (shape_of geo.now) shadow.now) (B.device board.old) (B.device board.new) result }
 {
     let zero = Line::default();
     'lines: for n in 0..geo.shadows() {
@@ -47,6 +51,7 @@ fn write_changed<B: Board>(board: &mut B, at: u32, line: &Line, changed: bool) -
     requires { at < (B.device board.old).size }
     ensures ok { OnOk result (HasWrittenIf changed (B.device board.old) at line.now (B.device board.new)) }
     ensures cut { OnErr result (WasCut (B.device board.old) (B.device board.new)) }
+    ensures plan { Follows (changed_plan at line.now changed) (B.device board.old) (B.device board.new) result }
 {
     if changed {
         board.write_line(at, line)

@@ -1,4 +1,5 @@
 -- One call of the engine, and the world after it.
+pub mod OfEngine
 pub mod Lawful
 pub mod Worlds
 pub mod Made

@@ -5,4 +5,5 @@ pub mod Called
 pub mod Commands
 pub mod Drains
 pub mod Power
+pub mod SameSteps
 pub mod Boards

@@ -1,5 +1,5 @@
 -- One call of the engine: what every call owes the world, and the world after it.
-use Rattle.std.specs.Prelude.{ℕ, ⊤, ◌≡◌, ◌≢◌, ◌<◌, ◌-◌, ◌^◌, ◌↔◌, ◌∷◌, Bool, true, false, List, Option, Some, None, option_map, length, All, IsTrue, IsSome, IfSome, Result, Err, slice_set}
+use Rattle.std.specs.Prelude.{ℕ, ⊤, ◌≡◌, ◌≢◌, ◌≤◌, ◌<◌, ◌-◌, ◌^◌, ◌↔◌, ◌∷◌, Bool, true, false, List, Option, Some, None, option_map, length, All, IsTrue, IsSome, IfSome, Result, Err, slice_set}
 use Rattle.pmem_base.specs.declared.lines.Line.{Line}
 use Rattle.pmem_base.specs.declared.commands.Posted.{Posted}
 use Rattle.pmem_base.specs.declared.answers.Mark.{Mark}
@@ -7,7 +7,7 @@ use Rattle.pmem_base.specs.declared.answers.Place.{Place}
 use Rattle.pmem_base.specs.declared.answers.Exhibit.{Exhibit}
 use Rattle.pmem_base.specs.declared.answers.Answer.{Answer}
 use Rattle.pmem_base.specs.declared.answers.Answer.TheVariants as Say
-use Rattle.pmem_base.specs.Shape.{Shape}
+use Rattle.pmem_base.specs.Shape.{Shape, IsShape}
 use Rattle.pmem_base.specs.Layout as layout
 use Rattle.pmem_base.specs.Lines.{IsLine, zero_line}
 use Rattle.pmem_base.specs.Ranges.{IsPosted}
@@ -17,6 +17,7 @@ use Rattle.write_ports.specs.Seen.{overlaid}
 use Rattle.write_ports.specs.Queues.{cover_line}
 use Rattle.meta_cache.specs.Banks.{is_cached_dirty}
 use Rattle.bonsai_tree.specs.Positions.{counter_position}
+use Rattle.meta_path.specs.Blocks.{bank_dirty_count}
 use Rattle.suite.specs.Setup.{Setup}
 use Rattle.plain_model.specs.State.{PlainState, Memory}
 use Rattle.plain_model.specs.After.{after_marks, steps_with}
@@ -24,10 +25,10 @@ use Rattle.pmem_engine.specs.declared.fault.Fault.{Fault}
 use Rattle.pmem_engine.specs.declared.fault.Fault.TheVariants as Fail
 use Rattle.pmem_engine.specs.Engine.{EngineState}
 use Rattle.pmem_engine.specs.Parts.{Parts, AreTrusted, HoldsSeal, HoldsCounters, HoldsMeta}
-use Rattle.pmem_engine.specs.Outcomes.{Outcome, cut_short, shown, outcome_of, is_sealed_by, CallEffect}
+use Rattle.pmem_engine.specs.Outcomes.{Outcome, cut_short, shown, outcome_of, is_sealed_by, CallEffect, TakesFewer}
 use Rattle.pmem_engine.specs.Calls.{IsDownAnswer, IsMemory, memory_after}
 use Rattle.watched_board.specs.declared.taken.Taken.{Taken}
-use Rattle.watched_board.specs.Watching.{AreInCount, FollowsOn, none_taken, steps_in}
+use Rattle.watched_board.specs.Watching.{AreInCount, FollowsOn, none_taken, steps_in, step_limit}
 use Rattle.pmem_replay.specs.During.{parts_in}
 use Rattle.pmem_replay.specs.Flagged.{healed_flags}
 use Rattle.pmem_replay.specs.World.{WorldState, IsWorld}
@@ -44,14 +45,17 @@ written_line write = option_map (λ w. w.at) write
 
 -- ---- what every call owes
 
--- the parts that a call begins with: trusted, with this memory, in which the write has its line
+-- the parts that a call begins with: trusted, with this memory, in which the write has its line, and with no
+-- more dirty blocks in a bank than it can have slots
 pub record IsCallStart (setup : Setup) (write : Option Posted) (memory : Memory) (old : Parts) : Type 0 where
+  pub whole_shape : IsShape setup.shape
+  pub few_dirty : (bank : ℕ) → bank_dirty_count setup.shape old.engine.cache bank ≤ 512
   pub trusted : AreTrusted setup old
   pub its_memory : IsMemory setup memory old
   pub within : IfSome write (λ w. w.at < length memory)
 
 -- The law of a call, whatever it answers. The seals that it makes are of lines that were stored as they were
--- last sealed, its own write's aside.
+-- last sealed, its own write's aside. A cut ends it before the limit of steps.
 pub record IsLawful {T : Type 0} (setup : Setup) (write : Option Posted) (memory : Memory) (old new : Parts) (answer : Result T Fault) :
     Type 0 where
   pub made : List Mark
@@ -65,6 +69,7 @@ pub record IsLawful {T : Type 0} (setup : Setup) (write : Option Posted) (memory
       (page : ℕ) → page < layout.pages setup.shape → HoldsMeta setup.shape old (counter_position setup.shape page)
       → HoldsCounters setup old page → HoldsCounters setup new page
   pub exhibit : answer ≡ Err Fail.Shown → IsSome new.ledger.exhibit
+  pub early : answer ≡ Err Fail.Cut → TakesFewer step_limit old.device new.device
 
 -- a call by its relation, with its law
 pub record IsLawfulCall {T : Type 0} (relation : Setup → Parts → Parts → Result T Fault → Type 0) (write : Option Posted) (setup : Setup)

@@ -15,10 +15,13 @@ use Rattle.pmem_engine.specs.declared.fault.Fault.TheVariants as Fail
 use Rattle.pmem_engine.specs.Engine.{EngineState}
 use Rattle.pmem_engine.specs.Outcomes.{is_sealed_by}
 use Rattle.pmem_engine.specs.Calls.{HasWrittenLine}
+use Rattle.pmem_engine.specs.Plans.{chip_of}
+use Rattle.call_plan.specs.Runs.{IsOutcome}
 use Rattle.pmem_replay.specs.World.{WorldState, IsWorld}
 use Rattle.watched_board.specs.declared.taken.Taken.{Taken}
 use Rattle.watched_board.specs.Watching.{AreInCount, FollowsOn, none_taken, steps_in}
 use Rattle.pmem_replay.specs.During.{parts_in}
+use Rattle.pmem_replay.specs.Planned.{plan_of_write}
 use Rattle.pmem_replay.specs.Called.{IsFaultAnswered}
 
 -- the front write is put or not, and power stays on or not; what its marks leave dirty comes after
@@ -66,6 +69,9 @@ pub record WasWriteGiven (setup : Setup) (old : WorldState) (port : ℕ) (answer
   pub shape : new.shape ≡ old.shape
   pub keys : new.keys ≡ old.keys
   pub start : new.start ≡ old.start
+  pub outcome :
+      IsOutcome (plan_of_write setup write old.board.regs (chip_of engine old.ledger old.tags old.digests)) old.board new.board
+      taken answer (chip_of after new.ledger new.tags new.digests)
   pub written : HasWrittenLine setup write (parts_in old engine none_taken) (parts_in new after taken) answer
   pub marks : new.ledger.marks ≡ old.ledger.marks ++ written.made
   pub capacity : new.capacity ≡ old.capacity

@@ -1,5 +1,6 @@
 pub mod World
 pub mod During
+pub mod Planned
 pub mod Called
 pub mod Flagged
 pub mod Given
@@ -7,3 +8,4 @@ pub mod Replies
 pub mod Stamps
 pub mod Stepped
 pub mod Logged
+pub mod Determined

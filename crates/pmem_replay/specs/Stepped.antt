@@ -1,5 +1,5 @@
 -- One command and its reply: what the world answers, and what becomes of it and of its own parts.
-use Rattle.std.specs.Prelude.{ℕ, ◌≡◌, ◌≢◌, ◌≤◌, ◌<◌, ◌+◌, ◌-◌, ◌++◌, ◌⊎◌, true, false, List, [], ◌∷◌, length, Option, Some, None, Result, Ok, Err, MatchOption, slice_range, IsTrue, IfSome, ⊤, if◌then◌else◌}
+use Rattle.std.specs.Prelude.{ℕ, ◌≡◌, ◌≢◌, ◌≤◌, ◌<◌, ◌+◌, ◌-◌, ◌++◌, ◌⊎◌, true, false, not, List, [], ◌∷◌, length, drop, Option, Some, None, Result, Ok, Err, MatchOption, slice_range, IsTrue, IfSome, ⊤, if◌then◌else◌}
 use Rattle.pmem_base.specs.declared.lines.Line.{Line}
 use Rattle.pmem_base.specs.declared.lines.Ctr.{Ctr}
 use Rattle.pmem_base.specs.declared.commands.Posted.{Posted}
@@ -16,9 +16,11 @@ use Rattle.pmem_base.specs.Layout as layout
 use Rattle.pmem_base.specs.Lines.{line_at, tag_slot}
 use Rattle.pmem_base.specs.Marks.{last_seal}
 use Rattle.pmem_base.specs.Ranges.{IsAnswer}
-use Rattle.pmem_base.specs.WaitingWrites.{queue_of}
+use Rattle.pmem_base.specs.WaitingWrites.{queue_of, writes_to, put_writes}
 use Rattle.board.specs.Memory.{BoardMemory, with_line_at, with_lines, flipped_line, restored_lines}
+use Rattle.call_plan.specs.Runs.{IsOutcome}
 use Rattle.suite.specs.Setup.{Setup}
+use Rattle.seal_ledger.specs.Ledger.{LedgerState}
 use Rattle.plain_model.specs.State.{PlainState, Reply, start_state}
 use Rattle.plain_model.specs.View.{start_view}
 use Rattle.plain_model.specs.After.{state_after, steps_of, is_cut}
@@ -27,9 +29,10 @@ use Rattle.plain_model.specs.Legal.{front_of}
 use Rattle.plain_model.specs.Shown.{IsLegal}
 use Rattle.plain_model.specs.Fits.{Fits}
 use Rattle.pmem_engine.specs.declared.fault.Fault.{Fault}
-use Rattle.pmem_engine.specs.declared.fault.Fault.TheVariants as Fail
 use Rattle.pmem_engine.specs.Engine.{EngineState}
+use Rattle.pmem_engine.specs.Outcomes.{is_sealed_by}
 use Rattle.pmem_engine.specs.Parts.{Parts}
+use Rattle.pmem_engine.specs.Plans.{chip_of}
 use Rattle.pmem_engine.specs.Invariants.{IsSealStored}
 use Rattle.pmem_engine.specs.Mendable.{new_engine}
 use Rattle.pmem_engine.specs.Calls.{HasReadLine, HasWrittenLine, HasTurned, HasFlushed, HasSetLoss}
@@ -45,6 +48,8 @@ use Rattle.watched_board.specs.declared.taken.Taken.{Taken}
 use Rattle.pmem_replay.specs.declared.world.Reply as replies
 use Rattle.watched_board.specs.Watching.{none_taken, steps_in, device_during, FollowsOn}
 use Rattle.pmem_replay.specs.During.{parts_in}
+use Rattle.pmem_replay.specs.Planned.{CallPlan, plan_of_read, plan_of_write, plan_of_turn, plan_of_flush, plan_of_loss}
+use Rattle.pmem_replay.specs.Called.{IsFaultAnswered}
 
 -- ---- what the table's answers do to the board and to the engine
 
@@ -75,61 +80,54 @@ pub record IsByTable (old : WorldState) (command : Command) (answer : Answer) (n
 
 -- ---- calls of the engine
 
--- The world's parts before and after a call, for which room for marks may have been made before. The
--- engine is kept unless power was cut. Whatever is answered, the board follows on by what the call took of
--- it: no step past the fuse. Line writes and latches are counted from the call on, and are the steps of the
--- answer unless that is an exhibit.
-pub record HasCalled (relation : Parts → Parts → Type 0) (old new : WorldState) (answer : Answer) : Type 0 where
+-- The world's parts before and after a call, for which room for marks may have been made before: the board followed
+-- the call's plan, and whatever is answered took no step past the fuse. The engine is kept unless power was cut, which
+-- the answer tells. Line writes and latches are counted from the call on, and are the steps of the answer unless that
+-- is an exhibit.
+pub record HasCalled {T : Type 0} (plan : CallPlan T) (relation : Parts → Parts → Result T Fault → Type 0)
+    (says : LedgerState → LedgerState → ℕ → Result T Fault → Answer → Type 0) (old new : WorldState) (answer : Answer) : Type 0 where
   pub engine : EngineState
   pub was_on : old.engine ≡ Some engine
   pub after : EngineState
   pub kept : new.engine ≡ (if is_cut answer then None else Some after)
   pub taken : Taken
-  pub follows_on : FollowsOn old.board new.board taken
+  pub result : Result T Fault
+  pub outcome :
+      IsOutcome (plan old.board.regs (chip_of engine old.ledger old.tags old.digests)) old.board new.board taken result
+      (chip_of after new.ledger new.tags new.digests)
+  pub related : relation (parts_in old engine none_taken) (parts_in new after taken) result
+  pub said : says old.ledger new.ledger (steps_in taken) result answer
+  pub power : new.board.powered ≡ not (is_cut answer)
   pub steps : is_shown answer ≡ false → steps_of answer ≡ steps_in taken
   pub capacity : old.capacity ≤ new.capacity
-  pub related : relation (parts_in old engine none_taken) (parts_in new after taken)
   pub cut : is_cut answer ≡ true → HasRisen old.board.cuts new.board.cuts
   pub uncut : is_cut answer ≡ false → new.board.cuts ≡ old.board.cuts
 
--- the fault as the world answers it; a drain has no count of drained writes
-abbrev pub IsFaultAnswer : WorldState → Fault → Answer → Type 0
-IsFaultAnswer new Fail.Cut (Say.Cut steps) = ⊤
-IsFaultAnswer new Fail.Cut (Say.CutKept drained steps) = ⊤
-IsFaultAnswer new Fail.Cut (Say.CutLost drained steps) = ⊤
-IsFaultAnswer new (Fail.Meta x) (Say.Refused drained place steps) = place ≡ Place.Meta x
-IsFaultAnswer new (Fail.Tag at) (Say.Refused drained place steps) = place ≡ Place.Line at
-IsFaultAnswer new (Fail.Spent page) (Say.Spent drained its_page steps) = its_page ≡ page
-IsFaultAnswer new Fail.Shown (Say.Shown exhibit) = new.ledger.exhibit ≡ Some exhibit
-IsFaultAnswer new fault answer = ⊥
+-- what a call answered, as the world answers it after so many steps, from the ledgers before and after it; a read
+-- answers its line with what waits put on it
+abbrev pub IsReadAnswer : List Posted → LedgerState → LedgerState → ℕ → Result Line Fault → Answer → Type 0
+IsReadAnswer waiting before after steps (Ok line) answer = answer ≡ Say.Got (put_writes line waiting) steps
+IsReadAnswer waiting before after steps (Err fault) answer = IsFaultAnswered after.exhibit None fault steps answer
 
--- what a call answered, as the world answers it
-abbrev pub IsReadAnswer : WorldState → Result Line Fault → Answer → Type 0
-IsReadAnswer new (Ok line) (Say.Got shown steps) = ⊤
-IsReadAnswer new (Ok line) answer = ⊥
-IsReadAnswer new (Err fault) answer = IsFaultAnswer new fault answer
+-- a write that was cut is kept where one of the new marks seals its line
+abbrev pub IsDrainAnswer : Posted → LedgerState → LedgerState → ℕ → Result Ctr Fault → Answer → Type 0
+IsDrainAnswer write before after steps (Ok ctr) answer = answer ≡ Say.Drained steps
+IsDrainAnswer write before after steps (Err fault) answer =
+    IsFaultAnswered after.exhibit (Some (is_sealed_by (drop (length before.marks) after.marks) write.at)) fault steps answer
 
-abbrev pub IsDrainAnswer : WorldState → Result Ctr Fault → Answer → Type 0
-IsDrainAnswer new (Ok ctr) (Say.Drained steps) = ⊤
-IsDrainAnswer new (Ok ctr) answer = ⊥
-IsDrainAnswer new (Err fault) answer = IsFaultAnswer new fault answer
+abbrev pub IsTurnAnswer : LedgerState → LedgerState → ℕ → Result (Option (ℕ × ℕ)) Fault → Answer → Type 0
+IsTurnAnswer before after steps (Ok None) answer = answer ≡ Say.Idle
+IsTurnAnswer before after steps (Ok (Some turned)) answer = answer ≡ Say.Turned turned.1 steps
+IsTurnAnswer before after steps (Err fault) answer = IsFaultAnswered after.exhibit None fault steps answer
 
-abbrev pub IsTurnAnswer : WorldState → Result (Option (ℕ × ℕ)) Fault → Answer → Type 0
-IsTurnAnswer new (Ok None) Say.Idle = ⊤
-IsTurnAnswer new (Ok (Some turned)) (Say.Turned left steps) = left ≡ turned.1
-IsTurnAnswer new (Ok turned) answer = ⊥
-IsTurnAnswer new (Err fault) answer = IsFaultAnswer new fault answer
+abbrev pub IsFlushAnswer : LedgerState → LedgerState → ℕ → Result (Option ℕ) Fault → Answer → Type 0
+IsFlushAnswer before after steps (Ok None) answer = answer ≡ Say.Clean
+IsFlushAnswer before after steps (Ok (Some x)) answer = answer ≡ Say.Flushed x steps
+IsFlushAnswer before after steps (Err fault) answer = IsFaultAnswered after.exhibit None fault steps answer
 
-abbrev pub IsFlushAnswer : WorldState → Result (Option ℕ) Fault → Answer → Type 0
-IsFlushAnswer new (Ok None) Say.Clean = ⊤
-IsFlushAnswer new (Ok (Some x)) (Say.Flushed y steps) = y ≡ x
-IsFlushAnswer new (Ok flushed) answer = ⊥
-IsFlushAnswer new (Err fault) answer = IsFaultAnswer new fault answer
-
-abbrev pub IsLossAnswer : WorldState → Result ℕ Fault → Answer → Type 0
-IsLossAnswer new (Ok steps) (Say.LossSet taken) = ⊤
-IsLossAnswer new (Ok steps) answer = ⊥
-IsLossAnswer new (Err fault) answer = IsFaultAnswer new fault answer
+abbrev pub IsLossAnswer : LedgerState → LedgerState → ℕ → Result ℕ Fault → Answer → Type 0
+IsLossAnswer before after steps (Ok taken) answer = answer ≡ Say.LossSet steps
+IsLossAnswer before after steps (Err fault) answer = IsFaultAnswered after.exhibit None fault steps answer
 
 abbrev pub IsOnAnswer : Result (EngineState × Work) RecFault → Answer → Type 0
 IsOnAnswer (Ok done) (Say.Recovered trials digests steps) = (trials ≡ done.1.trials) × (digests ≡ done.1.digests)
@@ -145,7 +143,7 @@ IsOnAnswer outcome answer = ⊥
 -- the write is given to the engine, and a drain answers so
 abbrev pub HasDrained : Setup → Posted → WorldState → Answer → WorldState → Type 0
 HasDrained setup write old answer new =
-    HasCalled (λ p q. (r : Result Ctr Fault) × HasWrittenLine setup write p q r × IsDrainAnswer new r answer) old new answer
+    HasCalled (plan_of_write setup write) (λ p q r. HasWrittenLine setup write p q r) (IsDrainAnswer write) old new answer
 
 -- the world's own parts stay, for which room for marks may have been made
 pub record HasSameParts (old new : WorldState) : Type 0 where
@@ -242,17 +240,18 @@ IsStatAnswer world answer = ⊥
 -- where the table decides nothing: what the engine, recovery or a look does
 abbrev pub IsCommandDone : Setup → WorldState → Command → Answer → WorldState → Type 0
 IsCommandDone setup old (Do.Read port at) answer new =
-    HasCalled (λ p q. (r : Result Line Fault) × HasReadLine setup at p q r × IsReadAnswer new r answer) old new answer
+    HasCalled (plan_of_read setup at) (λ p q r. HasReadLine setup at p q r) (IsReadAnswer (writes_to (queue_of old.state.queues port) at)) old
+    new answer
 IsCommandDone setup old (Do.Drain port) answer new =
     MatchOption (front_of old.state port) ⊥
     (λ write. HasDrained setup write old answer new)
 IsCommandDone setup old (Do.Fence port) answer new = HasFenced setup (queue_of old.state.queues port) 0 0 old answer new
 IsCommandDone setup old Do.Turn answer new =
-    HasCalled (λ p q. (r : Result (Option (ℕ × ℕ)) Fault) × HasTurned setup p q r × IsTurnAnswer new r answer) old new answer
+    HasCalled (plan_of_turn setup) (λ p q r. HasTurned setup p q r) IsTurnAnswer old new answer
 IsCommandDone setup old Do.Flush answer new =
-    HasCalled (λ p q. (r : Result (Option ℕ) Fault) × HasFlushed setup p q r × IsFlushAnswer new r answer) old new answer
+    HasCalled plan_of_flush (λ p q r. HasFlushed setup p q r) IsFlushAnswer old new answer
 IsCommandDone setup old (Do.Loss n) answer new =
-    HasCalled (λ p q. (r : Result ℕ Fault) × HasSetLoss setup n p q r × IsLossAnswer new r answer) old new answer
+    HasCalled (plan_of_loss n) (λ p q r. HasSetLoss setup n p q r) IsLossAnswer old new answer
 IsCommandDone setup old Do.On answer new = HasPoweredOn setup old new answer
 IsCommandDone setup old (Do.Peek d) answer new =
     IsByTable old (Do.Peek d) answer new × (answer ≡ Say.Raw (line_at old.board.lines d))

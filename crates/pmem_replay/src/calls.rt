@@ -15,13 +15,14 @@ ghost use Rattle.seal_ledger.specs.Ledger.{IsOfShape, LedgerState};
 ghost use Rattle.seal_ledger.specs.Notes.{HasRoom};
 ghost use Rattle.seal_ledger.specs.View.{capacity_of, ledger_of};
 ghost use Rattle.pmem_engine.specs.declared.fault.Fault.{Fault};
-ghost use Rattle.pmem_engine.specs.Parts.{Parts, parts_of};
+ghost use Rattle.pmem_engine.specs.Parts.{Parts, parts_of, setup_at};
 ghost use Rattle.pmem_engine.specs.Outcomes.{outcome_of, is_sealed_by};
-ghost use Rattle.pmem_engine.specs.Calls.{IsUsable, HasReadLine, HasTurned, HasFlushed, HasSetLoss, HasWrittenLine};
+ghost use Rattle.pmem_engine.specs.Calls.{IsUsable};
 ghost use Rattle.pmem_recovery.specs.Parts.{suite_state};
 ghost use Rattle.watched_board.specs.Watching.{IsWatched, device_during, none_taken};
 ghost use Rattle.access_log.specs.Traced.{GoesOn};
 ghost use Rattle.pmem_replay.specs.During.{WasFormatted, IsTakenApart, WasRecovered};
+ghost use Rattle.pmem_replay.specs.Planned.{ReadsLine, WritesLine, TurnsPage, FlushesBlock, SetsLoss};
 ghost use Rattle.pmem_replay.specs.Called.{IsLawfulCall, is_outcome_shown, is_outcome_cut};
 
 use access_log::{AccessLog, Entry, Logged};
@@ -42,8 +43,8 @@ pub(crate) struct Done<T> {
     pub(crate) answer: T,
 }
 
-/// A call of the engine: what it needs of the geometry and of the room for marks, what it does, and the write
-/// that it puts, if it is one.
+/// A call of the engine: what it needs of the geometry and of the room for marks, what it does, by its plan and its
+/// relation, and the write that it puts, if it is one.
 pub(crate) trait Call {
     /// What it answers where it is done.
     type Value: Copy;
@@ -64,7 +65,7 @@ pub(crate) trait Call {
     ) -> Result<Self::Value, Fault>
         requires can { can self.now engine.old.shape (ledger_of ledger.old) (capacity_of ledger.old) }
         requires usable { IsUsable engine.old.shape engine.old (B.device board.old) (ledger_of ledger.old) }
-        ensures made { IsLawfulCall (relation self.now) (write self.now) (record { shape = engine.old.shape; formulas = S.formulas_of (S.keys suite.old) })
+        ensures made { IsLawfulCall (relation self.now) (write self.now) (setup_at S.Suite engine.old suite.old)
             (parts_of engine.old (B.device board.old) (ledger_of ledger.old) (S.tags suite.old) (S.digests suite.old))
             (parts_of engine.new (B.device board.new) (ledger_of ledger.new) (S.tags suite.new) (S.digests suite.new)) result }
         ensures capacity { capacity_of ledger.new ≡ capacity_of ledger.old }
@@ -86,7 +87,7 @@ impl Call for ReadLine {
 
     ghost can = { λ c g ledger capacity. c.at < data_lines g };
 
-    ghost relation = { λ c setup old new answer. HasReadLine setup c.at old new answer };
+    ghost relation = { λ c setup old new answer. ReadsLine c.at setup old new answer };
 
     ghost write = { λ c. None };
 
@@ -114,7 +115,7 @@ impl Call for TurnPage {
 
     ghost can = { λ c g ledger capacity. HasRoom ledger capacity 1 };
 
-    ghost relation = { λ c setup old new answer. HasTurned setup old new answer };
+    ghost relation = { λ c setup old new answer. TurnsPage setup old new answer };
 
     ghost write = { λ c. None };
 
@@ -144,7 +145,7 @@ impl Call for WriteLine {
 
     ghost can = { λ c g ledger capacity. (c.write.at < data_lines g) × IsPosted c.write × HasRoom ledger capacity 66 };
 
-    ghost relation = { λ c setup old new answer. HasWrittenLine setup c.write old new answer };
+    ghost relation = { λ c setup old new answer. WritesLine c.write setup old new answer };
 
     ghost write = { λ c. Some c.write };
 
@@ -172,7 +173,7 @@ impl Call for FlushBlock {
 
     ghost can = { λ c g ledger capacity. ⊤ };
 
-    ghost relation = { λ c setup old new answer. HasFlushed setup old new answer };
+    ghost relation = { λ c setup old new answer. FlushesBlock setup old new answer };
 
     ghost write = { λ c. None };
 
@@ -202,7 +203,7 @@ impl Call for SetLoss {
 
     ghost can = { λ c g ledger capacity. IsTrue (is_loss c.n) };
 
-    ghost relation = { λ c setup old new answer. HasSetLoss setup c.n old new answer };
+    ghost relation = { λ c setup old new answer. SetsLoss c.n setup old new answer };
 
     ghost write = { λ c. None };
 
@@ -233,7 +234,7 @@ pub(crate) fn make<C: Call, S: Suite>(
     requires can { C.can call.now engine.old.shape (ledger_of ledger.old) (capacity_of ledger.old) }
     requires on { (memory_of board.old).powered ≡ true }
     requires usable { IsUsable engine.old.shape engine.old (device_during (memory_of board.old) none_taken) (ledger_of ledger.old) }
-    ensures made { IsLawfulCall (C.relation call.now) (C.write call.now) (record { shape = engine.old.shape; formulas = S.formulas_of (S.keys suite.old) })
+    ensures made { IsLawfulCall (C.relation call.now) (C.write call.now) (setup_at S.Suite engine.old suite.old)
         (parts_of engine.old (device_during (memory_of board.old) none_taken) (ledger_of ledger.old) (S.tags suite.old) (S.digests suite.old))
         (parts_of engine.new (device_during (memory_of board.new) result.taken) (ledger_of ledger.new) (S.tags suite.new) (S.digests suite.new)) result.answer }
     ensures watched { IsWatched (memory_of board.old) (memory_of board.new) result.taken }
@@ -270,7 +271,7 @@ fn make_logged<'a, K: Start + Entry, C: Call, S: Suite>(
     requires on { (memory_of board.old).powered ≡ true }
     requires usable { IsUsable engine.old.shape engine.old (device_during (memory_of board.old) none_taken) (ledger_of ledger.old) }
     ensures name { result.board.ghost_name ≡ K.name }
-    ensures made { IfSome outcome.new (λ answer. IsLawfulCall (C.relation call.now) (C.write call.now) (record { shape = engine.old.shape; formulas = S.formulas_of (S.keys suite.old) })
+    ensures made { IfSome outcome.new (λ answer. IsLawfulCall (C.relation call.now) (C.write call.now) (setup_at S.Suite engine.old suite.old)
         (parts_of engine.old (device_during (memory_of board.old) none_taken) (ledger_of ledger.old) (S.tags suite.old) (S.digests suite.old))
         (parts_of engine.new (device_during (memory_of result.board.now) result.taken) (ledger_of ledger.new) (S.tags suite.new) (S.digests suite.new)) answer) }
     ensures some { IsSome outcome.new }

@@ -4,6 +4,7 @@
 mod answering;
 mod calling;
 mod calls;
+mod determined;
 mod dirtied;
 mod draining;
 mod flags;
@@ -14,5 +15,6 @@ mod tampered;
 mod tampering;
 mod world;
 
+pub use determined::steps_but_recovery_are_determined;
 pub use flags::Flags;
 pub use world::{Reply, World};

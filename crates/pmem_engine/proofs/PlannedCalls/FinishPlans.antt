@@ -1,5 +1,5 @@
 -- The plain line of a write, and the page that is finished before it, as their plans have them.
-use Rattle.std.proofs.Common.{◌≡◌, ◌≢◌, ℕ, ◌*◌, ◌+◌, Bool, true, false, Some, None, Option, Result, Ok, Err, length, refl, sym, ap, ap₂, subst, ◌∙◌, ne_eqb, eq-eqb}
+use Rattle.std.proofs.Common.{◌≡◌, ◌≢◌, ℕ, Bool, true, false, Some, None, Option, Result, Ok, Err, length, sym, ap, ap₂, subst, ◌∙◌, ne_eqb, eq-eqb}
 use Rattle.std.specs.Prelude.{◌==◌, List, if◌then◌else◌}
 use Rattle.std.proofs.lemmas.Option.{get_or_from_slice_get}
 use Rattle.pmem_base.specs.declared.lines.Line.{Line}
@@ -10,10 +10,11 @@ use Rattle.pmem_base.specs.declared.registers.Regs.{Regs}
 use Rattle.pmem_base.specs.Registers.{not_done}
 use Rattle.pmem_base.specs.WaitingWrites.{put_write}
 use Rattle.board.specs.Device.{Device}
-use Rattle.call_plan.specs.Plans.{Plan, done, mapped, repeated}
+use Rattle.call_plan.specs.Plans.{Plan, done, mapped}
 use Rattle.call_plan.specs.Following.{Follows}
 use Rattle.call_plan.proofs.Steps.{is_done}
 use Rattle.call_plan.proofs.Bind.{mapped_follows}
+use Rattle.call_plan.proofs.Loops.{AreTurnsLeft, turns_start}
 use Rattle.page_reencrypt.specs.Registers.{registers_with_done}
 use Rattle.suite.specs.Setup.{Setup}
 use Rattle.pmem_engine.specs.declared.fault.LineFault.{LineFault}
@@ -70,10 +71,6 @@ next_regs setup n old new sealed it =
     ∙ ap (λ (place : ℕ). registers_with_done (regs_of old).progress.items (line_of_page register place))
     (sym (get_or_from_slice_get (not_done register) 0 it.place 0 it.lowest)))
 
--- the turns that a page takes
-abbrev pub page_turns : Setup → ℕ → Regs → Chip → Plan (Chip × LineFault) (Chip × Regs)
-page_turns setup n regs chip = repeated (finish_turn setup n) 0 (length (not_done (register_at regs n))) (chip, regs)
-
 module _ (setup : Setup) (n : ℕ) (regs : Regs) (chip : Chip) {old new : Device} where
   pub turn_done : (i : ℕ) (now : Regs) (after : Chip) (sealed : ℕ × ℕ) → now ≡ with_next_done n regs
       → Follows (reseal_plan setup n regs chip) old new (Ok (after, sealed)) → Follows (finish_turn setup n i (chip, regs)) old new (Ok (after, now))
@@ -84,30 +81,27 @@ module _ (setup : Setup) (n : ℕ) (regs : Regs) (chip : Chip) {old new : Device
       → Follows (finish_turn setup n i (chip, regs)) old new (Err left)
   turn_stopped i it = mapped_follows _ _ it
 
-  pub page_finished : {after : Chip × Regs} → Follows (page_turns setup n regs chip) old new (Ok after) → Follows (finish_page_plan setup n regs chip) old new (Ok (after.0, tt))
+module _ (setup : Setup) (n : ℕ) (regs : Regs) (chip : Chip) (d : Device) where
+  pub page_start : AreTurnsLeft (finish_page_plan setup n regs chip) d (finish_turn setup n) 0 (length (not_done (register_at regs n))) (chip, regs) d
   unfolding finish_page_plan
-  page_finished it = mapped_follows _ _ it
-
-  pub page_unfinished : {left : Chip × LineFault} → Follows (page_turns setup n regs chip) old new (Err left) → Follows (finish_page_plan setup n regs chip) old new (Err left)
-  unfolding finish_page_plan
-  page_unfinished it = mapped_follows _ _ it
+  page_start = turns_start (finish_turn setup n) (length (not_done (register_at regs n))) (chip, regs) d
 
 module _ (setup : Setup) (page : ℕ) (regs : Regs) (chip : Chip) where
-  pub none_finished : (d : Device) → Follows (finish_for_plan setup page false regs chip) d d (Ok (chip, tt))
+  pub none_finished : (d : Device) → Follows (finish_for_plan setup page false regs chip) d d (Ok (chip, regs))
   unfolding finish_for_plan
-  none_finished d = is_done (chip, tt) d
+  none_finished d = is_done (chip, regs) d
 
-  pub found_finished : {old new : Device} {end : Result (Chip × Unit {0}) (Chip × LineFault)} (found : Option ℕ)
+  pub found_finished : {old new : Device} {end : Result (Chip × Regs) (Chip × LineFault)} (found : Option ℕ)
       → register_to_finish regs.progress.items page ≡ found → Follows (finish_found_plan setup regs chip found) old new end
       → Follows (finish_for_plan setup page true regs chip) old new end
   unfolding finish_for_plan
   found_finished {old = old} {new = new} {end = end} found is it = subst (λ found. Follows (finish_found_plan setup regs chip found) old new end) (sym is) it
 
-  pub one_found : {old new : Device} {end : Result (Chip × Unit {0}) (Chip × LineFault)} (n : ℕ) → Follows (finish_page_plan setup n regs chip) old new end
+  pub one_found : {old new : Device} {end : Result (Chip × Regs) (Chip × LineFault)} (n : ℕ) → Follows (finish_page_plan setup n regs chip) old new end
       → Follows (finish_found_plan setup regs chip (Some n)) old new end
   unfolding finish_found_plan
   one_found n it = it
 
-  pub none_found : (d : Device) → Follows (finish_found_plan setup regs chip None) d d (Ok (chip, tt))
+  pub none_found : (d : Device) → Follows (finish_found_plan setup regs chip None) d d (Ok (chip, regs))
   unfolding finish_found_plan
-  none_found d = is_done (chip, tt) d
+  none_found d = is_done (chip, regs) d

@@ -7,7 +7,7 @@ use Rattle.pmem_base.specs.declared.registers.Regs.{Regs}
 use Rattle.pmem_base.specs.Shape.{Shape}
 use Rattle.board.specs.Device.{Device}
 use Rattle.board.specs.Steps.{HasLatched, WasCut}
-use Rattle.call_plan.specs.Plans.{Plan, done, latch, bind, mapped, for_each, ended, the_cut}
+use Rattle.call_plan.specs.Plans.{Plan, done, latch, bind, for_each, the_cut}
 use Rattle.call_plan.specs.Following.{Follows}
 use Rattle.call_plan.proofs.Steps.{is_done, latch_then, latch_cut}
 use Rattle.call_plan.proofs.Bind.{bind_ok, bind_err, mapped_follows}

@@ -1,5 +1,5 @@
 -- The exits of a seal under the next counter: its tag line isn't read, its group is cut, or the line is sealed.
-use Rattle.std.proofs.Common.{rules, ℕ, ◌≡◌, ◌<◌, ◌≤◌, ◌+◌, ◌%◌, ◌++◌, inl, inr, Bool, true, false, List, [], ◌∷◌, length, IsTrue, Some, Ok, Err, cond, refl, sym, ap, subst, subst₂, ◌∙◌, arith}
+use Rattle.std.proofs.Common.{rules, ℕ, ◌≡◌, ◌<◌, ◌≤◌, ◌%◌, ◌++◌, inl, inr, Bool, true, false, List, [], ◌∷◌, length, IsTrue, Some, Ok, Err, cond, refl, sym, ap, subst, subst₂, ◌∙◌, arith}
 use Rattle.std.specs.Prelude.{option_map, ◌↔◌, ◌==◌, if◌then◌else◌}
 use Rattle.std.specs.List.{list_any}
 use Rattle.std.proofs.lemmas.Bool.{true≢false, cond-true, cond-false}

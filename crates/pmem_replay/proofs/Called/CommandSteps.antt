@@ -1,12 +1,15 @@
 -- A command that made a call of the engine: its step, by what it answers.
 use Rattle.std.proofs.Common.{ℕ, ◌≡◌, ◌<◌, ◌≤◌, ◌^◌, ◌++◌, Bool, true, false, List, Option, None, refl, sym, ap, subst, ◌∙◌, arith}
-use Rattle.std.specs.Prelude.{Result, Err, not, length, drop}
+use Rattle.std.specs.Prelude.{Result, Ok, Err, not, length, drop}
+use Rattle.std.proofs.lemmas.Bool.{true≢false}
 use Rattle.std.proofs.Math.Seq.{drop-append_seam}
 use Rattle.pmem_base.specs.declared.answers.Mark.{Mark}
 use Rattle.pmem_base.specs.declared.answers.Answer.{Answer}
 use Rattle.pmem_base.specs.declared.commands.Command.{Command}
 use Rattle.pmem_base.specs.declared.commands.Posted.{Posted}
 use Rattle.pmem_base.specs.Ranges.{IsAnswer}
+use Rattle.seal_ledger.specs.Ledger.{LedgerState}
+use Rattle.call_plan.specs.Runs.{IsRunOn}
 use Rattle.suite.specs.Formulas.{Formulas}
 use Rattle.suite.specs.Setup.{Setup}
 use Rattle.plain_model.specs.State.{PlainState, Reply}
@@ -17,17 +20,41 @@ use Rattle.pmem_engine.specs.declared.fault.Fault.TheVariants as Fail
 use Rattle.pmem_engine.specs.Parts.{Parts}
 use Rattle.pmem_engine.specs.Outcomes.{Outcome, going, cut_short, shown, outcome_of, HasPower}
 use Rattle.watched_board.specs.declared.taken.Taken.{Taken}
-use Rattle.watched_board.specs.Watching.{none_taken, steps_in, device_during}
+use Rattle.watched_board.specs.Watching.{none_taken, steps_in, step_limit, device_during}
+use Rattle.watched_board.proofs.StepLaws.{fewer}
 use Rattle.pmem_replay.specs.During.{parts_in}
+use Rattle.pmem_replay.specs.Planned.{CallPlan, IsMadeBy}
 use Rattle.pmem_replay.specs.Called.{is_outcome_shown, is_outcome_cut, called_state, WasCalled, CanStop}
 use Rattle.pmem_replay.specs.Given.{HasMarkRoom}
 use Rattle.pmem_replay.specs.Stepped.{HasStepped, HasCalled, IsCommandDone, IsSeenOnDevice}
 use Rattle.pmem_replay.specs.World.{WorldState, IsOn, IsWorld, setup_of_world}
-use Rattle.pmem_replay.proofs.Steps.WorldsAfterCalls.{on_in, cut_counted, uncut_counted}
+use Rattle.pmem_replay.proofs.Steps.WorldsAfterCalls.{on_in, going_uncut, cut_counted, uncut_counted}
 use Rattle.pmem_replay.proofs.Steps.GoodReplies.{IsGood}
 use Rattle.pmem_replay.proofs.Steps.ReservedRoom.{same_room}
 use Rattle.pmem_replay.proofs.Steps.WorldSteps.{stepped_by_engine}
 use Rattle.pmem_replay.proofs.Called.Made.{lost_engine}
+
+-- a cut is answered so alone
+cut_of : {T : Type 0} (answer : Result T Fault) → outcome_of answer ≡ cut_short → answer ≡ Err Fail.Cut
+cut_of (Ok value) is = absurd (going_uncut is)
+cut_of (Err Fail.Cut) is = refl
+cut_of (Err Fail.Shown) is = absurd (cc)
+cut_of (Err fault) is = absurd (going_uncut is)
+
+-- a call on the world's board, which a cut ended before the limit of steps
+pub run_of : {T : Type 0} {setup : Setup} {relation : Setup → Parts → Parts → Result T Fault → Type 0} {write : Option Posted} {old : WorldState} {taken : Taken}
+    {answer : Result T Fault} {new : WorldState} → WasCalled setup relation write old taken answer new → IsRunOn old.board new.board taken
+run_of {setup = setup} {old = old} {taken = taken} {answer = answer} {new = new} w =
+    record { follows = w.call.follows; within = within (outcome_of answer) w.lawful.effect.power refl }
+  where
+    lit : old.board.powered ≡ true
+    lit = w.call.world.board.power ∙ (on_in setup old w.engine w.call.world w.call.was_on).powered
+
+    within : (o : Outcome) → HasPower o (device_during old.board none_taken) (device_during new.board taken) → outcome_of answer ≡ o
+        → new.board.powered ≡ false → steps_in taken < step_limit
+    within going power ends off = absurd (true≢false (sym (power.1 lit) ∙ off))
+    within cut_short power ends off = fewer taken step_limit w.call.follows.few (w.lawful.early (cut_of answer ends)).sum
+    within shown power ends off = absurd (true≢false (sym (power.1 lit) ∙ off))
 
 -- A call that was made within a command: the world before the command, how many marks there was room for once more was
 -- made, and the world after the call.
@@ -62,10 +89,13 @@ module _ {T : Type 0} {relation : Setup → Parts → Parts → Result T Fault �
   power_by shown power cut is = power.1 lit_of ∙ sym (ap not is)
 
   -- what the call did of the world's own parts
-  pub done_as : (state : PlainState) (its : Parts → Parts → Type 0) → its (parts_in old_of s.called.engine none_taken) (parts_in s.new s.called.after s.taken)
-      → (said : Answer) → is_cut said ≡ is_outcome_cut (outcome_of answer) → (is_shown said ≡ false → steps_of said ≡ steps_in s.taken)
-      → HasCalled its s.first (record (s.new) { state = state }) said
-  done_as state its related said cut steps =
+  pub done_as : (state : PlainState) (plan : CallPlan T) (its : Parts → Parts → Result T Fault → Type 0)
+      (says : LedgerState → LedgerState → ℕ → Result T Fault → Answer → Type 0)
+      → IsMadeBy plan its (parts_in old_of s.called.engine none_taken) (parts_in s.new s.called.after s.taken) answer
+      → (said : Answer) → says s.first.ledger s.new.ledger (steps_in s.taken) answer said
+      → is_cut said ≡ is_outcome_cut (outcome_of answer) → (is_shown said ≡ false → steps_of said ≡ steps_in s.taken)
+      → HasCalled plan its says s.first (record (s.new) { state = state }) said
+  done_as state plan its says made said told cut steps =
       let power = power_by (outcome_of answer) s.called.lawful.effect.power (is_cut said) cut in
       record {
         engine = s.called.engine;
@@ -73,10 +103,13 @@ module _ {T : Type 0} {relation : Setup → Parts → Parts → Result T Fault �
         after = s.called.after;
         kept = s.called.kept ∙ sym (lost_engine (outcome_of answer) s.called.after (is_cut said) cut);
         taken = s.taken;
-        follows_on = s.called.call.follows;
+        result = answer;
+        outcome = record { run = run_of s.called; follows = made.follows };
+        related = made.related;
+        said = told;
+        power = power;
         steps = steps;
         capacity = omega (arith, s.grown, s.called.capacity);
-        related = related;
         cut = cut_counted s.called.call.follows power;
         uncut = uncut_counted s.called.call.follows power;
       }
@@ -125,22 +158,24 @@ module _ {T : Type 0} {relation : Setup → Parts → Parts → Result T Fault �
   pub ends_as : (command : Command) (marks : List Mark) (o : Outcome) → outcome_of answer ≡ o → (loss : ℕ) → s.new.board.regs.loss ≡ loss
       → decided_answer s.setup.shape s.first.state command ≡ None
       → s.new.ledger.marks ≡ s.first.ledger.marks ++ marks
-      → (its : Answer → Parts → Parts → Type 0)
-      → ((said : Answer) → HasCalled (its said) s.first s.new said → IsCommandDone s.setup s.first command said s.new)
+      → (plan : CallPlan T) (its : Parts → Parts → Result T Fault → Type 0)
+      (says : LedgerState → LedgerState → ℕ → Result T Fault → Answer → Type 0)
+      → ((said : Answer) → HasCalled plan its says s.first s.new said → IsCommandDone s.setup s.first command said s.new)
       → (said : Answer)
       → IsGood s.setup old_of command (record { marks = marks; answer = said }) → IsAnswer said
       → is_shown said ≡ is_outcome_shown o → is_cut said ≡ is_outcome_cut o → (is_shown said ≡ false → steps_of said ≡ steps_in s.taken)
       → (is_shown said ≡ false
       → called_state s.setup.shape o write marks (steps_in s.taken) loss s.first.state
       ≡ state_after s.setup.shape s.first.state command (record { marks = marks; answer = said }))
-      → its said (parts_in old_of s.called.engine none_taken) (parts_in s.new s.called.after s.taken)
+      → IsMadeBy plan its (parts_in old_of s.called.engine none_taken) (parts_in s.new s.called.after s.taken) answer
+      → says s.first.ledger s.new.ledger (steps_in s.taken) answer said
       → IsSeenOnDevice s.setup s.first command said s.new
       → HasStepped s.setup s.first command (record { marks = marks; answer = said }) s.new
-  ends_as command marks o ends loss its_loss undecided made its worked said good in_range showing cut steps after related seen =
+  ends_as command marks o ends loss its_loss undecided made plan its says worked said good in_range showing cut steps after planned told seen =
       stepped_call command marks said s.new.state undecided made good in_range (showing ∙ sym (ap is_outcome_shown ends))
       (λ quiet. state_is o ends (sym showing ∙ quiet) marks made loss its_loss ∙ after quiet)
       (λ quiet. s.called.holds (s.called.shown ∙ ap is_outcome_shown ends ∙ sym showing ∙ quiet))
-      (worked said (done_as s.new.state (its said) related said (cut ∙ sym (ap is_outcome_cut ends)) steps)) seen
+      (worked said (done_as s.new.state plan its says planned said told (cut ∙ sym (ap is_outcome_cut ends)) steps)) seen
 
 -- a fault can be answered
 pub can_stop : {T : Type 0} {setup : Setup} {relation : Setup → Parts → Parts → Result T Fault → Type 0} {write : Option Posted} {old : WorldState} {taken : Taken}

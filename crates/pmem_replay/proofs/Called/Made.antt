@@ -27,6 +27,9 @@ use Rattle.pmem_replay.specs.Called.{memory_put, written_line, engine_left, queu
 use Rattle.pmem_replay.specs.World.{WorldState, WorldParts, IsOn, state_in, world_of}
 use Rattle.pmem_replay.proofs.Steps.WorldsAfterCalls.{on_in}
 use Rattle.pmem_replay.proofs.Steps.CallSurroundings.{called, IsServed, call_of}
+use Rattle.pmem_replay.proofs.Marks.DirtyBlocks.{dirty_slots-le}
+use Rattle.pmem_replay.proofs.Steps.MarklessCalls.{accounted_in}
+use Rattle.pmem_replay.proofs.Commands.LossLaws.{few_slots}
 use Rattle.pmem_replay.proofs.Called.Worlds.{length-memory_put, world_called}
 
 -- ---- by how the call ended
@@ -67,6 +70,14 @@ module _ {T : Type 0} (setup : Setup) (p : WorldParts) (keys : List ℕ) (board 
   lawful =
       made.lawful old.state.memory
       (record {
+        whole_shape = served.going.whole.whole_shape;
+        few_dirty =
+            λ bank.
+            omega (
+              arith,
+              dirty_slots-le setup.shape engine.cache old.state (accounted_in setup old engine served.going.whole on_now) bank,
+              few_slots setup.shape served.going.whole.whole_shape,
+            );
         trusted = on_now.trusted;
         its_memory = served.going.whole.memory.each;
         within = subst (λ n. IfSome write (λ w. w.at < n)) (sym served.going.whole.memory.count) within;

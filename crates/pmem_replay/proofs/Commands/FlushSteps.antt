@@ -7,18 +7,17 @@ use Rattle.pmem_base.specs.declared.answers.Answer.{Answer}
 use Rattle.pmem_base.specs.declared.answers.Answer.TheVariants as Say
 use Rattle.pmem_base.specs.Shape.{Shape}
 use Rattle.meta_cache.specs.Banks.{is_cached_dirty}
-use Rattle.suite.specs.Setup.{Setup}
 use Rattle.plain_model.specs.State.{PlainState, with_flag}
 use Rattle.plain_model.specs.After.{after_clean}
 use Rattle.plain_model.specs.Answers.{decided_answer}
 use Rattle.pmem_engine.specs.declared.fault.Fault.{Fault}
 use Rattle.pmem_engine.specs.declared.fault.Fault.TheVariants as Fail
 use Rattle.pmem_engine.specs.Engine.{EngineState}
-use Rattle.pmem_engine.specs.Parts.{Parts}
 use Rattle.pmem_engine.specs.Outcomes.{going, cut_short, outcome_of, OneLossEffect}
 use Rattle.pmem_engine.specs.Calls.{HasFlushed, AnswersFlush}
 use Rattle.watched_board.specs.Watching.{none_taken, steps_in}
 use Rattle.pmem_replay.specs.During.{parts_in}
+use Rattle.pmem_replay.specs.Planned.{FlushesBlock, plan_of_flush}
 use Rattle.pmem_replay.specs.Called.{called_state, IsFaultAnswered, IsCleanIn, IsCleanAt}
 use Rattle.pmem_replay.specs.Replies.{without_marks}
 use Rattle.pmem_replay.specs.Stepped.{HasStepped, IsFlushAnswer}
@@ -28,15 +27,12 @@ use Rattle.pmem_replay.proofs.Steps.DeviceEvidence.{small_position}
 use Rattle.pmem_replay.proofs.Table.UnchangedSteps.{lit_in}
 use Rattle.pmem_replay.proofs.Called.CommandSteps.{Serving, old_of, on_of, few_of, done_as, state_is, stepped_call, ends_as}
 
-abbrev pub FlushesBlock : Setup → Parts → Parts → Result (Option ℕ) Fault → Type 0
-FlushesBlock setup old new answer = HasFlushed setup old new answer
-
 module _ (answer : Result (Option ℕ) Fault) (s : Serving FlushesBlock None answer) where
   done : OneLossEffect s.setup (outcome_of answer) [] (parts_in (old_of s) s.called.engine none_taken) (parts_in s.new s.called.after s.taken)
-  done = s.called.related.done (on_of s).trusted.not_down
+  done = s.called.related.related.done (on_of s).trusted.not_down
 
   answered : AnswersFlush s.setup.shape (parts_in (old_of s) s.called.engine none_taken) (parts_in s.new s.called.after s.taken) answer
-  answered = s.called.related.answered (on_of s).trusted.not_down
+  answered = s.called.related.related.answered (on_of s).trusted.not_down
 
   undecided : decided_answer s.setup.shape s.first.state Do.Flush ≡ None
   undecided = rw (lit_in s.setup (old_of s) s.called.engine s.called.call.world s.called.call.was_on) refl
@@ -65,9 +61,9 @@ flush_clean s =
     let state = state_is s going refl refl [] marks s.first.state.loss (loss (Ok None) s)
     ∙ ap (λ (n : ℕ). called_state s.setup.shape going None [] n s.first.state.loss s.first.state) none in
     stepped_call s Do.Flush [] Say.Clean (after_clean s.setup.shape s.new.state) (undecided (Ok None) s) marks
-    (laws.clean-good s.setup (old_of s) s.new w.engine w.after s.taken w.call w.related) tt refl
+    (laws.clean-good s.setup (old_of s) s.new w.engine w.after s.taken w.call w.related.related) tt refl
     (λ quiet. ap (after_clean s.setup.shape) state) (λ quiet. clean_noted s.setup s.new (w.holds w.shown) clean)
-    (done_as s (after_clean s.setup.shape s.new.state) _ (Ok None, w.related, tt) Say.Clean refl (λ quiet. sym none)) tt
+    (done_as s (after_clean s.setup.shape s.new.state) plan_of_flush (λ p q r. HasFlushed s.setup p q r) IsFlushAnswer w.related Say.Clean refl refl (λ quiet. sym none)) tt
 
 -- a block is written back, and clean
 pub flush_clean_at : (x : ℕ) (s : Serving FlushesBlock None (Ok (Some x))) → IsCleanAt s.new.shape s.new.engine x
@@ -92,10 +88,11 @@ flush_flushed x s =
     let clean = subst (λ (g : Shape). IsCleanAt g s.new.engine x) (same_shape (Ok (Some x)) s) (flush_clean_at x s) in
     let marks = (done (Ok (Some x)) s).gone.marks in
     stepped_call s Do.Flush [] (Say.Flushed x (steps_in s.taken)) (flushed_state x s.new.state) (undecided (Ok (Some x)) s) marks
-    (laws.flushed-good s.setup (old_of s) s.new w.engine w.after s.taken w.call x w.related)
+    (laws.flushed-good s.setup (old_of s) s.new w.engine w.after s.taken w.call x w.related.related)
     (small_position s.setup.shape w.call.world.whole_shape x (answered (Ok (Some x)) s).2, few_of s) refl
     (λ quiet. ap (flushed_state x) (state_is s going refl refl [] marks s.first.state.loss (loss (Ok (Some x)) s))) (λ quiet. flushed_noted s.setup s.new x (w.holds w.shown) clean)
-    (done_as s (flushed_state x s.new.state) _ (Ok (Some x), w.related, refl) (Say.Flushed x (steps_in s.taken)) refl (λ quiet. refl)) tt
+    (done_as s (flushed_state x s.new.state) plan_of_flush (λ p q r. HasFlushed s.setup p q r) IsFlushAnswer w.related (Say.Flushed x (steps_in s.taken)) refl refl
+    (λ quiet. refl)) tt
 
 -- a flush that is stopped: it is cut
 pub flush_stopped : (fault : Fault) (s : Serving FlushesBlock None (Err fault)) (said : Answer) → IsFaultAnswered s.new.ledger.exhibit None fault (steps_in s.taken) said
@@ -104,9 +101,9 @@ flush_stopped Fail.Cut s said is =
     let w = s.called in
     subst (λ a. HasStepped s.setup s.first Do.Flush (without_marks a) s.new) (sym is)
     (ends_as s Do.Flush [] cut_short refl s.first.state.loss (loss (Err Fail.Cut) s) (undecided (Err Fail.Cut) s) (done (Err Fail.Cut) s).gone.marks
-    (λ said p q. (r : Result (Option ℕ) Fault) × HasFlushed s.setup p q r × IsFlushAnswer s.new r said) (λ said it. it)
-    (Say.Cut (steps_in s.taken)) (laws.cut-good s.setup (old_of s) s.new w.engine w.after s.taken w.call w.related)
-    (few_of s) refl refl (λ quiet. refl) (λ quiet. refl) (Err Fail.Cut, w.related, tt) tt)
+    plan_of_flush (λ p q r. HasFlushed s.setup p q r) IsFlushAnswer (λ said it. it)
+    (Say.Cut (steps_in s.taken)) (laws.cut-good s.setup (old_of s) s.new w.engine w.after s.taken w.call w.related.related)
+    (few_of s) refl refl (λ quiet. refl) (λ quiet. refl) w.related refl tt)
 flush_stopped Fail.Down s said is = absurd is
 flush_stopped (Fail.Meta x) s said is = absurd (answered (Err (Fail.Meta x)) s)
 flush_stopped (Fail.Tag at) s said is = absurd (answered (Err (Fail.Tag at)) s)

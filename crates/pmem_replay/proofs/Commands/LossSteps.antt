@@ -6,15 +6,14 @@ use Rattle.pmem_base.specs.declared.commands.Command.TheVariants as Do
 use Rattle.pmem_base.specs.declared.answers.Answer.{Answer}
 use Rattle.pmem_base.specs.declared.answers.Answer.TheVariants as Say
 use Rattle.pmem_base.specs.Shape.{is_loss}
-use Rattle.suite.specs.Setup.{Setup}
 use Rattle.plain_model.specs.Answers.{decided_answer}
 use Rattle.pmem_engine.specs.declared.fault.Fault.{Fault}
 use Rattle.pmem_engine.specs.declared.fault.Fault.TheVariants as Fail
-use Rattle.pmem_engine.specs.Parts.{Parts}
 use Rattle.pmem_engine.specs.Outcomes.{going, cut_short, outcome_of, CallEffect}
 use Rattle.pmem_engine.specs.Calls.{HasSetLoss, AnswersLoss}
 use Rattle.watched_board.specs.Watching.{none_taken, steps_in}
 use Rattle.pmem_replay.specs.During.{parts_in}
+use Rattle.pmem_replay.specs.Planned.{SetsLoss, plan_of_loss}
 use Rattle.pmem_replay.specs.Called.{IsFaultAnswered}
 use Rattle.pmem_replay.specs.Replies.{without_marks}
 use Rattle.pmem_replay.specs.Stepped.{HasStepped, IsLossAnswer}
@@ -22,15 +21,12 @@ use Rattle.pmem_replay.proofs.Commands.LossLaws as laws
 use Rattle.pmem_replay.proofs.Table.UnchangedSteps.{lit_in}
 use Rattle.pmem_replay.proofs.Called.CommandSteps.{Serving, old_of, on_of, few_of, ends_as}
 
-abbrev pub Sets : ℕ → Setup → Parts → Parts → Result ℕ Fault → Type 0
-Sets n setup old new answer = HasSetLoss setup n old new answer
-
-module _ (n : ℕ) (answer : Result ℕ Fault) (s : Serving (Sets n) None answer) (some : IsTrue (is_loss n)) (other : n ≢ s.first.state.loss) where
+module _ (n : ℕ) (answer : Result ℕ Fault) (s : Serving (SetsLoss n) None answer) (some : IsTrue (is_loss n)) (other : n ≢ s.first.state.loss) where
   effect : CallEffect s.setup (outcome_of answer) [] (parts_in (old_of s) s.called.engine none_taken) (parts_in s.new s.called.after s.taken)
-  effect = s.called.related.gone (on_of s).trusted.not_down
+  effect = s.called.related.related.gone (on_of s).trusted.not_down
 
   answered : AnswersLoss s.setup.shape n (parts_in (old_of s) s.called.engine none_taken) (parts_in s.new s.called.after s.taken) answer
-  answered = s.called.related.answered (on_of s).trusted.not_down
+  answered = s.called.related.related.answered (on_of s).trusted.not_down
 
   undecided : decided_answer s.setup.shape s.first.state (Do.Loss n) ≡ None
   undecided =
@@ -38,26 +34,26 @@ module _ (n : ℕ) (answer : Result ℕ Fault) (s : Serving (Sets n) None answer
       (rw some (rw (ne_eqb n s.first.state.loss other) refl))
 
 -- it is set
-pub loss_set : (n steps : ℕ) (s : Serving (Sets n) None (Ok steps)) → IsTrue (is_loss n) → n ≢ s.first.state.loss
+pub loss_set : (n steps : ℕ) (s : Serving (SetsLoss n) None (Ok steps)) → IsTrue (is_loss n) → n ≢ s.first.state.loss
     → HasStepped s.setup s.first (Do.Loss n) (without_marks (Say.LossSet (steps_in s.taken))) s.new
 loss_set n steps s some other =
     let w = s.called in
     ends_as s (Do.Loss n) [] going refl n (answered n (Ok steps) s some other).2 (undecided n (Ok steps) s some other) (effect n (Ok steps) s some other).marks
-    (λ said p q. (r : Result ℕ Fault) × HasSetLoss s.setup n p q r × IsLossAnswer s.new r said) (λ said it. it)
-    (Say.LossSet (steps_in s.taken)) (laws.set-good s.setup (old_of s) s.new w.engine w.after s.taken w.call n other steps w.related)
-    (few_of s) refl refl (λ quiet. refl) (λ quiet. refl) (Ok steps, w.related, tt) tt
+    (plan_of_loss n) (λ p q r. HasSetLoss s.setup n p q r) IsLossAnswer (λ said it. it)
+    (Say.LossSet (steps_in s.taken)) (laws.set-good s.setup (old_of s) s.new w.engine w.after s.taken w.call n other steps w.related.related)
+    (few_of s) refl refl (λ quiet. refl) (λ quiet. refl) w.related refl tt
 
 -- or power is cut
-pub loss_stopped : (n : ℕ) (fault : Fault) (s : Serving (Sets n) None (Err fault)) → IsTrue (is_loss n) → n ≢ s.first.state.loss → (said : Answer)
+pub loss_stopped : (n : ℕ) (fault : Fault) (s : Serving (SetsLoss n) None (Err fault)) → IsTrue (is_loss n) → n ≢ s.first.state.loss → (said : Answer)
     → IsFaultAnswered s.new.ledger.exhibit None fault (steps_in s.taken) said → HasStepped s.setup s.first (Do.Loss n) (without_marks said) s.new
 loss_stopped n Fail.Cut s some other said is =
     let w = s.called in
     subst (λ a. HasStepped s.setup s.first (Do.Loss n) (without_marks a) s.new) (sym is)
     (ends_as s (Do.Loss n) [] cut_short refl s.first.state.loss ((answered n (Err Fail.Cut) s some other).1 ∙ w.call.world.board.loss)
     (undecided n (Err Fail.Cut) s some other) (effect n (Err Fail.Cut) s some other).marks
-    (λ said p q. (r : Result ℕ Fault) × HasSetLoss s.setup n p q r × IsLossAnswer s.new r said) (λ said it. it)
-    (Say.Cut (steps_in s.taken)) (laws.cut-good s.setup (old_of s) s.new w.engine w.after s.taken w.call n other w.related)
-    (few_of s) refl refl (λ quiet. refl) (λ quiet. refl) (Err Fail.Cut, w.related, tt) tt)
+    (plan_of_loss n) (λ p q r. HasSetLoss s.setup n p q r) IsLossAnswer (λ said it. it)
+    (Say.Cut (steps_in s.taken)) (laws.cut-good s.setup (old_of s) s.new w.engine w.after s.taken w.call n other w.related.related)
+    (few_of s) refl refl (λ quiet. refl) (λ quiet. refl) w.related refl tt)
 loss_stopped n Fail.Down s some other said is = absurd is
 loss_stopped n (Fail.Meta x) s some other said is = absurd (answered n (Err (Fail.Meta x)) s some other)
 loss_stopped n (Fail.Tag at) s some other said is = absurd (answered n (Err (Fail.Tag at)) s some other)

@@ -10,16 +10,15 @@ use Rattle.pmem_base.specs.declared.answers.Mark.{Mark}
 use Rattle.pmem_base.specs.declared.answers.Place.{Place}
 use Rattle.pmem_base.specs.Ranges.{IsAnswer, IsExhibitValue}
 use Rattle.seal_ledger.specs.Ledger.{IsMark}
-use Rattle.suite.specs.Setup.{Setup}
 use Rattle.plain_model.specs.After.{state_after, steps_of, is_cut}
 use Rattle.plain_model.specs.Answers.{is_shown}
 use Rattle.pmem_engine.specs.declared.fault.Fault.{Fault}
 use Rattle.pmem_engine.specs.declared.fault.Fault.TheVariants as Fail
-use Rattle.pmem_engine.specs.Parts.{Parts}
 use Rattle.pmem_engine.specs.Outcomes.{Outcome, going, outcome_of, OneLossEffect, KeepsPlaces}
 use Rattle.pmem_engine.specs.Calls.{HasTurned, AreMarksOfTurn, moment_in}
 use Rattle.watched_board.specs.Watching.{none_taken, steps_in}
 use Rattle.pmem_replay.specs.During.{parts_in}
+use Rattle.pmem_replay.specs.Planned.{TurnsPage, plan_of_turn}
 use Rattle.pmem_replay.specs.Called.{is_outcome_shown, is_outcome_cut, called_state, IsFaultAnswered}
 use Rattle.pmem_replay.specs.World.{view_in}
 use Rattle.pmem_replay.specs.Stepped.{HasStepped, IsTurnAnswer, IsSeenOnDevice, IsExhibitSeen}
@@ -31,12 +30,9 @@ use Rattle.pmem_replay.proofs.Steps.DeviceEvidence.{tag_wrong, small_line, forge
 use Rattle.pmem_replay.proofs.Table.UnchangedSteps.{lit_in}
 use Rattle.pmem_replay.proofs.Called.CommandSteps.{Serving, old_of, on_of, few_of, ends_as}
 
-abbrev pub TurnsPage : Setup → Parts → Parts → Result (Option (ℕ × ℕ)) Fault → Type 0
-TurnsPage setup old new answer = HasTurned setup old new answer
-
 module _ (answer : Result (Option (ℕ × ℕ)) Fault) (s : Serving TurnsPage None answer) where
   abbrev turn : HasTurned s.setup (parts_in (old_of s) s.called.engine none_taken) (parts_in s.new s.called.after s.taken) answer
-  turn = s.called.related
+  turn = s.called.related.related
 
   pub done : OneLossEffect s.setup (outcome_of answer) turn.made (parts_in (old_of s) s.called.engine none_taken) (parts_in s.new s.called.after s.taken)
   done = turn.done (on_of s).trusted.not_down
@@ -51,36 +47,36 @@ module _ (answer : Result (Option (ℕ × ℕ)) Fault) (s : Serving TurnsPage No
       → (is_shown said ≡ false
       → called_state s.setup.shape o None marks (steps_in s.taken) s.first.state.loss s.first.state
       ≡ state_after s.setup.shape s.first.state Do.Turn (record { marks = marks; answer = said }))
-      → IsTurnAnswer s.new answer said → IsSeenOnDevice s.setup s.first Do.Turn said s.new
+      → IsTurnAnswer s.first.ledger s.new.ledger (steps_in s.taken) answer said → IsSeenOnDevice s.setup s.first Do.Turn said s.new
       → HasStepped s.setup s.first Do.Turn (record { marks = marks; answer = said }) s.new
   turn_ends o ends marks made said good in_range shown cut steps after says seen =
       ends_as s Do.Turn marks o ends s.first.state.loss (done.loss ∙ s.called.call.world.board.loss)
       (rw (lit_in s.setup (old_of s) s.called.engine s.called.call.world s.called.call.was_on) refl)
       (done.gone.marks ∙ ap (λ (ms : List Mark). s.first.ledger.marks ++ ms) made)
-      (λ said p q. (r : Result (Option (ℕ × ℕ)) Fault) × HasTurned s.setup p q r × IsTurnAnswer s.new r said) (λ said it. it)
-      said good in_range shown cut steps after (answer, turn, says) seen
+      (plan_of_turn s.setup) (λ p q r. HasTurned s.setup p q r) IsTurnAnswer (λ said it. it)
+      said good in_range shown cut steps after s.called.related says seen
 
 -- no page is open
 pub turn_idle : (s : Serving TurnsPage None (Ok None)) → HasStepped s.setup s.first Do.Turn (record { marks = []; answer = Say.Idle }) s.new
 turn_idle s =
     let w = s.called in
-    let none : steps_in s.taken ≡ 0 = left_alone-steps s.setup (old_of s) s.new w.engine w.after s.taken (w.related.counts (on_of s).trusted.not_down) in
+    let none : steps_in s.taken ≡ 0 = left_alone-steps s.setup (old_of s) s.new w.engine w.after s.taken (w.related.related.counts (on_of s).trusted.not_down) in
     turn_ends (Ok None) s going refl [] (marks_of (Ok None) s).0 Say.Idle
-    (laws.idle-good s.setup (old_of s) s.new w.engine w.after s.taken w.call w.related) tt refl refl (λ quiet. sym none)
-    (λ quiet. ap (λ (n : ℕ). called_state s.setup.shape going None [] n s.first.state.loss s.first.state) none) tt tt
+    (laws.idle-good s.setup (old_of s) s.new w.engine w.after s.taken w.call w.related.related) tt refl refl (λ quiet. sym none)
+    (λ quiet. ap (λ (n : ℕ). called_state s.setup.shape going None [] n s.first.state.loss s.first.state) none) refl tt
 
 -- a line is sealed anew
 pub turn_turned : (turned : ℕ × ℕ) (s : Serving TurnsPage None (Ok (Some turned))) → turned.1 < 2 ^ 8
-    → HasStepped s.setup s.first Do.Turn (record { marks = s.called.related.made; answer = Say.Turned turned.1 (steps_in s.taken) }) s.new
+    → HasStepped s.setup s.first Do.Turn (record { marks = s.called.related.related.made; answer = Say.Turned turned.1 (steps_in s.taken) }) s.new
 turn_turned turned s small =
     let w = s.called in
-    turn_ends (Ok (Some turned)) s going refl w.related.made refl (Say.Turned turned.1 (steps_in s.taken))
-    (laws.turned-good s.setup (old_of s) s.new w.engine w.after s.taken w.call turned w.related) (small, few_of s) refl refl (λ quiet. refl)
+    turn_ends (Ok (Some turned)) s going refl w.related.related.made refl (Say.Turned turned.1 (steps_in s.taken))
+    (laws.turned-good s.setup (old_of s) s.new w.engine w.after s.taken w.call turned w.related.related) (small, few_of s) refl refl (λ quiet. refl)
     (λ quiet. refl) refl tt
 
 -- a turn that is stopped
 pub turn_stopped : (fault : Fault) (s : Serving TurnsPage None (Err fault)) (said : Answer) → IsFaultAnswered s.new.ledger.exhibit None fault (steps_in s.taken) said
-    → HasStepped s.setup s.first Do.Turn (record { marks = s.called.related.made; answer = said }) s.new
+    → HasStepped s.setup s.first Do.Turn (record { marks = s.called.related.related.made; answer = said }) s.new
 turn_stopped (Fail.Tag b) s said is =
     let w = s.called in
     let marks = marks_of (Err (Fail.Tag b)) s in
@@ -89,20 +85,20 @@ turn_stopped (Fail.Tag b) s said is =
     subst (λ (ms : List Mark). HasStepped s.setup s.first Do.Turn (record { marks = ms; answer = said }) s.new) (sym marks.0)
     (subst (λ a. HasStepped s.setup s.first Do.Turn (record { marks = []; answer = a }) s.new) (sym is)
     (turn_ends (Err (Fail.Tag b)) s going refl [] marks.0 (Say.Refused None (Place.Line b) (steps_in s.taken))
-    (laws.refused-good s.setup (old_of s) s.new w.engine w.after s.taken w.call b w.related)
+    (laws.refused-good s.setup (old_of s) s.new w.engine w.after s.taken w.call b w.related.related)
     (tt, small_line s.setup.shape w.call.world.whole_shape b within, few_of s) refl refl (λ quiet. refl) (λ quiet. refl) refl
-    (tag_wrong s.setup s.new w.after s.taken b (w.related.answered (on_of s).trusted.not_down (on_of s).trusted))))
+    (tag_wrong s.setup s.new w.after s.taken b (w.related.related.answered (on_of s).trusted.not_down (on_of s).trusted))))
 turn_stopped Fail.Cut s said is =
     let w = s.called in
-    subst (λ a. HasStepped s.setup s.first Do.Turn (record { marks = w.related.made; answer = a }) s.new) (sym is)
-    (turn_ends (Err Fail.Cut) s _ refl w.related.made refl (Say.Cut (steps_in s.taken))
-    (laws.cut-good s.setup (old_of s) s.new w.engine w.after s.taken w.call w.related) (few_of s) refl refl (λ quiet. refl) (λ quiet. refl) tt tt)
+    subst (λ a. HasStepped s.setup s.first Do.Turn (record { marks = w.related.related.made; answer = a }) s.new) (sym is)
+    (turn_ends (Err Fail.Cut) s _ refl w.related.related.made refl (Say.Cut (steps_in s.taken))
+    (laws.cut-good s.setup (old_of s) s.new w.engine w.after s.taken w.call w.related.related) (few_of s) refl refl (λ quiet. refl) (λ quiet. refl) refl tt)
 turn_stopped Fail.Shown s said is =
     let w = s.called in
     let exhibit = is.0 in
     let on = on_of s in
     let none = (marks_of (Err Fail.Shown) s).0 in
-    let found = w.related.answered on.trusted.not_down on.trusted in
+    let found = w.related.related.answered on.trusted.not_down on.trusted in
     let effect = (done (Err Fail.Shown) s).gone in
     let marks : s.new.ledger.marks ≡ s.first.ledger.marks =
     effect.marks ∙ ap (λ (ms : List Mark). s.first.ledger.marks ++ ms) none ∙ append-nil s.first.ledger.marks in
@@ -114,9 +110,9 @@ turn_stopped Fail.Shown s said is =
     subst (λ (ms : List Mark). HasStepped s.setup s.first Do.Turn (record { marks = ms; answer = said }) s.new) (sym none)
     (subst (λ a. HasStepped s.setup s.first Do.Turn (record { marks = []; answer = a }) s.new) (sym is.2)
     (turn_ends (Err Fail.Shown) s _ refl [] none (Say.Shown exhibit)
-    (laws.shown-good s.setup (old_of s) s.new w.engine w.after s.taken w.call w.related exhibit is.1
+    (laws.shown-good s.setup (old_of s) s.new w.engine w.after s.taken w.call w.related.related exhibit is.1
     (subst (λ made. KeepsPlaces s.setup made (parts_in (old_of s) w.engine none_taken) (parts_in s.new w.after s.taken)) none (effect.places on.trusted)))
-    sight.0 refl refl (λ quiet. absurd (true≢false quiet)) (λ quiet. absurd (true≢false quiet)) is.1 sight.1))
+    sight.0 refl refl (λ quiet. absurd (true≢false quiet)) (λ quiet. absurd (true≢false quiet)) (exhibit, is.1, refl) sight.1))
 turn_stopped Fail.Down s said is = absurd is
 turn_stopped (Fail.Spent page) s said is = absurd (marks_of (Err (Fail.Spent page)) s)
 turn_stopped (Fail.Meta x) s said is = absurd (marks_of (Err (Fail.Meta x)) s)

@@ -1,9 +1,9 @@
 -- A drain: what the world answers, and what becomes of it.
-use Rattle.std.proofs.Common.{rules}
 use Rattle.std.proofs.Common.{ℕ, ◌≡◌, ◌<◌, ◌≤◌, ◌+◌, ◌++◌, ◌^◌, true, false, inl, inr, List, [], ◌∷◌, Some, None, Ok, Err, refl, sym, ap, subst, ◌∙◌, arith}
-use Rattle.std.specs.Prelude.{Bool, not, Result, ◌==◌, ⊤, MatchBool, MatchOption, option_map, length, if◌then◌else◌}
+use Rattle.std.specs.Prelude.{Bool, not, Result, ◌==◌, ⊤, MatchBool, MatchOption, option_map, length, drop, if◌then◌else◌}
 use Rattle.std.proofs.lemmas.Bool.{true≢false, false_from_ne_true, le-leb, ne_eqb}
 use Rattle.std.proofs.lemmas.List.{append-nil}
+use Rattle.std.proofs.Math.Seq.{drop-append_seam}
 use Rattle.pmem_base.specs.declared.lines.Ctr.{Ctr}
 use Rattle.pmem_base.specs.declared.commands.Posted.{Posted}
 use Rattle.pmem_base.specs.declared.commands.Command.TheVariants as Do
@@ -35,7 +35,7 @@ use Rattle.pmem_replay.specs.Replies.{with_marks_since}
 use Rattle.pmem_replay.proofs.Steps.PartsOfWorld.{since}
 use Rattle.pmem_replay.specs.Stepped.{HasStepped, HasDrained, IsDrainAnswer, IsSeenOnDevice, IsExhibitSeen}
 use Rattle.pmem_replay.proofs.Marks.AfterMarks.{touched_after, flushed_after, with_flags, after_marks-is}
-use Rattle.pmem_replay.specs.Called.{IsCall}
+use Rattle.pmem_replay.specs.Called.{IsCall, cut_answer}
 use Rattle.pmem_replay.proofs.Steps.WorldsAfterCalls.{on_in, cut_counted, uncut_counted}
 use Rattle.pmem_replay.proofs.Steps.FaultCauses.{on_path-within, forged_unstored, shown_uncut}
 use Rattle.pmem_replay.proofs.Marks.AskedMarks.{refused_within}
@@ -60,14 +60,39 @@ some_long write later = ne_eqb (length (write ∷ later)) 0 zero_not
 
 -- a write that was given, once room was made, is drained as a drain answers it
 pub given_drained : (setup : Setup) (old new : WorldState) (capacity : ℕ) → old.capacity ≤ capacity → (port : ℕ) (answer : Result Ctr Fault)
-    → (given : WasWriteGiven setup (record old { capacity = capacity }) port answer new) (said : Answer) → IsDrainAnswer new answer said
+    → (given : WasWriteGiven setup (record old { capacity = capacity }) port answer new) (said : Answer)
+    → IsDrainAnswer given.write old.ledger new.ledger (steps_in given.taken) answer said
     → new.engine ≡ (if is_cut said then None else Some given.after)
     → new.board.powered ≡ not (is_cut said)
     → (is_shown said ≡ false → steps_of said ≡ steps_in given.taken)
     → HasDrained setup given.write old said new
 given_drained setup old new capacity grown port answer given said says kept power steps =
-    let larger : old.capacity ≤ new.capacity = omega (arith, grown, given.capacity) in
-    search (rules, cut_counted given.follows power, uncut_counted given.follows power)
+    record {
+      engine = given.engine;
+      was_on = given.was_on;
+      after = given.after;
+      kept = kept;
+      taken = given.taken;
+      result = answer;
+      outcome = given.outcome;
+      related = given.written;
+      said = says;
+      power = power;
+      steps = steps;
+      capacity = omega (arith, grown, given.capacity);
+      cut = cut_counted given.follows power;
+      uncut = uncut_counted given.follows power;
+    }
+
+-- a cut is answered by whether the new marks seal the write's line
+pub cut_says : (setup : Setup) (old new : WorldState) (port : ℕ) (g : WasWriteGiven setup old port (Err Fail.Cut) new) (put : Bool)
+    → is_sealed_by g.written.made g.write.at ≡ put
+    → cut_answer (Some put) (steps_in g.taken)
+    ≡ cut_answer (Some (is_sealed_by (drop (length old.ledger.marks) new.ledger.marks) g.write.at)) (steps_in g.taken)
+cut_says setup old new port g put sealed =
+    ap (λ (b : Bool). cut_answer (Some b) (steps_in g.taken))
+    (sym sealed ∙ ap (λ (ms : List Mark). is_sealed_by ms g.write.at)
+    (sym (ap (drop (length old.ledger.marks)) g.marks ∙ drop-append_seam old.ledger.marks g.written.made)))
 
 -- power is on afterwards where the write wasn't cut
 pub power_after : (setup : Setup) (old new : WorldState) (port steps : ℕ) (answer : Result Ctr Fault) (put goes : Bool)
@@ -111,7 +136,7 @@ module _ (setup : Setup) (old new : WorldState) (capacity : ℕ) (grown : old.ca
     undecided : decided_answer setup.shape old.state (Do.Drain port) ≡ None
     undecided = rw lit (rw given.waits (rw (some_long given.write given.later) refl))
 
-    called_one : (said : Answer) → IsDrainAnswer new answer said
+    called_one : (said : Answer) → IsDrainAnswer given.write old.ledger new.ledger (steps_in given.taken) answer said
         → new.engine ≡ (if is_cut said then None else Some given.after)
         → new.board.powered ≡ not (is_cut said)
         → (is_shown said ≡ false → steps_of said ≡ steps_in given.taken)
@@ -135,7 +160,7 @@ module _ (setup : Setup) (old new : WorldState) (capacity : ℕ) (grown : old.ca
 
     -- a step of the engine's
     one_step : (said : Answer) → IsGood setup mid (Do.Drain port) (record { marks = given.written.made; answer = said }) → IsAnswer said
-        → IsDrainAnswer new answer said → new.engine ≡ (if is_cut said then None else Some given.after)
+        → IsDrainAnswer given.write old.ledger new.ledger (steps_in given.taken) answer said → new.engine ≡ (if is_cut said then None else Some given.after)
         → new.board.powered ≡ not (is_cut said)
         → (is_shown said ≡ false → steps_of said ≡ steps_in given.taken)
         → new.shown ≡ is_shown said
@@ -175,7 +200,8 @@ module _ (setup : Setup) (old new : WorldState) (capacity : ℕ) (grown : old.ca
       subst (λ (k : ℕ). HasStepped setup old (Do.Drain port) (record { marks = g.written.made; answer = Say.Drained k }) new) (all_steps n (steps_in g.taken) is.counted)
       (one_step (Ok ctr) g (Say.Drained (0 + steps_in g.taken))
       (drained-good setup mid new port g.written.made (0 + steps_in g.taken) more)
-      (few g.taken g.follows.few) tt is.engine (power_after _ _ _ _ _ _ _ _ is) (λ quiet. none_more (steps_in g.taken)) is.unshown
+      (few g.taken g.follows.few) (ap (λ (k : ℕ). Say.Drained k) (none_more (steps_in g.taken))) is.engine (power_after _ _ _ _ _ _ _ _ is)
+      (λ quiet. none_more (steps_in g.taken)) is.unshown
       (λ quiet. drained-after setup mid new port g.written.made (0 + steps_in g.taken) more)
       (λ quiet. is.holds) tt)
 
@@ -199,7 +225,7 @@ module _ (setup : Setup) (old new : WorldState) (capacity : ℕ) (grown : old.ca
       subst (λ (k : ℕ). HasStepped setup old (Do.Drain port) (record { marks = g.written.made; answer = Say.Refused None (Place.Meta x) k }) new) (all_steps n (steps_in g.taken) is.counted)
       (one_step (Err (Fail.Meta x)) g (Say.Refused None (Place.Meta x) (0 + steps_in g.taken))
       (meta-good setup mid mid new (Do.Drain port) None port 0 [] 0 writing drained whole small g.write g.later g.waits g.engine g.after g.taken c x g.written (path_within (Err (Fail.Meta x)) g refl))
-      (tt, small_position setup.shape whole.whole_shape x in_tree, few g.taken g.follows.few) refl is.engine (power_after _ _ _ _ _ _ _ _ is) (λ quiet. none_more (steps_in g.taken)) is.unshown
+      (tt, small_position setup.shape whole.whole_shape x in_tree, few g.taken g.follows.few) (ap (λ (k : ℕ). Say.Refused None (Place.Meta x) k) (none_more (steps_in g.taken))) is.engine (power_after _ _ _ _ _ _ _ _ is) (λ quiet. none_more (steps_in g.taken)) is.unshown
       (λ quiet. state_form (given_state mid.state port g.write g.later (steps_in g.taken) false true) g.written.made is.state
       ∙ after_refused setup mid mid (Do.Drain port) None port 0 [] g.written.made 0 (steps_in g.taken) writing drained g.write g.later g.waits (Place.Meta x))
       (λ quiet. is.holds)
@@ -220,7 +246,7 @@ module _ (setup : Setup) (old new : WorldState) (capacity : ℕ) (grown : old.ca
       subst (λ (k : ℕ). HasStepped setup old (Do.Drain port) (record { marks = g.written.made; answer = Say.Refused None (Place.Line b) k }) new) (all_steps n (steps_in g.taken) is.counted)
       (one_step (Err (Fail.Tag b)) g (Say.Refused None (Place.Line b) (0 + steps_in g.taken))
       (tag-good setup mid mid new (Do.Drain port) None port 0 [] 0 writing drained whole small g.write g.later g.waits g.engine g.after g.taken c b g.written (path_within (Err (Fail.Tag b)) g refl))
-      (tt, small_b, few g.taken g.follows.few) refl is.engine (power_after _ _ _ _ _ _ _ _ is) (λ quiet. none_more (steps_in g.taken)) is.unshown
+      (tt, small_b, few g.taken g.follows.few) (ap (λ (k : ℕ). Say.Refused None (Place.Line b) k) (none_more (steps_in g.taken))) is.engine (power_after _ _ _ _ _ _ _ _ is) (λ quiet. none_more (steps_in g.taken)) is.unshown
       (λ quiet. state_form (given_state mid.state port g.write g.later (steps_in g.taken) false true) g.written.made is.state
       ∙ after_refused setup mid mid (Do.Drain port) None port 0 [] g.written.made 0 (steps_in g.taken) writing drained g.write g.later g.waits (Place.Line b))
       (λ quiet. is.holds)
@@ -240,7 +266,7 @@ module _ (setup : Setup) (old new : WorldState) (capacity : ℕ) (grown : old.ca
       (one_step (Err (Fail.Spent page)) g (Say.Spent None page (0 + steps_in g.taken))
       (spent-good setup mid mid new (Do.Drain port) None port 0 [] 0 writing drained whole small g.write g.later g.waits g.engine g.after g.taken c page g.written
       (le-leb (0 + steps_in g.taken) (path_length setup.shape) (omega (arith, steps.0)), le-leb (0 + steps_in g.taken) (dirty_bound setup.shape mid.state) (omega (arith, steps.1))))
-      (tt, small_page, few g.taken g.follows.few) refl is.engine (power_after _ _ _ _ _ _ _ _ is) (λ quiet. none_more (steps_in g.taken)) is.unshown
+      (tt, small_page, few g.taken g.follows.few) (ap (λ (k : ℕ). Say.Spent None page k) (none_more (steps_in g.taken))) is.engine (power_after _ _ _ _ _ _ _ _ is) (λ quiet. none_more (steps_in g.taken)) is.unshown
       (λ quiet. state_form (given_state mid.state port g.write g.later (steps_in g.taken) false true) g.written.made is.state
       ∙ after_spent setup mid mid (Do.Drain port) None port 0 [] g.written.made 0 (steps_in g.taken) writing drained g.write g.later g.waits page)
       (λ quiet. is.holds) tt)
@@ -267,7 +293,8 @@ module _ (setup : Setup) (old new : WorldState) (capacity : ℕ) (grown : old.ca
       subst (λ (k : ℕ). HasStepped setup old (Do.Drain port) (record { marks = g.written.made; answer = Say.CutKept None k }) new) (all_steps n (steps_in g.taken) is.counted)
       (one_step (Err Fail.Cut) g (Say.CutKept None (0 + steps_in g.taken))
       (kept-good setup mid mid new (Do.Drain port) None port 0 [] 0 writing drained whole small g.write g.later g.waits g.engine g.after g.taken c g.written all (bound, below))
-      (tt, few g.taken g.follows.few) tt is.engine (power_after _ _ _ _ _ _ _ _ is) (λ quiet. none_more (steps_in g.taken)) is.unshown
+      (tt, few g.taken g.follows.few) (ap (λ (k : ℕ). Say.CutKept None k) (none_more (steps_in g.taken)) ∙ cut_says setup mid new port g true is.sealed)
+      is.engine (power_after _ _ _ _ _ _ _ _ is) (λ quiet. none_more (steps_in g.taken)) is.unshown
       (λ quiet. state_form (given_state mid.state port g.write g.later (steps_in g.taken) true false) g.written.made is.state
       ∙ after_kept setup mid mid (Do.Drain port) None port 0 [] g.written.made 0 (steps_in g.taken) writing drained g.write g.later g.waits)
       (λ quiet. is.holds) tt)
@@ -293,7 +320,8 @@ module _ (setup : Setup) (old new : WorldState) (capacity : ℕ) (grown : old.ca
       subst (λ (k : ℕ). HasStepped setup old (Do.Drain port) (record { marks = g.written.made; answer = Say.CutLost None k }) new) (all_steps n (steps_in g.taken) is.counted)
       (one_step (Err Fail.Cut) g (Say.CutLost None (0 + steps_in g.taken))
       (lost-good setup mid mid new (Do.Drain port) None port 0 [] 0 writing drained whole small g.write g.later g.waits g.engine g.after g.taken c g.written part (bound, below))
-      (tt, few g.taken g.follows.few) tt is.engine (power_after _ _ _ _ _ _ _ _ is) (λ quiet. none_more (steps_in g.taken)) is.unshown
+      (tt, few g.taken g.follows.few) (ap (λ (k : ℕ). Say.CutLost None k) (none_more (steps_in g.taken)) ∙ cut_says setup mid new port g false is.sealed)
+      is.engine (power_after _ _ _ _ _ _ _ _ is) (λ quiet. none_more (steps_in g.taken)) is.unshown
       (λ quiet. state_form (given_state mid.state port g.write g.later (steps_in g.taken) false false) g.written.made is.state
       ∙ after_lost setup mid mid (Do.Drain port) None port 0 [] g.written.made 0 (steps_in g.taken) writing drained g.write g.later g.waits)
       (λ quiet. is.holds) tt)
@@ -331,7 +359,7 @@ module _ (setup : Setup) (old new : WorldState) (capacity : ℕ) (grown : old.ca
       one_step (Err Fail.Shown) g (Say.Shown exhibit)
       (shown-good setup mid mid new (Do.Drain port) None port 0 [] 0 writing drained whole small g.write g.later g.waits g.engine g.after g.taken c g.written exhibit its
       (λ clash. clash.fetched.before) places)
-      sight.0 its is.engine (done.gone.power.1 (whole.board.power ∙ on.powered))
+      sight.0 (exhibit, its, refl) is.engine (done.gone.power.1 (whole.board.power ∙ on.powered))
       (λ quiet. absurd (true≢false quiet)) is.shown
       (λ quiet. absurd (true≢false quiet))
       (λ quiet. absurd (true≢false quiet))

@@ -1,5 +1,4 @@
 -- A fence: writes drained one by one, and the one that ends it.
-use Rattle.std.proofs.Common.{rules}
 use Rattle.std.proofs.Common.{ℕ, suc, ◌≡◌, ◌<◌, ◌≤◌, ◌+◌, ◌*◌, ◌++◌, true, false, inl, inr, List, [], ◌∷◌, Option, Some, None, refl, sym, ap, subst, ◌∙◌, arith}
 use Rattle.std.specs.Prelude.{Bool, Result, Ok, Err, MatchOption, length, drop, IsSome}
 use Rattle.std.proofs.lemmas.Bool.{true≢false}
@@ -43,7 +42,23 @@ use Rattle.pmem_replay.proofs.Table.UnchangedSteps.{lit_in}
 -- its first write is drained as well before room was made
 drained_before : (setup : Setup) (old new : WorldState) (capacity : ℕ) → old.capacity ≤ capacity → (write : Posted) (one : Answer)
     → HasDrained setup write (record old { capacity = capacity }) one new → HasDrained setup write old one new
-drained_before setup old new capacity grown write one it = search (rules, arith)
+drained_before setup old new capacity grown write one it =
+    record {
+      engine = it.engine;
+      was_on = it.was_on;
+      after = it.after;
+      kept = it.kept;
+      taken = it.taken;
+      result = it.result;
+      outcome = it.outcome;
+      related = it.related;
+      said = it.said;
+      power = it.power;
+      steps = it.steps;
+      capacity = omega (arith, grown, it.capacity);
+      cut = it.cut;
+      uncut = it.uncut;
+    }
 
 -- and so are all its writes
 fenced_before : (setup : Setup) (old new : WorldState) (capacity : ℕ) → old.capacity ≤ capacity → (answer : Answer) (queue : List Posted)

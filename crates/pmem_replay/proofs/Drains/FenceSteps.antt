@@ -37,7 +37,7 @@ use Rattle.pmem_replay.proofs.Marks.AskedMarks.{refused_within}
 use Rattle.pmem_replay.proofs.Marks.OpenPages.{whole_pages}
 use Rattle.pmem_engine.proofs.PostedWrites.WriteParts.{last_seal-unsealed}
 use Rattle.pmem_replay.proofs.Drains.DrainChain.{IsDrainedTo, drained-more}
-use Rattle.pmem_replay.proofs.Drains.DrainSteps.{given_drained, power_after}
+use Rattle.pmem_replay.proofs.Drains.DrainSteps.{given_drained, cut_says, power_after}
 use Rattle.pmem_replay.proofs.Steps.ReservedRoom.{same_room}
 use Rattle.pmem_replay.proofs.Steps.GoodReplies.{IsGood}
 use Rattle.pmem_replay.proofs.Marks.SealedLines.{same_truth}
@@ -93,7 +93,7 @@ module _ (setup : Setup) (mid now new : WorldState) (port : ℕ) (small : port <
     on_mid = on_in setup now given.engine whole given.was_on
 
     -- the write is given to the engine, as by a drain of it
-    drained_one : (one : Answer) → IsDrainAnswer new answer one
+    drained_one : (one : Answer) → IsDrainAnswer given.write now.ledger new.ledger (steps_in given.taken) answer one
         → new.engine ≡ (if is_cut one then None else Some given.after)
         → new.board.powered ≡ not (is_cut one)
         → (is_shown one ≡ false → steps_of one ≡ steps_in given.taken)
@@ -102,7 +102,7 @@ module _ (setup : Setup) (mid now new : WorldState) (port : ℕ) (small : port <
 
     -- a step of the engine's, by what a drain of the write that ends it would answer
     one_step : (one said : Answer) → IsGood setup mid (Do.Fence port) (record { marks = made ++ given.written.made; answer = said }) → IsAnswer said
-        → IsDrainAnswer new answer one → new.engine ≡ (if is_cut one then None else Some given.after)
+        → IsDrainAnswer given.write now.ledger new.ledger (steps_in given.taken) answer one → new.engine ≡ (if is_cut one then None else Some given.after)
         → new.board.powered ≡ not (is_cut one)
         → (is_shown one ≡ false → steps_of one ≡ steps_in given.taken) → EndsFence n spent one said
         → new.shown ≡ is_shown said
@@ -159,7 +159,7 @@ module _ (setup : Setup) (mid now new : WorldState) (port : ℕ) (small : port <
             (inr (
               k,
               new,
-              drained_one (Ok ctr) g (Say.Drained k) tt is.engine (power_after _ _ _ _ _ _ _ _ is) (λ quiet. is.counted),
+              drained_one (Ok ctr) g (Say.Drained k) (ap (λ (m : ℕ). Say.Drained m) is.counted) is.engine (power_after _ _ _ _ _ _ _ _ is) (λ quiet. is.counted),
               subst (λ (m : ℕ). HasFenced setup g.later m (spent + k) new answer last) {x = suc n} {y = n + 1} (omega arith)
                   (subst (λ (q : List Posted). HasFenced setup q (suc n) (spent + k) new answer last) waits_then rest),
             )));
@@ -255,7 +255,7 @@ module _ (setup : Setup) (mid now new : WorldState) (port : ℕ) (small : port <
       subst (λ (s : ℕ). HasStepped setup mid (Do.Fence port) (record { marks = made ++ g.written.made; answer = Say.CutKept (Some n) s }) new) (all_steps k (steps_in g.taken) is.counted)
       (one_step (Err Fail.Cut) g (Say.CutKept None (steps_in g.taken)) (Say.CutKept (Some n) (spent + steps_in g.taken))
       (kept-good setup mid now new (Do.Fence port) (Some n) port n made spent writing drained whole_mid small g.write g.later g.waits g.engine g.after g.taken c g.written all bound)
-      (small_n, few g.taken g.follows.few) tt is.engine (power_after _ _ _ _ _ _ _ _ is) (λ quiet. refl) refl is.unshown
+      (small_n, few g.taken g.follows.few) (cut_says setup now new port g true is.sealed) is.engine (power_after _ _ _ _ _ _ _ _ is) (λ quiet. refl) refl is.unshown
       (λ quiet. state_form (given_state now.state port g.write g.later (steps_in g.taken) true false) g.written.made is.state
       ∙ after_kept setup mid now (Do.Fence port) (Some n) port n made g.written.made spent (steps_in g.taken) writing drained g.write g.later g.waits)
       (λ quiet. is.holds) tt)
@@ -278,7 +278,7 @@ module _ (setup : Setup) (mid now new : WorldState) (port : ℕ) (small : port <
       subst (λ (s : ℕ). HasStepped setup mid (Do.Fence port) (record { marks = made ++ g.written.made; answer = Say.CutLost (Some n) s }) new) (all_steps k (steps_in g.taken) is.counted)
       (one_step (Err Fail.Cut) g (Say.CutLost None (steps_in g.taken)) (Say.CutLost (Some n) (spent + steps_in g.taken))
       (lost-good setup mid now new (Do.Fence port) (Some n) port n made spent writing drained whole_mid small g.write g.later g.waits g.engine g.after g.taken c g.written part bound)
-      (small_n, few g.taken g.follows.few) tt is.engine (power_after _ _ _ _ _ _ _ _ is) (λ quiet. refl) refl is.unshown
+      (small_n, few g.taken g.follows.few) (cut_says setup now new port g false is.sealed) is.engine (power_after _ _ _ _ _ _ _ _ is) (λ quiet. refl) refl is.unshown
       (λ quiet. state_form (given_state now.state port g.write g.later (steps_in g.taken) false false) g.written.made is.state
       ∙ after_lost setup mid now (Do.Fence port) (Some n) port n made g.written.made spent (steps_in g.taken) writing drained g.write g.later g.waits)
       (λ quiet. is.holds) tt)
@@ -316,7 +316,7 @@ module _ (setup : Setup) (mid now new : WorldState) (port : ℕ) (small : port <
       one_step (Err Fail.Shown) g (Say.Shown exhibit) (Say.Shown exhibit)
       (shown-good setup mid now new (Do.Fence port) (Some n) port n made spent writing drained whole_mid small g.write g.later g.waits g.engine g.after g.taken c g.written exhibit its
       (λ clash. clash.fetched.before) places)
-      sight.0 its is.engine (done.gone.power.1 (whole.board.power ∙ on.powered))
+      sight.0 (exhibit, its, refl) is.engine (done.gone.power.1 (whole.board.power ∙ on.powered))
       (λ quiet. absurd (true≢false quiet)) refl is.shown
       (λ quiet. absurd (true≢false quiet))
       (λ quiet. absurd (true≢false quiet))

@@ -17,16 +17,16 @@ use Rattle.plain_model.specs.State.{PlainState, memory_with, without_flag}
 use Rattle.plain_model.specs.After.{after_marks, steps_of, steps_with}
 use Rattle.pmem_engine.specs.declared.fault.Fault.{Fault}
 use Rattle.pmem_engine.specs.declared.fault.Fault.TheVariants as Fail
-use Rattle.pmem_engine.specs.Parts.{Parts}
 use Rattle.pmem_engine.specs.Outcomes.{Outcome, going, cut_short, outcome_of, is_sealed_by, OneLossEffect}
-use Rattle.pmem_engine.specs.Calls.{HasWrittenLine}
 use Rattle.watched_board.specs.declared.taken.Taken.{Taken}
 use Rattle.watched_board.specs.Watching.{none_taken, steps_in}
 use Rattle.pmem_replay.specs.During.{parts_in}
+use Rattle.pmem_replay.specs.Planned.{WritesLine}
 use Rattle.pmem_replay.specs.Called.{engine_left, is_outcome_shown, called_state, IsCall, WasCalled, IsWriteTaken}
 use Rattle.pmem_replay.specs.Given.{given_state, WasWriteGiven, IsWriteGiven, IsWriteGivenTo, IsDrainSaid, HasWriteGiven, CanEndFence}
 use Rattle.pmem_replay.specs.World.{WorldState, IsOn, IsWorld, setup_of_world}
 use Rattle.pmem_replay.proofs.Steps.WorldsAfterCalls.{on_in}
+use Rattle.pmem_replay.proofs.Called.CommandSteps.{run_of}
 use Rattle.pmem_replay.proofs.Drains.DrainChain.{IsDrainedTo, drained_none, ok_sealed}
 use Rattle.pmem_replay.proofs.Drains.WriteLaws.{meta-made, tag-unsealed, spent_marks}
 use Rattle.pmem_replay.proofs.Drains.WriteReplies.{drain_is_writing}
@@ -39,9 +39,6 @@ front_is (first ∷ later) write is = ap (λ (w : Posted). w ∷ later) (same_So
 -- no mark is no seal
 no_seal : (made : List Mark) (at : ℕ) → made ≡ [] → is_sealed_by made at ≡ false
 no_seal made at none = ap (λ marks. is_sealed_by marks at) none
-
-abbrev pub WritesLine : Posted → Setup → Parts → Parts → Result Ctr Fault → Type 0
-WritesLine write setup old new answer = HasWrittenLine setup write old new answer
 
 -- a state whose port has these writes still
 abbrev pub with_later : PlainState → ℕ → List Posted → PlainState
@@ -106,8 +103,8 @@ module _ (setup : Setup) (old new : WorldState) (port : ℕ) (small : port < 8) 
     on_now : IsOn setup old w.engine
     on_now = on_in setup old w.engine whole w.call.was_on
 
-    done : OneLossEffect setup (outcome_of answer) w.related.made (parts_in old w.engine none_taken) (parts_in new w.after taken)
-    done = w.related.done on_now.trusted.not_down
+    done : OneLossEffect setup (outcome_of answer) w.related.related.made (parts_in old w.engine none_taken) (parts_in new w.after taken)
+    done = w.related.related.done on_now.trusted.not_down
 
     abbrev was_given : WasWriteGiven setup old port answer new
     was_given =
@@ -125,53 +122,54 @@ module _ (setup : Setup) (old new : WorldState) (port : ℕ) (small : port < 8) 
           shape = w.call.shape;
           keys = w.keys;
           start = w.call.start;
-          written = w.related;
+          outcome = record { run = run_of w; follows = w.related.follows };
+          written = w.related.related;
           marks = done.gone.marks;
           capacity = w.capacity;
         }
 
     -- the marks that were made, by the law and by the write
-    made_is : w.lawful.made ≡ w.related.made
+    made_is : w.lawful.made ≡ w.related.related.made
     made_is =
         sym (drop-append_seam old.ledger.marks w.lawful.made)
-        ∙ ap (drop (length old.ledger.marks)) (sym w.lawful.effect.marks ∙ done.gone.marks) ∙ drop-append_seam old.ledger.marks w.related.made
+        ∙ ap (drop (length old.ledger.marks)) (sym w.lawful.effect.marks ∙ done.gone.marks) ∙ drop-append_seam old.ledger.marks w.related.related.made
 
-    pub put_is : (put : Bool) → put ≡ is_sealed_by (drop (length old.ledger.marks) new.ledger.marks) write.at → is_sealed_by w.related.made write.at ≡ put
+    pub put_is : (put : Bool) → put ≡ is_sealed_by (drop (length old.ledger.marks) new.ledger.marks) write.at → is_sealed_by w.related.related.made write.at ≡ put
     put_is put its =
         sym (its ∙ ap (λ (ms : List Mark). is_sealed_by ms write.at)
-        (ap (drop (length old.ledger.marks)) done.gone.marks ∙ drop-append_seam old.ledger.marks w.related.made))
+        (ap (drop (length old.ledger.marks)) done.gone.marks ∙ drop-append_seam old.ledger.marks w.related.related.made))
 
     state_is : (o : Outcome) → outcome_of answer ≡ o → is_outcome_shown o ≡ false
-        → new.state ≡ called_state setup.shape o (Some write) w.related.made (steps_in taken) old.state.loss (with_later old.state port later)
+        → new.state ≡ called_state setup.shape o (Some write) w.related.related.made (steps_in taken) old.state.loss (with_later old.state port later)
     state_is o ends quiet =
         w.state (w.shown ∙ ap is_outcome_shown ends ∙ quiet)
         ∙ ap (λ (e : Outcome). called_state setup.shape e (Some write) w.lawful.made (steps_in taken) new.board.regs.loss (with_later old.state port later)) ends
         ∙ ap (λ (ms : List Mark). called_state setup.shape o (Some write) ms (steps_in taken) new.board.regs.loss (with_later old.state port later)) made_is
-        ∙ ap (λ (l : ℕ). called_state setup.shape o (Some write) w.related.made (steps_in taken) l (with_later old.state port later))
+        ∙ ap (λ (l : ℕ). called_state setup.shape o (Some write) w.related.related.made (steps_in taken) l (with_later old.state port later))
         (done.loss ∙ whole.board.loss)
 
     -- where the engine goes on, and where it was cut
-    as_on : (put : Bool) (n : ℕ) → outcome_of answer ≡ going → is_sealed_by w.related.made write.at ≡ put → n ≡ steps_in taken
+    as_on : (put : Bool) (n : ℕ) → outcome_of answer ≡ going → is_sealed_by w.related.related.made write.at ≡ put → n ≡ steps_in taken
         → IsWriteGiven setup old port n answer put true new
     as_on put n ends sealed counted =
         record {
           given = was_given;
           counted = counted;
           sealed = sealed;
-          state = state_is going ends refl ∙ given_on setup.shape old.state port write later w.related.made (steps_in taken) put sealed;
+          state = state_is going ends refl ∙ given_on setup.shape old.state port write later w.related.related.made (steps_in taken) put sealed;
           engine = w.kept ∙ ap (λ (o : Outcome). engine_left o w.after) ends;
           unshown = w.shown ∙ ap is_outcome_shown ends;
           holds = w.holds (w.shown ∙ ap is_outcome_shown ends);
         }
 
-    as_off : (put : Bool) (n : ℕ) → outcome_of answer ≡ cut_short → is_sealed_by w.related.made write.at ≡ put → n ≡ steps_in taken
+    as_off : (put : Bool) (n : ℕ) → outcome_of answer ≡ cut_short → is_sealed_by w.related.related.made write.at ≡ put → n ≡ steps_in taken
         → IsWriteGiven setup old port n answer put false new
     as_off put n ends sealed counted =
         record {
           given = was_given;
           counted = counted;
           sealed = sealed;
-          state = state_is cut_short ends refl ∙ given_off setup.shape old.state port write later w.related.made (steps_in taken) put sealed;
+          state = state_is cut_short ends refl ∙ given_off setup.shape old.state port write later w.related.related.made (steps_in taken) put sealed;
           engine = w.kept ∙ ap (λ (o : Outcome). engine_left o w.after) ends;
           unshown = w.shown ∙ ap is_outcome_shown ends;
           holds = w.holds (w.shown ∙ ap is_outcome_shown ends);
@@ -182,21 +180,21 @@ module _ (setup : Setup) (old new : WorldState) (port : ℕ) (small : port < 8) 
       → put ≡ is_sealed_by (drop (length old.ledger.marks) new.ledger.marks) write.at → (n : ℕ) → n ≡ steps_in taken → IsWriteGivenTo setup old port n answer put new
   given_to (Ok ctr) w put its n counted =
       as_on (Ok ctr) w true n refl
-      (ok_sealed setup old old port 0 [] 0 drained whole small write later waits new w.engine w.after taken (call (Ok ctr) w) ctr w.related) counted
+      (ok_sealed setup old old port 0 [] 0 drained whole small write later waits new w.engine w.after taken (call (Ok ctr) w) ctr w.related.related) counted
   given_to (Err (Fail.Meta x)) w put its n counted =
       as_on (Err (Fail.Meta x)) w false n refl
-      (no_seal w.related.made write.at
+      (no_seal w.related.related.made write.at
       (meta-made setup old old new (Do.Drain port) None port 0 [] 0 (drain_is_writing setup old port) drained whole small write later waits
-      w.engine w.after taken (call (Err (Fail.Meta x)) w) x w.related)) counted
+      w.engine w.after taken (call (Err (Fail.Meta x)) w) x w.related.related)) counted
   given_to (Err (Fail.Tag at)) w put its n counted =
       as_on (Err (Fail.Tag at)) w false n refl
       (tag-unsealed setup old old new (Do.Drain port) None port 0 [] 0 (drain_is_writing setup old port) drained whole small write later waits
-      w.engine w.after taken (call (Err (Fail.Tag at)) w) at w.related) counted
+      w.engine w.after taken (call (Err (Fail.Tag at)) w) at w.related.related) counted
   given_to (Err (Fail.Spent page)) w put its n counted =
       as_on (Err (Fail.Spent page)) w false n refl
-      (no_seal w.related.made write.at
+      (no_seal w.related.related.made write.at
       (spent_marks setup old old new (Do.Drain port) None port 0 [] 0 (drain_is_writing setup old port) drained whole small write later waits
-      w.engine w.after taken (call (Err (Fail.Spent page)) w) page w.related).1) counted
+      w.engine w.after taken (call (Err (Fail.Spent page)) w) page w.related.related).1) counted
   given_to (Err Fail.Cut) w put its n counted = as_off (Err Fail.Cut) w put n refl (put_is (Err Fail.Cut) w put its) counted
   given_to (Err Fail.Down) w put its n counted = absurd (w.lawful.up tt)
   given_to (Err Fail.Shown) w put its n counted = record { given = was_given (Err Fail.Shown) w; engine = w.kept; shown = w.shown }

@@ -1,6 +1,6 @@
 -- The persist steps of a reply, and the steps after it: no command takes more than those of sixteen calls.
 use Rattle.std.proofs.Common.{ℕ, zero, suc, ◌*◌, ◌≡◌, ◌≤◌, ◌+◌, Bool, true, false, inl, inr, List, [], ◌∷◌, length, Option, Some, None, refl, sym, ap, subst, ◌∙◌, arith}
-use Rattle.std.specs.Prelude.{IfSome, MatchOption, unwrap_or, if◌then◌else◌, ◌==◌, ◌&&◌, nat_lt, nat_le}
+use Rattle.std.specs.Prelude.{Result, IfSome, MatchOption, unwrap_or, if◌then◌else◌, ◌==◌, ◌&&◌, nat_lt, nat_le}
 use Rattle.std.proofs.lemmas.Bool.{true≢false, cases_lt}
 use Rattle.std.proofs.lemmas.List.{get_or_past}
 use Rattle.pmem_base.specs.declared.lines.Line.{Line}
@@ -17,11 +17,14 @@ use Rattle.suite.specs.Setup.{Setup}
 use Rattle.plain_model.specs.State.{PlainState, Reply}
 use Rattle.plain_model.specs.After.{steps_of, is_cut, steps_with, after_front, after_drain, after_drains, without_front, after_drop, after_writes, after_power_loss, after_flush, after_on, after_hurting, after_command, after_steps, state_after}
 use Rattle.plain_model.specs.Answers.{decided_answer, posting_answer, seen_line, is_covered, is_on_device, is_shown}
+use Rattle.seal_ledger.specs.Ledger.{LedgerState}
+use Rattle.pmem_engine.specs.declared.fault.Fault.{Fault}
 use Rattle.pmem_engine.specs.Parts.{Parts}
 use Rattle.plain_model.specs.Legal.{front_of}
 use Rattle.plain_model.specs.Shown.{IsEngineReply}
 use Rattle.pmem_replay.specs.World.{WorldState, IsWorld, view_in}
 use Rattle.watched_board.specs.Watching.{step_limit}
+use Rattle.pmem_replay.specs.Planned.{CallPlan}
 use Rattle.pmem_replay.specs.Stepped.{HasCalled, HasDrained, EndsFence, HasFenced, HasPoweredOn, IsStatAnswer, IsByTable, IsCommandDone, HasStepped, most_command_steps, AddsFewSteps}
 use Rattle.pmem_replay.proofs.Marks.AfterMarks.{after_marks-is}
 
@@ -189,9 +192,11 @@ none-decided g s (Do.Loss n) =
     refl
 
 -- a call takes no more than the limit
-few_called : {relation : Parts → Parts → Type 0} (old new : WorldState) (answer : Answer) → HasCalled relation old new answer
+few_called : {T : Type 0} {plan : CallPlan T} {relation : Parts → Parts → Result T Fault → Type 0}
+    {says : LedgerState → LedgerState → ℕ → Result T Fault → Answer → Type 0} (old new : WorldState) (answer : Answer)
+    → HasCalled plan relation says old new answer
     → is_shown answer ≡ false → steps_of answer ≤ step_limit
-few_called old new answer called quiet = omega (arith, called.steps quiet, called.follows_on.few)
+few_called old new answer called quiet = omega (arith, called.steps quiet, called.outcome.run.follows.few)
 
 -- the write that ends a fence
 few_last : (n spent : ℕ) (one answer : Answer) → EndsFence n spent one answer → spent ≤ step_limit * n

@@ -34,7 +34,7 @@ use Rattle.pmem_engine.proofs.PostedWrites.WriteParts.{last_seal-unsealed}
 pub on_in : (setup : Setup) (world : WorldState) (engine : EngineState) → IsWorld setup world → world.engine ≡ Some engine → IsOn setup world engine
 on_in setup world engine whole there = subst (λ e. IsPowered setup world e) there whole.chip
 
-going_uncut : going ≢ cut_short
+pub going_uncut : going ≢ cut_short
 going_uncut e = absurd (true≢false (ap is_going e))
 
 -- the flags of tampering that a call leaves, by the seals that it made

@@ -1,4 +1,4 @@
-use Rattle.std.proofs.Common.{Some, All, refl, ◌/◌, ℕ, ◌≡◌, ◌<◌, ◌≤◌, ◌+◌, ◌-◌, ◌*◌, ◌^◌, ◌++◌, ◌∷◌, [], true, false, IsTrue, List, length, sym, ap, subst, ◌∙◌, arith}
+use Rattle.std.proofs.Common.{Result, Ok, Err, Some, All, refl, ◌/◌, ℕ, ◌≡◌, ◌<◌, ◌≤◌, ◌+◌, ◌-◌, ◌*◌, ◌^◌, ◌++◌, ◌∷◌, [], true, false, IsTrue, List, length, sym, ap, subst, ◌∙◌, arith}
 use Rattle.std.proofs.lemmas.Result.{err_from_is_err_and}
 use Rattle.std.specs.Prelude.{⊤}
 use Rattle.std.proofs.lemmas.Nat.{mul-le}
@@ -20,10 +20,19 @@ use Rattle.pmem_recovery.proofs.ReadLaws.{RisesBy-as, blocks_start, blocks_next,
 use Rattle.pmem_recovery.proofs.WorkLaws.{trials_below-none, trials_below-start, trials_below-pages, tries_after}
 use Rattle.pmem_recovery.specs.Upward.{AreMadeTo, block_made}
 use Rattle.pmem_recovery.specs.declared.entries.Made.{Made}
-use Rattle.pmem_recovery.specs.Parts.{setup_of, IsPageRefusal, AreOneTried}
+use Rattle.pmem_recovery.specs.Parts.{setup_of, IsPageRefusal, AreOneTried, setup_with}
 use Rattle.pmem_recovery.proofs.PartLaws.{longer, on_tree_more, KeepsDevice-none, KeepsDevice-then, IsUncut-none, IsUncut-then, RisesAtMost-none, RisesAtMost-less, RisesAtMost-both, SuiteWork-none, SuiteWork-then, SuiteWorkAtMost-of, SuiteWorkAtMost-after, IsStageStopped-after, IfErr-exit, IsShape-geo, slots-small, few_in_all, few_and_one, told_before}
 use Rattle.pmem_recovery.proofs.NamedLaws.{count_named-gap, count_named-next, count_named-le, count_named-counters}
 use Rattle.pmem_recovery.proofs.CounterSteps.{AreBlocksTo, AreBlocksTo-none, AreBlocksTo-gap, AreBlocksTo-next, stopped_at}
+use Rattle.board.specs.Device.{Device}
+use Rattle.call_plan.specs.Plans.{for_each}
+use Rattle.call_plan.specs.Following.{Follows}
+use Rattle.call_plan.proofs.Steps.{ended_err}
+use Rattle.call_plan.proofs.Bind.{mapped_follows}
+use Rattle.call_plan.proofs.Loops.{HasReached, reached_start}
+use Rattle.pmem_recovery.specs.declared.faults.RecFault.{RecFault}
+use Rattle.pmem_recovery.specs.Plans.{RecoveryParts, recovery_parts, counts_at, named_positions, fixed_block_plan, block_turn, blocks_plan}
+use Rattle.pmem_recovery.proofs.NamedPlans.{named_ok, named_err, named_end}
 use Rattle.pmem_recovery.proofs.counters.fix_counters.Given.{Over}
 use Rattle.pmem_recovery.proofs.counters.fix_counters.Goals.{In-Some}
 use Rattle.pmem_recovery.proofs.counters.fix_counters.Goals as goal
@@ -65,6 +74,17 @@ module _ (g : Over) (c : In-Some g) where
   inside : page < pages shape
   inside = omega (arith, next.high, meta_lines-counters shape, c.positions.invariant.low, next.low)
 
+  abbrev parts : RecoveryParts
+  parts = recovery_parts c.positions.made.items (counts_at g.S.Suite c.positions.suite)
+
+  -- its plan, under the keys as they were first
+  block_then : (new : Device) (end : Result (RecoveryParts × ℕ) (RecoveryParts × RecFault))
+      → Follows (fixed_block_plan (setup_with g.S.Suite c.args.geo.now c.positions.suite) c.args.regs.now c.in-Some.x parts) (g.B.Board.device c.positions.board) new end
+      → Follows (fixed_block_plan (setup_with g.S.Suite c.args.geo.now c.args.suite.now) c.args.regs.now c.in-Some.x parts) (g.B.Board.device c.positions.board) new end
+  block_then new end it =
+      subst (λ keys. Follows (fixed_block_plan (setup_of c.args.geo.now (g.S.Suite.formulas_of keys)) c.args.regs.now c.in-Some.x parts)
+      (g.B.Board.device c.positions.board) new end) c.positions.invariant.worked.keys it
+
   module _ (lines : List Line) (told : (g.B.Board.device c.args.board.now).lines ≡ Some lines) (shadow : c.args.shadow.now ≡ shadow_of shape lines) where
     named : is_named shape lines (counter_position shape page) ≡ true
     named = subst (λ z. is_named shape lines z ≡ true) at (subst (λ s. names shape s c.in-Some.x ≡ true) shadow next.passes)
@@ -96,6 +116,13 @@ positions-init g c =
       goes = IsUncut-none _;
       reads = RisesAtMost-none _ _;
       exact_reads = blocks_start shape c.args.shadow.now (block_reads shape c.args.regs.now) c.pages.result _ c.pages.ensures.value;
+      reached =
+          let turn = block_turn (setup_with g.S.Suite c.args.geo.now c.args.suite.now) c.args.regs.now in
+          let all = blocks_plan (setup_with g.S.Suite c.args.geo.now c.args.suite.now) c.args.regs.now c.args.shadow.now
+          (recovery_parts c.args.made.now.items (counts_at g.S.Suite c.args.suite.now)) in
+          subst (λ n. HasReached all (g.B.Board.device c.args.board.now) (for_each turn (named_positions shape c.args.shadow.now n (meta_lines shape))
+          (recovery_parts c.args.made.now.items (counts_at g.S.Suite c.args.suite.now), 0)) (g.B.Board.device c.args.board.now)) (sym start)
+          (reached_start all (g.B.Board.device c.args.board.now));
       low = omega (arith, start);
       high = omega (arith, start, meta_lines-counters shape);
       counted = ap length c.requires.empty ∙ sym (count_named-gap shape c.args.shadow.now (level_start shape.levels) from (λ x low high. absurd (omega (arith, low, high, start))));
@@ -171,6 +198,11 @@ positions-preserved g c =
       goes = IsUncut-then _ _ _ inv.goes ok.goes;
       reads = RisesAtMost-both _ 129 _ _ _ _ (omega (arith, longer ok.made)) inv.reads c.fix_counter.ensures.reads;
       exact_reads = blocks_next its_shape c.args.shadow.now (block_reads its_shape c.args.regs.now) (level_start its_shape.levels) c.positions.from (meta_lines its_shape) c.in-Some.x _ _ _ inv.low its_next inv.exact_reads ok.exact_reads;
+      reached =
+          let after : RecoveryParts = recovery_parts c.fix_counter.new.made.items (counts_at g.S.Suite c.fix_counter.new.suite) in
+          named_ok (block_turn (setup_with g.S.Suite c.args.geo.now c.args.suite.now) c.args.regs.now) its_shape c.args.shadow.now c.positions.from (meta_lines its_shape)
+          (parts g place, c.positions.trials) inv.reached c.in-Some.x its_next
+          (mapped_follows _ _ (block_then g place (g.B.Board.device c.fix_counter.new.board) (Ok (after, c.in_ok-trials.field-0)) ok.plan));
       low = omega (arith, inv.low, its_next.low);
       high = omega (arith, its_next.high);
       counted = longer ok.made ∙ ap (λ n. n + 1) inv.counted ∙ sym (count_named-next its_shape c.args.shadow.now (level_start its_shape.levels) c.positions.from (meta_lines its_shape) c.in-Some.x inv.low its_next);
@@ -273,3 +305,21 @@ returns-clause-told g c = λ lines told shadow.
     (inv.told lines told shadow) in
     let end : counter_position shape (pages shape) ≡ meta_lines shape = omega (arith, count) in
     (all.decided, subst (λ m. AreMadeTo setup lines c.args.regs.now shape.levels m c.positions.made.items) end all.blocks)
+
+-- ---- the plan
+
+pub returns-in_err-trials-clause-plan : goal.returns-in_err-trials-clause-plan
+returns-in_err-trials-clause-plan g c =
+    let place = (goal.at.returns-in_err-trials-clause-plan g c).In-Some in
+    let fault = c.in_err-trials.field-0.0 in
+    let after : RecoveryParts = recovery_parts c.fix_counter.new.made.items (counts_at g.S.Suite c.fix_counter.new.suite) in
+    ended_err c.from_residual.result c.from_residual.ensures.1
+    (named_err (block_turn (setup_with g.S.Suite c.args.geo.now c.args.suite.now) c.args.regs.now) (shape_of c.args.geo.now) c.args.shadow.now c.positions.from
+    (meta_lines (shape_of c.args.geo.now)) (parts g place, c.positions.trials) c.positions.invariant.reached c.in-Some.x (next g place)
+    (mapped_follows _ _ (block_then g place (g.B.Board.device c.fix_counter.new.board) (Err (after, fault)) c.in_err-trials.ensures.plan)))
+
+pub returns-clause-plan : goal.returns-clause-plan
+returns-clause-plan g c =
+    named_end (block_turn (setup_with g.S.Suite c.args.geo.now c.args.suite.now) c.args.regs.now) (shape_of c.args.geo.now) c.args.shadow.now c.positions.from
+    (meta_lines (shape_of c.args.geo.now)) (recovery_parts c.positions.made.items (counts_at g.S.Suite c.positions.suite), c.positions.trials) c.positions.invariant.reached
+    (λ y low high. c.in_default.ensures y low (omega (arith, high, c.metas.ensures.value)))

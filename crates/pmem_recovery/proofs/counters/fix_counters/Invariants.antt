@@ -7,8 +7,11 @@ use Rattle.pmem_recovery.specs.Trials.{trials_below}
 use Rattle.board.specs.Counts.{RisesBy}
 use Rattle.commit_regs.specs.Groups.{RisesAtMost}
 use Rattle.pmem_recovery.specs.Reads.{sum_named, block_reads}
-use Rattle.pmem_recovery.specs.Parts.{setup_of, IfLinesTold, KeepsDevice, IsUncut, suite_state, SuiteWork}
+use Rattle.pmem_recovery.specs.Parts.{setup_of, IfLinesTold, KeepsDevice, IsUncut, suite_state, SuiteWork, setup_with}
 use Rattle.pmem_recovery.proofs.CounterSteps.{AreBlocksTo}
+use Rattle.call_plan.specs.Plans.{for_each}
+use Rattle.call_plan.proofs.Loops.{HasReached}
+use Rattle.pmem_recovery.specs.Plans.{recovery_parts, counts_at, named_positions, block_turn, blocks_plan}
 use Rattle.pmem_recovery.proofs.counters.fix_counters.Given as goal
 
 abbrev pub invariant-positions : goal.invariant-positions
@@ -21,6 +24,11 @@ invariant-positions g l =
       goes : IsUncut start now;
       reads : RisesAtMost (129 * length l.made.items) start.reads now.reads;
       exact_reads : RisesBy (sum_named shape l.shadow (block_reads shape l.regs) (level_start shape.levels) l.from) start.reads now.reads;
+      reached :
+          HasReached
+          (blocks_plan (setup_with g.S.Suite l.geo l.initial.suite) l.regs l.shadow (recovery_parts l.initial.made.items (counts_at g.S.Suite l.initial.suite))) start
+          (for_each (block_turn (setup_with g.S.Suite l.geo l.initial.suite) l.regs) (named_positions shape l.shadow l.from (meta_lines shape))
+          (recovery_parts l.made.items (counts_at g.S.Suite l.suite), l.trials)) now;
       low : level_start shape.levels ≤ l.from;
       high : l.from ≤ meta_lines shape;
       counted : length l.made.items ≡ count_named shape l.shadow (level_start shape.levels) l.from;

@@ -1,4 +1,4 @@
-use Rattle.std.proofs.Common.{ℕ, true, ◌≡◌, ◌<◌, ◌≤◌, ◌+◌, ◌*◌, ◌∷◌, [], List, length, get_or, set, mul-le-mul_right, sym, ap, subst, refl, ◌∙◌, arith}
+use Rattle.std.proofs.Common.{ℕ, Result, Ok, Err, true, ◌≡◌, ◌<◌, ◌≤◌, ◌+◌, ◌*◌, ◌∷◌, [], List, length, get_or, set, mul-le-mul_right, sym, ap, subst, refl, ◌∙◌, arith}
 use Rattle.std.proofs.lemmas.Result.{err_from_is_err_and}
 use Rattle.std.proofs.lemmas.List.{length-set}
 use Rattle.std.proofs.lemmas.List.Elements.{All-set}
@@ -14,13 +14,37 @@ use Rattle.bonsai_tree.specs.Positions.{counter_position}
 use Rattle.pmem_engine.specs.Invariants.{is_named}
 use Rattle.pmem_recovery.specs.Trials.{stored_block, tried_minors, candidates_of, trials_of, trials_below}
 use Rattle.pmem_recovery.proofs.WorkLaws.{trials_below-next, trials_of-named, tries_line, tries_after}
-use Rattle.pmem_recovery.specs.Parts.{setup_of, IsLineRefusal}
+use Rattle.pmem_recovery.specs.Parts.{setup_of, IsLineRefusal, setup_with}
 use Rattle.pmem_recovery.proofs.PartLaws.{KeepsDevice-none, KeepsDevice-then, IsUncut-none, IsUncut-then, RisesAtMost-none, RisesAtMost-less, RisesAtMost-both, SuiteWork-none, SuiteWork-then, SuiteWorkAtMost-after, IsStageStopped-after, IfErr-exit, told_before}
 use Rattle.board.specs.Counts.{RisesBy}
 use Rattle.pmem_recovery.specs.Reads.{line_reads, page_reads}
 use Rattle.pmem_recovery.proofs.ReadLaws.{RisesBy-none, RisesBy-as, page_reads-none, page_more, read_at_after, page_stop}
 use Rattle.pmem_recovery.proofs.TryLaws.{minors_more, fixed_block_is}
+use Rattle.board.specs.Device.{Device}
+use Rattle.call_plan.specs.Following.{Follows}
+use Rattle.call_plan.proofs.Steps.{ended_err}
+use Rattle.call_plan.proofs.Loops.{turns_start, turn_ok, turn_err, turns_end}
+use Rattle.split_counters.specs.Blocks.{with_minor}
+use Rattle.pmem_recovery.specs.declared.faults.RecFault.{RecFault}
+use Rattle.pmem_recovery.specs.Plans.{SuiteCounts, counts_at, trial_plan, minor_turn}
+use Rattle.pmem_recovery.proofs.TrialPlans.{minor_done, minor_stopped}
+use Rattle.pmem_recovery.proofs.counters.fix_minors.Given.{Over}
+use Rattle.pmem_recovery.proofs.counters.fix_minors.Goals.{After-from}
 use Rattle.pmem_recovery.proofs.counters.fix_minors.Goals as goal
+
+-- the plan of line i, under the keys as they were first
+module _ (g : Over) (c : After-from g) where
+  line_then : (new : Device) (end : Result (SuiteCounts × (ℕ × ℕ)) (SuiteCounts × RecFault))
+      → Follows (trial_plan (setup_with g.S.Suite c.args.geo.now c.lines.suite) c.args.regs.now c.args.stored.now (64 * c.args.page + c.from.result)
+      (counts_at g.S.Suite c.lines.suite)) (g.B.Board.device c.lines.board) new end
+      → Follows (trial_plan (setup_with g.S.Suite c.args.geo.now c.args.suite.now) c.args.regs.now c.args.stored.now (64 * c.args.page + c.from.result)
+      (counts_at g.S.Suite c.lines.suite)) (g.B.Board.device c.lines.board) new end
+  line_then new end it =
+      subst (λ keys. Follows (trial_plan (setup_of c.args.geo.now (g.S.Suite.formulas_of keys)) c.args.regs.now c.args.stored.now (64 * c.args.page + c.from.result)
+      (counts_at g.S.Suite c.lines.suite)) (g.B.Board.device c.lines.board) new end) c.lines.invariant.worked.keys it
+
+  its_place : 64 * c.args.page + c.from.result ≡ 64 * c.args.page + c.lines.i
+  its_place = ap (λ n. 64 * c.args.page + n) c.from.ensures
 
 pub lines-init : goal.lines-init
 lines-init g c =
@@ -30,6 +54,9 @@ lines-init g c =
       reads = RisesAtMost-none _ _;
       exact_reads = RisesBy-as 0 _ _ _ (sym (page_reads-none c.args.regs.now.progress.items c.args.page)) (RisesBy-none _);
       worked = SuiteWork-none _;
+      reached =
+          turns_start (minor_turn (setup_with g.S.Suite c.args.geo.now c.args.suite.now) c.args.regs.now c.args.stored.now c.args.page) 64
+          (counts_at g.S.Suite c.args.suite.now, (c.args.stored.now, 0)) (g.B.Board.device c.args.board.now);
       few = omega arith;
       major = refl;
       long = c.requires.block.count;
@@ -125,6 +152,13 @@ lines-preserved g c =
       reads = RisesAtMost-both _ 2 _ _ _ _ (omega arith) inv.reads c.try_line.ensures.reads;
       exact_reads = page_more c.args.regs.now.progress.items c.args.page c.lines.i c.from.result _ _ _ place inv.exact_reads ok.exact_reads;
       worked = SuiteWork-then c.lines.trials 0 c.in_ok-minor.tries 0 _ _ _ inv.worked ok.worked;
+      reached =
+          let here = (goal.at.lines-preserved g c).After-from in
+          turn_ok inv.reached c.lines-test.true
+          (minor_done (setup_with g.S.Suite c.args.geo.now c.args.suite.now) c.args.regs.now c.args.stored.now c.args.page c.lines.i (counts_at g.S.Suite c.lines.suite)
+          c.lines.fixed c.lines.trials (its_place g here) (counts_at g.S.Suite c.try_line.new.suite) c.in_ok-minor.minor c.in_ok-minor.tries _
+          (ap (λ n. with_minor c.lines.fixed n c.in_ok-minor.minor) same_place)
+          (line_then g here (g.B.Board.device c.try_line.new.board) (Ok (counts_at g.S.Suite c.try_line.new.suite, (c.in_ok-minor.minor, c.in_ok-minor.tries))) ok.plan));
       few = bound c.lines.trials c.in_ok-minor.tries c.lines.i c.args.regs.now.loss inv.few ok.few;
       major = inv.major;
       long = length-set c.lines.fixed.minors c.from-in-lines.result c.in_ok-minor.minor ∙ inv.long;
@@ -180,3 +214,18 @@ returns-clause-told g c = λ lines told block.
           (inv.major ∙ ap (λ b. b.major) block) inv.long each,
       λ k small. ap length (each k small),
     )
+
+-- ---- the plan
+
+pub returns-in_err-minor-clause-plan : goal.returns-in_err-minor-clause-plan
+returns-in_err-minor-clause-plan g c =
+    let here = (goal.at.returns-in_err-minor-clause-plan g c).After-from in
+    let fault = c.in_err-minor.field-0.0 in
+    ended_err c.from_residual.result c.from_residual.ensures.1
+    (turn_err c.lines.invariant.reached c.lines-test.true
+    (minor_stopped (setup_with g.S.Suite c.args.geo.now c.args.suite.now) c.args.regs.now c.args.stored.now c.args.page c.lines.i (counts_at g.S.Suite c.lines.suite)
+    c.lines.fixed c.lines.trials (its_place g here) (counts_at g.S.Suite c.try_line.new.suite) fault
+    (line_then g here (g.B.Board.device c.try_line.new.board) (Err (counts_at g.S.Suite c.try_line.new.suite, fault)) c.in_err-minor.ensures.plan)))
+
+pub returns-clause-plan : goal.returns-clause-plan
+returns-clause-plan g c = turns_end c.lines.invariant.reached (omega (arith, c.lines-test.false))

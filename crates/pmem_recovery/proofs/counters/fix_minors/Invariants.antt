@@ -6,7 +6,9 @@ use Rattle.pmem_recovery.specs.Trials.{stored_block, tried_minors, trials_below}
 use Rattle.board.specs.Counts.{RisesBy}
 use Rattle.commit_regs.specs.Groups.{RisesAtMost}
 use Rattle.pmem_recovery.specs.Reads.{page_reads}
-use Rattle.pmem_recovery.specs.Parts.{setup_of, IfLinesTold, KeepsDevice, IsUncut, suite_state, SuiteWork}
+use Rattle.pmem_recovery.specs.Parts.{setup_of, IfLinesTold, KeepsDevice, IsUncut, suite_state, SuiteWork, setup_with}
+use Rattle.call_plan.proofs.Loops.{AreTurnsLeft}
+use Rattle.pmem_recovery.specs.Plans.{counts_at, minor_turn, minors_plan}
 use Rattle.pmem_recovery.proofs.counters.fix_minors.Given as goal
 
 abbrev pub invariant-lines : goal.invariant-lines
@@ -22,6 +24,9 @@ invariant-lines g l =
       worked : SuiteWork l.trials 0
           (suite_state (g.S.Suite.keys l.initial.suite) (g.S.Suite.pads l.initial.suite) (g.S.Suite.tags l.initial.suite) (g.S.Suite.digests l.initial.suite))
           (suite_state (g.S.Suite.keys l.suite) (g.S.Suite.pads l.suite) (g.S.Suite.tags l.suite) (g.S.Suite.digests l.suite));
+      reached :
+          AreTurnsLeft (minors_plan (setup_with g.S.Suite l.geo l.initial.suite) l.regs l.page l.stored (counts_at g.S.Suite l.initial.suite)) start
+          (minor_turn (setup_with g.S.Suite l.geo l.initial.suite) l.regs l.stored l.page) l.i 64 (counts_at g.S.Suite l.suite, (l.fixed, l.trials)) now;
       few : l.trials ≤ l.i * l.regs.loss;
       major : l.fixed.major ≡ l.stored.major;
       long : length l.fixed.minors ≡ 64;

@@ -1,14 +1,40 @@
-use Rattle.std.proofs.Common.{ℕ, ◌≡◌, ◌<◌, ◌+◌, ◌*◌, List, refl, subst, ◌∙◌, arith}
+use Rattle.std.proofs.Common.{ℕ, ◌≡◌, ◌<◌, ◌+◌, ◌*◌, List, refl, sym, subst, ◌∙◌, arith}
 use Rattle.pmem_base.specs.Geo.{shape_of}
 use Rattle.pmem_base.proofs.LayoutLemmas.{pages-most}
 use Rattle.pmem_base.specs.Lines.{tag_slot}
 use Rattle.board.specs.Steps.{HasWritten}
 use Rattle.suite.specs.Formulas.{Formulas}
-use Rattle.pmem_recovery.specs.Parts.{setup_of}
+use Rattle.pmem_recovery.specs.Parts.{setup_of, setup_with}
 use Rattle.pmem_recovery.specs.Formatting.{first_cipher, first_tag, HasSealedFrom, StaysSteady}
 use Rattle.pmem_recovery.proofs.PartLaws.{SuiteRise-then, SuiteRise-as}
 use Rattle.pmem_recovery.proofs.FormatSteps.{IsGroupTo, StaysSteady-then, StaysSteady-written, HasSealedFrom-then, sealed_count, IsGroupTo-more, HasSealedGroup-written, slots-more}
+use Rattle.pmem_base.specs.declared.lines.Line.{Line}
+use Rattle.pmem_base.specs.Lines.{zero_line}
+use Rattle.line_seal.specs.Seals.{with_tag}
+use Rattle.call_plan.specs.Plans.{repeated}
+use Rattle.call_plan.proofs.Loops.{AreTurnsLeft, turns_start, turn_ok, turns_end}
+use Rattle.pmem_recovery.specs.Formatting.{seal_turn}
+use Rattle.pmem_recovery.proofs.PartLaws.{SuiteRise-none}
+use Rattle.pmem_recovery.proofs.FormatSteps.{StaysSteady-none, HasSealedFrom-none, IsGroupTo-none}
+use Rattle.pmem_recovery.proofs.FormatPlans.{sealed_so, group_so}
 use Rattle.pmem_recovery.proofs.formatting.seal_group.Goals as goal
+
+pub lines-init : goal.lines-init
+lines-init g c =
+    let setup = setup_with g.S.Suite c.args.geo.now c.args.suite.now in
+    record {
+      keys = refl;
+      capacity = refl;
+      counts = SuiteRise-none _;
+      steady = StaysSteady-none _;
+      ledger = HasSealedFrom-none setup (4 * c.args.group) _;
+      reached =
+          subst (λ (l : Line). AreTurnsLeft (repeated (seal_turn setup c.args.group) 0 4 zero_line) (g.B.Board.device c.args.board.now) (seal_turn setup c.args.group) 0 4 l
+          (g.B.Board.device c.args.board.now)) (sym c.default-tags.ensures)
+          (turns_start (seal_turn setup c.args.group) 4 zero_line (g.B.Board.device c.args.board.now));
+      slots = λ j low. absurd (omega (arith, low));
+      lines = IsGroupTo-none setup c.args.group _;
+    }
 
 pub overflow_mul-group : goal.overflow_mul-group
 overflow_mul-group g c = omega (arith, c.requires.group, pages-most (shape_of c.args.geo.now).levels c.args.geo.now.has_levels.1)
@@ -34,12 +60,17 @@ lines-preserved g c =
     subst (λ k. HasSealedFrom (setup_of c.args.geo.now (formulas k)) at 1 (g.A.Audit.ledger c.lines.audit) (g.A.Audit.ledger c.seal_one.new.audit)) c.lines.invariant.keys c.seal_one.ensures.ledger in
     let here : tag_slot c.seal_one.new.tags at ≡ first_tag setup at =
     subst (λ k. tag_slot c.seal_one.new.tags at ≡ first_tag (setup_of c.args.geo.now (formulas k)) at) c.lines.invariant.keys c.seal_one.ensures.here in
+    let slot : c.seal_one.new.tags ≡ with_tag c.lines.tags at (first_tag setup at) =
+    subst (λ k. c.seal_one.new.tags ≡ with_tag c.lines.tags at (first_tag (setup_of c.args.geo.now (formulas k)) at)) c.lines.invariant.keys c.seal_one.ensures.tags in
     record {
       keys = c.seal_one.ensures.keys ∙ c.lines.invariant.keys;
       capacity = c.seal_one.ensures.capacity ∙ c.lines.invariant.capacity;
       counts = SuiteRise-then c.lines.i c.lines.i 0 1 1 0 _ _ _ c.lines.invariant.counts c.seal_one.ensures.counts;
       steady = StaysSteady-then c.lines.i 1 start mid new c.lines.invariant.steady (StaysSteady-written mid at (first_cipher setup at) new written);
       ledger = HasSealedFrom-then setup (4 * c.args.group) c.lines.i at 1 _ _ _ refl c.lines.invariant.ledger sealed;
+      reached =
+          turn_ok c.lines.invariant.reached (omega (arith, c.lines-test))
+          (sealed_so setup c.args.group c.lines.i at c.lines.tags c.seal_one.new.tags mid new refl slot written);
       slots = slots-more setup c.args.group c.lines.i c.lines.tags c.seal_one.new.tags (omega (arith, c.lines-test)) c.lines.invariant.slots here c.seal_one.ensures.others;
       lines = IsGroupTo-more setup c.args.group c.lines.i at start mid new c.requires.group (omega (arith, c.lines-test)) refl c.lines.invariant.lines written;
     }
@@ -69,3 +100,9 @@ returns-clause-lines g c =
     (subst (λ n. (j : ℕ) → j < n → tag_slot c.lines.tags (4 * c.args.group + j) ≡ first_tag setup (4 * c.args.group + j)) four c.lines.invariant.slots)
     (subst (λ n. IsGroupTo setup c.args.group n (g.B.Board.device c.args.board.now) (g.B.Board.device c.lines.board)) four c.lines.invariant.lines)
     c.write_steady.ensures
+
+pub returns-clause-plan : goal.returns-clause-plan
+returns-clause-plan g c =
+    group_so (setup_with g.S.Suite c.args.geo.now c.args.suite.now) c.args.group c.tag_line.result c.lines.tags (g.B.Board.device c.args.board.now)
+    (g.B.Board.device c.lines.board) (g.B.Board.device c.write_steady.new.board) c.tag_line.ensures.value
+    (turns_end c.lines.invariant.reached (omega (arith, c.lines-test))) c.write_steady.ensures

@@ -1,6 +1,9 @@
 use Rattle.std.proofs.Common.{◌≡◌, ◌*◌}
 use Rattle.pmem_recovery.specs.Parts.{setup_of, suite_state, SuiteRise}
-use Rattle.pmem_recovery.specs.Formatting.{HasSealedFrom, HasSealedAll, StaysSteady}
+use Rattle.pmem_base.specs.Geo.{shape_of}
+use Rattle.pmem_base.specs.Layout.{pages}
+use Rattle.call_plan.proofs.Loops.{AreTurnsLeft}
+use Rattle.pmem_recovery.specs.Formatting.{HasSealedFrom, HasSealedAll, StaysSteady, group_turn, seals_plan}
 use Rattle.pmem_recovery.proofs.formatting.seal_lines.Given as goal
 
 abbrev pub invariant-groups : goal.invariant-groups
@@ -12,5 +15,6 @@ invariant-groups g l =
       counts : SuiteRise (4 * l.group) (4 * l.group) 0 (suite_state (g.S.Suite.keys l.initial.suite) (g.S.Suite.pads l.initial.suite) (g.S.Suite.tags l.initial.suite) (g.S.Suite.digests l.initial.suite)) (suite_state (g.S.Suite.keys l.suite) (g.S.Suite.pads l.suite) (g.S.Suite.tags l.suite) (g.S.Suite.digests l.suite));
       steady : StaysSteady (5 * l.group) (g.B.Board.device l.initial.board) (g.B.Board.device l.board);
       ledger : HasSealedFrom setup 0 (4 * l.group) (g.A.Audit.ledger l.initial.audit) (g.A.Audit.ledger l.audit);
+      reached : AreTurnsLeft (seals_plan setup) (g.B.Board.device l.initial.board) (group_turn setup) l.group (16 * pages (shape_of l.geo)) tt (g.B.Board.device l.board);
       lines : HasSealedAll setup (4 * l.group) (g.B.Board.device l.board);
     }

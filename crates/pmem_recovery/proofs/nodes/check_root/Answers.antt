@@ -1,11 +1,15 @@
 use Rattle.std.proofs.Common.{◌+◌, arith}
 use Rattle.std.proofs.lemmas.Result.{err_from_is_err_and}
 use Rattle.pmem_base.specs.Geo.{shape_of}
+use Rattle.pmem_recovery.specs.Parts.{setup_with}
 use Rattle.pmem_recovery.specs.declared.faults.RecFault.TheVariants.{Cut}
 use Rattle.bonsai_tree.proofs.Levels.{level_start-le}
 use Rattle.pmem_recovery.proofs.PartLaws.{SuiteWork-none, SuiteWorkAtMost-of, IfErr-exit}
 use Rattle.pmem_recovery.proofs.WorkLaws.{root_refused}
 use Rattle.pmem_recovery.proofs.ReadLaws.{root_read}
+use Rattle.call_plan.proofs.Steps.{ended_err}
+use Rattle.pmem_recovery.specs.Plans.{counts_at}
+use Rattle.pmem_recovery.proofs.NodePlans.{same_counts, compared_so, top_cut, top_compared}
 use Rattle.pmem_recovery.proofs.nodes.check_root.Goals as goal
 
 pub made_or_read-requires-clause-position : goal.made_or_read-requires-clause-position
@@ -33,3 +37,20 @@ returns-clause-stopped_reads g c =
 
 pub returns-clause-at_most : goal.returns-clause-at_most
 returns-clause-at_most g c = SuiteWorkAtMost-of 0 1 0 1 _ _ (omega arith) (omega arith) (record { keys = c.digest-found.ensures.keys; pads = c.digest-found.ensures.pads; tags = c.digest-found.ensures.tags; digests = c.digest-found.ensures.digests })
+
+-- ---- the plan
+
+pub returns-in_err-top-clause-plan : goal.returns-in_err-top-clause-plan
+returns-in_err-top-clause-plan g c =
+    ended_err c.from_residual.result c.from_residual.ensures.1
+    (top_cut (setup_with g.S.Suite c.args.geo.now c.args.suite.now) c.args.regs.now.root c.args.made.now (counts_at g.S.Suite c.args.suite.now)
+    c.in_err-top.ensures.plan)
+
+pub returns-clause-plan : goal.returns-clause-plan
+returns-clause-plan g c =
+    top_compared (setup_with g.S.Suite c.args.geo.now c.args.suite.now) c.args.regs.now.root c.args.made.now (counts_at g.S.Suite c.args.suite.now)
+    c.in_ok-top.top (counts_at g.S.Suite c.digest-found.new.self) c.digest-found.result
+    (same_counts c.digest-found.ensures.tags c.digest-found.ensures.digests)
+    c.digest-found.ensures.digest c.in_ok-top.ensures.plan
+    (compared_so c.args.regs.now.root c.digest-found.result (counts_at g.S.Suite c.digest-found.new.self) (g.B.Board.device c.made_or_read.new.board)
+    c.compared.result c.compared.ensures)

@@ -1,4 +1,5 @@
-use Rattle.std.proofs.Common.{ℕ, suc, ◌≡◌, ◌<◌, ◌≤◌, ◌+◌, ◌++◌, ◌∷◌, [], List, sym, ap, subst, false, ◌∙◌, add-one, arith}
+use Rattle.std.proofs.Common.{ℕ, Result, Ok, Err, suc, ◌≡◌, ◌<◌, ◌≤◌, ◌+◌, ◌++◌, ◌∷◌, [], List, sym, ap, subst, false, ◌∙◌, add-one, arith}
+use Rattle.pmem_base.specs.declared.faults.Cut.{Cut}
 use Rattle.pmem_base.specs.declared.lines.Line.{Line}
 use Rattle.pmem_base.specs.declared.geometry.Geo.{Geo}
 use Rattle.pmem_base.specs.Geo.{shape_of}
@@ -7,13 +8,20 @@ use Rattle.pmem_base.specs.Layout.{level_start}
 use Rattle.bonsai_tree.proofs.Levels.{level_start-le, meta_lines-counters}
 use Rattle.pmem_recovery.specs.Named.{names, count_named, IsNextAt}
 use Rattle.pmem_recovery.specs.Upward.{AreMadeTo, node_made}
-use Rattle.pmem_recovery.specs.Parts.{setup_of}
+use Rattle.pmem_recovery.specs.Parts.{setup_of, setup_with}
 use Rattle.pmem_recovery.proofs.PartLaws.{longer, on_tree_more, KeepsDevice-then, IsUncut-then, RisesAtMost-less, RisesAtMost-both, SuiteWork-then, SuiteWorkAtMost-of, SuiteWorkAtMost-after, IsShape-geo, told_before}
 use Rattle.pmem_recovery.proofs.NamedLaws.{count_named-next, count_named-last, count_named-le, count_named-small}
 use Rattle.pmem_recovery.specs.Reads.{children_reads, node_reads}
 use Rattle.pmem_recovery.proofs.ReadLaws.{RisesBy-as, blocks_next, sum_named-last, node_reads_are}
 use Rattle.pmem_recovery.proofs.UpwardSteps.{AreMadeTo-upto}
 use Rattle.pmem_recovery.proofs.NodeSteps.{AreMadeTo-next_node}
+use Rattle.board.specs.Device.{Device}
+use Rattle.call_plan.specs.Plans.{the_cut}
+use Rattle.call_plan.specs.Following.{Follows}
+use Rattle.call_plan.proofs.Steps.{ended_err}
+use Rattle.call_plan.proofs.Bind.{mapped_follows}
+use Rattle.pmem_recovery.specs.Plans.{RecoveryParts, recovery_parts, counts_at, fixed_node_plan, node_turn}
+use Rattle.pmem_recovery.proofs.NamedPlans.{named_ok, named_err, named_end}
 use Rattle.pmem_recovery.proofs.nodes.fix_level.Given.{Over}
 use Rattle.pmem_recovery.proofs.nodes.fix_level.Goals.{In-Some, In_default}
 use Rattle.pmem_recovery.proofs.nodes.fix_level.Goals as goal
@@ -47,6 +55,23 @@ module _ (g : Over) (c : In-Some g) where
   next_here : HasNext (shape_of c.args.geo.now) c.args.shadow.now c.args.level c.positions.from c.in-Some.x
   next_here =
       has_next c.args.geo.now c.args.shadow.now c.args.level c.positions.from c.in-Some.x c.first_of_level-end.result c.requires.level c.positions.invariant.low c.first_of_level-end.ensures.value c.in-Some.ensures
+
+  -- it is the next of the plan
+  first_here : IsNextAt (names (shape_of c.args.geo.now) c.args.shadow.now) c.positions.from (level_start (c.args.level + 1)) c.in-Some.x
+  first_here =
+      subst (λ m. IsNextAt (names (shape_of c.args.geo.now) c.args.shadow.now) c.positions.from m c.in-Some.x) c.first_of_level-end.ensures.value
+      c.in-Some.ensures
+
+  abbrev before : RecoveryParts
+  before = recovery_parts c.positions.made.items (counts_at g.S.Suite c.positions.suite)
+
+  -- under the keys as they were first
+  node_then : (new : Device) (end : Result (RecoveryParts × Unit {0}) (RecoveryParts × Cut))
+      → Follows (fixed_node_plan (setup_with g.S.Suite c.args.geo.now c.positions.suite) c.in-Some.x before) (g.B.Board.device c.positions.board) new end
+      → Follows (fixed_node_plan (setup_with g.S.Suite c.args.geo.now c.args.suite.now) c.in-Some.x before) (g.B.Board.device c.positions.board) new end
+  node_then new end it =
+      subst (λ keys. Follows (fixed_node_plan (setup_of c.args.geo.now (g.S.Suite.formulas_of keys)) c.in-Some.x before) (g.B.Board.device c.positions.board) new end)
+      c.positions.invariant.worked.keys it
 
 pub fix_node-requires-clause-node : goal.fix_node-requires-clause-node
 fix_node-requires-clause-node g c =
@@ -85,6 +110,12 @@ positions-preserved g c =
           ∙ ap (λ s. node_reads shape s c.in-Some.x) (sym shadow) in
           blocks_next shape c.args.shadow.now (node_reads shape c.args.shadow.now) (level_start c.args.level) c.positions.from (level_start (suc c.args.level)) c.in-Some.x _ _ _ inv.low h.next
           (inv.exact_reads lines told regs shadow before) (RisesBy-as _ _ _ _ here ok.exact_reads);
+      reached =
+          let place = (goal.at.positions-preserved g c).In-Some in
+          let after : RecoveryParts = recovery_parts c.fix_node.new.made.items (counts_at g.S.Suite c.fix_node.new.suite) in
+          named_ok (node_turn (setup_with g.S.Suite c.args.geo.now c.args.suite.now)) shape c.args.shadow.now c.positions.from (level_start (c.args.level + 1))
+          (before g place, c.positions.digests) inv.reached c.in-Some.x (first_here g place)
+          (mapped_follows _ _ (node_then g place (g.B.Board.device c.fix_node.new.board) (Ok (after, tt)) ok.plan));
       low = omega (arith, inv.low, h.next.low);
       high = omega (arith, h.next.high);
       counted = longer ok.made ∙ omega (arith, inv.counted, h.more);
@@ -155,3 +186,20 @@ returns-clause-told g c = λ lines told regs shadow before.
     AreMadeTo-upto setup lines regs c.args.level c.positions.from (level_start (suc c.args.level)) c.positions.made.items inv.low inv.high
     (λ y low high. subst (λ s. names shape s y ≡ false) shadow (c.in_default.ensures y low (omega (arith, high, end_is c.args.level c.first_of_level-end.result c.first_of_level-end.ensures.value))))
     (inv.told lines told regs shadow before)
+
+-- ---- the plan
+
+pub returns-in_err-fix_node-clause-plan : goal.returns-in_err-fix_node-clause-plan
+returns-in_err-fix_node-clause-plan g c =
+    let place = (goal.at.returns-in_err-fix_node-clause-plan g c).In-Some in
+    let after : RecoveryParts = recovery_parts c.fix_node.new.made.items (counts_at g.S.Suite c.fix_node.new.suite) in
+    ended_err c.from_residual.result c.from_residual.ensures.1
+    (named_err (node_turn (setup_with g.S.Suite c.args.geo.now c.args.suite.now)) (shape_of c.args.geo.now) c.args.shadow.now c.positions.from (level_start (c.args.level + 1))
+    (before g place, c.positions.digests) c.positions.invariant.reached c.in-Some.x (first_here g place)
+    (mapped_follows _ _ (node_then g place (g.B.Board.device c.fix_node.new.board) (Err (after, the_cut)) c.in_err-fix_node.ensures.plan)))
+
+pub returns-clause-plan : goal.returns-clause-plan
+returns-clause-plan g c =
+    named_end (node_turn (setup_with g.S.Suite c.args.geo.now c.args.suite.now)) (shape_of c.args.geo.now) c.args.shadow.now c.positions.from (level_start (c.args.level + 1))
+    (recovery_parts c.positions.made.items (counts_at g.S.Suite c.positions.suite), c.positions.digests) c.positions.invariant.reached
+    (λ y low high. c.in_default.ensures y low (omega (arith, high, c.first_of_level-end.ensures.value)))

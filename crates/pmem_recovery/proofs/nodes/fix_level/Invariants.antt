@@ -8,7 +8,10 @@ use Rattle.pmem_recovery.specs.Upward.{AreMadeTo}
 use Rattle.board.specs.Counts.{RisesBy}
 use Rattle.commit_regs.specs.Groups.{RisesAtMost}
 use Rattle.pmem_recovery.specs.Reads.{sum_named, node_reads}
-use Rattle.pmem_recovery.specs.Parts.{setup_of, IfLinesTold, KeepsDevice, IsUncut, suite_state, SuiteWork}
+use Rattle.pmem_recovery.specs.Parts.{setup_of, IfLinesTold, KeepsDevice, IsUncut, suite_state, SuiteWork, setup_with}
+use Rattle.call_plan.specs.Plans.{for_each}
+use Rattle.call_plan.proofs.Loops.{HasReached}
+use Rattle.pmem_recovery.specs.Plans.{recovery_parts, counts_at, named_positions, node_turn, fixed_level_plan}
 use Rattle.pmem_recovery.proofs.nodes.fix_level.Given as goal
 
 abbrev pub invariant-positions : goal.invariant-positions
@@ -24,6 +27,11 @@ invariant-positions g l =
       exact_reads : IfLinesTold start.lines (λ lines. (regs : Regs) → l.shadow ≡ shadow_of shape lines
           → AreMadeTo setup lines regs l.level (level_start l.level) l.initial.made.items
           → RisesBy (sum_named shape l.shadow (node_reads shape l.shadow) (level_start l.level) l.from) start.reads now.reads);
+      reached :
+          HasReached
+          (fixed_level_plan (setup_with g.S.Suite l.geo l.initial.suite) l.shadow l.level (recovery_parts l.initial.made.items (counts_at g.S.Suite l.initial.suite))) start
+          (for_each (node_turn (setup_with g.S.Suite l.geo l.initial.suite)) (named_positions shape l.shadow l.from (level_start (l.level + 1)))
+          (recovery_parts l.made.items (counts_at g.S.Suite l.suite), l.digests)) now;
       low : level_start l.level ≤ l.from;
       high : l.from ≤ level_start (suc l.level);
       counted : length l.made.items ≡ length l.initial.made.items + count_named shape l.shadow (level_start l.level) l.from;

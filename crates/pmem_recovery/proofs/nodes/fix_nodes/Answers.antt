@@ -1,4 +1,5 @@
-use Rattle.std.proofs.Common.{ℕ, Some, suc, ◌≡◌, ◌<◌, ◌≤◌, ◌+◌, ◌-◌, ◌*◌, List, sym, ap, subst, ◌∙◌, arith}
+use Rattle.std.proofs.Common.{ℕ, Result, Ok, Err, Some, suc, ◌≡◌, ◌<◌, ◌≤◌, ◌+◌, ◌-◌, ◌*◌, List, sym, ap, subst, ◌∙◌, arith}
+use Rattle.pmem_base.specs.declared.faults.Cut.{Cut}
 use Rattle.pmem_base.specs.declared.lines.Line.{Line}
 use Rattle.pmem_base.specs.declared.geometry.Geo.{Geo}
 use Rattle.pmem_base.specs.Geo.{shape_of}
@@ -8,7 +9,7 @@ use Rattle.bonsai_tree.proofs.Levels.{level_start-le}
 use Rattle.commit_regs.specs.Groups.{RisesAtMost}
 use Rattle.pmem_recovery.specs.Named.{count_named}
 use Rattle.pmem_recovery.specs.Upward.{AreMadeTo}
-use Rattle.pmem_recovery.specs.Parts.{setup_of}
+use Rattle.pmem_recovery.specs.Parts.{setup_of, setup_with}
 use Rattle.pmem_recovery.proofs.PartLaws.{KeepsDevice-then, IsUncut-then, RisesAtMost-both, SuiteWork-then, SuiteWorkAtMost-after, IsShape-geo, told_before}
 use Rattle.pmem_recovery.proofs.NamedLaws.{count_named-parts, count_named-within, count_named-small}
 use Rattle.board.specs.Counts.{RisesBy}
@@ -18,6 +19,13 @@ use Rattle.shadow_tables.specs.Entries.{shadow_of}
 use Rattle.pmem_recovery.specs.Reads.{sum_named, node_reads}
 use Rattle.pmem_recovery.proofs.ReadLaws.{levels_next}
 use Rattle.pmem_recovery.proofs.UpwardSteps.{AreMadeTo-next}
+use Rattle.board.specs.Device.{Device}
+use Rattle.call_plan.specs.Plans.{the_cut}
+use Rattle.call_plan.specs.Following.{Follows}
+use Rattle.call_plan.proofs.Steps.{ended_err}
+use Rattle.call_plan.proofs.Bind.{mapped_follows}
+use Rattle.call_plan.proofs.Loops.{turn_ok, turn_err, turns_end}
+use Rattle.pmem_recovery.specs.Plans.{RecoveryParts, recovery_parts, counts_at, fixed_level_plan}
 use Rattle.pmem_recovery.proofs.nodes.fix_nodes.Given.{Over}
 use Rattle.pmem_recovery.proofs.nodes.fix_nodes.Goals.{After-levels}
 use Rattle.pmem_recovery.proofs.nodes.fix_nodes.Goals as goal
@@ -72,6 +80,24 @@ module _ (g : Over) (c : After-levels g) where
       subst (λ keys. AreMadeTo (setup_of c.args.geo.now (g.S.Suite.formulas_of keys)) lines regs level (level_start level) c.upward.made.items) (sym inv.worked.keys)
       (AreMadeTo-next setup lines regs level c.upward.made.items below)
 
+  abbrev before : RecoveryParts
+  before = recovery_parts c.upward.made.items (counts_at g.S.Suite c.upward.suite)
+
+  more : c.upward.above < (shape_of c.args.geo.now).levels
+  more = omega (arith, c.upward-test.true, c.levels.ensures, c.levels-above-end.ensures)
+
+  -- the level's plan, at its level and under the keys as they were first
+  level_then : (new : Device) (end : Result (RecoveryParts × ℕ) (RecoveryParts × Cut))
+      → Follows (fixed_level_plan (setup_with g.S.Suite c.args.geo.now c.upward.suite) c.args.shadow.now (c.levels.result - 1 - c.upward.above) before)
+      (g.B.Board.device c.upward.board) new end
+      → Follows (fixed_level_plan (setup_with g.S.Suite c.args.geo.now c.args.suite.now) c.args.shadow.now ((shape_of c.args.geo.now).levels - 1 - c.upward.above) before)
+      (g.B.Board.device c.upward.board) new end
+  level_then new end it =
+      subst (λ n. Follows (fixed_level_plan (setup_with g.S.Suite c.args.geo.now c.args.suite.now) c.args.shadow.now (n - 1 - c.upward.above) before)
+      (g.B.Board.device c.upward.board) new end) c.levels.ensures
+      (subst (λ keys. Follows (fixed_level_plan (setup_of c.args.geo.now (g.S.Suite.formulas_of keys)) c.args.shadow.now (c.levels.result - 1 - c.upward.above) before)
+      (g.B.Board.device c.upward.board) new end) c.upward.invariant.worked.keys it)
+
 pub fix_level-requires-clause-room : goal.fix_level-requires-clause-room
 fix_level-requires-clause-room g c =
     let n = next_here g (goal.at.fix_level-requires-clause-room g c).After-levels in
@@ -112,6 +138,11 @@ upward-preserved g c =
           below_made g (goal.at.upward-preserved g c).After-levels lines told regs its_shadow before in
           levels_next shape shadow (node_reads shape shadow) (c.upward.above) level _ _ _ n.below n.again n.inside
           (inv.exact_reads lines told regs its_shadow before) (ok.exact_reads lines (told_before _ _ inv.read lines told) regs its_shadow start);
+      reached =
+          let place = (goal.at.upward-preserved g c).After-levels in
+          let after : RecoveryParts = recovery_parts c.fix_level.new.made.items (counts_at g.S.Suite c.fix_level.new.suite) in
+          turn_ok inv.reached (more g place)
+          (mapped_follows _ _ (level_then g place (g.B.Board.device c.fix_level.new.board) (Ok (after, c.in_ok-digests.field-0)) ok.plan));
       counted = omega (arith, ok.counted, inv.counted, n.parts, count);
       done = omega (arith, ok.digests, inv.done, n.parts, count);
       worked = SuiteWork-then 0 c.upward.digests 0 c.in_ok-digests.field-0 _ _ _ inv.worked ok.worked;
@@ -145,3 +176,17 @@ returns-clause-told g c = λ lines told regs its_shadow before.
     let top : (shape_of c.args.geo.now).levels - c.upward.above ≡ 0 = omega (arith, c.upward-test.false, c.levels-above-end.ensures) in
     subst (λ i. AreMadeTo setup lines regs i (level_start (suc i)) c.upward.made.items) top
     (c.upward.invariant.told lines told regs its_shadow before)
+
+-- ---- the plan
+
+pub returns-in_err-digests-clause-plan : goal.returns-in_err-digests-clause-plan
+returns-in_err-digests-clause-plan g c =
+    let place = (goal.at.returns-in_err-digests-clause-plan g c).After-levels in
+    let after : RecoveryParts = recovery_parts c.fix_level.new.made.items (counts_at g.S.Suite c.fix_level.new.suite) in
+    ended_err c.from_residual.result c.from_residual.ensures.1
+    (turn_err c.upward.invariant.reached (more g place)
+    (mapped_follows _ _ (level_then g place (g.B.Board.device c.fix_level.new.board) (Err (after, the_cut)) c.in_err-digests.ensures.plan)))
+
+pub returns-clause-plan : goal.returns-clause-plan
+returns-clause-plan g c =
+    turns_end c.upward.invariant.reached (omega (arith, c.upward-test.false, c.levels-above-end.ensures))

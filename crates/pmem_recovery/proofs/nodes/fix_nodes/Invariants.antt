@@ -8,7 +8,9 @@ use Rattle.pmem_recovery.specs.Upward.{AreMadeTo}
 use Rattle.board.specs.Counts.{RisesBy}
 use Rattle.commit_regs.specs.Groups.{RisesAtMost}
 use Rattle.pmem_recovery.specs.Reads.{sum_named, node_reads}
-use Rattle.pmem_recovery.specs.Parts.{setup_of, IfLinesTold, KeepsDevice, IsUncut, suite_state, SuiteWork}
+use Rattle.pmem_recovery.specs.Parts.{setup_of, IfLinesTold, KeepsDevice, IsUncut, suite_state, SuiteWork, setup_with}
+use Rattle.call_plan.proofs.Loops.{AreTurnsLeft}
+use Rattle.pmem_recovery.specs.Plans.{recovery_parts, counts_at, level_turn, nodes_plan}
 use Rattle.pmem_recovery.proofs.nodes.fix_nodes.Given as goal
 
 abbrev pub invariant-upward : goal.invariant-upward
@@ -25,6 +27,11 @@ invariant-upward g l =
       exact_reads : IfLinesTold start.lines (λ lines. (regs : Regs) → l.shadow ≡ shadow_of shape lines
           → AreMadeTo setup lines regs shape.levels (meta_lines shape) l.initial.made.items
           → RisesBy (sum_named shape l.shadow (node_reads shape l.shadow) (level_start (shape.levels - l.above)) (level_start shape.levels)) start.reads now.reads);
+      reached :
+          AreTurnsLeft
+          (nodes_plan (setup_with g.S.Suite l.geo l.initial.suite) l.shadow (recovery_parts l.initial.made.items (counts_at g.S.Suite l.initial.suite))) start
+          (level_turn (setup_with g.S.Suite l.geo l.initial.suite) l.shadow) l.above shape.levels
+          (recovery_parts l.made.items (counts_at g.S.Suite l.suite), l.digests) now;
       counted : length l.made.items ≡ length l.initial.made.items + count_named shape l.shadow (level_start (shape.levels - l.above)) (level_start shape.levels);
       done : l.digests ≡ 4 * count_named shape l.shadow (level_start (shape.levels - l.above)) (level_start shape.levels);
       worked : SuiteWork 0 l.digests

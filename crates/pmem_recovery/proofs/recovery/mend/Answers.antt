@@ -1,11 +1,11 @@
-use Rattle.std.proofs.Common.{◌≡◌, List, Some, length, sym, subst, ◌∙◌, arith}
+use Rattle.std.proofs.Common.{◌≡◌, Result, Ok, Err, List, Some, length, sym, subst, ◌∙◌, arith}
 use Rattle.std.proofs.lemmas.Result.{err_from_is_err_and}
 use Rattle.pmem_base.specs.declared.registers.Regs.{Regs}
 use Rattle.pmem_base.specs.Geo.{shape_of}
 use Rattle.pmem_base.specs.Layout.{shadow_lines, device_lines}
 use Rattle.pmem_recovery.specs.declared.faults.RecFault.TheVariants.{Cut}
 use Rattle.pmem_base.specs.declared.lines.Line.{Line}
-use Rattle.pmem_recovery.specs.Parts.{setup_of, suite_state, IsAllWork, StoppedWork}
+use Rattle.pmem_recovery.specs.Parts.{setup_of, suite_state, IsAllWork, StoppedWork, setup_with}
 use Rattle.board.specs.Counts.{RisesBy}
 use Rattle.commit_regs.specs.Groups.{RisesAtMost}
 use Rattle.shadow_tables.specs.Entries.{shadow_of}
@@ -14,8 +14,16 @@ use Rattle.pmem_recovery.proofs.WorkLaws.{stopped_cut}
 use Rattle.pmem_recovery.specs.Writing.{HasWrittenTo, HasWrittenSome, HasZeroedTo, HasZeroedSome}
 use Rattle.pmem_recovery.proofs.PartLaws.{IfErr-exit}
 use Rattle.pmem_recovery.proofs.MendingLaws.{IsMadeFor, made_writes-none, made_writes-some, made_writes-zeroed, made_writes-recovered, stopped-some, stopped-zeroed}
+use Rattle.pmem_base.specs.declared.faults.Cut.{Cut as PowerCut}
+use Rattle.call_plan.specs.Plans.{the_cut}
+use Rattle.call_plan.specs.Following.{Follows}
+use Rattle.call_plan.proofs.Steps.{ended_err}
+use Rattle.pmem_recovery.specs.declared.entries.Made.{Made}
+use Rattle.pmem_recovery.specs.declared.faults.RecFault.{RecFault}
+use Rattle.pmem_recovery.specs.Plans.{SuiteCounts, MadeLines, counts_at, making_plan, entries_plan, clear_plan}
+use Rattle.pmem_recovery.proofs.RecoveryPlans.{mend_refused, mend_unwritten, mend_uncleared, mend_done}
 use Rattle.pmem_recovery.proofs.recovery.mend.Given.{Over}
-use Rattle.pmem_recovery.proofs.recovery.mend.Goals.{In_ok-work, In_ok-write_made, In_err-write_made, In_err-clear_shadow, In_ok-clear_shadow}
+use Rattle.pmem_recovery.proofs.recovery.mend.Goals.{After-make_lines, After-write_made, After-clear_shadow, In_ok-work, In_ok-write_made, In_err-write_made, In_err-clear_shadow, In_ok-clear_shadow}
 use Rattle.pmem_recovery.proofs.recovery.mend.Goals as goal
 use Rattle.suite.specs.Setup.{Setup}
 
@@ -166,3 +174,81 @@ returns-clause-recovered g c =
     let place = goal.at.returns-clause-recovered g c in
     made_writes-recovered _ _ _ _ (g.B.Board.device c.write_made.new.board) _ _ _ c.in_ok-work.ensures.read (known g place.In_ok-work)
     (written_all g place.In_ok-write_made) (zeroed_all g place.In_ok-clear_shadow)
+
+-- ---- the plan
+
+-- by the registers of the board
+module _ (g : Over) (c : After-make_lines g) where
+  making_followed : (end : Result (SuiteCounts × MadeLines) (SuiteCounts × RecFault))
+      → Follows (making_plan (setup_with g.S.Suite c.args.geo.now c.args.suite.now) c.same-regs.result (counts_at g.S.Suite c.args.suite.now)) (g.B.Board.device c.args.board.now)
+      (g.B.Board.device c.make_lines.new.board) end
+      → Follows (making_plan (setup_with g.S.Suite c.args.geo.now c.args.suite.now) (g.B.Board.device c.args.board.now).regs (counts_at g.S.Suite c.args.suite.now))
+      (g.B.Board.device c.args.board.now) (g.B.Board.device c.make_lines.new.board) end
+  making_followed end it =
+      subst (λ (r : Regs). Follows (making_plan (setup_with g.S.Suite c.args.geo.now c.args.suite.now) r (counts_at g.S.Suite c.args.suite.now)) (g.B.Board.device c.args.board.now)
+      (g.B.Board.device c.make_lines.new.board) end) (c.same-regs.ensures ∙ c.regs.ensures) it
+
+pub returns-in_err-work-clause-plan : goal.returns-in_err-work-clause-plan
+returns-in_err-work-clause-plan g c =
+    let here = (goal.at.returns-in_err-work-clause-plan g c).After-make_lines in
+    let fault = c.in_err-work.field-0.0 in
+    let left : SuiteCounts × RecFault = (counts_at g.S.Suite c.make_lines.new.suite, fault) in
+    ended_err c.from_residual.result c.from_residual.ensures.1
+    (mend_refused (setup_with g.S.Suite c.args.geo.now c.args.suite.now) (g.B.Board.device c.args.board.now).regs (counts_at g.S.Suite c.args.suite.now) left
+    (making_followed g here (Err left) c.in_err-work.ensures.plan))
+
+module _ (g : Over) (c : In_ok-work g) where
+  abbrev after : SuiteCounts
+  after = counts_at g.S.Suite c.make_lines.new.suite
+
+  abbrev its_made : MadeLines
+  its_made = record { shadow = c.make_lines.new.room.shadow.items; made = c.make_lines.new.room.made.items; work = c.in_ok-work.work }
+
+-- what was made was written
+module _ (g : Over) (c : After-write_made g) where
+  entries_followed : (end : Result (Unit {0}) PowerCut)
+      → Follows (entries_plan (shape_of c.args.geo.now) c.deref.result.now) (g.B.Board.device c.make_lines.new.board) (g.B.Board.device c.write_made.new.board) end
+      → Follows (entries_plan (shape_of c.args.geo.now) c.make_lines.new.room.made.items) (g.B.Board.device c.make_lines.new.board) (g.B.Board.device c.write_made.new.board) end
+  entries_followed end it =
+      subst (λ (made : List Made). Follows (entries_plan (shape_of c.args.geo.now) made) (g.B.Board.device c.make_lines.new.board) (g.B.Board.device c.write_made.new.board) end)
+      c.deref.ensures.value it
+
+pub returns-in_err-write_made-clause-plan : goal.returns-in_err-write_made-clause-plan
+returns-in_err-write_made-clause-plan g c =
+    let first = (goal.at.returns-in_err-write_made-clause-plan g c).After-make_lines in
+    let made = (goal.at.returns-in_err-write_made-clause-plan g c).In_ok-work in
+    let here = (goal.at.returns-in_err-write_made-clause-plan g c).After-write_made in
+    ended_err c.from_residual-in_err-write_made.result c.from_residual-in_err-write_made.ensures.1
+    (mend_unwritten (setup_with g.S.Suite c.args.geo.now c.args.suite.now) (g.B.Board.device c.args.board.now).regs (counts_at g.S.Suite c.args.suite.now)
+    (after g made) (its_made g made) (making_followed g first (Ok (after g made, its_made g made)) c.in_ok-work.ensures.plan)
+    (entries_followed g here (Err the_cut) c.in_err-write_made.ensures.plan))
+
+-- and the shadow lines were cleared
+module _ (g : Over) (c : After-clear_shadow g) where
+  clearing_followed : (end : Result (Unit {0}) PowerCut)
+      → Follows (clear_plan (shape_of c.args.geo.now) c.deref-2.result.now) (g.B.Board.device c.write_made.new.board) (g.B.Board.device c.clear_shadow.new.board) end
+      → Follows (clear_plan (shape_of c.args.geo.now) c.make_lines.new.room.shadow.items) (g.B.Board.device c.write_made.new.board) (g.B.Board.device c.clear_shadow.new.board) end
+  clearing_followed end it =
+      subst (λ (s : List Line). Follows (clear_plan (shape_of c.args.geo.now) s) (g.B.Board.device c.write_made.new.board) (g.B.Board.device c.clear_shadow.new.board) end)
+      c.deref-2.ensures.value it
+
+pub returns-in_err-clear_shadow-clause-plan : goal.returns-in_err-clear_shadow-clause-plan
+returns-in_err-clear_shadow-clause-plan g c =
+    let first = (goal.at.returns-in_err-clear_shadow-clause-plan g c).After-make_lines in
+    let made = (goal.at.returns-in_err-clear_shadow-clause-plan g c).In_ok-work in
+    let second = (goal.at.returns-in_err-clear_shadow-clause-plan g c).After-write_made in
+    let here = (goal.at.returns-in_err-clear_shadow-clause-plan g c).After-clear_shadow in
+    ended_err c.from_residual-in_err-clear_shadow.result c.from_residual-in_err-clear_shadow.ensures.1
+    (mend_uncleared (setup_with g.S.Suite c.args.geo.now c.args.suite.now) (g.B.Board.device c.args.board.now).regs (counts_at g.S.Suite c.args.suite.now)
+    (after g made) (its_made g made) (making_followed g first (Ok (after g made, its_made g made)) c.in_ok-work.ensures.plan)
+    (entries_followed g second (Ok tt) c.in_ok-write_made.ensures.plan) (clearing_followed g here (Err the_cut) c.in_err-clear_shadow.ensures.plan))
+
+pub returns-clause-plan : goal.returns-clause-plan
+returns-clause-plan g c =
+    let first = (goal.at.returns-clause-plan g c).After-make_lines in
+    let made = (goal.at.returns-clause-plan g c).In_ok-work in
+    let second = (goal.at.returns-clause-plan g c).After-write_made in
+    let here = (goal.at.returns-clause-plan g c).After-clear_shadow in
+    mend_done (setup_with g.S.Suite c.args.geo.now c.args.suite.now) (g.B.Board.device c.args.board.now).regs (counts_at g.S.Suite c.args.suite.now)
+    (after g made) (its_made g made) (making_followed g first (Ok (after g made, its_made g made)) c.in_ok-work.ensures.plan)
+    (entries_followed g second (Ok tt) c.in_ok-write_made.ensures.plan) (clearing_followed g here (Ok tt) c.in_ok-clear_shadow.ensures.plan)

@@ -7,10 +7,13 @@ use Rattle.seal_ledger.specs.Ledger.{LedgerState}
 use Rattle.pmem_engine.specs.Engine.{EngineState}
 use Rattle.pmem_recovery.specs.declared.faults.RecFault.{RecFault}
 use Rattle.pmem_recovery.specs.declared.faults.RecFault.TheVariants.{Memory, Cut}
-use Rattle.pmem_recovery.specs.Parts.{setup_of, SuiteState, suite_state}
+use Rattle.pmem_recovery.specs.Parts.{setup_of, SuiteState, suite_state, setup_with}
 use Rattle.pmem_recovery.specs.Recovered.{Answer, HasRecovered}
 use Rattle.pmem_recovery.proofs.PartLaws.{IsShape-geo}
 use Rattle.pmem_recovery.proofs.RecoverLaws.{IsRecoveryRun, recovered_memory, recovered_interrupted, recovered_fault, recovered_ok}
+use Rattle.call_plan.specs.Following.{Follows}
+use Rattle.pmem_recovery.specs.Plans.{counts_at, redo_plan}
+use Rattle.pmem_recovery.proofs.RecoveryPlans.{redo_cut, redo_done, recover_cut, recover_stopped, recover_done}
 use Rattle.pmem_recovery.proofs.recovery.recover.Given.{Over}
 use Rattle.pmem_recovery.proofs.recovery.recover.Goals.{After-mend}
 use Rattle.pmem_recovery.proofs.recovery.recover.Goals as goal
@@ -35,7 +38,10 @@ returns-in_err-room g c =
 pub returns-in_err-finish : goal.returns-in_err-finish
 returns-in_err-finish g c =
     at_exit _ _ _ _ _ _ c.from_residual-in_err-finish.result Cut (err_from_is_err_and c.from_residual-in_err-finish.result c.from_residual-in_err-finish.ensures.1)
-    (recovered_interrupted _ _ _ _ _ (IsShape-geo c.args.geo.now) c.requires.size (g.met.B.Board.whole c.finish.new.board) c.requires.regs (λ none. false≢true (c.in_err-finish.ensures.empty none).0) c.in_err-finish.ensures.cut)
+    (recovered_interrupted _ _ _ _ _ (IsShape-geo c.args.geo.now) c.requires.size (g.met.B.Board.whole c.finish.new.board) c.requires.regs (λ none. false≢true (c.in_err-finish.ensures.empty none).0) c.in_err-finish.ensures.cut
+    (recover_cut (setup_with g.S.Suite c.args.geo.now c.args.suite.now) (g.B.Board.device c.args.board.now).regs (counts_at g.S.Suite c.args.suite.now)
+    (redo_cut (g.B.Board.device c.args.board.now).regs (g.B.Board.device c.args.board.now).regs.group.items
+    (λ none. false≢true (c.in_err-finish.ensures.empty none).0) c.in_err-finish.ensures.plan)))
 
 module _ (g : Over) (c : After-mend g) where
   abbrev setup : Setup
@@ -55,14 +61,27 @@ module _ (g : Over) (c : After-mend g) where
         few_reads = c.mend.ensures.few_reads;
       }
 
+  -- the group was redone
+  redo_followed : Follows (redo_plan (g.B.Board.device c.args.board.now).regs) (g.B.Board.device c.args.board.now) (g.B.Board.device c.finish.new.board) (Ok tt)
+  redo_followed =
+      redo_done (g.B.Board.device c.args.board.now).regs (g.B.Board.device c.args.board.now).regs.group.items
+      (λ none. ap (λ board. g.B.Board.device board) (c.in_ok-finish.ensures.empty none).1) c.in_ok-finish.ensures.plan
+
 pub returns-in_err-work : goal.returns-in_err-work
 returns-in_err-work g c =
     at_exit _ _ _ _ _ _ c.from_residual-in_err-work.result c.in_err-work.field-0.0 (err_from_is_err_and c.from_residual-in_err-work.result c.from_residual-in_err-work.ensures.1)
-    (recovered_fault _ (g.A.Audit.ledger c.args.audit.now) _ _ _ (run g (goal.at.returns-in_err-work g c).After-mend) _ _ c.in_err-work.field-0.0 c.in_err-work.ensures.stopped_reads c.in_err-work.ensures.stopped c.in_err-work.ensures.short c.in_err-work.ensures.stopped_work c.in_err-work.ensures.at_most)
+    (recovered_fault _ (g.A.Audit.ledger c.args.audit.now) _ _ _ (run g (goal.at.returns-in_err-work g c).After-mend) _ _ c.in_err-work.field-0.0
+    (recover_stopped (setup_with g.S.Suite c.args.geo.now c.args.suite.now) (g.B.Board.device c.args.board.now).regs (counts_at g.S.Suite c.args.suite.now)
+    (redo_followed g (goal.at.returns-in_err-work g c).After-mend) (g.B.Board.device c.finish.new.board).regs c.in_ok-finish.ensures.ok.regs
+    (counts_at g.S.Suite c.mend.new.suite) c.in_err-work.field-0.0 c.in_err-work.ensures.plan)
+    c.in_err-work.ensures.stopped_reads c.in_err-work.ensures.stopped c.in_err-work.ensures.short c.in_err-work.ensures.stopped_work c.in_err-work.ensures.at_most)
 
 pub returns : goal.returns
 returns g c =
     let place = (goal.at.returns g c).After-mend in
     let ok = c.in_ok-work.ensures in
     subst (λ (e : EngineState). HasRecovered (setup g place) (g.A.Audit.ledger c.args.audit.now) (g.B.Board.device c.args.board.now) (g.B.Board.device c.mend.new.board) (suite_state (g.S.Suite.keys c.args.suite.now) (g.S.Suite.pads c.args.suite.now) (g.S.Suite.tags c.args.suite.now) (g.S.Suite.digests c.args.suite.now)) (suite_state (g.S.Suite.keys c.mend.new.suite) (g.S.Suite.pads c.mend.new.suite) (g.S.Suite.tags c.mend.new.suite) (g.S.Suite.digests c.mend.new.suite)) (Ok (e, c.in_ok-work.work))) (sym c.new-4.ensures)
-    (recovered_ok _ (g.A.Audit.ledger c.args.audit.now) _ _ _ (run g place) _ _ c.in_ok-work.work ok.exact_reads ok.goes ok.recovered ok.all_work ok.worked ok.few_trials ok.few_digests)
+    (recovered_ok _ (g.A.Audit.ledger c.args.audit.now) _ _ _ (run g place) _ _ c.in_ok-work.work
+    (recover_done (setup_with g.S.Suite c.args.geo.now c.args.suite.now) (g.B.Board.device c.args.board.now).regs (counts_at g.S.Suite c.args.suite.now)
+    (redo_followed g place) (g.B.Board.device c.finish.new.board).regs c.in_ok-finish.ensures.ok.regs (counts_at g.S.Suite c.mend.new.suite) c.in_ok-work.work ok.plan)
+    ok.exact_reads ok.goes ok.recovered ok.all_work ok.worked ok.few_trials ok.few_digests)

@@ -1,5 +1,15 @@
 -- The begin is cut, or done.
-use Rattle.std.proofs.Common.{◌≡◌, ◌≤◌, Ok, Err, sym, ap, subst, subst₂, ◌∙◌}
+use Rattle.std.proofs.Common.{ℕ, ◌≡◌, ◌≤◌, Result, Ok, Err, refl, sym, ap, subst, subst₂, ◌∙◌}
+use Rattle.pmem_base.specs.declared.faults.Cut.{Cut}
+use Rattle.pmem_base.specs.declared.registers.Regs.{Regs}
+use Rattle.call_plan.specs.Following.{Follows}
+use Rattle.call_plan.specs.Plans.{mapped_end}
+use Rattle.bonsai_tree.specs.Paths.{root_with}
+use Rattle.pmem_engine.specs.Outcomes.{fault_of_cut}
+use Rattle.pmem_engine.specs.Plans.{Chip, chip_of, chip_at}
+use Rattle.pmem_engine.specs.SealPlans.{commit_begin_plan, begin_page_plan, with_path_digests}
+use Rattle.pmem_engine.proofs.PlannedCalls.Chips.{same_chip, ended_with_err}
+use Rattle.pmem_engine.proofs.PlannedCalls.SealPlans.{lines_over, root_over, begin_end}
 use Rattle.pmem_base.specs.Counts.{risen_times}
 use Rattle.suite.specs.Setup.{Setup}
 use Rattle.plain_model.specs.Bounds.{path_length}
@@ -107,3 +117,61 @@ returns-clause-rolled g c =
     c.self.view_is c.next_path-path.ensures.lines
     ∙ ap (path_with c.args.self.now.shape (setup g end).formulas (cached_line c.args.self.now.shape c.args.self.now.cache) c.args.page)
     (block_is g end))
+
+-- ---- the plan
+
+module _ (g : Over) (c : After-commit_begin g) where
+  abbrev was : Chip
+  was = chip_at g.S.Suite g.A.Audit c.args.self.now c.args.suite.now c.args.audit.now
+
+  abbrev made : ℕ
+  made = risen_times (path_length c.args.self.now.shape) (g.S.Suite.digests c.args.suite.now)
+
+  abbrev after : Chip
+  after = chip_of c.commit_begin.new.self (new g c).ledger (g.S.Suite.tags c.args.suite.now) made
+
+  lines_are : c.next_path-path.result.lines.items ≡ lines_over (setup g c) was c.args.page c.pack-block.result
+  lines_are =
+      subst
+      (λ (e : EngineState). c.next_path-path.result.lines.items
+      ≡ path_with e.shape (setup g c).formulas (cached_line e.shape e.cache) c.args.page c.pack-block.result)
+      c.self.view_is c.next_path-path.ensures.lines
+
+  root_is : c.next_path-path.result.root ≡ root_over (setup g c) was c.args.page c.pack-block.result
+  root_is =
+      subst
+      (λ (e : EngineState). c.next_path-path.result.root
+      ≡ root_with e.shape (setup g c).formulas (cached_line e.shape e.cache) c.args.page c.pack-block.result)
+      c.self.view_is c.next_path-path.ensures.root
+
+  after_is : after ≡ chip_at g.S.Suite g.A.Audit c.commit_begin.new.self c.next_path-path.new.suite c.commit_begin.new.audit
+  after_is =
+      sym (same_chip c.commit_begin.new.self (refl {a = (new g c).ledger}) c.next_path-path.ensures.tags
+      (c.next_path-path.ensures.digests
+      ∙ ap (λ (e : EngineState). risen_times (path_length e.shape) (g.S.Suite.digests c.args.suite.now)) c.self.view_is))
+
+  its_end : (end : Result (Chip × Regs) (Chip × Cut))
+      → Follows (commit_begin_plan c.args.self.now.shape c.args.page c.in_ok-block.register c.pack-block.result c.next_path-path.result.lines.items
+      c.next_path-path.result.root (old g c).device.regs (with_path_digests c.args.self.now.shape was)) (old g c).device (new g c).device end
+      → Follows (begin_page_plan (setup g c) c.args.page (old g c).device.regs was) (old g c).device (new g c).device
+      (mapped_end (λ left. (left.0, fault_of_cut left.1)) (λ end. end) end)
+  its_end =
+      begin_end (setup g c) c.args.page (old g c).device.regs was c.in_ok-block.register c.pack-block.result c.next_path-path.result.lines.items
+      c.next_path-path.result.root (register_is g c) (block_is g c) lines_are root_is
+
+pub returns-in_err-commit_begin-clause-plan : goal.returns-in_err-commit_begin-clause-plan
+returns-in_err-commit_begin-clause-plan g c =
+    let end : After-commit_begin g = (goal.at.returns-in_err-commit_begin-clause-plan g c).After-commit_begin in
+    ended_with_err (new g end).device.regs c.from_residual-in_err-commit_begin.result c.from_residual-in_err-commit_begin.ensures.1
+    (subst (λ (chip : Chip). Follows (begin_page_plan (setup g end) c.args.page (old g end).device.regs (was g end)) (old g end).device
+    (new g end).device (Err (chip, Fail.Cut))) (after_is g end)
+    (its_end g end (Err (after g end, c.in_err-commit_begin.field-0.0))
+    (c.in_err-commit_begin.ensures.plan (g.S.Suite.tags c.args.suite.now) (made g end))))
+
+pub returns-clause-plan : goal.returns-clause-plan
+returns-clause-plan g c =
+    let end : After-commit_begin g = (goal.at.returns-clause-plan g c).After-commit_begin in
+    subst (λ (chip : Chip). Follows (begin_page_plan (setup g end) c.args.page (old g end).device.regs (was g end)) (old g end).device
+    (new g end).device (Ok (chip, (new g end).device.regs))) (after_is g end)
+    (its_end g end (Ok (after g end, (new g end).device.regs))
+    (c.in_ok-commit_begin.ensures.plan (g.S.Suite.tags c.args.suite.now) (made g end)))

@@ -1,5 +1,5 @@
 -- The plan of a seal's commit: its group was armed, told and finished, or a cut came before.
-use Rattle.std.proofs.Common.{◌≡◌, ◌∙◌, ap}
+use Rattle.std.proofs.Common.{◌∙◌, ap}
 use Rattle.pmem_base.specs.declared.registers.Regs.{Regs}
 use Rattle.pmem_base.specs.declared.answers.Mark.TheVariants.{Seal}
 use Rattle.pmem_base.specs.Shape.{Shape}
@@ -27,4 +27,4 @@ returns-clause-plan g c =
     (armed_is shape next c.set.new.self c.put_seal.new.regs c.put_seal.ensures.line_done c.put_seal.ensures.group
     ∙ ap (λ (regs : Regs). armed shape next regs) (c.set.ensures ∙ c.regs.ensures))
     (noted_is before (g.A.Audit.ledger c.note_seal.new.self) (Seal next.at next.ctr next.cipher next.tag) c.note_seal.ensures.mark)
-    c.in_ok-arm.ensures.ok c.finish_armed.ensures.plan
+    c.in_ok-arm.ensures.ok c.finish_armed.ensures.ok c.finish_armed.ensures.plan

@@ -6,9 +6,8 @@ use Rattle.pmem_engine.specs.Writing.{register_to_finish}
 use Rattle.pmem_engine.proofs.PageLines.FinishedFirst.{on_ok, closed_for}
 use Rattle.pmem_base.specs.declared.registers.Regs.{Regs}
 use Rattle.board.specs.Device.{Device}
-use Rattle.call_plan.specs.Plans.{ended}
 use Rattle.call_plan.specs.Following.{Follows}
-use Rattle.pmem_engine.specs.Plans.{Chip, chip_at}
+use Rattle.pmem_engine.specs.Plans.{Chip, chip_at, ended_with}
 use Rattle.pmem_engine.specs.WritePlans.{finish_for_plan}
 use Rattle.pmem_engine.proofs.PlannedCalls.FinishPlans.{none_finished, found_finished, one_found, none_found}
 use Rattle.pmem_engine.proofs.engine.Engine.finish_for.Goals as goal
@@ -32,7 +31,8 @@ returns-in-Some-clause-plan g c =
     let was : Chip = chip_at g.S.Suite g.A.Audit c.args.self.now c.args.suite.now c.args.audit.now in
     let after : Chip = chip_at g.S.Suite g.A.Audit c.args.self.now c.finish_page.new.suite c.finish_page.new.audit in
     subst (λ overflows. Follows (finish_for_plan setup c.args.page overflows regs was) (g.B.Board.device c.args.board.now)
-    (g.B.Board.device c.finish_page.new.board) (ended c.finish_page.result after)) (sym c.if-not-overflows.false)
+    (g.B.Board.device c.finish_page.new.board)
+    (ended_with c.finish_page.result after (g.B.Board.device c.finish_page.new.board).regs)) (sym c.if-not-overflows.false)
     (found_finished setup c.args.page regs was (Some c.in-Some.n)
     (ap (λ regs. register_to_finish regs.progress.items c.args.page) (sym c.regs.ensures) ∙ sym c.in-Some.ensures.found)
     (one_found setup c.args.page regs was c.in-Some.n c.finish_page.ensures.plan))
@@ -42,7 +42,7 @@ returns-in-None-clause-plan g c =
     let setup : Setup = setup_at g.S.Suite c.args.self.now c.args.suite.now in
     let before : Device = g.B.Board.device c.args.board.now in
     let was : Chip = chip_at g.S.Suite g.A.Audit c.args.self.now c.args.suite.now c.args.audit.now in
-    subst (λ overflows. Follows (finish_for_plan setup c.args.page overflows before.regs was) before before (Ok (was, tt)))
+    subst (λ overflows. Follows (finish_for_plan setup c.args.page overflows before.regs was) before before (Ok (was, before.regs)))
     (sym c.if-not-overflows.false)
     (found_finished setup c.args.page before.regs was None
     (ap (λ regs. register_to_finish regs.progress.items c.args.page) (sym c.regs.ensures) ∙ sym c.in-None.ensures.found)
@@ -53,5 +53,5 @@ returns-then-not-overflows-clause-plan g c =
     let setup : Setup = setup_at g.S.Suite c.args.self.now c.args.suite.now in
     let before : Device = g.B.Board.device c.args.board.now in
     let was : Chip = chip_at g.S.Suite g.A.Audit c.args.self.now c.args.suite.now c.args.audit.now in
-    subst (λ overflows. Follows (finish_for_plan setup c.args.page overflows before.regs was) before before (Ok (was, tt)))
+    subst (λ overflows. Follows (finish_for_plan setup c.args.page overflows before.regs was) before before (Ok (was, before.regs)))
     (sym c.if-not-overflows.true) (none_finished setup c.args.page before.regs was before)

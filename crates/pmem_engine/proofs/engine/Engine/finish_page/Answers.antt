@@ -11,13 +11,11 @@ use Rattle.pmem_engine.proofs.CallEnds.ErrorAnswers.{is_err_of}
 use Rattle.pmem_engine.proofs.PageLines.PageFinishes.{first_none, first_more, finished, still_usable}
 use Rattle.pmem_engine.proofs.PageLines.PageStops.{unfinished}
 use Rattle.pmem_engine.proofs.PostedWrites.WritePremises.{few_left}
-use Rattle.pmem_base.specs.declared.registers.Regs.{Regs}
 use Rattle.call_plan.specs.Following.{Follows}
-use Rattle.call_plan.proofs.Steps.{ended_err}
-use Rattle.call_plan.proofs.Loops.{turns_start, turn_ok, turn_err, turns_end}
-use Rattle.pmem_engine.specs.Plans.{Chip, chip_at, register_at, reseal_plan}
-use Rattle.pmem_engine.specs.WritePlans.{finish_turn}
-use Rattle.pmem_engine.proofs.PlannedCalls.FinishPlans.{next_regs, turn_done, turn_stopped, page_finished, page_unfinished}
+use Rattle.call_plan.proofs.Loops.{turn_ok, turn_err, turns_end}
+use Rattle.pmem_engine.specs.Plans.{chip_at, reseal_plan}
+use Rattle.pmem_engine.proofs.PlannedCalls.Chips.{ended_with_err}
+use Rattle.pmem_engine.proofs.PlannedCalls.FinishPlans.{next_regs, turn_done, turn_stopped, page_start}
 use Rattle.pmem_engine.proofs.engine.Engine.finish_page.Given.{Over}
 use Rattle.pmem_engine.proofs.engine.Engine.finish_page.Goals.{After-left-lines}
 use Rattle.pmem_engine.proofs.engine.Engine.finish_page.Goals as goal
@@ -53,8 +51,8 @@ lines-init g c =
     record {
       resealed = first_none (setup g place) c.args.n (old g place) c.requires.usable.ready.valid_regs c.requires.register;
       reached =
-          turns_start (finish_turn (setup g place) c.args.n) (length (not_done (register_at (old g place).device.regs c.args.n)))
-          (chip_at g.S.Suite g.A.Audit c.args.self.now c.args.suite.now c.args.audit.now, (old g place).device.regs) (old g place).device;
+          page_start (setup g place) c.args.n (old g place).device.regs
+          (chip_at g.S.Suite g.A.Audit c.args.self.now c.args.suite.now c.args.audit.now) (old g place).device;
       capacity = refl;
       keys = refl;
     }
@@ -133,17 +131,15 @@ returns-in_err-reseal-clause-plan g c =
     let mid : Parts = at g place c.lines.board c.lines.suite c.lines.audit in
     let new : Parts = at g place c.reseal.new.board c.reseal.new.suite c.reseal.new.audit in
     let some : c.lines._line < length (not_done (register_in (old g place) c.args.n)) = omega (arith, c.lines-test.true, number g place) in
-    ended_err c.from_residual.result c.from_residual.ensures.1
-    (page_unfinished (setup g place) c.args.n (old g place).device.regs (chip_at g.S.Suite g.A.Audit c.args.self.now c.args.suite.now c.args.audit.now)
+    ended_with_err new.device.regs c.from_residual.result c.from_residual.ensures.1
     (turn_err c.lines.invariant.reached some
     (turn_stopped (setup g place) c.args.n mid.device.regs (chip_at g.S.Suite g.A.Audit c.args.self.now c.lines.suite c.lines.audit) c.lines._line
     (subst (λ keys. Follows (reseal_plan (record { shape = c.args.self.now.shape; formulas = g.S.Suite.formulas_of keys }) c.args.n mid.device.regs
     (chip_at g.S.Suite g.A.Audit c.args.self.now c.lines.suite c.lines.audit)) mid.device new.device
     (Err (chip_at g.S.Suite g.A.Audit c.args.self.now c.reseal.new.suite c.reseal.new.audit, c.in_err-reseal.field-0.0))) c.lines.invariant.keys
-    c.in_err-reseal.ensures.plan))))
+    c.in_err-reseal.ensures.plan)))
 
 pub returns-clause-plan : goal.returns-clause-plan
 returns-clause-plan g c =
     let place : After-left-lines g = (goal.at.returns-clause-plan g c).After-left-lines in
-    page_finished (setup g place) c.args.n (old g place).device.regs (chip_at g.S.Suite g.A.Audit c.args.self.now c.args.suite.now c.args.audit.now)
-    (turns_end c.lines.invariant.reached (omega (arith, c.lines-test.false, number g place)))
+    turns_end c.lines.invariant.reached (omega (arith, c.lines-test.false, number g place))

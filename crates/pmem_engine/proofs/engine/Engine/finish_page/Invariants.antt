@@ -4,8 +4,7 @@ use Rattle.pmem_base.specs.Registers.{not_done}
 use Rattle.call_plan.proofs.Loops.{AreTurnsLeft}
 use Rattle.pmem_engine.specs.Parts.{parts_at, setup_at}
 use Rattle.pmem_engine.specs.Plans.{chip_at, register_at}
-use Rattle.pmem_engine.specs.WritePlans.{finish_turn}
-use Rattle.pmem_engine.proofs.PlannedCalls.FinishPlans.{page_turns}
+use Rattle.pmem_engine.specs.WritePlans.{finish_turn, finish_page_plan}
 use Rattle.pmem_engine.specs.Finishing.{HasResealedFirst}
 use Rattle.pmem_engine.proofs.engine.Engine.finish_page.Given as goal
 
@@ -19,7 +18,7 @@ invariant-lines g l =
           (parts_at g.B.Board g.S.Suite g.A.Audit l.fn.self l.board l.suite l.audit);
       reached :
           AreTurnsLeft
-          (page_turns (setup_at g.S.Suite l.fn.self l.fn.suite) l.fn.n (g.B.Board.device l.fn.board).regs
+          (finish_page_plan (setup_at g.S.Suite l.fn.self l.fn.suite) l.fn.n (g.B.Board.device l.fn.board).regs
           (chip_at g.S.Suite g.A.Audit l.fn.self l.fn.suite l.fn.audit))
           (g.B.Board.device l.fn.board) (finish_turn (setup_at g.S.Suite l.fn.self l.fn.suite) l.fn.n) l._line
           (length (not_done (register_at (g.B.Board.device l.fn.board).regs l.fn.n)))

@@ -9,7 +9,6 @@ use Rattle.pmem_engine.specs.Outcomes.{fault_of_path, fault_of_line}
 use Rattle.pmem_engine.specs.Inner.{UpReadOutcome}
 use Rattle.pmem_engine.proofs.CallEnds.ErrorAnswers.{is_err_of}
 use Rattle.pmem_engine.proofs.CheckedReads.LineReads.{read_after_fetch, read_unfetched}
-use Rattle.pmem_base.specs.declared.lines.Ctr.{Ctr}
 use Rattle.pmem_base.specs.declared.registers.Regs.{Regs}
 use Rattle.pmem_base.specs.Shape.{Shape}
 use Rattle.pmem_base.specs.Layout.{page_of}
@@ -17,7 +16,7 @@ use Rattle.page_reencrypt.specs.Registers.{counter_of}
 use Rattle.call_plan.specs.Following.{Follows}
 use Rattle.call_plan.proofs.Steps.{ended_err}
 use Rattle.pmem_engine.specs.Inner.{cached_block}
-use Rattle.pmem_engine.specs.Plans.{Chip, chip_at, its_counter, fetch_path_plan, unseal_plan}
+use Rattle.pmem_engine.specs.Plans.{Chip, chip_at, its_counter, unseal_plan}
 use Rattle.pmem_engine.proofs.PlannedCalls.ReadPlans.{unfetched_read, unsealed_read, refused_read}
 use Rattle.pmem_engine.proofs.engine.Engine.read_line.Given.{Over}
 use Rattle.pmem_engine.proofs.engine.Engine.read_line.Goals.{After-counter-ctr}

@@ -1,5 +1,5 @@
 -- The tag line isn't read, or the seal is cut, or done.
-use Rattle.std.proofs.Common.{ℕ, ◌≡◌, ◌≤◌, ◌%◌, IsTrue, Ok, Err, sym, ap, subst, subst₂, ◌∙◌}
+use Rattle.std.proofs.Common.{ℕ, ◌≡◌, ◌≤◌, ◌%◌, IsTrue, Result, Ok, Err, refl, sym, ap, subst, subst₂, ◌∙◌}
 use Rattle.std.specs.Prelude.{◌↔◌}
 use Rattle.pmem_base.specs.declared.lines.Line.{Line}
 use Rattle.pmem_base.specs.declared.faults.Cut.{Cut}
@@ -8,6 +8,12 @@ use Rattle.pmem_base.specs.Counts.{risen, risen_times}
 use Rattle.pmem_base.specs.Layout as layout
 use Rattle.pmem_base.specs.Layout.{page_of}
 use Rattle.pmem_base.specs.Lines.{IsCtr}
+use Rattle.pmem_base.specs.declared.registers.Regs.{Regs}
+use Rattle.bonsai_tree.specs.Paths.{path_with, root_with}
+use Rattle.call_plan.specs.Plans.{mapped_end}
+use Rattle.call_plan.specs.Following.{Follows}
+use Rattle.call_plan.proofs.Steps.{ended_err}
+use Rattle.meta_path.specs.Blocks.{cached_line}
 use Rattle.suite.specs.Setup.{Setup}
 use Rattle.board.specs.Device.{Device, IsDevice}
 use Rattle.board.specs.Steps.{HasRead}
@@ -20,13 +26,17 @@ use Rattle.pmem_engine.specs.declared.resealing.NextSeal.{NextSeal}
 use Rattle.pmem_engine.specs.Engine.{EngineState}
 use Rattle.pmem_engine.specs.Outcomes.{NeverFalls}
 use Rattle.pmem_engine.specs.Parts.{Parts, parts_of}
+use Rattle.pmem_engine.specs.Plans.{Chip, chip_of, chip_at, with_tags}
+use Rattle.pmem_engine.specs.SealPlans.{commit_seal_plan, seal_next_plan, with_path_digests}
 use Rattle.pmem_engine.specs.Committing.{next_seal_of}
 use Rattle.pmem_engine.specs.Sealing.{next_counter_of, raised_block, HasSealCommitted, IsSealCut, HasSealedNext}
 use Rattle.pmem_engine.proofs.CallEnds.ErrorAnswers.{is_err_of}
 use Rattle.pmem_engine.proofs.Seals.NextPaths.{times_never_fall}
 use Rattle.pmem_engine.proofs.Seals.SealOutcomes.{seal_unread, some_steps, seal_exits}
+use Rattle.pmem_engine.proofs.PlannedCalls.Chips.{same_chip}
+use Rattle.pmem_engine.proofs.PlannedCalls.SealPlans.{due_is, lines_over, root_over, seal_unread as tag_line_unread, seal_end}
 use Rattle.pmem_engine.proofs.engine.Engine.seal_next.Given.{Over}
-use Rattle.pmem_engine.proofs.engine.Engine.seal_next.Goals.{After-commit_seal}
+use Rattle.pmem_engine.proofs.engine.Engine.seal_next.Goals.{After-next_path-path, After-commit_seal}
 use Rattle.pmem_engine.proofs.engine.Engine.seal_next.Goals as goal
 
 pub returns-in_err-tag_line-clause-sealed : goal.returns-in_err-tag_line-clause-sealed
@@ -148,3 +158,90 @@ returns-clause-sealed g c =
     c.next_path-path.result.lines.items c.next_path-path.result.root c.args.self.now c.commit_seal.new.self (mid g end)
     (new g end).device (old g end).ledger (new g end).ledger)
     (sealing g end) (block_is g end) c.in_ok-commit_seal.ensures.ok))
+
+-- ---- the plan
+
+module _ (g : Over) (c : After-next_path-path g) where
+  abbrev was : Chip
+  was = chip_at g.S.Suite g.A.Audit c.args.self.now c.args.suite.now c.args.audit.now
+
+  abbrev made : ℕ
+  made = risen_times (path_length c.args.self.now.shape) (g.S.Suite.digests c.args.suite.now)
+
+  digests_are : g.S.Suite.digests c.next_path-path.new.suite ≡ made
+  digests_are =
+      c.next_path-path.ensures.digests
+      ∙ ap (λ (e : EngineState). risen_times (path_length e.shape) (g.S.Suite.digests c.args.suite.now)) c.self.view_is
+
+pub returns-in_err-tag_line-clause-plan : goal.returns-in_err-tag_line-clause-plan
+returns-in_err-tag_line-clause-plan g c =
+    let here : After-next_path-path g = (goal.at.returns-in_err-tag_line-clause-plan g c).After-next_path-path in
+    let setup : Setup = record { shape = c.args.self.now.shape; formulas = g.S.Suite.formulas_of (g.S.Suite.keys c.args.suite.now) } in
+    let regs : Regs = (g.B.Board.device c.args.board.now).regs in
+    let ledger : LedgerState = g.A.Audit.ledger c.args.audit.now in
+    ended_err c.from_residual.result c.from_residual.ensures.1
+    (subst (λ (chip : Chip). Follows (seal_next_plan setup c.args.at c.args.plain.now regs (was g here)) (g.B.Board.device c.args.board.now)
+    (g.B.Board.device c.read_line.new.self) (Err (chip, c.in_err-tag_line.field-0.0)))
+    (sym (same_chip c.args.self.now (refl {a = ledger}) c.next_path-path.ensures.tags (digests_are g here)))
+    (tag_line_unread setup c.args.at c.args.plain.now regs (was g here) c.in_err-tag_line.ensures.cut c.in_err-tag_line.ensures.only_off))
+
+module _ (g : Over) (c : After-commit_seal g) where
+  abbrev start : Chip
+  start = chip_at g.S.Suite g.A.Audit c.args.self.now c.args.suite.now c.args.audit.now
+
+  abbrev digested : ℕ
+  digested = risen_times (path_length c.args.self.now.shape) (g.S.Suite.digests c.args.suite.now)
+
+  abbrev after : Chip
+  after = chip_of c.commit_seal.new.self (new g c).ledger (risen (g.S.Suite.tags c.args.suite.now)) digested
+
+  lines_are : c.next_path-path.result.lines.items ≡ lines_over (setup g c) start (page_of c.args.at) c.next_counter.result.1
+  lines_are =
+      subst
+      (λ (e : EngineState). c.next_path-path.result.lines.items
+      ≡ path_with e.shape (setup g c).formulas (cached_line e.shape e.cache) (page_of c.args.at) c.next_counter.result.1)
+      c.self.view_is c.next_path-path.ensures.lines
+
+  root_is : c.next_path-path.result.root ≡ root_over (setup g c) start (page_of c.args.at) c.next_counter.result.1
+  root_is =
+      subst
+      (λ (e : EngineState). c.next_path-path.result.root
+      ≡ root_with e.shape (setup g c).formulas (cached_line e.shape e.cache) (page_of c.args.at) c.next_counter.result.1)
+      c.self.view_is c.next_path-path.ensures.root
+
+  after_is : after ≡ chip_at g.S.Suite g.A.Audit c.commit_seal.new.self c.next_seal-next.new.suite c.commit_seal.new.audit
+  after_is =
+      sym (same_chip c.commit_seal.new.self (refl {a = (new g c).ledger}) (c.next_seal-next.ensures.tags ∙ ap risen c.next_path-path.ensures.tags)
+      (c.next_seal-next.ensures.digests ∙ c.next_path-path.ensures.digests
+      ∙ ap (λ (e : EngineState). risen_times (path_length e.shape) (g.S.Suite.digests c.args.suite.now)) c.self.view_is))
+
+  its_end : (end : Result (Chip × Regs) (Chip × Cut))
+      → Follows (commit_seal_plan c.args.self.now.shape c.next_seal-next.result c.due-persisted.result c.next_counter.result.1
+      c.next_path-path.result.lines.items c.next_path-path.result.root (mid g c).regs
+      (with_tags (with_path_digests c.args.self.now.shape start) (risen start.tags))) (mid g c) (new g c).device end
+      → Follows (seal_next_plan (setup g c) c.args.at c.args.plain.now (old g c).device.regs start) (old g c).device (new g c).device
+      (mapped_end (λ left. left) (λ end. (end.0, next_counter_of (setup g c).shape c.args.self.now c.args.at)) end)
+  its_end end it =
+      seal_end (setup g c) c.args.at c.args.plain.now (old g c).device.regs start c.next_seal-next.result c.due-persisted.result
+      c.next_counter.result.1 c.next_path-path.result.lines.items c.next_path-path.result.root c.in_ok-tag_line.tag_line (sealing g c)
+      (due_is c.due-persisted.result _ (due g c)) (block_is g c) lines_are root_is (read g c) c.is_whole-2.ensures end
+      (subst (λ (regs : Regs). Follows (commit_seal_plan c.args.self.now.shape c.next_seal-next.result c.due-persisted.result c.next_counter.result.1
+      c.next_path-path.result.lines.items c.next_path-path.result.root regs
+      (with_tags (with_path_digests c.args.self.now.shape start) (risen start.tags))) (mid g c) (new g c).device end) (read g c).regs it)
+
+pub returns-in_err-commit_seal-clause-plan : goal.returns-in_err-commit_seal-clause-plan
+returns-in_err-commit_seal-clause-plan g c =
+    let end : After-commit_seal g = (goal.at.returns-in_err-commit_seal-clause-plan g c).After-commit_seal in
+    ended_err c.from_residual-in_err-commit_seal.result c.from_residual-in_err-commit_seal.ensures.1
+    (subst (λ (chip : Chip). Follows (seal_next_plan (setup g end) c.args.at c.args.plain.now (old g end).device.regs (start g end))
+    (old g end).device (new g end).device (Err (chip, c.in_err-commit_seal.field-0.0))) (after_is g end)
+    (its_end g end (Err (after g end, c.in_err-commit_seal.field-0.0))
+    (c.in_err-commit_seal.ensures.plan (risen (g.S.Suite.tags c.args.suite.now)) (digested g end))))
+
+pub returns-clause-plan : goal.returns-clause-plan
+returns-clause-plan g c =
+    let end : After-commit_seal g = (goal.at.returns-clause-plan g c).After-commit_seal in
+    subst₂ (λ (chip : Chip) (ctr : Ctr). Follows (seal_next_plan (setup g end) c.args.at c.args.plain.now (old g end).device.regs (start g end))
+    (old g end).device (new g end).device (Ok (chip, ctr))) (after_is g end) (sym (ctr g end))
+    (its_end g end (Ok (after g end, (new g end).device.regs))
+    (c.in_ok-commit_seal.ensures.plan (risen (g.S.Suite.tags c.args.suite.now)) (digested g end)))

@@ -10,7 +10,6 @@ use Rattle.pmem_engine.specs.Inner.{ended_by}
 use Rattle.board.specs.Device.{Device}
 use Rattle.call_plan.specs.Plans.{ended}
 use Rattle.call_plan.specs.Following.{Follows}
-use Rattle.call_plan.proofs.Steps.{ended_err}
 use Rattle.pmem_engine.specs.Plans.{Chip, chip_at, with_engine, turn_plan}
 use Rattle.pmem_engine.proofs.PlannedCalls.TurnPlans.{turn_down, turn_idle, turn_end}
 use Rattle.pmem_engine.proofs.CallEnds.ErrorAnswers.{is_err_of}

@@ -1,5 +1,5 @@
 -- Both lines were read; the tag is another one, or the audit stops, or the line is unsealed.
-use Rattle.std.proofs.Common.{◌≡◌, ◌≢◌, Some, Ok, Err, refl, sym, ap, subst, ◌∙◌}
+use Rattle.std.proofs.Common.{◌≡◌, ◌≢◌, Ok, Err, refl, sym, ap, subst, ◌∙◌}
 use Rattle.pmem_base.specs.declared.answers.Exhibit.TheVariants.{Forged}
 use Rattle.pmem_base.specs.Lines.{tag_slot}
 use Rattle.pmem_base.specs.Layout as layout
@@ -10,7 +10,6 @@ use Rattle.seal_ledger.specs.Notes.{HasExhibit}
 use Rattle.pmem_engine.specs.Parts.{parts_of, setup_at}
 use Rattle.pmem_engine.specs.Inner.{HasUnsealed}
 use Rattle.pmem_base.specs.declared.lines.Line.{Line}
-use Rattle.pmem_base.specs.Lines.{IsLine}
 use Rattle.pmem_base.specs.Marks.{last_seal}
 use Rattle.line_seal.specs.Seals.{unsealed}
 use Rattle.call_plan.specs.Following.{Follows}

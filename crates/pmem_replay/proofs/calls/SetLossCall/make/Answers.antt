@@ -1,6 +1,8 @@
 -- The engine's call, with its law.
 use Rattle.std.proofs.Common.{refl}
 use Rattle.seal_ledger.specs.View.{ledger_of}
+use Rattle.pmem_engine.specs.Plans.{Chip, chip_of}
+use Rattle.pmem_replay.proofs.Called.OfEngine.{of_engine}
 use Rattle.pmem_replay.proofs.Called.Lawful.{loss_lawful}
 use Rattle.pmem_replay.proofs.calls.SetLossCall.make.Goals as goal
 
@@ -8,4 +10,6 @@ pub returns-clause-made : goal.returns-clause-made
 returns-clause-made g c =
     let related = c.set_loss.ensures.set (record { shape = c.args.engine.now.shape; formulas = g.S.Suite.formulas_of (g.S.Suite.keys c.args.suite.now) })
     (ledger_of c.args.ledger.now) (g.S.Suite.tags c.args.suite.now) (g.S.Suite.digests c.args.suite.now) refl in
-    record { related = related; lawful = λ memory begun. loss_lawful _ c.args.self.now.n memory _ _ _ related begun }
+    let chip : Chip =
+    chip_of c.args.engine.now (ledger_of c.args.ledger.now) (g.S.Suite.tags c.args.suite.now) (g.S.Suite.digests c.args.suite.now) in
+    record { related = record { related = related; follows = of_engine chip c.set_loss.new.self c.set_loss.result c.set_loss.ensures.plan }; lawful = λ memory begun. loss_lawful _ c.args.self.now.n memory _ _ _ related begun }

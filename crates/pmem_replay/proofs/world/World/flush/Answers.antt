@@ -7,12 +7,13 @@ use Rattle.pmem_base.specs.declared.answers.Answer.TheVariants as Say
 use Rattle.suite.specs.Setup.{Setup}
 use Rattle.plain_model.specs.After.{after_clean}
 use Rattle.pmem_engine.specs.declared.fault.Fault.{Fault}
+use Rattle.pmem_replay.specs.Planned.{FlushesBlock}
 use Rattle.pmem_replay.specs.Called.{WasCalled, IsFaultAnswered}
 use Rattle.pmem_replay.specs.Replies.{without_marks}
 use Rattle.pmem_replay.specs.Stepped.{HasStepped}
 use Rattle.pmem_replay.specs.World.{WorldState, setup_of_world}
 use Rattle.pmem_replay.proofs.Called.CommandSteps.{Serving, serving}
-use Rattle.pmem_replay.proofs.Commands.FlushSteps.{FlushesBlock, same_shape, flush_clean_in, flush_clean_at, flush_clean, flushed_state, flush_flushed, flush_stopped}
+use Rattle.pmem_replay.proofs.Commands.FlushSteps.{same_shape, flush_clean_in, flush_clean_at, flush_clean, flushed_state, flush_flushed, flush_stopped}
 use Rattle.pmem_replay.proofs.world.World.flush.Given.{Over}
 use Rattle.pmem_replay.proofs.world.World.flush.Goals.{After-steps-steps}
 use Rattle.pmem_replay.proofs.world.World.flush.Goals as goal

@@ -4,11 +4,12 @@ use Rattle.std.specs.Prelude.{Result, drop, length}
 use Rattle.pmem_base.specs.declared.lines.Ctr.{Ctr}
 use Rattle.pmem_engine.specs.declared.fault.Fault.{Fault}
 use Rattle.pmem_engine.specs.Outcomes.{is_sealed_by}
+use Rattle.pmem_replay.specs.Planned.{WritesLine}
 use Rattle.pmem_replay.specs.Called.{WasCalled}
 use Rattle.access_log.specs.Traced.{traced_of}
 use Rattle.access_log.proofs.TraceLemmas.{goes_on-between}
 use Rattle.pmem_replay.specs.World.{WorldState, setup_of_world}
-use Rattle.pmem_replay.proofs.Drains.GivenWrites.{WritesLine, gives}
+use Rattle.pmem_replay.proofs.Drains.GivenWrites.{gives}
 use Rattle.pmem_replay.proofs.world.World.give.Goals as goal
 
 pub returns-in-Ok-clause-given : goal.returns-in-Ok-clause-given

@@ -8,12 +8,13 @@ use Rattle.pmem_base.specs.Layout as layout
 use Rattle.suite.specs.Setup.{Setup}
 use Rattle.plain_model.specs.Answers.{is_covered}
 use Rattle.pmem_engine.specs.declared.fault.Fault.{Fault}
+use Rattle.pmem_replay.specs.Planned.{ReadsLine}
 use Rattle.pmem_replay.specs.Called.{WasCalled, IsFaultAnswered}
 use Rattle.pmem_replay.specs.Replies.{without_marks}
 use Rattle.pmem_replay.specs.Stepped.{HasStepped}
 use Rattle.pmem_replay.specs.World.{setup_of_world}
 use Rattle.pmem_replay.proofs.Called.CommandSteps.{Serving, serving, can_stop}
-use Rattle.pmem_replay.proofs.Commands.ReadSteps.{ReadsLine, read_got, read_stopped}
+use Rattle.pmem_replay.proofs.Commands.ReadSteps.{read_got, read_stopped}
 use Rattle.pmem_replay.proofs.Drains.FenceLaws.{some_engine}
 use Rattle.pmem_replay.proofs.Table.ForwardedReads.{covered_by, uncovered_by, read-forwarded}
 use Rattle.pmem_replay.proofs.world.World.read.Given.{Over}

@@ -5,12 +5,13 @@ use Rattle.pmem_base.specs.declared.commands.Command.TheVariants as Do
 use Rattle.pmem_base.specs.declared.answers.Answer.TheVariants as Say
 use Rattle.suite.specs.Setup.{Setup}
 use Rattle.pmem_engine.specs.declared.fault.Fault.{Fault}
+use Rattle.pmem_replay.specs.Planned.{TurnsPage}
 use Rattle.pmem_replay.specs.Called.{WasCalled, IsFaultAnswered}
 use Rattle.pmem_replay.specs.Replies.{with_marks_since}
 use Rattle.pmem_replay.specs.Stepped.{HasStepped}
 use Rattle.pmem_replay.specs.World.{setup_of_world}
 use Rattle.pmem_replay.proofs.Called.CommandSteps.{Serving, serving_roomy}
-use Rattle.pmem_replay.proofs.Commands.TurnSteps.{TurnsPage, turn_idle, turn_turned, turn_stopped}
+use Rattle.pmem_replay.proofs.Commands.TurnSteps.{turn_idle, turn_turned, turn_stopped}
 use Rattle.pmem_replay.proofs.Steps.PartsOfWorld.{since}
 use Rattle.pmem_replay.proofs.world.World.turn.Given.{Over}
 use Rattle.pmem_replay.proofs.world.World.turn.Goals.{After-steps-steps}
