@@ -13,20 +13,22 @@ use Rattle.pmem_engine.specs.declared.fault.Fault.{Fault}
 use Rattle.pmem_engine.specs.declared.fault.Fault.TheVariants as Fail
 use Rattle.pmem_engine.specs.Parts.{Parts, AreTrusted, AreSound}
 use Rattle.pmem_engine.specs.Outcomes.{LeavesTrusted, LeavesSound}
-use Rattle.start_gap.specs.Gapped.{HasLines, IsUnspent}
+use Rattle.engine_lines.specs.Lines.{HasLines, IsUnspent}
+use Rattle.engine_lines.specs.Edits.{AreEdited, IsEditOf, all_edited}
 use Rattle.line_txn.specs.declared.store.Store.{Store}
 use Rattle.line_txn.specs.declared.store.Done.{Done}
 use Rattle.line_txn.specs.declared.store.Done.TheVariants as Do
 use Rattle.line_txn.specs.declared.store.CommitFault.{CommitFault}
-use Rattle.line_txn.specs.declared.edits.Edit.{Edit}
-use Rattle.line_txn.specs.declared.edits.Edit.TheVariants as Make
+use Rattle.engine_lines.specs.declared.edits.Edit.{Edit}
+use Rattle.engine_lines.specs.declared.edits.Edit.TheVariants as Make
 use Rattle.line_txn.specs.Header.{AreDistinctBelow, AreTargets, header_of}
 use Rattle.line_txn.specs.Logged.{CommitStage, logged, decided, cleared, lines_decided, commit_lines_at, with_header, targets_of, bodies_of}
-use Rattle.line_txn.specs.Edits.{AreEdited, IsEditOf, IsWholeTxn, all_edited, body_edits, target_edits, deciding_edits, applying_edits}
+use Rattle.line_txn.specs.Edits.{IsWholeTxn, body_edits, target_edits, deciding_edits, applying_edits}
 use Rattle.line_txn.specs.Store.{HasStoreCommitted, HasDecided, HasCommitGoneOn, IsServedAs, IsServedBy, IsCommitEnd, IsLeftLogged, IsSoundCommitAnswer, IsSpentUndecided, commit_answer_by, commit_outcome_by}
 use Rattle.line_txn.proofs.LoggedLaws.{whole_at_each_stage, zero_header}
-use Rattle.line_txn.proofs.EditLaws.{AfterEdits, CommitLeftTrusted, CommitLeftSound, trusted_after_edits, sound_after_edits, edits_leave, LeavesAll}
-use Rattle.line_txn.proofs.EditStages.{after_bodies, after_all_bodies, after_targets, after_all_targets, after_last, length-bodies, length-targets, StopsEditsBy, stops_by, deciding_fit, applying_fit}
+use Rattle.engine_lines.proofs.EditLaws.{AfterEdits, LeftTrusted, LeftSound, trusted_after_edits, sound_after_edits, edits_leave, LeavesAll}
+use Rattle.engine_lines.proofs.EditStages.{after_last, StopsEditsBy, stops_by}
+use Rattle.line_txn.proofs.EditStages.{after_bodies, after_all_bodies, after_targets, after_all_targets, length-bodies, length-targets, deciding_fit, applying_fit}
 
 -- ---- the lines
 
@@ -179,7 +181,7 @@ AfterCommit P E (Err fault) to = E fault.fault to
 
 -- where changes leave that, so does a commit
 pub commit_ends : (setup : Setup) (P : Parts → Type 0) (E : Fault → Parts → Type 0)
-    → ((edits : List Edit) (old new : Parts) (answer : Result (Unit {0}) Fault) → P old → AreEdited setup edits old new answer → AfterEdits P E answer new)
+    → ((edits : List Edit) (old new : Parts) (answer : Result (Unit {0}) Fault) → AreEdited setup edits old new answer → P old → AfterEdits P E answer new)
     → (txn : List (ℕ × Line)) (old new : Store) (from to : Parts) (answer : Result Done CommitFault) → P from
     → HasStoreCommitted setup txn old new from to answer → AfterCommit P E answer to
 commit_ends setup P E by_edits [] old new from to answer had it =
@@ -200,21 +202,19 @@ commit_ends setup P E by_edits (entry ∷ txn) old new from to answer had it = g
     go (Ok done) was then =
         subst (λ r. AfterCommit P E r to) (sym then.its_answer)
         (applied_ends then.applied
-        (by_edits (applying_edits old.lines (entry ∷ txn)) it.between to then.applied
-        (by_edits (deciding_edits old.lines (entry ∷ txn)) from it.between (Ok done) had was) then.was_applied))
+        (by_edits (applying_edits old.lines (entry ∷ txn)) it.between to then.applied then.was_applied
+        (by_edits (deciding_edits old.lines (entry ∷ txn)) from it.between (Ok done) was had)))
     go (Err fault) was then =
         subst (λ r. AfterCommit P E r to) (sym then.its_answer)
-        (subst (E fault) (sym then.nothing_else) (by_edits (deciding_edits old.lines (entry ∷ txn)) from it.between (Err fault) had was))
+        (subst (E fault) (sym then.nothing_else) (by_edits (deciding_edits old.lines (entry ∷ txn)) from it.between (Err fault) was had))
 
 pub commit_trusted : (setup : Setup) (txn : List (ℕ × Line)) (old new : Store) (from to : Parts) (answer : Result Done CommitFault)
     → HasStoreCommitted setup txn old new from to answer → AreTrusted setup from → LeavesTrusted setup (commit_outcome_by answer) to
 commit_trusted setup txn old new from to answer it trusted =
     go answer
-    (commit_ends setup (AreTrusted setup) (CommitLeftTrusted setup)
-    (λ edits here there done had was. trusted_after_edits setup edits here there done was had)
-    txn old new from to answer trusted it)
+    (commit_ends setup (AreTrusted setup) (LeftTrusted setup) (trusted_after_edits setup) txn old new from to answer trusted it)
   where
-    go : (answer : Result Done CommitFault) → AfterCommit (AreTrusted setup) (CommitLeftTrusted setup) answer to → LeavesTrusted setup (commit_outcome_by answer) to
+    go : (answer : Result Done CommitFault) → AfterCommit (AreTrusted setup) (LeftTrusted setup) answer to → LeavesTrusted setup (commit_outcome_by answer) to
     go (Ok Do.Applied) is = is
     go (Ok (Do.Stuck page)) is = is
     go (Err fault) is = is
@@ -223,11 +223,9 @@ pub commit_sound : (setup : Setup) (txn : List (ℕ × Line)) (old new : Store) 
     → HasStoreCommitted setup txn old new from to answer → AreSound setup from → LeavesSound setup (commit_outcome_by answer) to × IsSoundCommitAnswer answer
 commit_sound setup txn old new from to answer it sound =
     go answer
-    (commit_ends setup (AreSound setup) (CommitLeftSound setup)
-    (λ edits here there done had was. sound_after_edits setup edits here there done was had)
-    txn old new from to answer sound it)
+    (commit_ends setup (AreSound setup) (LeftSound setup) (sound_after_edits setup) txn old new from to answer sound it)
   where
-    go : (answer : Result Done CommitFault) → AfterCommit (AreSound setup) (CommitLeftSound setup) answer to
+    go : (answer : Result Done CommitFault) → AfterCommit (AreSound setup) (LeftSound setup) answer to
         → LeavesSound setup (commit_outcome_by answer) to × IsSoundCommitAnswer answer
     go (Ok Do.Applied) is = (is, tt)
     go (Ok (Do.Stuck page)) is = (is.0, tt)

@@ -5,8 +5,8 @@ use Rattle.std.proofs.lemmas.List.{map_more, take_more, length-map, length-take-
 use Rattle.std.proofs.lemmas.List.Elements.{All-push, All-same}
 use Rattle.pmem_base.specs.declared.lines.Line.{Line}
 use Rattle.pmem_base.specs.Lines.{IsLine}
-use Rattle.line_txn.specs.declared.edits.Edit.{Edit}
-use Rattle.line_txn.specs.declared.edits.Edit.TheVariants as Make
+use Rattle.engine_lines.specs.declared.edits.Edit.{Edit}
+use Rattle.engine_lines.specs.declared.edits.Edit.TheVariants as Make
 use Rattle.line_txn.specs.Logged.{bodies_of}
 use Rattle.line_txn.specs.Edits.{body_edits, copy_edits}
 

@@ -1,7 +1,6 @@
 pub mod Headers
 pub mod LoggedLaws
 pub mod EditLists
-pub mod EditLaws
 pub mod EditStages
 pub mod Commits
 pub mod Openings

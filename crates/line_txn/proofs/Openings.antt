@@ -12,22 +12,22 @@ use Rattle.pmem_engine.specs.declared.fault.Fault.TheVariants as Fail
 use Rattle.pmem_engine.specs.Engine.{EngineState}
 use Rattle.pmem_engine.specs.Parts.{Parts, AreTrusted, AreSound}
 use Rattle.pmem_engine.specs.Calls.{HasReadLine}
-use Rattle.start_gap.specs.Gapped.{HasLines, IsUnspent, IsCutOrSpent}
-use Rattle.start_gap.proofs.LevelledCalls.{least_lines}
-use Rattle.start_gap.proofs.EngineLines.{trusted_after_read, sound_after_read, lines_after_read, line_read}
-use Rattle.start_gap.proofs.LevelledEnds.{unrefused_fault}
+use Rattle.engine_lines.specs.declared.edits.Edit.TheVariants as Make
+use Rattle.engine_lines.specs.Lines.{HasLines, IsUnspent, IsCutOrSpent}
+use Rattle.engine_lines.specs.Edits.{AreEdited, IsEditOf, edited, all_edited}
+use Rattle.engine_lines.proofs.EngineLines.{least_lines, unrefused_fault, trusted_after_read, sound_after_read, lines_after_read, line_read}
 use Rattle.line_txn.specs.declared.store.Store.{Store}
 use Rattle.line_txn.specs.declared.store.Opened.{Opened}
 use Rattle.line_txn.specs.declared.store.TxnFault.{TxnFault}
 use Rattle.line_txn.specs.declared.store.TxnFault.TheVariants as Txn
-use Rattle.line_txn.specs.declared.edits.Edit.TheVariants as Make
 use Rattle.line_txn.specs.Header.{AreTargets, IsHeader}
 use Rattle.line_txn.specs.Logged.{IsLogged, Opening, partly, through, lines_opened, targets_opened, with_header}
-use Rattle.line_txn.specs.Edits.{AreEdited, IsEditOf, edited, all_edited, copy_edits, redoing_edits}
+use Rattle.line_txn.specs.Edits.{copy_edits, redoing_edits}
 use Rattle.line_txn.specs.Store.{logged_lines, HasStoreOpened, HasStoreStarted, HasTargetsRedone, HasFailedRedo, HasFoundNone, IsOpenedBy, IsOpenedTo, HasOpenedLogged, LeavesOpenedTrusted, LeavesOpenedSound}
 use Rattle.line_txn.proofs.LoggedLaws.{kept_by_opening, zero_header}
-use Rattle.line_txn.proofs.EditLaws.{AfterEdits, CommitLeftTrusted, CommitLeftSound, trusted_after_edits, sound_after_edits, edits_leave, LeavesAll}
-use Rattle.line_txn.proofs.EditStages.{after_copies, after_last, length-copy_edits, stops_by, redoing_fit}
+use Rattle.engine_lines.proofs.EditLaws.{AfterEdits, LeftTrusted, LeftSound, trusted_after_edits, sound_after_edits, edits_leave, LeavesAll}
+use Rattle.engine_lines.proofs.EditStages.{after_last, stops_by}
+use Rattle.line_txn.proofs.EditStages.{after_copies, length-copy_edits, redoing_fit}
 
 -- ---- the lines
 
@@ -168,13 +168,13 @@ module _ (setup : Setup) (lines : List Line) (size : logged_lines setup.shape + 
 -- ---- trusted and sound
 
 redone_trusted : (setup : Setup) (targets : List ℕ) (old new : Parts) (redone : Result (Unit {0}) Fault) → AreTrusted setup old
-    → HasTargetsRedone setup targets old new redone → AfterEdits (AreTrusted setup) (CommitLeftTrusted setup) redone new
+    → HasTargetsRedone setup targets old new redone → AfterEdits (AreTrusted setup) (LeftTrusted setup) redone new
 redone_trusted setup targets old new redone trusted it =
     trusted_after_edits setup (redoing_edits (logged_lines setup.shape) targets) it.between new redone it.was_redone
     (trusted_after_read setup (logged_lines setup.shape) old it.between (Ok it.line) it.was_read trusted)
 
 redone_sound : (setup : Setup) (targets : List ℕ) (old new : Parts) (redone : Result (Unit {0}) Fault) → AreSound setup old
-    → HasTargetsRedone setup targets old new redone → AfterEdits (AreSound setup) (CommitLeftSound setup) redone new
+    → HasTargetsRedone setup targets old new redone → AfterEdits (AreSound setup) (LeftSound setup) redone new
 redone_sound setup targets old new redone sound it =
     sound_after_edits setup (redoing_edits (logged_lines setup.shape) targets) it.between new redone it.was_redone
     (sound_after_read setup (logged_lines setup.shape) old it.between (Ok it.line) it.was_read sound).0
@@ -185,7 +185,7 @@ opened_trusted setup old now (Ok both) it trusted =
     go it.redone it.its_end (redone_trusted setup it.targets old (now both.0.engine) it.redone trusted it.was_redone)
   where
     go : (redone : Result (Unit {0}) Fault) → IsOpenedBy redone both.0.lines it.targets both.0 both.1
-        → AfterEdits (AreTrusted setup) (CommitLeftTrusted setup) redone (now both.0.engine) → AreTrusted setup (now both.0.engine)
+        → AfterEdits (AreTrusted setup) (LeftTrusted setup) redone (now both.0.engine) → AreTrusted setup (now both.0.engine)
     go (Ok done) by is = is
     go (Err (Fail.Spent page)) by is = is
     go (Err fault) by is = absurd by
@@ -216,7 +216,7 @@ opened_sound setup old now (Ok both) it sound =
     go it.redone it.its_end (redone_sound setup it.targets old (now both.0.engine) it.redone sound it.was_redone)
   where
     go : (redone : Result (Unit {0}) Fault) → IsOpenedBy redone both.0.lines it.targets both.0 both.1
-        → AfterEdits (AreSound setup) (CommitLeftSound setup) redone (now both.0.engine) → AreSound setup (now both.0.engine)
+        → AfterEdits (AreSound setup) (LeftSound setup) redone (now both.0.engine) → AreSound setup (now both.0.engine)
     go (Ok done) by is = is
     go (Err (Fail.Spent page)) by is = is.0
     go (Err fault) by is = absurd by

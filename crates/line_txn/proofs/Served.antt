@@ -9,8 +9,8 @@ use Rattle.suite.specs.Setup.{Setup}
 use Rattle.pmem_engine.specs.declared.fault.Fault.{Fault}
 use Rattle.pmem_engine.specs.Parts.{Parts, AreTrusted}
 use Rattle.pmem_engine.specs.Calls.{HasReadLine}
-use Rattle.start_gap.specs.Gapped.{HasLines}
-use Rattle.start_gap.proofs.EngineLines.{line_read}
+use Rattle.engine_lines.specs.Lines.{HasLines}
+use Rattle.engine_lines.proofs.EngineLines.{line_read}
 use Rattle.line_txn.specs.Logged.{IsLogged, IsReadFrom}
 use Rattle.line_txn.specs.Serving.{body_or_place, served_from}
 use Rattle.line_txn.proofs.LoggedLaws.{read_from}

@@ -12,7 +12,8 @@ use Rattle.pmem_engine.specs.Engine.{EngineState}
 use Rattle.pmem_engine.specs.Parts.{Parts, AreTrusted, AreSound}
 use Rattle.pmem_engine.specs.Outcomes.{Outcome, going, outcome_of_fault, LeavesTrusted, LeavesSound}
 use Rattle.pmem_engine.specs.Calls.{HasReadLine}
-use Rattle.start_gap.specs.Gapped.{HasLines, IsUnspent, IsCutOrSpent}
+use Rattle.engine_lines.specs.Lines.{HasLines, IsUnspent, IsCutOrSpent}
+use Rattle.engine_lines.specs.Edits.{AreEdited}
 use Rattle.line_txn.specs.declared.store.Store.{Store}
 use Rattle.line_txn.specs.declared.store.Opened.{Opened}
 use Rattle.line_txn.specs.declared.store.Done.{Done}
@@ -22,7 +23,7 @@ use Rattle.line_txn.specs.declared.store.TxnFault.{TxnFault}
 use Rattle.line_txn.specs.declared.store.TxnFault.TheVariants as Txn
 use Rattle.line_txn.specs.Header.{IsHeader}
 use Rattle.line_txn.specs.Logged.{IsLogged, CommitStage, logged, decided, cleared, commit_lines_at, targets_at, commit_memory_at, targets_of, Opening, lines_opened, targets_opened}
-use Rattle.line_txn.specs.Edits.{AreEdited, deciding_edits, applying_edits, redoing_edits}
+use Rattle.line_txn.specs.Edits.{deciding_edits, applying_edits, redoing_edits}
 
 -- the data lines of a memory: its last 16 lines are the log
 abbrev pub logged_lines : Shape → ℕ

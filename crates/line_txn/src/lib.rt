@@ -7,7 +7,6 @@ mod header;
 mod laws;
 mod store;
 
-pub use edits::Edit;
 pub use header::{header_line, read_header};
 pub use laws::{headers_name_one_list, transactions_are_whole, zero_lines_are_logged};
 pub use store::{CommitFault, Done, Opened, Store, TxnFault};

@@ -4,18 +4,19 @@ ghost use Rattle.pmem_base.specs.declared.lines.Line.{Line};
 ghost use Rattle.pmem_base.specs.Layout.{data_lines};
 ghost use Rattle.pmem_base.specs.Lines.{line_at};
 ghost use Rattle.pmem_engine.specs.Engine.{EngineState};
-ghost use Rattle.pmem_engine.specs.Parts.{parts_of, AreTrusted, AreSound};
+ghost use Rattle.pmem_engine.specs.Parts.{AreTrusted, AreSound, setup_at, parts_at};
 ghost use Rattle.pmem_engine.specs.Outcomes.{LeavesTrusted, LeavesSound};
 ghost use Rattle.pmem_engine.specs.Calls.{IsUsable, HasReadLine};
-ghost use Rattle.start_gap.specs.Gapped.{HasLines};
+ghost use Rattle.engine_lines.specs.Lines.{HasLines};
 ghost use Rattle.line_txn.specs.Header.{AreTargets, AreDistinctBelow};
 ghost use Rattle.line_txn.specs.Logged.{IsLogged, targets_of};
 ghost use Rattle.seal_ledger.specs.Notes.{HasRoom};
 
-use crate::edits::{applying, deciding, edit_all, redoing, targets_in};
+use crate::edits::{applying, deciding, redoing, targets_in};
 use crate::header::read_header;
 use arrayvec::ArrayVec;
 use board::Board;
+use engine_lines::edit_all;
 use pmem_base::Line;
 use pmem_engine::{Engine, Fault};
 use seal_ledger::Audit;
@@ -82,24 +83,24 @@ impl Store {
     ) -> Result<(Store, Opened), TxnFault>
         requires room { HasRoom (A.ledger audit.old) (A.capacity audit.old) 1056 }
         requires usable { IsUsable engine.shape engine (B.device board.old) (A.ledger audit.old) }
-        ensures opened { HasStoreOpened (record { shape = engine.shape; formulas = S.formulas_of (S.keys suite.old) })
-            (parts_of engine (B.device board.old) (A.ledger audit.old) (S.tags suite.old) (S.digests suite.old))
-            (λ now. parts_of now (B.device board.new) (A.ledger audit.new) (S.tags suite.new) (S.digests suite.new)) result }
-        ensures logged { AreTrusted (record { shape = engine.shape; formulas = S.formulas_of (S.keys suite.old) })
-            (parts_of engine (B.device board.old) (A.ledger audit.old) (S.tags suite.old) (S.digests suite.old))
+        ensures opened { HasStoreOpened (setup_at S.Suite engine suite.old)
+            (parts_at B.Board S.Suite A.Audit engine board.old suite.old audit.old)
+            (λ now. parts_at B.Board S.Suite A.Audit now board.new suite.new audit.new) result }
+        ensures logged { AreTrusted (setup_at S.Suite engine suite.old)
+            (parts_at B.Board S.Suite A.Audit engine board.old suite.old audit.old)
             → (lines : List Line)
-            → HasLines (record { shape = engine.shape; formulas = S.formulas_of (S.keys suite.old) }) lines
-            (parts_of engine (B.device board.old) (A.ledger audit.old) (S.tags suite.old) (S.digests suite.old))
-            → HasOpenedLogged (record { shape = engine.shape; formulas = S.formulas_of (S.keys suite.old) }) lines
-            (λ now. parts_of now (B.device board.new) (A.ledger audit.new) (S.tags suite.new) (S.digests suite.new)) result }
-        ensures trusted { AreTrusted (record { shape = engine.shape; formulas = S.formulas_of (S.keys suite.old) })
-            (parts_of engine (B.device board.old) (A.ledger audit.old) (S.tags suite.old) (S.digests suite.old))
-            → LeavesOpenedTrusted (record { shape = engine.shape; formulas = S.formulas_of (S.keys suite.old) })
-            (λ now. parts_of now (B.device board.new) (A.ledger audit.new) (S.tags suite.new) (S.digests suite.new)) result }
-        ensures sound { AreSound (record { shape = engine.shape; formulas = S.formulas_of (S.keys suite.old) })
-            (parts_of engine (B.device board.old) (A.ledger audit.old) (S.tags suite.old) (S.digests suite.old))
-            → LeavesOpenedSound (record { shape = engine.shape; formulas = S.formulas_of (S.keys suite.old) })
-            (λ now. parts_of now (B.device board.new) (A.ledger audit.new) (S.tags suite.new) (S.digests suite.new)) result }
+            → HasLines (setup_at S.Suite engine suite.old) lines
+            (parts_at B.Board S.Suite A.Audit engine board.old suite.old audit.old)
+            → HasOpenedLogged (setup_at S.Suite engine suite.old) lines
+            (λ now. parts_at B.Board S.Suite A.Audit now board.new suite.new audit.new) result }
+        ensures trusted { AreTrusted (setup_at S.Suite engine suite.old)
+            (parts_at B.Board S.Suite A.Audit engine board.old suite.old audit.old)
+            → LeavesOpenedTrusted (setup_at S.Suite engine suite.old)
+            (λ now. parts_at B.Board S.Suite A.Audit now board.new suite.new audit.new) result }
+        ensures sound { AreSound (setup_at S.Suite engine suite.old)
+            (parts_at B.Board S.Suite A.Audit engine board.old suite.old audit.old)
+            → LeavesOpenedSound (setup_at S.Suite engine suite.old)
+            (λ now. parts_at B.Board S.Suite A.Audit now board.new suite.new audit.new) result }
         ensures capacity { A.capacity audit.new ≡ A.capacity audit.old }
         ensures keys { S.keys suite.new ≡ S.keys suite.old }
         ensures usable { IfOk result (λ opened. IsUsable engine.shape opened.0.engine (B.device board.new) (A.ledger audit.new)) }
@@ -118,9 +119,9 @@ impl Store {
     ) -> Result<(Store, Opened), TxnFault>
         requires room { HasRoom (A.ledger audit.old) (A.capacity audit.old) 1056 }
         requires usable { IsUsable engine.shape engine (B.device board.old) (A.ledger audit.old) }
-        ensures opened { HasStoreOpened (record { shape = engine.shape; formulas = S.formulas_of (S.keys suite.old) })
-            (parts_of engine (B.device board.old) (A.ledger audit.old) (S.tags suite.old) (S.digests suite.old))
-            (λ now. parts_of now (B.device board.new) (A.ledger audit.new) (S.tags suite.new) (S.digests suite.new)) result }
+        ensures opened { HasStoreOpened (setup_at S.Suite engine suite.old)
+            (parts_at B.Board S.Suite A.Audit engine board.old suite.old audit.old)
+            (λ now. parts_at B.Board S.Suite A.Audit now board.new suite.new audit.new) result }
         ensures few { logged_lines engine.shape ≤ 2 ^ 30 }
         ensures capacity { A.capacity audit.new ≡ A.capacity audit.old }
         ensures keys { S.keys suite.new ≡ S.keys suite.old }
@@ -195,15 +196,15 @@ impl Store {
     ) -> Result<Line, Fault>
         requires line { at < self.old.lines }
         requires usable { IsUsable self.old.engine.shape self.old.engine (B.device board.old) (A.ledger audit.old) }
-        ensures read { HasReadLine (record { shape = self.old.engine.shape; formulas = S.formulas_of (S.keys suite.old) })
+        ensures read { HasReadLine (setup_at S.Suite self.old.engine suite.old)
             (served_from self.old.lines self.old.logged.items at)
-            (parts_of self.old.engine (B.device board.old) (A.ledger audit.old) (S.tags suite.old) (S.digests suite.old))
-            (parts_of self.new.engine (B.device board.new) (A.ledger audit.new) (S.tags suite.new) (S.digests suite.new)) result }
-        ensures logged { AreTrusted (record { shape = self.old.engine.shape; formulas = S.formulas_of (S.keys suite.old) })
-            (parts_of self.old.engine (B.device board.old) (A.ledger audit.old) (S.tags suite.old) (S.digests suite.old))
+            (parts_at B.Board S.Suite A.Audit self.old.engine board.old suite.old audit.old)
+            (parts_at B.Board S.Suite A.Audit self.new.engine board.new suite.new audit.new) result }
+        ensures logged { AreTrusted (setup_at S.Suite self.old.engine suite.old)
+            (parts_at B.Board S.Suite A.Audit self.old.engine board.old suite.old audit.old)
             → (lines memory : List Line)
-            → HasLines (record { shape = self.old.engine.shape; formulas = S.formulas_of (S.keys suite.old) }) lines
-            (parts_of self.old.engine (B.device board.old) (A.ledger audit.old) (S.tags suite.old) (S.digests suite.old))
+            → HasLines (setup_at S.Suite self.old.engine suite.old) lines
+            (parts_at B.Board S.Suite A.Audit self.old.engine board.old suite.old audit.old)
             → IsLogged self.old.lines lines self.old.logged.items memory
             → IfOk result (λ read. read ≡ line_at memory at) }
         ensures served { IsServedAs self.old.logged.items self.old.stuck self.old self.new }
@@ -245,26 +246,26 @@ impl Store {
         requires free { self.old.stuck ≡ None }
         requires room { HasRoom (A.ledger audit.old) (A.capacity audit.old) 2112 }
         requires usable { IsUsable self.old.engine.shape self.old.engine (B.device board.old) (A.ledger audit.old) }
-        ensures committed { HasStoreCommitted (record { shape = self.old.engine.shape; formulas = S.formulas_of (S.keys suite.old) })
+        ensures committed { HasStoreCommitted (setup_at S.Suite self.old.engine suite.old)
             txn.now.items self.old self.new
-            (parts_of self.old.engine (B.device board.old) (A.ledger audit.old) (S.tags suite.old) (S.digests suite.old))
-            (parts_of self.new.engine (B.device board.new) (A.ledger audit.new) (S.tags suite.new) (S.digests suite.new)) result }
-        ensures logged { AreTrusted (record { shape = self.old.engine.shape; formulas = S.formulas_of (S.keys suite.old) })
-            (parts_of self.old.engine (B.device board.old) (A.ledger audit.old) (S.tags suite.old) (S.digests suite.old))
+            (parts_at B.Board S.Suite A.Audit self.old.engine board.old suite.old audit.old)
+            (parts_at B.Board S.Suite A.Audit self.new.engine board.new suite.new audit.new) result }
+        ensures logged { AreTrusted (setup_at S.Suite self.old.engine suite.old)
+            (parts_at B.Board S.Suite A.Audit self.old.engine board.old suite.old audit.old)
             → (lines : List Line)
-            → HasLines (record { shape = self.old.engine.shape; formulas = S.formulas_of (S.keys suite.old) }) lines
-            (parts_of self.old.engine (B.device board.old) (A.ledger audit.old) (S.tags suite.old) (S.digests suite.old))
-            → IsLeftLogged (record { shape = self.old.engine.shape; formulas = S.formulas_of (S.keys suite.old) })
+            → HasLines (setup_at S.Suite self.old.engine suite.old) lines
+            (parts_at B.Board S.Suite A.Audit self.old.engine board.old suite.old audit.old)
+            → IsLeftLogged (setup_at S.Suite self.old.engine suite.old)
             txn.now.items self.old.lines lines
-            (parts_of self.new.engine (B.device board.new) (A.ledger audit.new) (S.tags suite.new) (S.digests suite.new)) result }
-        ensures trusted { AreTrusted (record { shape = self.old.engine.shape; formulas = S.formulas_of (S.keys suite.old) })
-            (parts_of self.old.engine (B.device board.old) (A.ledger audit.old) (S.tags suite.old) (S.digests suite.old))
-            → LeavesTrusted (record { shape = self.old.engine.shape; formulas = S.formulas_of (S.keys suite.old) }) (commit_outcome_by result)
-            (parts_of self.new.engine (B.device board.new) (A.ledger audit.new) (S.tags suite.new) (S.digests suite.new)) }
-        ensures sound { AreSound (record { shape = self.old.engine.shape; formulas = S.formulas_of (S.keys suite.old) })
-            (parts_of self.old.engine (B.device board.old) (A.ledger audit.old) (S.tags suite.old) (S.digests suite.old))
-            → LeavesSound (record { shape = self.old.engine.shape; formulas = S.formulas_of (S.keys suite.old) }) (commit_outcome_by result)
-            (parts_of self.new.engine (B.device board.new) (A.ledger audit.new) (S.tags suite.new) (S.digests suite.new))
+            (parts_at B.Board S.Suite A.Audit self.new.engine board.new suite.new audit.new) result }
+        ensures trusted { AreTrusted (setup_at S.Suite self.old.engine suite.old)
+            (parts_at B.Board S.Suite A.Audit self.old.engine board.old suite.old audit.old)
+            → LeavesTrusted (setup_at S.Suite self.old.engine suite.old) (commit_outcome_by result)
+            (parts_at B.Board S.Suite A.Audit self.new.engine board.new suite.new audit.new) }
+        ensures sound { AreSound (setup_at S.Suite self.old.engine suite.old)
+            (parts_at B.Board S.Suite A.Audit self.old.engine board.old suite.old audit.old)
+            → LeavesSound (setup_at S.Suite self.old.engine suite.old) (commit_outcome_by result)
+            (parts_at B.Board S.Suite A.Audit self.new.engine board.new suite.new audit.new)
             × IsSoundCommitAnswer result }
         ensures spent { IsSpentUndecided result }
         ensures whole { IsWholeTxn txn.now.items }
@@ -287,10 +288,10 @@ impl Store {
         requires targets { AreDistinctBelow self.old.lines (targets_of txn.now.items) }
         requires room { HasRoom (A.ledger audit.old) (A.capacity audit.old) 2112 }
         requires usable { IsUsable self.old.engine.shape self.old.engine (B.device board.old) (A.ledger audit.old) }
-        ensures committed { HasStoreCommitted (record { shape = self.old.engine.shape; formulas = S.formulas_of (S.keys suite.old) })
+        ensures committed { HasStoreCommitted (setup_at S.Suite self.old.engine suite.old)
             txn.now.items self.old self.new
-            (parts_of self.old.engine (B.device board.old) (A.ledger audit.old) (S.tags suite.old) (S.digests suite.old))
-            (parts_of self.new.engine (B.device board.new) (A.ledger audit.new) (S.tags suite.new) (S.digests suite.new)) result }
+            (parts_at B.Board S.Suite A.Audit self.old.engine board.old suite.old audit.old)
+            (parts_at B.Board S.Suite A.Audit self.new.engine board.new suite.new audit.new) result }
         ensures whole { IsWholeTxn txn.now.items }
         ensures capacity { A.capacity audit.new ≡ A.capacity audit.old }
         ensures keys { S.keys suite.new ≡ S.keys suite.old }

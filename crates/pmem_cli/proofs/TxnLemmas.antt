@@ -5,7 +5,7 @@ use Rattle.pmem_base.specs.declared.answers.Mark.{Mark}
 use Rattle.pmem_base.specs.Shape.{Shape}
 use Rattle.suite.specs.Formulas.{Formulas}
 use Rattle.suite.specs.Setup.{Setup}
-use Rattle.wear_session.specs.Answered.{Writing}
+use Rattle.engine_lines.specs.Writes.{Writing}
 use Rattle.txn_session.specs.declared.commands.TxnCommand.{TxnCommand}
 use Rattle.txn_session.specs.declared.commands.TxnCommand.TheVariants as Do
 use Rattle.txn_session.specs.declared.answers.TxnAnswer.{TxnAnswer}

@@ -10,7 +10,8 @@ use Rattle.wear_session.specs.declared.commands.WearCommand.{WearCommand}
 use Rattle.wear_session.specs.declared.commands.WearCommand.TheVariants as Do
 use Rattle.wear_session.specs.declared.answers.WearAnswer.{WearAnswer}
 use Rattle.wear_session.specs.declared.answers.WearAnswer.TheVariants as Say
-use Rattle.wear_session.specs.Answered.{Writing, IsWearAnswered, IsWearAnsweredAs, IsWearServed, IsWearTalkedOf, IsWearShownOf, IsWearStarvedOf, HasWearRead, HasWearOpened, EndsWriting, after_writing, wear_after_decided, wear_decided}
+use Rattle.engine_lines.specs.Writes.{Writing}
+use Rattle.wear_session.specs.Answered.{IsWearAnswered, IsWearAnsweredAs, IsWearServed, IsWearTalkedOf, IsWearShownOf, IsWearStarvedOf, HasWearRead, HasWearOpened, EndsWriting, after_writing, wear_after_decided, wear_decided}
 use Rattle.wear_session.specs.Commands.{sort_of_wear}
 use Rattle.wear_session.specs.Guarantees.{WearReply, AreWearAnswered, IsWearKept, IsWearSpent}
 use Rattle.wear_session.specs.State.{WearState, IsNewWear, wear_setup_in, wear_without_power}

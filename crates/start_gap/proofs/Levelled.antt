@@ -9,9 +9,19 @@ use Rattle.pmem_base.proofs.LineSets.{line_at-set_same, line_at-set_other}
 use Rattle.start_gap.specs.declared.wear.Wear.{Wear}
 use Rattle.start_gap.specs.Wear.{IsWear, place_of, next_wear, source_of, first_wear}
 use Rattle.start_gap.specs.Record.{recorded, wear_record}
-use Rattle.start_gap.specs.Logical.{IsLevelled, with_levelled_line, with_copy, with_record, begun, written, copied, moved, IsSafeAtEachStage, IsSameUnderNext}
+use Rattle.start_gap.specs.Logical.{IsLevelled, begun, written, copied, moved, IsSafeAtEachStage, IsSameUnderNext}
 use Rattle.start_gap.proofs.Places.{places, next_place, next-IsWear}
 use Rattle.start_gap.proofs.Records.{recorded_record}
+
+-- the lines after each change
+abbrev with_levelled_line : ℕ → Wear → ℕ → Line → List Line → List Line
+with_levelled_line n wear a plain lines = slice_set lines (place_of n wear a) plain
+
+abbrev with_copy : ℕ → Wear → List Line → List Line
+with_copy n wear lines = slice_set lines wear.gap (line_at lines (source_of n wear))
+
+abbrev with_record : ℕ → Wear → List Line → List Line
+with_record n wear lines = slice_set lines (n + 1) (wear_record n (next_wear n wear))
 
 -- the record stays where another line is set
 same_record : (n : ℕ) (lines : List Line) (wear : Wear) (k : ℕ) (line : Line) → k ≤ n

@@ -1,18 +1,19 @@
 -- What a call of levelled lines makes of the engine, device and ledger: which calls of the engine it is made
 -- of, in order, and what becomes of the logical lines.
-use Rattle.std.specs.Prelude.{ℕ, ◌≡◌, ◌<◌, ◌+◌, ◌-◌, nat_lt, true, false, List, Result, Ok, Err, Some, None, MatchBool, ⊤}
+use Rattle.std.specs.Prelude.{ℕ, ◌≡◌, ◌+◌, ◌-◌, nat_lt, true, false, List, Result, Ok, Err, Some, None, MatchBool, ⊤}
 use Rattle.pmem_base.specs.declared.lines.Line.{Line}
 use Rattle.pmem_base.specs.declared.lines.Ctr.{Ctr}
 use Rattle.pmem_base.specs.Shape.{Shape}
 use Rattle.pmem_base.specs.Layout.{data_lines}
 use Rattle.suite.specs.Setup.{Setup}
-use Rattle.board.specs.Device.{AreLinesOf}
 use Rattle.pmem_engine.specs.declared.fault.Fault.{Fault}
 use Rattle.pmem_engine.specs.declared.fault.Fault.TheVariants as Fail
 use Rattle.pmem_engine.specs.Engine.{EngineState}
 use Rattle.pmem_engine.specs.Parts.{Parts}
 use Rattle.pmem_engine.specs.Outcomes.{Outcome, going, outcome_of_fault}
-use Rattle.pmem_engine.specs.Calls.{IsMemory, whole_write, HasReadLine, HasWrittenLine}
+use Rattle.pmem_engine.specs.Calls.{whole_write, HasReadLine, HasWrittenLine}
+use Rattle.engine_lines.specs.Lines.{HasLines, IsUnspent, IsCutOrSpent}
+use Rattle.engine_lines.specs.Edits.{AreEdited}
 use Rattle.start_gap.specs.declared.wear.Wear.{Wear}
 use Rattle.start_gap.specs.declared.gapped.Gapped.{Gapped}
 use Rattle.start_gap.specs.declared.gapped.GapFault.{GapFault}
@@ -20,18 +21,13 @@ use Rattle.start_gap.specs.declared.gapped.GapFault.TheVariants.{Engine, BadWear
 use Rattle.start_gap.specs.declared.gapped.Moved.{Moved}
 use Rattle.start_gap.specs.declared.gapped.Moved.TheVariants as Move
 use Rattle.start_gap.specs.declared.gapped.WriteFault.{WriteFault}
-use Rattle.start_gap.specs.Record.{recorded, wear_record}
-use Rattle.start_gap.specs.Wear.{place_of, next_wear, source_of}
-use Rattle.start_gap.specs.Logical.{IsLevelled, MoveStage, begun, written, copied, moved, write_lines_at, write_memory_at, wear_at}
+use Rattle.start_gap.specs.Record.{recorded}
+use Rattle.start_gap.specs.Wear.{place_of, next_wear}
+use Rattle.start_gap.specs.Logical.{IsLevelled, move_edits, MoveStage, begun, written, copied, moved, write_lines_at, write_memory_at, wear_at}
 
 -- the logical lines of a memory: two of its data lines are the gap's and the record's
 abbrev pub logical_lines : Shape → ℕ
 logical_lines g = data_lines g - 2
-
--- these are the data lines as they were last sealed
-pub record HasLines (setup : Setup) (lines : List Line) (parts : Parts) : Type 0 where
-  pub whole : AreLinesOf (data_lines setup.shape) lines
-  pub sealed : IsMemory setup lines parts
 
 -- ---- opening
 
@@ -60,48 +56,6 @@ HasWearOf wear (Ok gapped) = gapped.wear ≡ wear
 HasWearOf wear (Err (Engine fault)) = ⊤
 HasWearOf wear (Err (BadWear line)) = ⊥
 
--- ---- the calls of a move
-
--- an engine's write, without the counter
-abbrev pub done_as : Result Ctr Fault → Result (Unit {0}) Fault
-done_as (Ok ctr) = Ok tt
-done_as (Err fault) = Err fault
-
--- the next wear is recorded
-pub record HasRecorded (setup : Setup) (n : ℕ) (wear : Wear) (old new : Parts) (answer : Result (Unit {0}) Fault) :
-    Type 0 where
-  pub made : Result Ctr Fault
-  pub was_written : HasWrittenLine setup (whole_write (n + 1) (wear_record n (next_wear n wear))) old new made
-  pub its_answer : answer ≡ done_as made
-
--- what follows the copy
-abbrev pub HasRecordedAfter :
-    Result Ctr Fault → Setup → ℕ → Wear → Parts → Parts → Result (Unit {0}) Fault → Type 0
-HasRecordedAfter (Ok ctr) setup n wear old new answer = HasRecorded setup n wear old new answer
-HasRecordedAfter (Err fault) setup n wear old new answer = (answer ≡ Err fault) × (new ≡ old)
-
--- a line is copied into the gap, and then the next wear is recorded
-pub record HasCopied (setup : Setup) (n : ℕ) (wear : Wear) (copy : Line) (old new : Parts)
-    (answer : Result (Unit {0}) Fault) : Type 0 where
-  pub made : Result Ctr Fault
-  pub between : Parts
-  pub was_written : HasWrittenLine setup (whole_write wear.gap copy) old between made
-  pub then : HasRecordedAfter made setup n wear between new answer
-
--- what follows the reading of the source
-abbrev pub HasCopiedAfter :
-    Result Line Fault → Setup → ℕ → Wear → Parts → Parts → Result (Unit {0}) Fault → Type 0
-HasCopiedAfter (Ok copy) setup n wear old new answer = HasCopied setup n wear copy old new answer
-HasCopiedAfter (Err fault) setup n wear old new answer = (answer ≡ Err fault) × (new ≡ old)
-
--- the source is read, and then its line copied
-pub record HasMovedGap (setup : Setup) (n : ℕ) (wear : Wear) (old new : Parts) (answer : Result (Unit {0}) Fault) :
-    Type 0 where
-  pub read : Result Line Fault
-  pub between : Parts
-  pub was_read : HasReadLine setup (source_of n wear) old between read
-  pub then : HasCopiedAfter read setup n wear between new answer
-
 -- ---- the calls of a write
 
 -- the wear after a move
@@ -122,11 +76,12 @@ pub record HasWear (wear : Wear) (count : ℕ) (old new : Gapped) : Type 0 where
   pub its_wear : new.wear ≡ wear
   pub its_count : new.count ≡ count
 
--- a move is made, and writes are counted anew
+-- A move is made: the source is read, its line written into the gap, and the next wear recorded, up to a call that isn't
+-- done. And writes are counted anew.
 pub record HasTriedMove (setup : Setup) (old new : Gapped) (from to : Parts) (answer : Result Moved WriteFault) :
     Type 0 where
   pub tried : Result (Unit {0}) Fault
-  pub was_tried : HasMovedGap setup old.lines old.wear from to tried
+  pub was_tried : AreEdited setup (move_edits old.lines old.wear) from to tried
   pub its_answer : answer ≡ write_answer_by tried
   pub its_wear : HasWear (wear_by tried old.lines old.wear) 0 old new
 
@@ -159,10 +114,6 @@ pub record HasLevelledWrite (setup : Setup) (a : ℕ) (plain : Line) (old new : 
   pub then : HasWriteGoneOn made setup old new between to answer
 
 -- ---- what becomes of the logical lines
-
-abbrev pub IsUnspent : Fault → Type 0
-IsUnspent (Fail.Spent page) = ⊥
-IsUnspent fault = ⊤
 
 -- the stages at which a write may end, by its answer; nothing is written where its line is spent
 abbrev pub IsWriteEnd : Result Moved WriteFault → MoveStage → Type 0
@@ -199,11 +150,6 @@ IsSpentUnwritten (Ok what) = ⊤
 IsSpentUnwritten (Err fault) = fault.written ≡ true → IsUnspent fault.fault
 
 -- over a sound device a write is done, or cut, or its own line is spent
-abbrev pub IsCutOrSpent : Fault → Type 0
-IsCutOrSpent Fail.Cut = ⊤
-IsCutOrSpent (Fail.Spent page) = ⊤
-IsCutOrSpent fault = ⊥
-
 abbrev pub IsSoundWriteAnswer : Result Moved WriteFault → Type 0
 IsSoundWriteAnswer (Ok what) = ⊤
 IsSoundWriteAnswer (Err fault) = IsCutOrSpent fault.fault

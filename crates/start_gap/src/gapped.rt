@@ -4,17 +4,20 @@ ghost use Rattle.pmem_base.specs.declared.lines.Line.{Line};
 ghost use Rattle.pmem_base.specs.Layout.{data_lines};
 ghost use Rattle.pmem_base.specs.Lines.{line_at};
 ghost use Rattle.pmem_engine.specs.Engine.{EngineState};
-ghost use Rattle.pmem_engine.specs.Parts.{parts_of, AreTrusted, AreSound};
+ghost use Rattle.pmem_engine.specs.Parts.{AreTrusted, AreSound, setup_at, parts_at};
 ghost use Rattle.pmem_engine.specs.Outcomes.{LeavesTrusted, LeavesSound};
 ghost use Rattle.pmem_engine.specs.Calls.{IsUsable, HasReadLine};
+ghost use Rattle.engine_lines.specs.Lines.{HasLines};
+ghost use Rattle.engine_lines.specs.Edits.{AreEdited};
 ghost use Rattle.start_gap.specs.declared.wear.Wear.{Wear};
 ghost use Rattle.start_gap.specs.Wear.{IsWear, place_of};
-ghost use Rattle.start_gap.specs.Logical.{IsLevelled};
+ghost use Rattle.start_gap.specs.Logical.{IsLevelled, move_edits};
 ghost use Rattle.seal_ledger.specs.Notes.{HasRoom};
 
 use crate::record::{read_wear, wear_line};
 use crate::wear::{Wear, next, place, source};
 use board::Board;
+use engine_lines::{Edit, edit_all};
 use pmem_base::Line;
 use pmem_engine::{Engine, Fault};
 use seal_ledger::Audit;
@@ -63,7 +66,7 @@ pub struct Gapped {
 }
 
 impl Gapped {
-    ghost use Rattle.start_gap.specs.Gapped.{HasLines, HasGappedOpened, HasWearOf, HasMovedGap, HasLevelledWrite, IsLeftLevelled, IsSoundWriteAnswer, IsSpentUnwritten, HasWear, logical_lines, write_answer_by, write_outcome_by, wear_by};
+    ghost use Rattle.start_gap.specs.Gapped.{HasGappedOpened, HasWearOf, HasLevelledWrite, IsLeftLevelled, IsSoundWriteAnswer, IsSpentUnwritten, HasWear, logical_lines, write_answer_by, write_outcome_by, wear_by};
 
     /// Reads the record of the wear. `BadWear` comes exactly where its line is no record.
     pub fn open<B: Board, S: Suite, A: Audit>(
@@ -75,14 +78,14 @@ impl Gapped {
     ) -> Result<Gapped, GapFault>
         requires every { 1 ≤ every }
         requires usable { IsUsable engine.shape engine (B.device board.old) (A.ledger audit.old) }
-        ensures opened { HasGappedOpened (record { shape = engine.shape; formulas = S.formulas_of (S.keys suite.old) }) every
-            (parts_of engine (B.device board.old) (A.ledger audit.old) (S.tags suite.old) (S.digests suite.old))
-            (λ now. parts_of now (B.device board.new) (A.ledger audit.new) (S.tags suite.new) (S.digests suite.new)) result }
-        ensures levelled { AreTrusted (record { shape = engine.shape; formulas = S.formulas_of (S.keys suite.old) })
-            (parts_of engine (B.device board.old) (A.ledger audit.old) (S.tags suite.old) (S.digests suite.old))
+        ensures opened { HasGappedOpened (setup_at S.Suite engine suite.old) every
+            (parts_at B.Board S.Suite A.Audit engine board.old suite.old audit.old)
+            (λ now. parts_at B.Board S.Suite A.Audit now board.new suite.new audit.new) result }
+        ensures levelled { AreTrusted (setup_at S.Suite engine suite.old)
+            (parts_at B.Board S.Suite A.Audit engine board.old suite.old audit.old)
             → (lines memory : List Line) (wear : Wear)
-            → HasLines (record { shape = engine.shape; formulas = S.formulas_of (S.keys suite.old) }) lines
-            (parts_of engine (B.device board.old) (A.ledger audit.old) (S.tags suite.old) (S.digests suite.old))
+            → HasLines (setup_at S.Suite engine suite.old) lines
+            (parts_at B.Board S.Suite A.Audit engine board.old suite.old audit.old)
             → IsLevelled (logical_lines engine.shape) lines wear memory → HasWearOf wear result }
         ensures capacity { A.capacity audit.new ≡ A.capacity audit.old }
         ensures keys { S.keys suite.new ≡ S.keys suite.old }
@@ -133,15 +136,15 @@ impl Gapped {
     ) -> Result<Line, Fault>
         requires line { line < self.old.lines }
         requires usable { IsUsable self.old.engine.shape self.old.engine (B.device board.old) (A.ledger audit.old) }
-        ensures read { HasReadLine (record { shape = self.old.engine.shape; formulas = S.formulas_of (S.keys suite.old) })
+        ensures read { HasReadLine (setup_at S.Suite self.old.engine suite.old)
             (place_of self.old.lines self.old.wear line)
-            (parts_of self.old.engine (B.device board.old) (A.ledger audit.old) (S.tags suite.old) (S.digests suite.old))
-            (parts_of self.new.engine (B.device board.new) (A.ledger audit.new) (S.tags suite.new) (S.digests suite.new)) result }
-        ensures levelled { AreTrusted (record { shape = self.old.engine.shape; formulas = S.formulas_of (S.keys suite.old) })
-            (parts_of self.old.engine (B.device board.old) (A.ledger audit.old) (S.tags suite.old) (S.digests suite.old))
+            (parts_at B.Board S.Suite A.Audit self.old.engine board.old suite.old audit.old)
+            (parts_at B.Board S.Suite A.Audit self.new.engine board.new suite.new audit.new) result }
+        ensures levelled { AreTrusted (setup_at S.Suite self.old.engine suite.old)
+            (parts_at B.Board S.Suite A.Audit self.old.engine board.old suite.old audit.old)
             → (lines memory : List Line)
-            → HasLines (record { shape = self.old.engine.shape; formulas = S.formulas_of (S.keys suite.old) }) lines
-            (parts_of self.old.engine (B.device board.old) (A.ledger audit.old) (S.tags suite.old) (S.digests suite.old))
+            → HasLines (setup_at S.Suite self.old.engine suite.old) lines
+            (parts_at B.Board S.Suite A.Audit self.old.engine board.old suite.old audit.old)
             → IsLevelled self.old.lines lines self.old.wear memory
             → IfOk result (λ read. read ≡ line_at memory line) }
         ensures wear { HasWear self.old.wear self.old.count self.old self.new }
@@ -167,26 +170,26 @@ impl Gapped {
         requires line { line < self.old.lines }
         requires room { HasRoom (A.ledger audit.old) (A.capacity audit.old) 198 }
         requires usable { IsUsable self.old.engine.shape self.old.engine (B.device board.old) (A.ledger audit.old) }
-        ensures written { HasLevelledWrite (record { shape = self.old.engine.shape; formulas = S.formulas_of (S.keys suite.old) })
+        ensures written { HasLevelledWrite (setup_at S.Suite self.old.engine suite.old)
             line plain.now self.old self.new
-            (parts_of self.old.engine (B.device board.old) (A.ledger audit.old) (S.tags suite.old) (S.digests suite.old))
-            (parts_of self.new.engine (B.device board.new) (A.ledger audit.new) (S.tags suite.new) (S.digests suite.new)) result }
-        ensures levelled { AreTrusted (record { shape = self.old.engine.shape; formulas = S.formulas_of (S.keys suite.old) })
-            (parts_of self.old.engine (B.device board.old) (A.ledger audit.old) (S.tags suite.old) (S.digests suite.old))
+            (parts_at B.Board S.Suite A.Audit self.old.engine board.old suite.old audit.old)
+            (parts_at B.Board S.Suite A.Audit self.new.engine board.new suite.new audit.new) result }
+        ensures levelled { AreTrusted (setup_at S.Suite self.old.engine suite.old)
+            (parts_at B.Board S.Suite A.Audit self.old.engine board.old suite.old audit.old)
             → (lines : List Line)
-            → HasLines (record { shape = self.old.engine.shape; formulas = S.formulas_of (S.keys suite.old) }) lines
-            (parts_of self.old.engine (B.device board.old) (A.ledger audit.old) (S.tags suite.old) (S.digests suite.old))
-            → IsLeftLevelled (record { shape = self.old.engine.shape; formulas = S.formulas_of (S.keys suite.old) })
+            → HasLines (setup_at S.Suite self.old.engine suite.old) lines
+            (parts_at B.Board S.Suite A.Audit self.old.engine board.old suite.old audit.old)
+            → IsLeftLevelled (setup_at S.Suite self.old.engine suite.old)
             line plain.now self.old lines
-            (parts_of self.new.engine (B.device board.new) (A.ledger audit.new) (S.tags suite.new) (S.digests suite.new)) result }
-        ensures trusted { AreTrusted (record { shape = self.old.engine.shape; formulas = S.formulas_of (S.keys suite.old) })
-            (parts_of self.old.engine (B.device board.old) (A.ledger audit.old) (S.tags suite.old) (S.digests suite.old))
-            → LeavesTrusted (record { shape = self.old.engine.shape; formulas = S.formulas_of (S.keys suite.old) }) (write_outcome_by result)
-            (parts_of self.new.engine (B.device board.new) (A.ledger audit.new) (S.tags suite.new) (S.digests suite.new)) }
-        ensures sound { AreSound (record { shape = self.old.engine.shape; formulas = S.formulas_of (S.keys suite.old) })
-            (parts_of self.old.engine (B.device board.old) (A.ledger audit.old) (S.tags suite.old) (S.digests suite.old))
-            → LeavesSound (record { shape = self.old.engine.shape; formulas = S.formulas_of (S.keys suite.old) }) (write_outcome_by result)
-            (parts_of self.new.engine (B.device board.new) (A.ledger audit.new) (S.tags suite.new) (S.digests suite.new))
+            (parts_at B.Board S.Suite A.Audit self.new.engine board.new suite.new audit.new) result }
+        ensures trusted { AreTrusted (setup_at S.Suite self.old.engine suite.old)
+            (parts_at B.Board S.Suite A.Audit self.old.engine board.old suite.old audit.old)
+            → LeavesTrusted (setup_at S.Suite self.old.engine suite.old) (write_outcome_by result)
+            (parts_at B.Board S.Suite A.Audit self.new.engine board.new suite.new audit.new) }
+        ensures sound { AreSound (setup_at S.Suite self.old.engine suite.old)
+            (parts_at B.Board S.Suite A.Audit self.old.engine board.old suite.old audit.old)
+            → LeavesSound (setup_at S.Suite self.old.engine suite.old) (write_outcome_by result)
+            (parts_at B.Board S.Suite A.Audit self.new.engine board.new suite.new audit.new)
             × IsSoundWriteAnswer result }
         ensures spent { IsSpentUnwritten result }
         ensures capacity { A.capacity audit.new ≡ A.capacity audit.old }
@@ -210,10 +213,10 @@ impl Gapped {
         requires line { line < self.old.lines }
         requires room { HasRoom (A.ledger audit.old) (A.capacity audit.old) 198 }
         requires usable { IsUsable self.old.engine.shape self.old.engine (B.device board.old) (A.ledger audit.old) }
-        ensures written { HasLevelledWrite (record { shape = self.old.engine.shape; formulas = S.formulas_of (S.keys suite.old) })
+        ensures written { HasLevelledWrite (setup_at S.Suite self.old.engine suite.old)
             line plain.now self.old self.new
-            (parts_of self.old.engine (B.device board.old) (A.ledger audit.old) (S.tags suite.old) (S.digests suite.old))
-            (parts_of self.new.engine (B.device board.new) (A.ledger audit.new) (S.tags suite.new) (S.digests suite.new)) result }
+            (parts_at B.Board S.Suite A.Audit self.old.engine board.old suite.old audit.old)
+            (parts_at B.Board S.Suite A.Audit self.new.engine board.new suite.new audit.new) result }
         ensures capacity { A.capacity audit.new ≡ A.capacity audit.old }
         ensures keys { S.keys suite.new ≡ S.keys suite.old }
         ensures usable { IsUsable self.old.engine.shape self.new.engine (B.device board.new) (A.ledger audit.new) }
@@ -244,26 +247,19 @@ impl Gapped {
     ) -> Result<(), Fault>
         requires room { HasRoom (A.ledger audit.old) (A.capacity audit.old) 132 }
         requires usable { IsUsable self.old.engine.shape self.old.engine (B.device board.old) (A.ledger audit.old) }
-        ensures moved { HasMovedGap (record { shape = self.old.engine.shape; formulas = S.formulas_of (S.keys suite.old) })
-            self.old.lines self.old.wear
-            (parts_of self.old.engine (B.device board.old) (A.ledger audit.old) (S.tags suite.old) (S.digests suite.old))
-            (parts_of self.new.engine (B.device board.new) (A.ledger audit.new) (S.tags suite.new) (S.digests suite.new)) result }
+        ensures moved { AreEdited (setup_at S.Suite self.old.engine suite.old)
+            (move_edits self.old.lines self.old.wear)
+            (parts_at B.Board S.Suite A.Audit self.old.engine board.old suite.old audit.old)
+            (parts_at B.Board S.Suite A.Audit self.new.engine board.new suite.new audit.new) result }
         ensures wear { HasWear (wear_by result self.old.lines self.old.wear) self.old.count self.old self.new }
         ensures capacity { A.capacity audit.new ≡ A.capacity audit.old }
         ensures keys { S.keys suite.new ≡ S.keys suite.old }
         ensures usable { IsUsable self.old.engine.shape self.new.engine (B.device board.new) (A.ledger audit.new) }
         ensures shape { self.new.engine.shape ≡ self.old.engine.shape }
     {
-        let copy = self
-            .engine
-            .read(board, suite, audit, source(self.lines, &self.wear))?;
-        self.engine
-            .write(board, suite, audit, self.wear.gap, &copy)?;
-        let moved = next(self.lines, &self.wear);
-        let record = wear_line(self.lines, &moved);
-        self.engine
-            .write(board, suite, audit, self.lines + 1, &record)?;
-        self.wear = moved;
+        let edits = moving(self.lines, &self.wear);
+        edit_all(&mut self.engine, board, suite, audit, &edits)?;
+        self.wear = next(self.lines, &self.wear);
         Ok(())
     }
 
@@ -282,4 +278,21 @@ impl Gapped {
             },
         }
     }
+}
+
+// The changes of a move: the line of the source is copied into the gap, and then the next wear is recorded.
+fn moving(n: u32, wear: &Wear) -> [Edit; 2]
+    requires lines { n ≤ 2 ^ 30 }
+    requires wear { IsWear n wear.now }
+    ensures { result ≡ move_edits n wear.now }
+{
+    let copy = Edit::Copy {
+        from: source(n, wear),
+        at: wear.gap,
+    };
+    let record = Edit::Put {
+        at: n + 1,
+        line: wear_line(n, &next(n, wear)),
+    };
+    [copy, record]
 }

@@ -1,10 +1,9 @@
 -- How far a commit came, by its answer: how many of its engine writes are done, all their marks, and whether the header's own
 -- seal is among these.
-use Rattle.std.proofs.Common.{ℕ, zero, suc, ◌≡◌, ◌<◌, ◌≤◌, ◌+◌, ◌-◌, ◌*◌, ◌++◌, ◌⊎◌, inl, inr, Bool, true, false, List, [], ◌∷◌, length, take, drop, Option, Some, None, Result, Ok, Err, refl, sym, ap, subst, ◌∙◌, arith}
-use Rattle.std.specs.Prelude.{All, IsSome}
+use Rattle.std.proofs.Common.{ℕ, ◌≡◌, ◌<◌, ◌≤◌, ◌+◌, ◌-◌, ◌*◌, ◌++◌, Bool, true, false, List, [], ◌∷◌, length, take, drop, Some, Result, Ok, Err, refl, sym, ap, subst, ◌∙◌, arith}
+use Rattle.std.specs.Prelude.{All}
 use Rattle.std.specs.List.{list_any}
 use Rattle.std.proofs.Math.Seq.{take-append-add}
-use Rattle.std.proofs.lemmas.Bool.{true≢false}
 use Rattle.std.proofs.lemmas.List.{append-nil, append_assoc, drop_at, take-append-le}
 use Rattle.std.proofs.lemmas.List.Elements.{All-nil, All-cons, All-take}
 use Rattle.pmem_base.specs.declared.lines.Line.{Line}
@@ -21,23 +20,24 @@ use Rattle.pmem_engine.specs.declared.fault.Fault.{Fault}
 use Rattle.pmem_engine.specs.declared.fault.Fault.TheVariants as Fail
 use Rattle.pmem_engine.specs.Parts.{Parts, AreSound}
 use Rattle.pmem_engine.specs.Calls.{whole_write}
-use Rattle.line_txn.specs.declared.edits.Edit.{Edit}
-use Rattle.line_txn.specs.declared.edits.Edit.TheVariants as Make
+use Rattle.engine_lines.specs.declared.edits.Edit.{Edit}
+use Rattle.engine_lines.specs.declared.edits.Edit.TheVariants as Make
 use Rattle.line_txn.specs.declared.store.Store.{Store}
 use Rattle.line_txn.specs.declared.store.Done.{Done}
 use Rattle.line_txn.specs.declared.store.Done.TheVariants as Do
 use Rattle.line_txn.specs.declared.store.CommitFault.{CommitFault}
 use Rattle.line_txn.specs.Header.{AreDistinctBelow, header_of}
 use Rattle.line_txn.specs.Logged.{targets_of, bodies_of}
-use Rattle.line_txn.specs.Edits.{AreEdited, IsWholeTxn, body_edits, target_edits, deciding_edits, applying_edits}
+use Rattle.engine_lines.specs.Edits.{AreEdited}
+use Rattle.line_txn.specs.Edits.{IsWholeTxn, body_edits, target_edits, deciding_edits, applying_edits}
 use Rattle.line_txn.specs.Store.{HasStoreCommitted, HasDecided, HasCommitGoneOn, IsServedAs, IsServedBy, commit_answer_by}
 use Rattle.line_txn.proofs.EditStages.{deciding_fit, applying_fit, length-deciding, length-applying}
-use Rattle.wear_session.specs.Answered.{Writing, is_own_seal, IsCutAmong, write_steps}
-use Rattle.wear_session.proofs.EngineWrites.{memory_now, none_done}
+use Rattle.engine_lines.specs.Writes.{Writing, is_own_seal, IsCutAmong, write_steps}
+use Rattle.engine_lines.proofs.EngineWrites.{memory_now, none_done}
 use Rattle.txn_session.specs.State.{Entries, body_writes, commit_writes}
 use Rattle.txn_session.specs.Answered.{most_of_commit}
-use Rattle.txn_session.proofs.OwnSeals.{writes_none, writes_own, stopped_as}
-use Rattle.txn_session.proofs.EngineEdits.{cost, AreTxnGone, IsSpentAt, IsTxnCutAt, EndsTxnAt, ends_within, edits_go}
+use Rattle.engine_lines.proofs.OwnSeals.{writes_none, writes_own, own_at_cut}
+use Rattle.engine_lines.proofs.EngineEdits.{cost, AreGone, IsSpentAt, IsCutAt, EndsAt, ends_within, edits_go}
 use Rattle.txn_session.proofs.WriteLists.{deciding_writes, applying_writes, posted_deciding, posted_applying, commit_parts, length-bodies, length-deciding_writes}
 
 -- ---- with lines
@@ -79,12 +79,12 @@ cost_applying g n txn = cost_targets g txn (Make.Put n zero_line ∷ []) ∙ ome
 
 abbrev pub FailsTxnAt : Setup → Parts → List Posted → ℕ → ℕ → Fault → Bool → Parts → Type 0
 FailsTxnAt setup from queue count most (Fail.Spent page) committed to = IsSpentAt setup from queue 0 (count + 1) page most to
-FailsTxnAt setup from queue count most Fail.Cut true to = IsTxnCutAt setup from queue (count + 1) (2 * count + 2) most to
-FailsTxnAt setup from queue count most Fail.Cut false to = IsTxnCutAt setup from queue 0 (2 * count + 2) most to
+FailsTxnAt setup from queue count most Fail.Cut true to = IsCutAt setup from queue (count + 1) (2 * count + 2) most to
+FailsTxnAt setup from queue count most Fail.Cut false to = IsCutAt setup from queue 0 (2 * count + 2) most to
 FailsTxnAt setup from queue count most fault committed to = ⊥
 
 abbrev pub CommitEndsAt : Setup → Parts → List Posted → ℕ → ℕ → Result Done CommitFault → Parts → Type 0
-CommitEndsAt setup from queue count most (Ok Do.Applied) to = AreTxnGone setup from queue (2 * count + 2) most to
+CommitEndsAt setup from queue count most (Ok Do.Applied) to = AreGone setup from queue (2 * count + 2) most to
 CommitEndsAt setup from queue count most (Ok (Do.Stuck page)) to = IsSpentAt setup from queue (count + 1) (2 * count + 2) page most to
 CommitEndsAt setup from queue count most (Err fault) to = FailsTxnAt setup from queue count most fault.fault fault.committed to
 
@@ -144,15 +144,15 @@ module _ (setup : Setup) (n : ℕ) (txn : Entries) (some : txn ≡ [] → ⊥) (
       ∙ drop_at (deciding_writes n txn) (applying_writes n txn) (length deciding) (length-deciding_writes n txn ∙ sym (length-deciding n txn))
 
   decided_end : (between : Parts) (made : Result (Unit {0}) Fault) → AreEdited setup deciding from between made
-      → EndsTxnAt setup from queue 0 (0 + length deciding) (0 + cost setup.shape deciding) made between
+      → EndsAt setup from queue 0 (0 + length deciding) (0 + cost setup.shape deciding) made between
   decided_end between made it =
       edits_go setup from queue deciding 0 0 [] from between (applying_writes n txn) made
       (deciding_fit n (data_lines setup.shape) size txn whole.few whole.whole whole.header) (none_done setup from sound live)
       (first_writes ∙ ap (λ l. l ++ applying_writes n txn) (sym (posted_deciding n txn (memory_now setup from)))) it
 
   applied_end : (between to : Parts) (applied : Result (Unit {0}) Fault)
-      → AreTxnGone setup from queue (0 + length deciding) (0 + cost setup.shape deciding) between → AreEdited setup applying between to applied
-      → EndsTxnAt setup from queue (0 + length deciding) (0 + length deciding + length applying)
+      → AreGone setup from queue (0 + length deciding) (0 + cost setup.shape deciding) between → AreEdited setup applying between to applied
+      → EndsAt setup from queue (0 + length deciding) (0 + length deciding + length applying)
       (0 + cost setup.shape deciding + cost setup.shape applying) applied to
   applied_end between to applied gone it =
       edits_go setup from queue applying (0 + length deciding) (0 + cost setup.shape deciding) gone.made between to [] applied
@@ -164,26 +164,26 @@ module _ (setup : Setup) (n : ℕ) (txn : Entries) (some : txn ≡ [] → ⊥) (
       zero_more = omega arith
 
   refused_as : (fault : Fault) (between : Parts)
-      → EndsTxnAt setup from queue 0 (0 + length deciding) (0 + cost setup.shape deciding) (Err fault) between
+      → EndsAt setup from queue 0 (0 + length deciding) (0 + cost setup.shape deciding) (Err fault) between
       → FailsTxnAt setup from queue count most fault false between
   refused_as fault between ends =
       go fault
       (ends_within setup from queue 0 0 (0 + length deciding) (count + 1) (0 + cost setup.shape deciding) most fault between (omega arith)
       (let long = length-deciding n txn in omega (arith, long)) (let steps = cost_deciding setup.shape n txn in omega (arith, steps)) ends)
     where
-      go : (fault : Fault) → EndsTxnAt setup from queue 0 (count + 1) most (Err fault) between → FailsTxnAt setup from queue count most fault false between
+      go : (fault : Fault) → EndsAt setup from queue 0 (count + 1) most (Err fault) between → FailsTxnAt setup from queue count most fault false between
       go (Fail.Spent page) it = it
       go Fail.Cut it = ends_within setup from queue 0 0 (count + 1) (2 * count + 2) most most Fail.Cut between (omega arith) (omega arith) (omega arith) it
       go fault it = absurd it
 
   applied_as : (applied : Result (Unit {0}) Fault) (to : Parts)
-      → EndsTxnAt setup from queue (0 + length deciding) (0 + length deciding + length applying)
+      → EndsAt setup from queue (0 + length deciding) (0 + length deciding + length applying)
       (0 + cost setup.shape deciding + cost setup.shape applying) applied to
       → CommitEndsAt setup from queue count most (commit_answer_by applied) to
   applied_as (Ok done) to gone =
-      subst (λ k. AreTxnGone setup from queue k most to)
+      subst (λ k. AreGone setup from queue k most to)
       (let long = length-deciding n txn in let more = length-applying n txn in omega (arith, long, more))
-      (subst (λ m. AreTxnGone setup from queue (0 + length deciding + length applying) m to)
+      (subst (λ m. AreGone setup from queue (0 + length deciding + length applying) m to)
       (let steps = cost_deciding setup.shape n txn in let more = cost_applying setup.shape n txn in omega (arith, steps, more)) gone)
   applied_as (Err fault) to ends =
       go fault
@@ -193,7 +193,7 @@ module _ (setup : Setup) (n : ℕ) (txn : Entries) (some : txn ≡ [] → ⊥) (
       (let long = length-deciding n txn in let more = length-applying n txn in omega (arith, long, more))
       (let steps = cost_deciding setup.shape n txn in let more = cost_applying setup.shape n txn in omega (arith, steps, more)) ends)
     where
-      go : (fault : Fault) → EndsTxnAt setup from queue (count + 1) (2 * count + 2) most (Err fault) to
+      go : (fault : Fault) → EndsAt setup from queue (count + 1) (2 * count + 2) most (Err fault) to
           → CommitEndsAt setup from queue count most (commit_answer_by (Err fault)) to
       go (Fail.Spent page) it = it
       go Fail.Cut it = it
@@ -209,7 +209,7 @@ module _ (setup : Setup) (n : ℕ) (txn : Entries) (some : txn ≡ [] → ⊥) (
       go : (made : Result (Unit {0}) Fault) → AreEdited setup (deciding_edits old.lines txn) from its.between made
           → HasCommitGoneOn made setup txn old new its.between to answer → CommitEndsAt setup from queue count most answer to
       go (Ok done) was then =
-          let gone : AreTxnGone setup from queue (0 + length deciding) (0 + cost setup.shape deciding) its.between =
+          let gone : AreGone setup from queue (0 + length deciding) (0 + cost setup.shape deciding) its.between =
           decided_end its.between (Ok done) (subst (λ m. AreEdited setup (deciding_edits m txn) from its.between (Ok done)) same was) in
           subst (λ a. CommitEndsAt setup from queue count most a to) (sym then.its_answer)
           (applied_as then.applied to
@@ -264,20 +264,10 @@ module _ (f : Formulas) (now : Moment) (n : ℕ) (txn : Entries) (some : txn ≡
       ∙ append_assoc bodies_first (header ∷ []) (take more (applying_writes n txn)) in
       writes_own f now bodies_first header (take more (applying_writes n txn)) made (sym (ap (marks_of_writes f now) front) ∙ drained)
 
-  some_marks : (found : Option (List Mark)) → IsSome found → (made : List Mark) × (found ≡ Some made)
-  some_marks None is = absurd (true≢false (sym is))
-  some_marks (Some made) is = (made, refl)
-
   pub own_absent : (writing : Writing) → writing.done ≤ length txn → IsCutAmong f now its_queue writing
       → list_any (is_own_seal n) writing.made ≡ false
-  own_absent writing few (inl all) = before_header writing.done writing.made few all.1
-  own_absent writing few (inr stop) =
-      let found = some_marks (drained_marks f now its_queue writing.done) stop.none_spent in
-      stopped_as f now its_queue writing.done writing.made stop n found.0 false found.1 (before_header writing.done found.0 few found.1)
+  own_absent writing few = own_at_cut f now its_queue writing n false (λ made drained. before_header writing.done made few drained)
 
   pub own_present : (writing : Writing) → length txn < writing.done → IsCutAmong f now its_queue writing
       → list_any (is_own_seal n) writing.made ≡ true
-  own_present writing past (inl all) = past_header writing.done writing.made past all.1
-  own_present writing past (inr stop) =
-      let found = some_marks (drained_marks f now its_queue writing.done) stop.none_spent in
-      stopped_as f now its_queue writing.done writing.made stop n found.0 true found.1 (past_header writing.done found.0 past found.1)
+  own_present writing past = own_at_cut f now its_queue writing n true (λ made drained. past_header writing.done made past drained)

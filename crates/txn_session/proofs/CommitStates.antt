@@ -1,6 +1,6 @@
 -- A commit as the session's fields have it: the state once so many of its engine writes are done.
-use Rattle.std.proofs.Common.{ℕ, ◌≡◌, ◌≤◌, ◌+◌, ◌-◌, ◌*◌, ◌++◌, Bool, true, false, cond, List, [], ◌∷◌, length, take, Option, Some, None, Result, refl, sym, ap, subst, ◌∙◌, arith}
-use Rattle.std.specs.Prelude.{All, nat_lt, ◌==◌, if◌then◌else◌}
+use Rattle.std.proofs.Common.{ℕ, ◌≡◌, ◌≤◌, ◌+◌, ◌*◌, ◌++◌, Bool, true, false, cond, List, [], ◌∷◌, length, take, Option, Some, None, Result, refl, sym, ap, subst, ◌∙◌, arith}
+use Rattle.std.specs.Prelude.{nat_lt, ◌==◌, if◌then◌else◌}
 use Rattle.pmem_base.specs.declared.commands.Posted.{Posted}
 use Rattle.pmem_base.specs.declared.answers.Mark.{Mark}
 use Rattle.pmem_base.specs.Layout as layout
@@ -19,23 +19,25 @@ use Rattle.line_txn.specs.declared.store.Done.{Done}
 use Rattle.line_txn.specs.declared.store.CommitFault.{CommitFault}
 use Rattle.line_txn.specs.Header.{AreTargets}
 use Rattle.line_txn.specs.Logged.{IsLogged, commit_lines_at, targets_at, commit_memory_at, targets_of}
-use Rattle.line_txn.specs.Edits.{IsEditOf, IsWholeTxn, deciding_edits, applying_edits}
+use Rattle.engine_lines.specs.Edits.{IsEditOf}
+use Rattle.line_txn.specs.Edits.{IsWholeTxn, deciding_edits, applying_edits}
 use Rattle.line_txn.specs.Store.{HasStoreCommitted, logged_lines}
 use Rattle.line_txn.proofs.LoggedLaws.{whole_at_each_stage}
 use Rattle.line_txn.proofs.EditStages.{deciding_fit, applying_fit}
 use Rattle.std.proofs.lemmas.List.Elements.{All-append}
 use Rattle.watched_board.specs.declared.taken.Taken.{Taken}
 use Rattle.watched_board.specs.Watching.{steps_in, step_limit, device_during, none_taken, IsWatched}
-use Rattle.wear_session.specs.Answered.{Writing}
+use Rattle.engine_lines.specs.Writes.{Writing}
 use Rattle.watched_board.proofs.StepLaws.{at_most, fewer}
-use Rattle.wear_session.proofs.Seen.{setup_under}
-use Rattle.wear_session.proofs.WriteLaws.{whole_places}
-use Rattle.wear_session.proofs.EngineWrites.{moment_now, AreDone, AreCut}
+use Rattle.engine_lines.proofs.EngineLines.{setup_under}
+use Rattle.engine_lines.proofs.SealedLines.{whole_places}
+use Rattle.engine_lines.proofs.EngineWrites.{moment_now, AreDone, AreCut}
+use Rattle.engine_lines.proofs.EditWrites.{edits_memory}
 use Rattle.txn_session.specs.State.{TxnState, Entries, commit_writes, with_commit}
 use Rattle.txn_session.specs.World.{TxnParts, IsTxnWorld, IsStoreOn, targets_in_force, redone_memory, txn_of}
 use Rattle.txn_session.specs.Answered.{IsTxnButForSteps, GoesToTxnState, IsTxnCutOff, after_commit, most_of_commit}
 use Rattle.txn_session.proofs.Worlds.{few_data, targets_held, memory_held, logged_is, goes_to, cut_off, IsOpenTxn, on_in, lines_are, on_after, off_after}
-use Rattle.txn_session.proofs.WriteLists.{posted_commit, edits_memory, length-commit_writes}
+use Rattle.txn_session.proofs.WriteLists.{posted_commit, length-commit_writes}
 use Rattle.txn_session.proofs.Stages.{commit_edits, IsAtStage, at_stage}
 use Rattle.txn_session.proofs.CommitEnds.{commit_queue, CommitEndsAt, CommitServes, commit_serves, commit_ends_at}
 

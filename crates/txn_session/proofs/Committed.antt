@@ -1,5 +1,5 @@
 -- A commit as the session's fields have it: what is held after each of its answers, and what these say.
-use Rattle.std.proofs.Common.{ℕ, ◌≡◌, ◌<◌, ◌≤◌, ◌+◌, ◌-◌, ◌*◌, ◌++◌, ◌⊎◌, inl, inr, Bool, true, false, cond, List, [], length, take, drop, Option, Some, None, Ok, Err, refl, sym, ap, subst, ◌∙◌, mul-le-mul_right, arith}
+use Rattle.std.proofs.Common.{ℕ, ◌≡◌, ◌<◌, ◌≤◌, ◌+◌, ◌*◌, ◌++◌, ◌⊎◌, inl, inr, Bool, true, false, cond, List, [], length, take, drop, Option, Some, None, Ok, Err, refl, sym, ap, subst, ◌∙◌, mul-le-mul_right, arith}
 use Rattle.std.specs.Prelude.{nat_lt, unwrap_or, ◌==◌}
 use Rattle.std.specs.List.{list_any}
 use Rattle.std.proofs.lemmas.Bool.{true≢false, cases_lt, le-ltb, lt-ltb, eq-eqb, ne_eqb}
@@ -10,15 +10,15 @@ use Rattle.suite.specs.Setup.{Setup}
 use Rattle.pmem_engine.specs.declared.fault.Fault.{Fault}
 use Rattle.pmem_engine.specs.declared.fault.Fault.TheVariants as Fail
 use Rattle.pmem_engine.specs.Parts.{Parts}
-use Rattle.start_gap.specs.Gapped.{IsCutOrSpent}
+use Rattle.engine_lines.specs.Lines.{IsCutOrSpent}
 use Rattle.line_txn.specs.declared.store.Store.{Store}
 use Rattle.line_txn.specs.declared.store.Done.TheVariants as Make
 use Rattle.line_txn.specs.declared.store.CommitFault.{CommitFault}
 use Rattle.line_txn.specs.Logged.{targets_of}
 use Rattle.watched_board.specs.Watching.{steps_in, step_limit}
-use Rattle.wear_session.specs.Answered.{Writing, is_own_seal, write_steps}
-use Rattle.wear_session.proofs.Seen.{setup_under}
-use Rattle.wear_session.proofs.EngineWrites.{moment_now, memory_done}
+use Rattle.engine_lines.specs.Writes.{Writing, is_own_seal, write_steps}
+use Rattle.engine_lines.proofs.EngineLines.{setup_under}
+use Rattle.engine_lines.proofs.EngineWrites.{moment_now, memory_done}
 use Rattle.txn_session.specs.declared.commands.TxnCommand.TheVariants as Do
 use Rattle.txn_session.specs.declared.answers.TxnAnswer.{TxnAnswer}
 use Rattle.txn_session.specs.declared.answers.TxnAnswer.TheVariants as Say
@@ -26,7 +26,7 @@ use Rattle.txn_session.specs.State.{TxnState, txn_setup_in, txn_moment_in, commi
 use Rattle.txn_session.specs.World.{TxnParts, IsTxnWorld, stuck_in, txn_of}
 use Rattle.txn_session.specs.Answered.{IsTxnAnswered, IsCommitting, IsTxnCommitKept, EndsCommit, HasTxnCommitted, after_commit}
 use Rattle.txn_session.proofs.Seen.{commit_undecided, served, seen_from, held_under}
-use Rattle.txn_session.proofs.EngineEdits.{IsTxnCutAt}
+use Rattle.engine_lines.proofs.EngineEdits.{IsCutAt}
 use Rattle.txn_session.proofs.CommitEnds.{FailsTxnAt, own_absent, own_present}
 use Rattle.txn_session.proofs.CommitStates.{CommitCall}
 use Rattle.txn_session.proofs.CommitStates as state
@@ -177,7 +177,7 @@ module _ (c : CommitCall) where
       omega (arith, both, write_most)
 
   abbrev CutAt : Type 0
-  CutAt = IsTxnCutAt setup from queue 0 (2 * count + 2) most to
+  CutAt = IsCutAt setup from queue 0 (2 * count + 2) most to
 
   by_end : (committed : Bool) → c.answer ≡ Err (record { fault = Fail.Cut; committed = committed })
       → (it : CutAt) × ((count < it.writing.done) ⊎ ((it.writing.done ≤ count) × (committed ≡ false)))

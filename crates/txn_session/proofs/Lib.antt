@@ -1,5 +1,3 @@
-pub mod OwnSeals
-pub mod EngineEdits
 pub mod WriteLists
 pub mod Stages
 pub mod Worlds

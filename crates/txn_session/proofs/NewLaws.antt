@@ -1,5 +1,5 @@
 -- A new session: formatting, and the opening of zero lines.
-use Rattle.std.proofs.Common.{ℕ, zero, ◌≡◌, ◌<◌, ◌≤◌, ◌+◌, ◌^◌, ◌⊎◌, inl, inr, true, List, [], length, replicate, Option, Some, None, Result, Ok, Err, refl, sym, ap, subst, ◌∙◌, subst₂, arith, rules}
+use Rattle.std.proofs.Common.{ℕ, ◌≡◌, ◌<◌, ◌+◌, inl, inr, true, List, [], length, replicate, Option, Some, None, Result, Ok, Err, refl, sym, ap, subst, ◌∙◌, subst₂, arith, rules}
 use Rattle.std.specs.Prelude.{is_none, ⊤, ◌&&◌}
 use Rattle.std.proofs.lemmas.Bool.{true≢false, and_parts}
 use Rattle.std.proofs.lemmas.List.{append-nil, length-replicate, get_or-replicate}
@@ -34,7 +34,8 @@ use Rattle.line_txn.specs.declared.store.TxnFault.{TxnFault}
 use Rattle.line_txn.specs.declared.store.TxnFault.TheVariants as Txn
 use Rattle.line_txn.specs.Header.{IsHeader}
 use Rattle.line_txn.specs.Logged.{IsLogged}
-use Rattle.line_txn.specs.Edits.{AreEdited, redoing_edits}
+use Rattle.engine_lines.specs.Edits.{AreEdited}
+use Rattle.line_txn.specs.Edits.{redoing_edits}
 use Rattle.line_txn.specs.Store.{HasStoreOpened, HasStoreStarted, HasTargetsRedone, IsOpenedBy, logged_lines}
 use Rattle.line_txn.proofs.Headers.{one_header}
 use Rattle.line_txn.proofs.LoggedLaws.{zero_logged}

@@ -1,5 +1,5 @@
 -- Power comes on, as the session's fields have it: what is held after recovery, the opening and its redo, and what is answered.
-use Rattle.std.proofs.Common.{ℕ, ◌≡◌, ◌≤◌, ◌+◌, ◌-◌, ◌⊎◌, inl, inr, false, cond, List, [], length, take, Option, Some, None, Result, Ok, Err, refl, sym, ap, subst, ◌∙◌, arith}
+use Rattle.std.proofs.Common.{ℕ, ◌≡◌, ◌≤◌, ◌+◌, ◌⊎◌, inl, inr, false, cond, List, [], length, take, Option, Some, None, Result, Ok, Err, refl, sym, ap, subst, ◌∙◌, arith}
 use Rattle.std.specs.Prelude.{MatchOption, ⊤}
 use Rattle.std.proofs.lemmas.Bool.{le-ltb}
 use Rattle.std.proofs.lemmas.List.{append-nil}
@@ -8,7 +8,6 @@ use Rattle.pmem_base.specs.declared.answers.Exhibit.TheVariants.{Twin}
 use Rattle.pmem_base.specs.declared.commands.Posted.{Posted}
 use Rattle.board.specs.Device.{Device}
 use Rattle.board.specs.Memory.{BoardMemory}
-use Rattle.commit_regs.specs.Groups.{redone}
 use Rattle.seal_ledger.specs.Ledger.{LedgerState}
 use Rattle.suite.specs.Setup.{Setup}
 use Rattle.plain_model.specs.State.{Memory}
@@ -32,11 +31,11 @@ use Rattle.line_txn.specs.Header.{IsHeader}
 use Rattle.line_txn.specs.Edits.{redoing_edits}
 use Rattle.line_txn.specs.Store.{HasStoreOpened, HasStoreStarted, HasFailedRedo, IsOpenedBy}
 use Rattle.watched_board.specs.Watching.{steps_in}
-use Rattle.wear_session.specs.Answered.{Writing, read_steps}
-use Rattle.wear_session.proofs.Seen.{setup_under}
+use Rattle.engine_lines.specs.Writes.{Writing, read_steps}
+use Rattle.engine_lines.proofs.EngineLines.{setup_under}
 use Rattle.wear_session.proofs.Twins.{seal_twin}
 use Rattle.wear_session.proofs.Recoveries.{few_recovery, sound_recovered, cut_left, wanted_left, untouched, twin_left, twin_of_last, twin_within}
-use Rattle.wear_session.proofs.EngineWrites.{fewer_within, memory_done, read_line, read_cut}
+use Rattle.engine_lines.proofs.EngineWrites.{fewer_within, memory_done, read_line, read_cut}
 use Rattle.txn_session.specs.declared.calls.StartFault.{StartFault}
 use Rattle.txn_session.specs.declared.calls.StartFault.TheVariants as Start
 use Rattle.txn_session.specs.declared.commands.TxnCommand.TheVariants as Do
@@ -47,7 +46,7 @@ use Rattle.txn_session.specs.State.{TxnState, txn_setup_in}
 use Rattle.txn_session.specs.World.{TxnParts, IsTxnWorld, stuck_in, txn_of}
 use Rattle.txn_session.specs.Answered.{IsTxnAnswered, IsTxnShownBy, IsTxnMemoryWanted, GoesToTxnState, HasTxnOpened, after_redo}
 use Rattle.txn_session.proofs.Seen.{on_undecided, served, seen_from, held_under}
-use Rattle.txn_session.proofs.EngineEdits.{IsTxnCutAt, EndsTxnAt}
+use Rattle.engine_lines.proofs.EngineEdits.{IsCutAt, EndsAt}
 use Rattle.txn_session.proofs.RedoLists.{none_redone, few_redone}
 use Rattle.txn_session.proofs.Starts.{OnTxnCall}
 use Rattle.txn_session.proofs.Redone as state
@@ -160,7 +159,7 @@ module _ (c : OnTxnCall) where
         same = state.found_targets c between suite_between engine work it its.was_redone.between its.was_redone.line its.targets its.was_redone.was_read its.was_redone.header
 
         go : (redone : Result (Unit {0}) Fault) → IsOpenedBy redone store.lines its.targets store opened
-            → EndsTxnAt setup first queue 0 (length (redoing_edits n targets)) most redone (parts_to store.engine) → OpenOutcome (Ok (store, opened))
+            → EndsAt setup first queue 0 (length (redoing_edits n targets)) most redone (parts_to store.engine) → OpenOutcome (Ok (store, opened))
         go (Ok done) by gone =
             let writing : Writing = record { done = length (redoing_edits n targets); made = gone.made } in
             let come : state.HasTxnCome c writing =
@@ -204,7 +203,7 @@ module _ (c : OnTxnCall) where
     -- power was cut in the redo
     redo_cut_exit : (dropped : EngineState) → HasFailedRedo setup middle (parts_to dropped) Fail.Cut → OpenExit c.board None (Say.Cut (steps_in c.taken))
     redo_cut_exit dropped redo =
-        let end : IsTxnCutAt setup first queue 0 (length (redoing_edits n targets)) most (parts_to dropped) =
+        let end : IsCutAt setup first queue 0 (length (redoing_edits n targets)) most (parts_to dropped) =
         state.redo_ends c between suite_between engine work it redo.targets (parts_to dropped) (Err Fail.Cut) redo.was_redone in
         let come : state.HasTxnCome c end.writing = state.come_to c end.writing end.cut.marks end.cut.memory in
         exit_of c.board None (Say.Cut (steps_in c.taken)) (state.dark_world c end.writing come c.board end.cut.dark end.cut.durable end.cut.small_group)

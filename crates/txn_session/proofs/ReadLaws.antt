@@ -1,5 +1,5 @@
 -- A read of a data line: it shows memory's line, or power is cut.
-use Rattle.std.proofs.Common.{ℕ, ◌≡◌, ◌<◌, ◌≤◌, ◌++◌, true, false, List, [], Option, Some, None, Result, Ok, Err, refl, sym, ap, subst, ◌∙◌, arith}
+use Rattle.std.proofs.Common.{ℕ, ◌≡◌, ◌<◌, ◌++◌, true, false, List, [], Option, Some, None, Result, Ok, Err, refl, sym, ap, subst, ◌∙◌, arith}
 use Rattle.std.specs.Prelude.{unwrap_or, IfOk}
 use Rattle.std.proofs.lemmas.List.{append-nil}
 use Rattle.pmem_base.specs.declared.lines.Line.{Line}
@@ -18,17 +18,17 @@ use Rattle.pmem_engine.specs.declared.fault.Fault.TheVariants as Fail
 use Rattle.pmem_engine.specs.Parts.{Parts, parts_of, AreTrusted}
 use Rattle.pmem_engine.specs.Outcomes.{going, cut_short, OneLossEffect}
 use Rattle.pmem_engine.specs.Calls.{HasReadLine}
-use Rattle.start_gap.specs.Gapped.{HasLines}
+use Rattle.engine_lines.specs.Lines.{HasLines}
 use Rattle.line_txn.specs.declared.store.Store.{Store}
 use Rattle.line_txn.specs.Logged.{IsLogged}
 use Rattle.line_txn.specs.Serving.{served_from}
 use Rattle.line_txn.specs.Store.{IsServedAs, logged_lines}
 use Rattle.watched_board.specs.declared.taken.Taken.{Taken}
 use Rattle.watched_board.specs.Watching.{steps_in, device_during, none_taken, IsWatched}
-use Rattle.wear_session.specs.Answered.{read_steps}
+use Rattle.engine_lines.specs.Writes.{read_steps}
 use Rattle.watched_board.proofs.StepLaws.{at_most, fewer}
-use Rattle.wear_session.proofs.WriteLaws.{whole_places}
-use Rattle.wear_session.proofs.Seen.{setup_under}
+use Rattle.engine_lines.proofs.SealedLines.{whole_places}
+use Rattle.engine_lines.proofs.EngineLines.{setup_under}
 use Rattle.txn_session.specs.declared.commands.TxnCommand.TheVariants as Do
 use Rattle.txn_session.specs.declared.answers.TxnAnswer.TheVariants as Say
 use Rattle.txn_session.specs.State.{TxnState, Entries, txn_setup_in, entry_in}

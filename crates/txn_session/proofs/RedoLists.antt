@@ -1,24 +1,21 @@
 -- How long a redo is, and how many steps it takes.
-use Rattle.std.proofs.Common.{ℕ, zero, suc, ◌≡◌, ◌<◌, ◌≤◌, ◌+◌, ◌*◌, ◌++◌, Bool, true, false, cond, List, [], ◌∷◌, length, refl, sym, ap, ◌∙◌, arith}
-use Rattle.std.specs.Prelude.{All, nat_lt, ◌==◌, if◌then◌else◌}
+use Rattle.std.proofs.Common.{ℕ, ◌≡◌, ◌<◌, ◌≤◌, ◌+◌, ◌*◌, ◌++◌, Bool, true, false, cond, List, [], ◌∷◌, length, refl, sym, ap, ◌∙◌, arith}
+use Rattle.std.specs.Prelude.{All, nat_lt, if◌then◌else◌}
 use Rattle.std.proofs.lemmas.Bool.{lt-ltb, ne_eqb}
 use Rattle.std.proofs.lemmas.List.{length-append}
 use Rattle.pmem_base.specs.Lines.{zero_line}
 use Rattle.pmem_base.specs.Shape.{Shape}
-use Rattle.plain_model.specs.State.{Memory, memory_with}
-use Rattle.line_txn.specs.declared.edits.Edit.{Edit}
-use Rattle.line_txn.specs.declared.edits.Edit.TheVariants as Make
+use Rattle.plain_model.specs.State.{Memory}
+use Rattle.engine_lines.specs.declared.edits.Edit.{Edit}
+use Rattle.engine_lines.specs.declared.edits.Edit.TheVariants as Make
 use Rattle.line_txn.specs.Edits.{copy_edits, redoing_edits}
 use Rattle.line_txn.proofs.EditStages.{length-copy_edits}
-use Rattle.wear_session.specs.Answered.{read_steps, write_steps}
+use Rattle.engine_lines.specs.Writes.{read_steps, write_steps}
 use Rattle.txn_session.specs.State.{redo_writes}
 use Rattle.txn_session.specs.Answered.{most_of_redo}
-use Rattle.txn_session.proofs.EngineEdits.{posted_of, all_posted, cost}
+use Rattle.engine_lines.proofs.EngineEdits.{cost}
+use Rattle.engine_lines.proofs.EditWrites.{length-all_posted}
 use Rattle.txn_session.proofs.WriteLists.{posted_redo}
-
-length-all_posted : (memory : Memory) (edits : List Edit) → length (all_posted memory edits) ≡ length edits
-length-all_posted memory [] = refl
-length-all_posted memory (edit ∷ edits) = let rest = length-all_posted (memory_with memory (posted_of memory edit)) edits in omega (arith, rest)
 
 -- as many writes as changes
 pub length-redo : (n : ℕ) (targets : List ℕ) (lines : Memory) → All (λ t. t < n) targets → n + 1 + length targets ≤ length lines

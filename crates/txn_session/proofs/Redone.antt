@@ -1,5 +1,5 @@
 -- Power comes on, as the session's fields have it: the state once so many writes of the redo are done.
-use Rattle.std.proofs.Common.{ℕ, ◌≡◌, ◌<◌, ◌≤◌, ◌+◌, ◌-◌, ◌^◌, ◌++◌, true, false, cond, List, [], length, take, Option, Some, None, Result, Ok, refl, sym, ap, subst, ◌∙◌, arith}
+use Rattle.std.proofs.Common.{ℕ, ◌≡◌, ◌<◌, ◌≤◌, ◌+◌, ◌^◌, ◌++◌, true, false, cond, List, [], length, take, Option, Some, None, Result, Ok, refl, sym, ap, subst, ◌∙◌, arith}
 use Rattle.std.specs.Prelude.{nat_lt}
 use Rattle.std.proofs.lemmas.Bool.{le-ltb}
 use Rattle.std.proofs.lemmas.List.{append-nil}
@@ -26,7 +26,8 @@ use Rattle.pmem_recovery.specs.Recovered.{HasRecovered}
 use Rattle.line_txn.specs.declared.store.Store.{Store}
 use Rattle.line_txn.specs.Header.{AreTargets, IsHeader}
 use Rattle.line_txn.specs.Logged.{IsLogged, lines_opened, targets_opened}
-use Rattle.line_txn.specs.Edits.{AreEdited, redoing_edits}
+use Rattle.engine_lines.specs.Edits.{AreEdited}
+use Rattle.line_txn.specs.Edits.{redoing_edits}
 use Rattle.line_txn.specs.Store.{HasTargetsRedone, logged_lines}
 use Rattle.line_txn.proofs.Headers.{one_header}
 use Rattle.line_txn.proofs.LoggedLaws.{kept_by_opening}
@@ -34,19 +35,20 @@ use Rattle.line_txn.proofs.Openings.{logged_size}
 use Rattle.line_txn.proofs.EditStages.{redoing_fit}
 use Rattle.watched_board.specs.Watching.{steps_in, device_during, none_taken, IsWatched}
 use Rattle.watched_board.proofs.StepLaws.{at_most, fewer}
-use Rattle.wear_session.specs.Answered.{Writing, IsCutAmong, read_steps}
-use Rattle.wear_session.proofs.Seen.{setup_under}
+use Rattle.engine_lines.specs.Writes.{Writing, IsCutAmong, read_steps}
+use Rattle.engine_lines.proofs.EngineLines.{setup_under}
 use Rattle.wear_session.proofs.Recoveries.{recovered}
-use Rattle.wear_session.proofs.WriteLaws.{whole_places}
-use Rattle.wear_session.proofs.EngineWrites.{memory_now, AreDone, memory_done, read_line, read_done}
+use Rattle.engine_lines.proofs.SealedLines.{whole_places}
+use Rattle.engine_lines.proofs.EngineWrites.{memory_now, AreDone, memory_done, read_line, read_done}
 use Rattle.txn_session.specs.declared.answers.TxnAnswer.TheVariants as Say
 use Rattle.txn_session.specs.During.{HasTxnStarted}
 use Rattle.txn_session.specs.State.{TxnState, txn_moment_in, redo_writes}
 use Rattle.txn_session.specs.World.{TxnParts, IsTxnWorld, IsStoreOff, IsStoredBy, targets_in_force, redone_memory, txn_of}
 use Rattle.txn_session.specs.Answered.{GoesToTxnState, HasTxnOpened, after_redo, txn_most_of_on}
 use Rattle.txn_session.proofs.Worlds.{few_data, few_lines, targets_held, memory_held, logged_is, goes_to, cut_off, on_after, off_after}
-use Rattle.txn_session.proofs.EngineEdits.{all_posted, cost, EndsTxnAt, edits_go}
-use Rattle.txn_session.proofs.WriteLists.{posted_redo, edits_memory}
+use Rattle.engine_lines.proofs.EngineEdits.{all_posted, cost, EndsAt, edits_go}
+use Rattle.engine_lines.proofs.EditWrites.{edits_memory}
+use Rattle.txn_session.proofs.WriteLists.{posted_redo}
 use Rattle.txn_session.proofs.Stages.{IsRedoneTo, redone_at}
 use Rattle.txn_session.proofs.RedoLists.{cost_redo, length-redo}
 use Rattle.txn_session.proofs.Starts.{OnTxnCall, few_of_on}
@@ -277,14 +279,14 @@ module _ (c : OnTxnCall) where
 
     -- the redo of it
     pub redo_ends : (found : List ℕ) (new : Parts) (answer : Result (Unit {0}) Fault) → HasTargetsRedone setup found parts_between new answer
-        → EndsTxnAt setup parts_from queue 0 (length (redoing_edits n targets)) most answer new
+        → EndsAt setup parts_from queue 0 (length (redoing_edits n targets)) most answer new
     redo_ends found new answer redo =
         let same = found_targets redo.between redo.line found redo.was_read redo.header in
         let read = read_done setup parts_from parts_between [] [] (recovery_bound c.geometry) recovered_to n redo.between redo.line redo.was_read in
         let bound = recovery_bound c.geometry + read_steps c.geometry in
         let memory : memory_now setup redo.between ≡ places = memory_done setup parts_from redo.between [] [] bound read in
-        subst (λ m. EndsTxnAt setup parts_from queue 0 (length (redoing_edits n targets)) (bound + m) answer new) (cost_redo c.geometry n targets)
-        (subst (λ k. EndsTxnAt setup parts_from queue 0 k (bound + cost_of_redo) answer new) (omega arith)
+        subst (λ m. EndsAt setup parts_from queue 0 (length (redoing_edits n targets)) (bound + m) answer new) (cost_redo c.geometry n targets)
+        (subst (λ k. EndsAt setup parts_from queue 0 k (bound + cost_of_redo) answer new) (omega arith)
         (edits_go setup parts_from queue (redoing_edits n targets) 0 bound [] redo.between new [] answer
         (redoing_fit n (layout.data_lines c.geometry) size targets its_targets.few its_targets.below) read
         (sym (posted_redo n targets places its_targets.below.each long) ∙ ap (λ m. all_posted m (redoing_edits n targets)) (sym memory)

@@ -1,5 +1,5 @@
 -- Recovery, and then the opening of the store.
-use Rattle.std.proofs.Common.{ℕ, ◌≡◌, ◌≤◌, ◌+◌, ◌*◌, Bool, true, false, List, Option, None, Result, Ok, refl, ap, subst, mul-le-mul_left, mul-le-mul_right, arith}
+use Rattle.std.proofs.Common.{ℕ, ◌≡◌, ◌≤◌, ◌+◌, ◌*◌, Bool, true, false, List, None, Result, Ok, refl, ap, subst, mul-le-mul_left, mul-le-mul_right, arith}
 use Rattle.std.specs.Prelude.{◌==◌, if◌then◌else◌}
 use Rattle.pmem_base.specs.Layout as layout
 use Rattle.pmem_base.specs.Shape.{Shape, IsShape}
@@ -20,8 +20,8 @@ use Rattle.line_txn.specs.declared.store.TxnFault.{TxnFault}
 use Rattle.line_txn.specs.Store.{HasStoreOpened}
 use Rattle.watched_board.specs.declared.taken.Taken.{Taken}
 use Rattle.watched_board.specs.Watching.{steps_in, step_limit, device_during, none_taken, IsWatched}
-use Rattle.wear_session.specs.Answered.{read_steps, write_steps}
-use Rattle.wear_session.proofs.Seen.{setup_under}
+use Rattle.engine_lines.specs.Writes.{read_steps, write_steps}
+use Rattle.engine_lines.proofs.EngineLines.{setup_under}
 use Rattle.txn_session.specs.declared.calls.StartFault.{StartFault}
 use Rattle.txn_session.specs.State.{TxnState}
 use Rattle.txn_session.specs.World.{TxnParts, IsTxnWorld, txn_of}

@@ -1,10 +1,7 @@
 -- What a session holds after a call that goes on or is cut, and how its state stands to the one before.
-use Rattle.std.proofs.Common.{rules, ℕ, zero, suc, ◌≡◌, ◌<◌, ◌≤◌, ◌+◌, ◌^◌, inl, inr, true, false, List, [], length, Option, Some, None, refl, sym, ap, subst, subst₂, ◌∙◌, arith}
+use Rattle.std.proofs.Common.{rules, ℕ, ◌≡◌, ◌<◌, ◌≤◌, ◌^◌, true, false, List, length, Option, Some, None, refl, sym, ap, subst, subst₂, ◌∙◌, arith}
 use Rattle.std.specs.Prelude.{IfSome}
 use Rattle.std.proofs.Math.Nat.{pow-le-pow_right}
-use Rattle.std.proofs.lemmas.Bool.{cases_lt}
-use Rattle.pmem_base.specs.Counts.{HasRisen}
-use Rattle.pmem_base.specs.declared.lines.Line.{Line}
 use Rattle.pmem_base.specs.Layout as layout
 use Rattle.pmem_base.specs.Lines.{line_at}
 use Rattle.pmem_base.specs.Shape.{Shape, IsShape}
@@ -22,8 +19,9 @@ use Rattle.line_txn.specs.Store.{logged_lines}
 use Rattle.line_txn.proofs.Headers.{targets_of_header}
 use Rattle.line_txn.proofs.Openings.{logged_size}
 use Rattle.watched_board.specs.declared.taken.Taken.{Taken}
-use Rattle.watched_board.specs.Watching.{counted, cuts_after, steps_in, step_limit, FollowsOn, IsWatched}
-use Rattle.wear_session.proofs.Worlds.{sealed_in, places_of, rises_by, has_burnt, has_run_out}
+use Rattle.watched_board.specs.Watching.{steps_in, step_limit, IsWatched}
+use Rattle.engine_lines.proofs.SealedLines.{sealed_in, places_of}
+use Rattle.wear_session.proofs.Worlds.{rises_by, has_burnt, has_run_out}
 use Rattle.txn_session.specs.State.{TxnState, Entries, txn_without_power}
 use Rattle.txn_session.specs.World.{TxnParts, IsTxnWorld, IsStoreOn, IsStoredBy, targets_in_force, redone_memory, txn_of}
 use Rattle.txn_session.specs.Answered.{IsTxnButForSteps, GoesToTxnState, IsTxnCutOff}

@@ -1,29 +1,24 @@
 -- The engine writes of a commit and of a redo, in order: those of the changes that they are made of, and memory once so many
 -- of them are done.
-use Rattle.std.proofs.Common.{ℕ, zero, suc, ◌≡◌, ◌<◌, ◌≤◌, ◌+◌, ◌*◌, ◌^◌, ◌++◌, List, [], ◌∷◌, length, take, drop, drop-cons, refl, sym, ap, ◌∙◌, arith}
-use Rattle.std.specs.Prelude.{All, slice_set}
+use Rattle.std.proofs.Common.{ℕ, suc, ◌≡◌, ◌<◌, ◌≤◌, ◌+◌, ◌*◌, ◌++◌, List, [], ◌∷◌, length, drop, drop-cons, refl, sym, ap, ◌∙◌, arith}
+use Rattle.std.specs.Prelude.{All}
 use Rattle.std.specs.List.{zip}
 use Rattle.std.proofs.lemmas.List.{append_assoc, length-append, length-map}
 use Rattle.std.proofs.lemmas.List.Elements.{All-head, All-tail}
 use Rattle.pmem_base.specs.declared.lines.Line.{Line}
 use Rattle.pmem_base.specs.declared.commands.Posted.{Posted}
-use Rattle.pmem_base.specs.Lines.{IsLine, line_at, zero_line}
-use Rattle.pmem_base.proofs.LineLemmas.{IsLine-line_at, All-lines_set}
+use Rattle.pmem_base.specs.Lines.{line_at, zero_line}
 use Rattle.pmem_base.proofs.LineSets.{line_at-set_other}
 use Rattle.pmem_base.specs.WaitingWrites.{put_write}
-use Rattle.suite.specs.Formulas.{Formulas}
 use Rattle.plain_model.specs.State.{Memory, memory_with}
-use Rattle.plain_model.specs.Asked.{Moment, moment_after, moment_after_writes}
 use Rattle.pmem_engine.specs.Calls.{whole_write}
-use Rattle.pmem_engine.proofs.PostedWrites.PlainMakings.{put_whole}
-use Rattle.pmem_engine.proofs.PostedWrites.WriteEnds.{whole_posted}
-use Rattle.line_txn.specs.declared.edits.Edit.{Edit}
-use Rattle.line_txn.specs.declared.edits.Edit.TheVariants as Make
+use Rattle.engine_lines.specs.declared.edits.Edit.{Edit}
+use Rattle.engine_lines.specs.declared.edits.Edit.TheVariants as Make
 use Rattle.line_txn.specs.Header.{header_of}
 use Rattle.line_txn.specs.Logged.{targets_of, bodies_of}
-use Rattle.line_txn.specs.Edits.{IsEditOf, edited, all_edited, body_edits, target_edits, copy_edits, deciding_edits, applying_edits, redoing_edits}
+use Rattle.line_txn.specs.Edits.{body_edits, target_edits, copy_edits, deciding_edits, applying_edits, redoing_edits}
 use Rattle.txn_session.specs.State.{Entries, body_writes, target_writes, commit_writes, redo_writes}
-use Rattle.txn_session.proofs.EngineEdits.{posted_of, all_posted}
+use Rattle.engine_lines.proofs.EngineEdits.{all_posted}
 
 -- ---- of a commit
 
@@ -127,34 +122,3 @@ posted_redo n [] lines low long = refl
 posted_redo n (t ∷ targets) lines low long =
     posted_copies (n + 1) (t ∷ targets) lines lines (Make.Put n zero_line ∷ []) (whole_write n zero_line ∷ [])
     (λ i d l. let under = low i d l in omega (arith, under)) long (λ j far. refl) (λ m. refl)
-
--- ---- memory once so many are done
-
-put : (lines : Memory) (at : ℕ) (line : Line) → All IsLine lines → at < 2 ^ 32 → IsLine line
-    → memory_with lines (whole_write at line) ≡ slice_set lines at line
-put lines at line each low whole =
-    let is = IsLine-line_at lines at each in
-    ap (slice_set lines at)
-    (sym (put_whole (line_at lines at) (whole_write at line) (let long = is.long in omega (arith, long)) (whole_posted at line low whole) refl))
-
-module _ (count : ℕ) (small : count ≤ 2 ^ 32) (f : Formulas) where
-  edit_put : (lines : Memory) (edit : Edit) → All IsLine lines → IsEditOf count edit → memory_with lines (posted_of lines edit) ≡ edited edit lines
-  edit_put lines (Make.Put at line) each fit = let low = fit.0 in put lines at line each (omega (arith, low, small)) fit.1
-  edit_put lines (Make.Copy source at) each fit =
-      let low = fit.1 in put lines at (line_at lines source) each (omega (arith, low, small)) (IsLine-line_at lines source each)
-
-  edit_whole : (lines : Memory) (edit : Edit) → All IsLine lines → IsEditOf count edit → All IsLine (edited edit lines)
-  edit_whole lines (Make.Put at line) each fit = All-lines_set lines at line fit.1 each
-  edit_whole lines (Make.Copy source at) each fit = All-lines_set lines at (line_at lines source) (IsLine-line_at lines source each) each
-
-  pub edits_memory : (edits : List Edit) (k : ℕ) (lines : Memory) (now : Moment) → All IsLine lines → All (IsEditOf count) edits
-      → now.memory ≡ lines → (moment_after_writes f now (take k (all_posted lines edits))).memory ≡ all_edited (take k edits) lines
-  edits_memory edits zero lines now each fits same = same
-  edits_memory [] (suc k) lines now each fits same = same
-  edits_memory (edit ∷ edits) (suc k) lines now each fits same =
-      let fit = All-head (IsEditOf count) edit edits fits in
-      let write = posted_of lines edit in
-      let is : memory_with lines write ≡ edited edit lines = edit_put lines edit each fit in
-      ap (λ (l : Memory). (moment_after_writes f (moment_after f now write) (take k (all_posted l edits))).memory) is
-      ∙ edits_memory edits k (edited edit lines) (moment_after f now write) (edit_whole lines edit each fit) (All-tail (IsEditOf count) edit edits fits)
-      (ap (λ m. memory_with m write) same ∙ is)

@@ -17,7 +17,8 @@ use Rattle.plain_model.specs.Bounds.{recovery_bound}
 use Rattle.plain_model.specs.Asked.{Moment}
 use Rattle.plain_model.specs.Fits.{IsSpentNext}
 use Rattle.plain_model.specs.Shown.{IsTwinOfSeal}
-use Rattle.wear_session.specs.Answered.{RisesBySteps, write_steps, read_steps, Writing, AreAllWritesMade, IsCutAmong, is_own_seal}
+use Rattle.engine_lines.specs.Writes.{write_steps, read_steps, Writing, AreAllWritesMade, IsCutAmong, is_own_seal}
+use Rattle.wear_session.specs.Answered.{RisesBySteps}
 use Rattle.txn_session.specs.declared.commands.TxnCommand.{TxnCommand}
 use Rattle.txn_session.specs.declared.commands.TxnCommand.TheVariants as Do
 use Rattle.txn_session.specs.declared.answers.TxnAnswer.{TxnAnswer}

@@ -15,7 +15,7 @@ ghost use Rattle.pmem_engine.specs.Parts.{parts_of, AreTrusted, AreSound};
 ghost use Rattle.pmem_engine.specs.Outcomes.{LeavesTrusted, LeavesSound};
 ghost use Rattle.pmem_engine.specs.Calls.{IsUsable, HasReadLine};
 ghost use Rattle.pmem_recovery.specs.Parts.{suite_state};
-ghost use Rattle.start_gap.specs.Gapped.{HasLines};
+ghost use Rattle.engine_lines.specs.Lines.{HasLines};
 ghost use Rattle.line_txn.specs.Header.{AreDistinctBelow};
 ghost use Rattle.line_txn.specs.Logged.{IsLogged, targets_of};
 ghost use Rattle.line_txn.specs.Edits.{IsWholeTxn};

@@ -3,7 +3,7 @@ ghost use Rattle.std.specs.Prelude.{◌≡◌, ◌<◌, ◌==◌, not, length, I
 ghost use Rattle.std.specs.List.{list_any, position_from};
 ghost use Rattle.txn_session.specs.declared.commands.TxnCommand.TheVariants as Do;
 ghost use Rattle.txn_session.specs.State.{txn_setup_in, with_put_line};
-ghost use Rattle.wear_session.specs.Answered.{is_own_seal};
+ghost use Rattle.engine_lines.specs.Writes.{is_own_seal};
 ghost use Rattle.txn_session.specs.Answered.{IsTxnAnswered, is_txn_full, IsTxnMemoryWanted};
 
 use crate::answers::TxnAnswer;

@@ -3,8 +3,6 @@ pub mod Worlds
 pub mod ReadLaws
 pub mod Seen
 pub mod Levels
-pub mod AskedWrites
-pub mod EngineWrites
 pub mod WriteEnds
 pub mod WriteLaws
 pub mod Written

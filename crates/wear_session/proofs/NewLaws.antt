@@ -44,7 +44,7 @@ use Rattle.start_gap.specs.Record.{recorded}
 use Rattle.start_gap.specs.Logical.{IsLevelled}
 use Rattle.start_gap.specs.Gapped.{HasGappedOpened, HasReadRecord, logical_lines}
 use Rattle.start_gap.proofs.Levelled.{zero_levelled}
-use Rattle.start_gap.proofs.LevelledCalls.{least_lines}
+use Rattle.engine_lines.proofs.EngineLines.{least_lines}
 use Rattle.wear_session.specs.State.{IsNewWear}
 use Rattle.wear_session.specs.World.{WearParts, IsWearWorld, wear_in, wear_of}
 use Rattle.wear_session.proofs.Levels.{wear_is, memory_held, levelled_is}

@@ -1,5 +1,5 @@
 -- Power comes on, as the session's fields have it: what is held after recovery and the opening, and what is answered.
-use Rattle.std.proofs.Common.{ℕ, ◌≡◌, ◌<◌, ◌≤◌, ◌+◌, ◌-◌, ◌++◌, ◌⊎◌, inl, inr, true, false, List, [], length, Option, Some, None, Result, Ok, Err, refl, sym, ap, subst, ◌∙◌, arith}
+use Rattle.std.proofs.Common.{ℕ, ◌≡◌, ◌<◌, ◌≤◌, ◌+◌, ◌++◌, ◌⊎◌, inl, inr, true, false, List, [], length, Option, Some, None, Result, Ok, Err, refl, sym, ap, subst, ◌∙◌, arith}
 use Rattle.std.specs.Prelude.{unwrap_or, option_map, ⊤, if◌then◌else◌}
 use Rattle.std.proofs.lemmas.Option.{none-some, same_Some}
 use Rattle.std.proofs.lemmas.List.{append-nil}
@@ -42,10 +42,12 @@ use Rattle.wear_session.specs.declared.answers.WearAnswer.TheVariants as Say
 use Rattle.wear_session.specs.During.{HasWearStarted, HasWearOpenedAfter, wear_started_as}
 use Rattle.wear_session.specs.State.{WearState, wear_setup_in}
 use Rattle.wear_session.specs.World.{WearParts, IsWearWorld, IsLevelledOff, IsLevelledBy, wear_in, levelled_memory, wear_of}
-use Rattle.wear_session.specs.Answered.{IsWearAnswered, IsWearShownBy, IsWearMemoryWanted, HasWearOpened, wear_decided, with_power, read_steps}
+use Rattle.wear_session.specs.Answered.{IsWearAnswered, IsWearShownBy, IsWearMemoryWanted, HasWearOpened, wear_decided, with_power}
 use Rattle.wear_session.proofs.Worlds.{goes_to, cut_off, on_after, off_after}
-use Rattle.wear_session.proofs.Seen.{setup_under, served, seen_from, held_under}
-use Rattle.wear_session.proofs.EngineWrites.{fewer_within, AreDone, read_line, read_done, read_cut}
+use Rattle.engine_lines.specs.Writes.{read_steps}
+use Rattle.engine_lines.proofs.EngineLines.{setup_under}
+use Rattle.engine_lines.proofs.EngineWrites.{fewer_within, AreDone, read_line, read_done, read_cut}
+use Rattle.wear_session.proofs.Seen.{served, seen_from, held_under}
 use Rattle.wear_session.proofs.Starts.{OnWearCall, few_of_on}
 use Rattle.wear_session.proofs.Twins.{seal_twin}
 use Rattle.wear_session.proofs.Recoveries.{few_recovery, recovered, sound_recovered, cut_left, wanted_left, untouched, twin_left, twin_of_last, twin_within}

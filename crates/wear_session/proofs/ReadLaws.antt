@@ -25,7 +25,8 @@ use Rattle.watched_board.specs.declared.taken.Taken.{Taken}
 use Rattle.watched_board.specs.Watching.{steps_in, step_limit, device_during, none_taken, IsWatched}
 use Rattle.watched_board.proofs.StepLaws.{at_most, fewer}
 use Rattle.wear_session.specs.World.{WearParts, IsWearWorld, IsLevelledOn, IsLevelledBy, wear_in, levelled_memory, wear_of}
-use Rattle.wear_session.specs.Answered.{HasWearRead, read_steps}
+use Rattle.engine_lines.specs.Writes.{read_steps}
+use Rattle.wear_session.specs.Answered.{HasWearRead}
 use Rattle.wear_session.specs.declared.answers.WearAnswer.TheVariants as Say
 use Rattle.wear_session.proofs.Worlds.{goes_to, cut_off, on_after, off_after}
 

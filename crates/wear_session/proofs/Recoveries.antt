@@ -27,7 +27,7 @@ use Rattle.pmem_recovery.proofs.UndecidedLaws.{undecided_line}
 use Rattle.watched_board.specs.declared.taken.Taken.{Taken}
 use Rattle.watched_board.specs.Watching.{steps_in, device_during, none_taken, IsWatched}
 use Rattle.watched_board.proofs.StepLaws.{unburnt}
-use Rattle.wear_session.proofs.EngineWrites.{most_within, AreDone}
+use Rattle.engine_lines.proofs.EngineWrites.{most_within, AreDone}
 
 -- its steps
 pub few_recovery : (setup : Setup) (regs : Regs) → length regs.group.items ≤ 3 → most_recovery_steps setup regs ≤ recovery_bound setup.shape

@@ -17,6 +17,7 @@ use Rattle.start_gap.specs.Wear.{place_of}
 use Rattle.start_gap.specs.Gapped.{HasWear}
 use Rattle.watched_board.specs.declared.taken.Taken.{Taken}
 use Rattle.watched_board.specs.Watching.{steps_in, device_during, none_taken, IsWatched}
+use Rattle.engine_lines.proofs.EngineLines.{setup_under}
 use Rattle.wear_session.specs.declared.commands.WearCommand.{WearCommand}
 use Rattle.wear_session.specs.declared.commands.WearCommand.TheVariants as Do
 use Rattle.wear_session.specs.declared.answers.WearAnswer.{WearAnswer}
@@ -36,10 +37,6 @@ of_line_is state a answer lit low =
 pub served : (setup : Setup) (old new : WearState) (command : WearCommand) (answer : WearAnswer) → wear_decided old command ≡ None
     → IsWearServed setup old command answer new → IsWearAnswered setup old command answer new
 served setup old new command answer none it = subst (λ d. IsWearAnsweredAs d setup old command answer new) (sym none) it
-
--- the geometry, and the formulas under keys
-abbrev pub setup_under : (List ℕ → Formulas) → Shape → List ℕ → Setup
-setup_under formulas_of g keys = record { shape = g; formulas = formulas_of keys }
 
 -- an answer, as a contract writes it; the suite's keys stay
 pub seen_from : (formulas_of : List ℕ → Formulas) (g : Shape) (p q : WearParts) (now : WearState) (keys : List ℕ) (command : WearCommand) (answer : WearAnswer)

@@ -19,7 +19,8 @@ use Rattle.wear_session.specs.declared.commands.WearCommand.TheVariants as Do
 use Rattle.wear_session.specs.declared.answers.WearAnswer.{WearAnswer}
 use Rattle.wear_session.specs.declared.answers.WearAnswer.TheVariants as Say
 use Rattle.wear_session.specs.State.{WearState, wear_lines_in, wear_places_in, place_in, is_due, wear_moment_in, moving_writes, own_write, engine_writes}
-use Rattle.wear_session.specs.Answered.{GoesToWearState, IsWearCutOff, Writing, IsWriting, HasWearWritten, HasWearRead, HasWearOpened, EndsWriting, IsWearAnswered, IsWearAnsweredAs, after_writing}
+use Rattle.engine_lines.specs.Writes.{Writing}
+use Rattle.wear_session.specs.Answered.{GoesToWearState, IsWearCutOff, IsWriting, HasWearWritten, HasWearRead, HasWearOpened, EndsWriting, IsWearAnswered, IsWearAnsweredAs, after_writing}
 use Rattle.wear_session.proofs.Turns.{IsCounted, counted_by}
 use Rattle.wear_session.proofs.WriteLaws.{some_of, with_writes_is}
 use Rattle.wear_session.specs.Guarantees.{WearReply, AreWearAnswered, memory_with_reply, IsWearReadOf, AreReadAsWritten, Turning, is_turn, wear_turned, TurnsTo, AreTurned, no_turning, IsWearMendedAnswer, IsWearSpentAnswer, AreWearSpentAsUsedUp, IsWearKept, IsWearSpent}

@@ -22,8 +22,8 @@ use Rattle.wear_session.specs.declared.calls.StartFault.{StartFault}
 use Rattle.wear_session.specs.State.{WearState}
 use Rattle.wear_session.specs.World.{WearParts, IsWearWorld, wear_of}
 use Rattle.wear_session.specs.During.{HasWearStarted, wear_started_as}
-use Rattle.wear_session.specs.Answered.{read_steps}
-use Rattle.wear_session.proofs.Seen.{setup_under}
+use Rattle.engine_lines.specs.Writes.{read_steps}
+use Rattle.engine_lines.proofs.EngineLines.{setup_under}
 
 -- where recovery was done, its engine is of the geometry, and the lines are opened under the same keys
 pub has_started : (formulas_of : List ℕ → Formulas) (g : Shape) (every : ℕ) (old between new : Device) (ledger_old ledger_new : LedgerState)

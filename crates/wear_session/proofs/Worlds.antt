@@ -1,23 +1,13 @@
 -- What a session holds after a call that goes on or is cut, and how its state stands to the one before.
-use Rattle.std.proofs.Common.{rules, ℕ, zero, ◌≡◌, ◌<◌, ◌≤◌, true, false, List, length, Option, Some, None, refl, sym, ap, subst, ◌∙◌, arith}
-use Rattle.std.specs.Prelude.{IsSome, option_map}
-use Rattle.std.proofs.lemmas.Option.{none-some}
-use Rattle.pmem_base.specs.declared.answers.Mark.{Mark}
-use Rattle.pmem_base.specs.Layout as layout
-use Rattle.pmem_base.specs.Marks.{SealOf, last_seal}
+use Rattle.std.proofs.Common.{rules, ℕ, ◌≡◌, ◌<◌, ◌≤◌, true, false, length, Some, None, refl, sym, ap, subst, arith}
 use Rattle.pmem_base.specs.Shape.{IsShape}
 use Rattle.board.specs.Memory.{BoardMemory}
 use Rattle.seal_ledger.specs.Ledger.{LedgerState}
 use Rattle.suite.specs.Formulas.{AreInRange}
 use Rattle.suite.specs.Setup.{Setup}
-use Rattle.plain_model.specs.View.{IsMemoryOf, plain_of_seal, plain_line, plain_memory}
-use Rattle.pmem_base.specs.declared.lines.Line.{Line}
-use Rattle.pmem_base.specs.declared.registers.Regs.{Regs}
-use Rattle.pmem_base.specs.Lines.{zero_line}
-use Rattle.std.specs.Prelude.{unwrap_or}
-use Rattle.std.proofs.lemmas.List.FromFn.{length-map-range_with_len, get_or-map-range_with_len}
-use Rattle.std.proofs.Common.{zero-add}
-use Rattle.pmem_engine.specs.Invariants.{IsAnchored, IsDurable, IsSound}
+use Rattle.plain_model.specs.View.{plain_memory}
+use Rattle.pmem_engine.specs.Invariants.{IsDurable, IsSound}
+use Rattle.engine_lines.proofs.SealedLines.{sealed_in, places_of}
 use Rattle.start_gap.specs.declared.gapped.Gapped.{Gapped}
 use Rattle.start_gap.specs.Logical.{IsLevelled}
 use Rattle.start_gap.specs.Gapped.{logical_lines}
@@ -28,45 +18,6 @@ use Rattle.trace_text.specs.Sessions.{HasBurnt, HasRunOut}
 use Rattle.wear_session.specs.State.{WearState, wear_without_power}
 use Rattle.wear_session.specs.World.{WearParts, IsWearWorld, IsLevelledOn, IsLevelledBy, wear_in, levelled_memory, wear_of}
 use Rattle.wear_session.specs.Answered.{IsWearButForSteps, RisesBySteps, GoesToWearState, IsWearCutOff}
-
--- ---- sealed lines
-
-some_mapped : {X Y : Type 0} (f : X → Y) (found : Option X) (y : Y) → option_map f found ≡ Some y → IsSome found
-some_mapped f None y is = absurd (none-some y is)
-some_mapped f (Some x) y is = search rules
-
--- each line of an anchored chip was sealed
-pub sealed_in : (setup : Setup) (regs : Regs) (ledger : LedgerState) → IsAnchored setup regs ledger → (a : ℕ)
-    → a < layout.data_lines setup.shape → IsSome (last_seal ledger.marks a)
-sealed_in setup regs ledger anchored a within = some_mapped (λ (seal : SealOf). seal.ctr) (last_seal ledger.marks a) _ (anchored.last_counters a within)
-
-some_of : (found : Option Line) → IsSome found → found ≡ Some (unwrap_or found zero_line)
-some_of None is = absurd (search (rules, is))
-some_of (Some line) is = refl
-
-some_plain : (setup : Setup) (marks : List Mark) (a : ℕ) → IsSome (last_seal marks a) → IsSome (plain_line setup.formulas marks a)
-some_plain setup marks a is = go (last_seal marks a) is
-  where
-    go : (found : Option SealOf) → IsSome found → IsSome (option_map (plain_of_seal setup.formulas a) found)
-    go None is = absurd (search (rules, is))
-    go (Some seal) is = search rules
-
--- so memory is what the marks say
-pub places_of : (setup : Setup) (marks : List Mark) → ((a : ℕ) → a < layout.data_lines setup.shape → IsSome (last_seal marks a))
-    → IsMemoryOf setup marks (plain_memory setup marks)
-unfolding plain_memory
-places_of setup marks sealed =
-    record {
-      count = length-map-range_with_len plain 0 (layout.data_lines setup.shape);
-      each =
-          λ a within.
-          some_of (plain_line setup.formulas marks a) (some_plain setup marks a (sealed a within))
-          ∙ ap (λ (line : Line). Some line)
-          (sym (get_or-map-range_with_len plain 0 (layout.data_lines setup.shape) a a zero_line within (zero-add a)));
-    }
-  where
-    plain : ℕ → Line
-    plain a = unwrap_or (plain_line setup.formulas marks a) zero_line
 
 -- ---- steps of a call
 

@@ -1,76 +1,32 @@
 -- What a session's memory and wear are once so many engine writes of a write are done.
-use Rattle.std.proofs.Common.{ℕ, zero, suc, ◌≡◌, ◌<◌, ◌≤◌, ◌+◌, ◌^◌, Bool, true, false, cond, List, length, take, Option, Some, None, refl, sym, ap, subst, subst₂, ◌∙◌, arith, rules}
-use Rattle.std.specs.Prelude.{All, IsSome, option_map, slice_set, ◌==◌, if◌then◌else◌}
+use Rattle.std.proofs.Common.{ℕ, zero, suc, ◌≡◌, ◌<◌, ◌≤◌, ◌+◌, ◌^◌, Bool, true, false, cond, List, [], ◌∷◌, length, take, refl, sym, ap, subst₂, ◌∙◌, arith}
+use Rattle.std.specs.Prelude.{All, slice_set, ◌==◌, if◌then◌else◌}
 use Rattle.std.proofs.lemmas.Bool.{cond-false, ne_eqb}
-use Rattle.std.proofs.lemmas.Option.{same_Some}
-use Rattle.std.proofs.lemmas.List.Elements.{All-from_get_or}
+use Rattle.std.proofs.lemmas.List.Elements.{All-nil, All-cons}
 use Rattle.pmem_base.specs.declared.lines.Line.{Line}
-use Rattle.pmem_base.specs.declared.commands.Posted.{Posted}
-use Rattle.pmem_base.specs.declared.answers.Mark.TheVariants.{Seal}
-use Rattle.pmem_base.specs.declared.registers.Regs.{Regs}
-use Rattle.pmem_base.specs.Layout.{data_lines}
-use Rattle.pmem_base.specs.Lines.{IsLine, line_at, zero_line}
-use Rattle.pmem_base.specs.Marks.{SealOf, last_seal}
-use Rattle.pmem_base.proofs.LineLemmas.{IsLine-line_at, All-lines_set}
-use Rattle.board.specs.Device.{AreLinesOf}
-use Rattle.seal_ledger.specs.Ledger.{LedgerState, IsMark}
-use Rattle.seal_ledger.proofs.MarkLemmas.{last_seal_has}
-use Rattle.suite.specs.Formulas.{Formulas, AreInRange}
+use Rattle.pmem_base.specs.Lines.{IsLine}
+use Rattle.suite.specs.Formulas.{Formulas}
 use Rattle.suite.specs.Setup.{Setup}
-use Rattle.suite.proofs.CipherLemmas.{xor_lines-IsLine}
-use Rattle.plain_model.specs.State.{Memory, memory_with}
-use Rattle.plain_model.specs.View.{IsMemoryOf, plain_of_seal}
+use Rattle.plain_model.specs.State.{Memory}
 use Rattle.plain_model.specs.Asked.{Moment, moment_after_writes}
-use Rattle.pmem_engine.specs.Calls.{whole_write}
-use Rattle.pmem_engine.specs.Invariants.{IsAnchored}
-use Rattle.pmem_engine.proofs.PostedWrites.PlainMakings.{put_whole}
-use Rattle.pmem_engine.proofs.PostedWrites.WriteEnds.{whole_posted}
+use Rattle.engine_lines.specs.declared.edits.Edit.{Edit}
+use Rattle.engine_lines.specs.declared.edits.Edit.TheVariants as Make
+use Rattle.engine_lines.specs.Edits.{IsEditOf, all_edited}
+use Rattle.engine_lines.proofs.EngineEdits.{all_posted}
+use Rattle.engine_lines.proofs.EditWrites.{length-all_posted, edits_memory}
 use Rattle.start_gap.specs.declared.wear.Wear.{Wear}
-use Rattle.start_gap.specs.Wear.{place_of, next_wear, source_of}
-use Rattle.start_gap.specs.Record.{wear_record}
-use Rattle.start_gap.specs.Logical.{IsLevelled, MoveStage, begun, written, copied, moved, write_lines_at, write_memory_at, wear_at, with_levelled_line, with_copy, with_record}
+use Rattle.start_gap.specs.Wear.{place_of, next_wear}
+use Rattle.start_gap.specs.Logical.{IsLevelled, move_edits, MoveStage, begun, written, copied, moved, write_lines_at, write_memory_at, wear_at}
 use Rattle.start_gap.specs.Gapped.{logical_lines}
 use Rattle.start_gap.proofs.Levelled.{safe_at_each_stage}
+use Rattle.start_gap.proofs.LevelledWrites.{move_fits}
 use Rattle.start_gap.proofs.Places.{places}
-use Rattle.start_gap.proofs.Records.{wear_record-IsLine}
 use Rattle.wear_session.specs.State.{WearState, wear_lines_in, is_due, with_writes}
 use Rattle.wear_session.specs.World.{wear_in, levelled_memory}
 use Rattle.wear_session.proofs.Levels.{wear_is, memory_held, levelled_is}
-use Rattle.wear_session.proofs.Worlds.{sealed_in}
 use Rattle.wear_session.proofs.WriteEnds.{writes_of}
 
--- ---- plain lines are whole
-
-pub whole_places : (setup : Setup) (regs : Regs) (ledger : LedgerState) (memory : Memory) → AreInRange setup.formulas → IsAnchored setup regs ledger
-    → IsMemoryOf setup ledger.marks memory → AreLinesOf (data_lines setup.shape) memory
-whole_places setup regs ledger memory in_range anchored its =
-    record {
-      count = its.count;
-      each =
-          All-from_get_or IsLine memory zero_line
-          (λ a inside.
-          let within : a < data_lines setup.shape = let count = its.count in omega (arith, inside, count) in
-          go a (last_seal ledger.marks a) refl (sealed_in setup regs ledger anchored a within) (its.each a within));
-    }
-  where
-    go : (a : ℕ) (found : Option SealOf) → last_seal ledger.marks a ≡ found → IsSome (last_seal ledger.marks a)
-        → option_map (plain_of_seal setup.formulas a) (last_seal ledger.marks a) ≡ Some (line_at memory a) → IsLine (line_at memory a)
-    go a None none some plain = absurd (let it = subst IsSome none some in search (rules, it))
-    go a (Some seal) there some plain =
-        let mark : IsMark setup.shape (Seal a seal.ctr seal.cipher seal.tag) =
-        last_seal_has (IsMark setup.shape) ledger.marks a seal anchored.of_shape.marks_in_range there in
-        subst IsLine
-        (same_Some (plain_of_seal setup.formulas a seal) (line_at memory a) (ap (option_map (plain_of_seal setup.formulas a)) (sym there) ∙ plain))
-        (xor_lines-IsLine seal.cipher (setup.formulas.pad_of a seal.ctr) mark.2 (in_range.pads a seal.ctr mark.1))
-
 -- ---- memory, write by write
-
-put : (lines : List Line) (at : ℕ) (line : Line) → All IsLine lines → at < 2 ^ 32 → IsLine line
-    → memory_with lines (whole_write at line) ≡ slice_set lines at line
-put lines at line each low whole =
-    let is = IsLine-line_at lines at each in
-    ap (slice_set lines at)
-    (sym (put_whole (line_at lines at) (whole_write at line) (let long = is.long in omega (arith, long)) (whole_posted at line low whole) refl))
 
 -- the stage after so many
 abbrev pub stage_of : ℕ → MoveStage
@@ -79,62 +35,44 @@ stage_of (suc zero) = written
 stage_of (suc (suc zero)) = copied
 stage_of (suc (suc (suc k))) = moved
 
+-- the changes whose engine writes these are
+abbrev edits_of : ℕ → Wear → Bool → ℕ → Line → List Edit
+edits_of n wear due a plain = Make.Put (place_of n wear a) plain ∷ (if due then move_edits n wear else [])
+
+posted_write : (memory : Memory) (n : ℕ) (wear : Wear) (due : Bool) (a : ℕ) (plain : Line)
+    → all_posted memory (edits_of n wear due a plain) ≡ writes_of memory n wear due a plain
+posted_write memory n wear true a plain = refl
+posted_write memory n wear false a plain = refl
+
 module _ (lines memory : Memory) (n : ℕ) (wear : Wear) (a : ℕ) (plain : Line) (each : All IsLine lines) (few : n ≤ 2 ^ 30)
     (inside : a < n) (whole : IsLine plain) (had : IsLevelled n lines wear memory) where
-  abbrev place : ℕ
-  place = place_of n wear a
+  fits : (due : Bool) → All (IsEditOf (n + 2)) (edits_of n wear due a plain)
+  fits due =
+      let low = (places n wear had.its_wear).within a inside in
+      All-cons (IsEditOf (n + 2)) (Make.Put (place_of n wear a) plain) (if due then move_edits n wear else []) (omega (arith, low), whole) (later due)
+    where
+      later : (due : Bool) → All (IsEditOf (n + 2)) (if due then move_edits n wear else [])
+      later true = move_fits n wear had.its_wear
+      later false = All-nil (IsEditOf (n + 2))
 
-  abbrev own : Posted
-  own = whole_write place plain
-
-  abbrev line_there : Memory
-  line_there = with_levelled_line n wear a plain lines
-
-  abbrev copy_there : Memory
-  copy_there = with_copy n wear line_there
-
-  place_low : place < 2 ^ 32
-  place_low = let most = (places n wear had.its_wear).within a inside in omega (arith, most, few)
-
-  gap_low : wear.gap < 2 ^ 32
-  gap_low = let its = had.its_wear in omega (arith, its.gap, few)
-
-  line_whole : All IsLine line_there
-  line_whole = All-lines_set lines place plain whole each
-
-  source_whole : IsLine (line_at line_there (source_of n wear))
-  source_whole = IsLine-line_at line_there (source_of n wear) line_whole
-
-  copy_whole : All IsLine copy_there
-  copy_whole = All-lines_set line_there wear.gap (line_at line_there (source_of n wear)) source_whole line_whole
-
-  with_own : memory_with lines own ≡ line_there
-  with_own = put lines place plain each place_low whole
-
-  with_both : memory_with (memory_with lines own) (whole_write wear.gap (line_at (memory_with lines own) (source_of n wear))) ≡ copy_there
-  with_both =
-      ap (λ l. memory_with l (whole_write wear.gap (line_at l (source_of n wear)))) with_own
-      ∙ put line_there wear.gap (line_at line_there (source_of n wear)) line_whole gap_low source_whole
-
-  with_all : memory_with (memory_with (memory_with lines own) (whole_write wear.gap (line_at (memory_with lines own) (source_of n wear))))
-      (whole_write (n + 1) (wear_record n (next_wear n wear)))
-      ≡ with_record n wear copy_there
-  with_all =
-      ap (λ l. memory_with l (whole_write (n + 1) (wear_record n (next_wear n wear)))) with_both
-      ∙ put copy_there (n + 1) (wear_record n (next_wear n wear)) copy_whole (omega (arith, few)) (wear_record-IsLine n (next_wear n wear))
+  at_stage : (due : Bool) (k : ℕ) → k ≤ length (edits_of n wear due a plain)
+      → all_edited (take k (edits_of n wear due a plain)) lines ≡ write_lines_at (stage_of k) n wear a plain lines
+  at_stage due zero some = refl
+  at_stage due (suc zero) some = refl
+  at_stage true (suc (suc zero)) some = refl
+  at_stage true (suc (suc (suc zero))) some = refl
+  at_stage false (suc (suc k)) some = absurd (omega (arith, some))
+  at_stage true (suc (suc (suc (suc k)))) some = absurd (omega (arith, some))
 
   pub lines_done : (f : Formulas) (now : Moment) (due : Bool) (k : ℕ) → now.memory ≡ lines → k ≤ length (writes_of lines n wear due a plain)
       → (moment_after_writes f now (take k (writes_of lines n wear due a plain))).memory ≡ write_lines_at (stage_of k) n wear a plain lines
-  lines_done f now due zero same some = same
-  lines_done f now due (suc zero) same some = ap (λ l. memory_with l own) same ∙ with_own
-  lines_done f now true (suc (suc zero)) same some =
-      ap (λ l. memory_with (memory_with l own) (whole_write wear.gap (line_at (memory_with lines own) (source_of n wear)))) same ∙ with_both
-  lines_done f now true (suc (suc (suc zero))) same some =
-      ap (λ l. memory_with (memory_with (memory_with l own) (whole_write wear.gap (line_at (memory_with lines own) (source_of n wear))))
-      (whole_write (n + 1) (wear_record n (next_wear n wear)))) same
-      ∙ with_all
-  lines_done f now false (suc (suc k)) same some = absurd (omega (arith, some))
-  lines_done f now true (suc (suc (suc (suc k)))) same some = absurd (omega (arith, some))
+  lines_done f now due k same some =
+      ap (λ q. (moment_after_writes f now (take k q)).memory) (sym (posted_write lines n wear due a plain))
+      ∙ edits_memory (n + 2) (omega (arith, few)) f (edits_of n wear due a plain) k lines now each (fits due) same
+      ∙ at_stage due k
+      (let long = length-all_posted lines (edits_of n wear due a plain) in
+      let all = ap length (posted_write lines n wear due a plain) in
+      omega (arith, some, long, all))
 
   pub levelled_done : (k : ℕ) → IsLevelled n (write_lines_at (stage_of k) n wear a plain lines) (wear_at (stage_of k) n wear) (write_memory_at (stage_of k) a plain memory)
   levelled_done k = safe_at_each_stage n (omega (arith, few)) lines memory wear a plain (stage_of k) inside had

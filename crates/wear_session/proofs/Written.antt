@@ -1,9 +1,9 @@
 -- A write of a logical line as the session's fields have it: what is held after each of its answers, and what these say.
-use Rattle.std.proofs.Common.{ℕ, zero, suc, ◌≡◌, ◌<◌, ◌≤◌, ◌+◌, ◌-◌, ◌++◌, ◌⊎◌, inl, inr, Bool, true, false, cond, List, [], length, take, drop, Option, Some, None, Result, Ok, Err, refl, sym, ap, subst, ◌∙◌, arith}
+use Rattle.std.proofs.Common.{ℕ, zero, suc, ◌≡◌, ◌<◌, ◌≤◌, ◌+◌, ◌++◌, ◌⊎◌, inl, inr, Bool, true, false, cond, List, [], length, take, drop, Option, Some, None, Result, Ok, Err, refl, sym, ap, subst, ◌∙◌, arith}
 use Rattle.std.specs.Prelude.{not, nat_lt, unwrap_or, option_map, slice_set, ◌==◌}
 use Rattle.std.specs.List.{list_any}
 use Rattle.std.proofs.lemmas.Bool.{true≢false}
-use Rattle.std.proofs.lemmas.List.{length-append, length-drop, drop_at, take_all}
+use Rattle.std.proofs.lemmas.List.{length-append, drop_at}
 use Rattle.pmem_base.specs.declared.lines.Line.{Line}
 use Rattle.pmem_base.specs.declared.commands.Posted.{Posted}
 use Rattle.pmem_base.specs.declared.answers.Mark.{Mark}
@@ -21,6 +21,7 @@ use Rattle.plain_model.specs.Bounds.{path_length}
 use Rattle.pmem_engine.specs.declared.fault.Fault.{Fault}
 use Rattle.pmem_engine.specs.declared.fault.Fault.TheVariants as Fail
 use Rattle.pmem_engine.specs.Parts.{Parts, parts_of}
+use Rattle.pmem_engine.specs.Calls.{whole_write}
 use Rattle.start_gap.specs.declared.wear.Wear.{Wear}
 use Rattle.start_gap.specs.declared.gapped.Gapped.{Gapped}
 use Rattle.start_gap.specs.declared.gapped.Moved.{Moved}
@@ -28,7 +29,12 @@ use Rattle.start_gap.specs.declared.gapped.Moved.TheVariants as Move
 use Rattle.start_gap.specs.declared.gapped.WriteFault.{WriteFault}
 use Rattle.start_gap.specs.Wear.{place_of, next_wear}
 use Rattle.start_gap.specs.Logical.{IsLevelled, write_lines_at, wear_at, write_memory_at}
-use Rattle.start_gap.specs.Gapped.{HasLevelledWrite, IsCutOrSpent, logical_lines}
+use Rattle.engine_lines.specs.Lines.{IsCutOrSpent}
+use Rattle.engine_lines.specs.Writes.{Writing, is_own_seal, write_steps}
+use Rattle.engine_lines.proofs.SealedLines.{whole_places}
+use Rattle.engine_lines.proofs.EngineWrites.{moment_now, AreDone, AreCut, memory_done}
+use Rattle.engine_lines.proofs.EngineEdits.{AreGone, IsCutAt, IsStoppedAt}
+use Rattle.start_gap.specs.Gapped.{HasLevelledWrite, logical_lines}
 use Rattle.watched_board.specs.declared.taken.Taken.{Taken}
 use Rattle.watched_board.specs.Watching.{steps_in, step_limit, device_during, none_taken, IsWatched}
 use Rattle.watched_board.proofs.StepLaws.{at_most, fewer}
@@ -37,24 +43,13 @@ use Rattle.wear_session.specs.declared.answers.WearAnswer.{WearAnswer}
 use Rattle.wear_session.specs.declared.answers.WearAnswer.TheVariants as Say
 use Rattle.wear_session.specs.State.{WearState, wear_setup_in, wear_lines_in, is_due, engine_writes, wear_moment_in, place_in}
 use Rattle.wear_session.specs.World.{WearParts, IsWearWorld, IsLevelledOn, wear_in, levelled_memory, wear_of}
-use Rattle.wear_session.specs.Answered.{Writing, is_own_seal, IsWearAnswered, IsWriting, IsWearWriteKept, EndsWriting, IsWearButForSteps, GoesToWearState, IsWearCutOff, after_writing, most_of_write, wear_of_line, write_steps}
+use Rattle.wear_session.specs.Answered.{IsWearAnswered, IsWriting, IsWearWriteKept, EndsWriting, IsWearButForSteps, GoesToWearState, IsWearCutOff, after_writing, most_of_write, wear_of_line}
 use Rattle.wear_session.proofs.Worlds.{goes_to, cut_off, on_after, off_after}
 use Rattle.wear_session.proofs.ReadLaws.{on_in, lines_are}
-use Rattle.wear_session.proofs.Seen.{setup_under, of_line_is, served, seen_from, held_under}
-use Rattle.wear_session.proofs.EngineWrites.{moment_now, AreDone, AreCut, memory_done}
-use Rattle.wear_session.proofs.WriteEnds.{writes_of, most_of, AreWearGone, IsKeptAt, IsLostAt, FailsWearAt, EndsWearAt, WearsAs, write_ends_at, wears_as}
-use Rattle.wear_session.proofs.WriteLaws.{whole_places, stage_of, lines_done, levelled_done, memory_by, wear_by, wear_after, memory_after, levelled_after, some_of, with_writes_is}
-
--- the marks of a list's end, as the program takes them
-pub own_marks : (result : Bool) (own a : ℕ) (from marks old now : List Mark)
-    → result ≡ list_any (is_own_seal own) (take (length marks - length from) (drop (length from) marks)) → own ≡ a → from ≡ old → marks ≡ now
-    → result ≡ list_any (is_own_seal a) (drop (length old) now)
-own_marks result own a from marks old now is same_own same_from same_marks =
-    is
-    ∙ ap (list_any (is_own_seal own)) (take_all (length marks - length from) (drop (length from) marks) (omega (arith, length-drop (length from) marks)))
-    ∙ ap (λ o. list_any (is_own_seal o) (drop (length from) marks)) same_own
-    ∙ ap (λ (l : List Mark). list_any (is_own_seal a) (drop (length l) marks)) same_from
-    ∙ ap (λ (l : List Mark). list_any (is_own_seal a) (drop (length old) l)) same_marks
+use Rattle.engine_lines.proofs.EngineLines.{setup_under}
+use Rattle.wear_session.proofs.Seen.{of_line_is, served, seen_from, held_under}
+use Rattle.wear_session.proofs.WriteEnds.{writes_of, most_of, FailsWearAt, EndsWearAt, WearsAs, write_ends_at, wears_as, own_kept, own_lost}
+use Rattle.wear_session.proofs.WriteLaws.{stage_of, lines_done, levelled_done, memory_by, wear_by, wear_after, memory_after, levelled_after, some_of, with_writes_is}
 
 -- the session's parts as the write finds them, what it leaves and answers
 pub record WriteWearCall : Type 0 where
@@ -176,9 +171,9 @@ module _ (c : WriteWearCall) where
   written_as =
       subst (λ s. HasLevelledWrite (setup_under c.formulas_of s c.before.keys) c.at c.plain c.gapped c.after from to c.answer) on.its_shape c.was_written
 
-  ends : (answer : Result Moved WriteFault) → c.answer ≡ answer → EndsWearAt setup from queue (place_of n wear c.at) due most answer to
+  ends : (answer : Result Moved WriteFault) → c.answer ≡ answer → EndsWearAt setup from queue due most answer to
   ends answer is =
-      subst (λ r. EndsWearAt setup from queue (place_of n wear c.at) due most r to) is
+      subst (λ r. EndsWearAt setup from queue due most r to) is
       (write_ends_at setup c.at c.plain c.gapped c.after from to on.sound on.powered size c.within c.answer written_as)
 
   wears : (answer : Result Moved WriteFault) → c.answer ≡ answer → WearsAs c.gapped c.after answer
@@ -329,7 +324,7 @@ module _ (c : WriteWearCall) where
       (wear_of (setup_under c.formulas_of c.geometry c.keys) (left_under gapped))
 
   -- all are done
-  gone_exit : (k : ℕ) (gone : AreWearGone setup from queue k most to) → k ≡ length queue → c.after.wear ≡ wear_at (stage_of k) n wear
+  gone_exit : (k : ℕ) (gone : AreGone setup from queue k most to) → k ≡ length queue → c.after.wear ≡ wear_at (stage_of k) n wear
       → c.after.count ≡ cond (k == 0) c.gapped.count (cond due 0 (c.gapped.count + 1)) → c.after.every ≡ c.gapped.every
       → Exit (Some c.after) Say.Written
   gone_exit k gone all its_after count every =
@@ -366,15 +361,15 @@ module _ (c : WriteWearCall) where
       let its = wears (Ok (Move.Held page)) is in
       let held = end.1 in
       let long : 3 ≡ length queue = ap (λ d. length (writes_of places n wear d c.at c.plain)) (sym end.0) in
-      let below = held.few in
+      let below = held.high in
       let few : held.count ≤ length queue = omega (arith, long, below) in
       let lines = lines_are_at held.count few (memory_done setup from to (take held.count queue) held.made most held.done) in
-      let its_after : c.after.wear ≡ wear_at (stage_of held.count) n wear = its.its_wear ∙ sym (still_wear held.count held.few) in
+      let its_after : c.after.wear ≡ wear_at (stage_of held.count) n wear = its.its_wear ∙ sym (still_wear held.count held.high) in
       let count : c.after.count ≡ cond (held.count == 0) c.gapped.count (cond due 0 (c.gapped.count + 1)) =
       its.its_count ∙ ap (λ d. cond d 0 (c.gapped.count + 1)) (sym end.0)
-      ∙ sym (some_of held.count c.gapped.count (cond due 0 (c.gapped.count + 1)) held.some) in (
+      ∙ sym (some_of held.count c.gapped.count (cond due 0 (c.gapped.count + 1)) held.low) in (
         held_as (Some c.after) (going_world held.count held.made few lines most (take held.count queue) held.done its_after count its.its_every),
-        seen_as (Some c.after) (record { done = held.count; made = held.made }) (λ steps. Say.Held page steps) (held.some, held.next) tt
+        seen_as (Some c.after) (record { done = held.count; made = held.made }) (λ steps. Say.Held page steps) (held.low, held.next) tt
             (subst (λ m. GoesToWearState (after_writing old c.at c.plain (record { done = held.count; made = held.made })) (steps_in c.taken) m old
             (wear_of setup (left (Some c.after)))) (sym most_is)
             (goes held.count held.made few lines most (take held.count queue) held.done its_after count its.its_every)),
@@ -399,27 +394,37 @@ module _ (c : WriteWearCall) where
   few_steps true = let levels = world.whole_shape.at_most_six_levels in omega (arith, levels)
   few_steps false = let levels = world.whole_shape.at_most_six_levels in omega (arith, levels)
 
-  kept_exit : IsKeptAt setup from queue (place_of n wear c.at) most to → Exit None Say.CutKept
+  abbrev rest : List Posted
+  rest = drop 1 queue
+
+  -- the line's own seal is among the marks exactly where it is written
+  kept_own : (kept : IsCutAt setup from queue 1 (length queue) most to) → list_any (is_own_seal (place_of n wear c.at)) kept.writing.made ≡ true
+  kept_own kept = own_kept setup.formulas (moment_now setup from) (whole_write (place_of n wear c.at) c.plain) rest kept.writing kept.low kept.came
+
+  lost_own : (lost : IsStoppedAt setup from queue 0 (write_steps c.geometry) to) → list_any (is_own_seal (place_of n wear c.at)) lost.made ≡ false
+  lost_own lost = own_lost setup.formulas (moment_now setup from) (whole_write (place_of n wear c.at) c.plain) rest lost.made (inr lost.came)
+
+  kept_exit : IsCutAt setup from queue 1 (length queue) most to → Exit None Say.CutKept
   kept_exit kept =
       let k = kept.writing.done in
-      let lines = lines_are_at k kept.few kept.cut.memory in (
-        held_as None (cut_world k kept.writing.made kept.few lines most (take k queue) kept.cut),
-        seen_as None kept.writing Say.CutKept (kept.some, kept.came) kept.own
+      let lines = lines_are_at k kept.high kept.cut.memory in (
+        held_as None (cut_world k kept.writing.made kept.high lines most (take k queue) kept.cut),
+        seen_as None kept.writing Say.CutKept (kept.low, kept.came) (kept_own kept)
             (subst (λ m. IsWearCutOff (after_writing old c.at c.plain kept.writing) (steps_in c.taken) m old (wear_of setup (left None))) (sym most_is)
-            (cuts k kept.writing.made kept.few lines most (take k queue) kept.cut (few_steps due))),
+            (cuts k kept.writing.made kept.high lines most (take k queue) kept.cut (few_steps due))),
       )
 
-  lost_exit : IsLostAt setup from queue (place_of n wear c.at) to → Exit None Say.CutLost
+  lost_exit : IsStoppedAt setup from queue 0 (write_steps c.geometry) to → Exit None Say.CutLost
   lost_exit lost =
       let few : 0 ≤ length queue = omega arith in
       let lines = lines_are_at 0 few lost.cut.memory in (
         held_as None (cut_world 0 lost.made few lines (write_steps c.geometry) [] lost.cut),
-        seen_as None (record { done = 0; made = lost.made }) Say.CutLost (refl, lost.came) lost.own
+        seen_as None (record { done = 0; made = lost.made }) Say.CutLost (refl, lost.came) (lost_own lost)
             (cuts 0 lost.made few lines (write_steps c.geometry) [] lost.cut (few_steps false)),
       )
 
   by_end : (written : Bool) → c.answer ≡ Err (record { fault = Fail.Cut; written = written })
-      → IsKeptAt setup from queue (place_of n wear c.at) most to ⊎ (IsLostAt setup from queue (place_of n wear c.at) to × (written ≡ false))
+      → IsCutAt setup from queue 1 (length queue) most to ⊎ (IsStoppedAt setup from queue 0 (write_steps c.geometry) to × (written ≡ false))
   by_end true is = inl (ends (Err (record { fault = Fail.Cut; written = true })) is)
   by_end false is = elim (ends (Err (record { fault = Fail.Cut; written = false })) is) [ inl kept ↦ inl kept | inr lost ↦ inr (lost, refl) ]
 
@@ -457,7 +462,7 @@ module _ (c : WriteWearCall) where
     | inr lost ↦
         elim why [
           | inl there ↦ absurd (true≢false (sym there ∙ lost.1))
-          | inr own ↦ absurd (true≢false (sym own ∙ has_own lost.0.made lost.0.cut.marks ∙ lost.0.own))
+          | inr own ↦ absurd (true≢false (sym own ∙ has_own lost.0.made lost.0.cut.marks ∙ lost_own lost.0))
         ]
   ]
 
@@ -466,7 +471,7 @@ module _ (c : WriteWearCall) where
       → IsWearAnswered (wear_setup_in c.formulas_of c.now) c.now (Do.Write c.at c.plain) (Say.CutLost c.said)
       (wear_of (setup_under c.formulas_of c.geometry c.keys) (left_under None))
   lost_seen written is none = elim (by_end written is) [
-    | inl kept ↦ absurd (true≢false (sym kept.own ∙ sym (has_own kept.writing.made kept.cut.marks) ∙ none))
+    | inl kept ↦ absurd (true≢false (sym (kept_own kept) ∙ sym (has_own kept.writing.made kept.cut.marks) ∙ none))
     | inr lost ↦ (lost_exit lost.0).1
   ]
 
@@ -474,7 +479,7 @@ module _ (c : WriteWearCall) where
   pub sound_fault : (fault : WriteFault) → c.answer ≡ Err fault → IsCutOrSpent fault.fault
   sound_fault fault is = go fault.fault fault.written (ends (Err fault) is)
     where
-      go : (kind : Fault) (written : Bool) → FailsWearAt setup from queue (place_of n wear c.at) most kind written to → IsCutOrSpent kind
+      go : (kind : Fault) (written : Bool) → FailsWearAt setup from queue most kind written to → IsCutOrSpent kind
       go Fail.Cut written end = tt
       go (Fail.Spent page) written end = tt
       go fault written end = absurd end

@@ -1,14 +1,12 @@
 -- Which answers a command has in which states, and the state after: where the state alone decides, the first
 -- condition that holds does; else the engine gives one of the answers that are listed.
-use Rattle.std.specs.Prelude.{ℕ, ◌≡◌, ◌≤◌, ◌<◌, ◌+◌, ◌*◌, ◌==◌, ◌&&◌, ◌⊎◌, nat_lt, Bool, true, false, List, ◌++◌, length, Option, Some, None, Ok, ⊤, IsTrue, if◌then◌else◌}
+use Rattle.std.specs.Prelude.{ℕ, ◌≡◌, ◌≤◌, ◌<◌, ◌+◌, ◌*◌, nat_lt, Bool, true, false, List, ◌++◌, length, Option, Some, None, Ok, ⊤, IsTrue, if◌then◌else◌}
 use Rattle.std.specs.List.{list_any}
 use Rattle.pmem_base.specs.declared.lines.Line.{Line}
 use Rattle.pmem_base.specs.declared.commands.Posted.{Posted}
 use Rattle.pmem_base.specs.declared.answers.Mark.{Mark}
-use Rattle.pmem_base.specs.declared.answers.Mark.TheVariants.{Begin, Seal}
 use Rattle.pmem_base.specs.declared.answers.Exhibit.{Exhibit}
 use Rattle.pmem_base.specs.declared.answers.Exhibit.TheVariants.{Twin}
-use Rattle.pmem_base.specs.Shape.{Shape}
 use Rattle.pmem_base.specs.Layout.{data_lines}
 use Rattle.pmem_base.specs.Lines.{line_at}
 use Rattle.watched_board.specs.Watching.{counted}
@@ -17,7 +15,8 @@ use Rattle.suite.specs.Setup.{Setup}
 use Rattle.collision_witness.specs.Exhibits.{IsExhibit}
 use Rattle.plain_model.specs.Bounds.{path_length, recovery_bound}
 use Rattle.plain_model.specs.Asked.{Moment}
-use Rattle.plain_model.specs.Fits.{drained_marks, IsStopped, IsSpentNext}
+use Rattle.plain_model.specs.Fits.{IsStopped, IsSpentNext}
+use Rattle.engine_lines.specs.Writes.{read_steps, write_steps, Writing, AreAllWritesMade, IsCutAmong, is_own_seal}
 use Rattle.plain_model.specs.Shown.{IsTwinOfSeal}
 use Rattle.wear_session.specs.declared.commands.WearCommand.{WearCommand}
 use Rattle.wear_session.specs.declared.commands.WearCommand.TheVariants as Do
@@ -87,13 +86,6 @@ pub record IsWearCutOff (expected : WearState) (steps most : ℕ) (old new : Wea
   pub below : steps < most
   pub fuse : HasRunOut steps old.fuse new.fuse old.cuts new.cuts
 
--- the most steps of an engine's write, which are those of 65 seals, a begin and its path, and of its read
-abbrev pub write_steps : Shape → ℕ
-write_steps g = 2 * path_length g + 264
-
-abbrev pub read_steps : Shape → ℕ
-read_steps g = path_length g
-
 -- those of a write, with its move where one is due, and of recovery with the opening
 abbrev pub most_of_write : WearState → ℕ
 most_of_write state =
@@ -103,26 +95,6 @@ abbrev pub wear_most_of_on : WearState → ℕ
 wear_most_of_on state = recovery_bound state.shape + read_steps state.shape
 
 -- ---- a write
-
--- how many of a write's engine writes are done, and the marks that were made
-pub record Writing : Type 0 where
-  pub done : ℕ
-  pub made : List Mark
-
--- whether a mark is a write's own seal of line a: a line that is only sealed anew gets the minor 0
-abbrev pub is_own_seal : ℕ → Mark → Bool
-is_own_seal a (Begin page) = false
-is_own_seal a (Seal b ctr cipher tag) = b == a && nat_lt 0 ctr.minor
-
--- the marks are all those of the writes that are done
-abbrev pub AreAllWritesMade : Formulas → Moment → List Posted → Writing → Type 0
-AreAllWritesMade f now writes writing =
-    (writing.done ≤ length writes) × (drained_marks f now writes writing.done ≡ Some writing.made)
-
--- power was cut as one of them ended, or in the next one
-abbrev pub IsCutAmong : Formulas → Moment → List Posted → Writing → Type 0
-IsCutAmong f now writes writing =
-    AreAllWritesMade f now writes writing ⊎ IsStopped f now writes writing.done writing.made
 
 -- How far a write came, by its answer: all of its engine writes; or up to one whose counter is used up, which is
 -- the line's own or a later one; or up to a cut, with the seal of the line's own write or before it.

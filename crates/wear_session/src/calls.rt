@@ -15,7 +15,8 @@ ghost use Rattle.pmem_engine.specs.Outcomes.{LeavesTrusted, LeavesSound};
 ghost use Rattle.pmem_engine.specs.Calls.{IsUsable, HasReadLine};
 ghost use Rattle.pmem_recovery.specs.Parts.{suite_state};
 ghost use Rattle.start_gap.specs.Wear.{place_of};
-ghost use Rattle.start_gap.specs.Gapped.{HasLines, HasWear, HasLevelledWrite, IsLeftLevelled, IsSoundWriteAnswer, IsSpentUnwritten, write_outcome_by};
+ghost use Rattle.engine_lines.specs.Lines.{HasLines};
+ghost use Rattle.start_gap.specs.Gapped.{HasWear, HasLevelledWrite, IsLeftLevelled, IsSoundWriteAnswer, IsSpentUnwritten, write_outcome_by};
 ghost use Rattle.watched_board.specs.Watching.{IsWatched, device_during, none_taken};
 ghost use Rattle.wear_session.specs.During.{HasWearStarted};
 

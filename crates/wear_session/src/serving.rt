@@ -3,7 +3,8 @@ ghost use Rattle.std.specs.Prelude.{◌≡◌, IfOk, OnErr};
 ghost use Rattle.std.specs.List.{list_any};
 ghost use Rattle.wear_session.specs.declared.commands.WearCommand.TheVariants as Do;
 ghost use Rattle.wear_session.specs.State.{wear_setup_in};
-ghost use Rattle.wear_session.specs.Answered.{is_own_seal, IsWearAnswered, IsWearMemoryWanted};
+ghost use Rattle.engine_lines.specs.Writes.{is_own_seal};
+ghost use Rattle.wear_session.specs.Answered.{IsWearAnswered, IsWearMemoryWanted};
 
 use crate::answers::WearAnswer;
 use crate::calls;

@@ -9,7 +9,7 @@ use Rattle.seal_ledger.specs.View.{ledger_of}
 use Rattle.pmem_engine.specs.Parts.{Parts, parts_of, AreTrusted, AreSound}
 use Rattle.pmem_engine.specs.Outcomes.{LeavesTrusted, LeavesSound}
 use Rattle.pmem_engine.specs.Calls.{IsUsable}
-use Rattle.start_gap.specs.Gapped.{HasLines}
+use Rattle.engine_lines.specs.Lines.{HasLines}
 use Rattle.line_txn.specs.Store.{HasStoreCommitted, IsLeftLogged, IsSoundCommitAnswer, commit_outcome_by}
 use Rattle.watched_board.specs.Watching.{IsWatched, device_during, none_taken}
 use Rattle.txn_session.proofs.calls.commit.Goals as goal

@@ -1,7 +1,7 @@
 -- None of the marks so far is a write's own seal of the line.
 use Rattle.std.proofs.Common.{◌≡◌, false, take}
 use Rattle.std.specs.List.{list_any}
-use Rattle.wear_session.specs.Answered.{is_own_seal}
+use Rattle.engine_lines.specs.Writes.{is_own_seal}
 use Rattle.txn_session.proofs.committing.has_own_seal.Given as goal
 
 abbrev pub invariant-loop-mark : goal.invariant-loop-mark

@@ -9,7 +9,8 @@ use Rattle.seal_ledger.specs.View.{ledger_of}
 use Rattle.pmem_engine.specs.Parts.{Parts, parts_of, AreTrusted, AreSound}
 use Rattle.pmem_engine.specs.Outcomes.{LeavesTrusted, LeavesSound}
 use Rattle.pmem_engine.specs.Calls.{IsUsable}
-use Rattle.start_gap.specs.Gapped.{HasLines, HasLevelledWrite, IsLeftLevelled, IsSoundWriteAnswer, write_outcome_by}
+use Rattle.engine_lines.specs.Lines.{HasLines}
+use Rattle.start_gap.specs.Gapped.{HasLevelledWrite, IsLeftLevelled, IsSoundWriteAnswer, write_outcome_by}
 use Rattle.watched_board.specs.Watching.{IsWatched, device_during, none_taken}
 use Rattle.wear_session.proofs.calls.write.Goals as goal
 

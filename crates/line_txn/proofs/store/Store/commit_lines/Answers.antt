@@ -8,8 +8,9 @@ use Rattle.pmem_engine.specs.Engine.{EngineState}
 use Rattle.pmem_engine.specs.Parts.{Parts, parts_of}
 use Rattle.line_txn.specs.declared.store.Done.TheVariants as Do
 use Rattle.line_txn.specs.Logged.{targets_of}
-use Rattle.line_txn.specs.Edits.{AreEdited, IsEditOf, IsWholeTxn, deciding_edits, applying_edits}
-use Rattle.line_txn.proofs.EditLaws.{edits_under}
+use Rattle.engine_lines.specs.Edits.{AreEdited, IsEditOf}
+use Rattle.engine_lines.proofs.EditLaws.{edits_under}
+use Rattle.line_txn.specs.Edits.{IsWholeTxn, deciding_edits, applying_edits}
 use Rattle.line_txn.proofs.EditStages.{deciding_fit, applying_fit}
 use Rattle.line_txn.proofs.Commits.{empty_list, some_list, no_txn, refused_by, applied_by, fault_answer, fault_served}
 use Rattle.line_txn.proofs.store.Store.commit_lines.Given.{Over}

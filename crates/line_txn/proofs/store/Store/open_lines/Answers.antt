@@ -7,10 +7,11 @@ use Rattle.pmem_base.specs.Layout.{data_lines}
 use Rattle.suite.specs.Setup.{Setup}
 use Rattle.pmem_engine.specs.Engine.{EngineState}
 use Rattle.pmem_engine.specs.Parts.{Parts, parts_of}
-use Rattle.start_gap.proofs.LevelledCalls.{least_lines}
-use Rattle.line_txn.specs.Edits.{AreEdited, IsEditOf, redoing_edits}
+use Rattle.engine_lines.specs.Edits.{AreEdited, IsEditOf}
+use Rattle.engine_lines.proofs.EngineLines.{least_lines}
+use Rattle.engine_lines.proofs.EditLaws.{edits_under}
+use Rattle.line_txn.specs.Edits.{redoing_edits}
 use Rattle.line_txn.specs.Store.{logged_lines}
-use Rattle.line_txn.proofs.EditLaws.{edits_under}
 use Rattle.line_txn.proofs.EditStages.{redoing_fit}
 use Rattle.line_txn.proofs.Openings.{logged_size, none_by, redone_by, some_none, unspent_fault}
 use Rattle.line_txn.proofs.store.Store.open_lines.Given.{Over}

@@ -1,9 +1,9 @@
 -- The number of logical lines, and the wear that was read.
-use Rattle.std.proofs.Common.{◌≡◌, ◌≤◌, ◌<◌, ◌+◌, ◌-◌, ap, sym, ◌∙◌, arith}
+use Rattle.std.proofs.Common.{◌≡◌, ◌-◌, ap, sym, ◌∙◌, arith}
 use Rattle.pmem_base.specs.Geo.{shape_of}
 use Rattle.pmem_base.specs.Layout.{data_lines}
 use Rattle.start_gap.proofs.Records.{recorded-IsWear}
-use Rattle.start_gap.proofs.LevelledCalls.{least_lines}
+use Rattle.engine_lines.proofs.EngineLines.{least_lines}
 use Rattle.start_gap.proofs.gapped.Gapped.open.Goals as goal
 
 pub overflow_sub-lines : goal.overflow_sub-lines

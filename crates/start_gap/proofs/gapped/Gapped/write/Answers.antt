@@ -1,5 +1,4 @@
 -- What the calls of a write make of the lines.
-use Rattle.std.proofs.Common.{◌<◌, ◌+◌, arith}
 use Rattle.suite.specs.Setup.{Setup}
 use Rattle.pmem_engine.specs.Engine.{EngineState}
 use Rattle.pmem_engine.specs.Parts.{Parts, parts_of}

@@ -1,10 +1,10 @@
 -- The line was written, and then a move is due or not.
-use Rattle.std.proofs.Common.{◌≡◌, ◌≤◌, ◌<◌, ◌+◌, refl, arith}
+use Rattle.std.proofs.Common.{refl, arith}
 use Rattle.suite.specs.Setup.{Setup}
 use Rattle.pmem_engine.specs.Engine.{EngineState}
 use Rattle.pmem_engine.specs.Parts.{Parts, parts_of}
-use Rattle.start_gap.proofs.EngineLines.{room_after_write}
-use Rattle.start_gap.proofs.LevelledCalls.{write_as, move_as, wear_over, counted, tried_as}
+use Rattle.engine_lines.proofs.EngineLines.{few_marks}
+use Rattle.start_gap.proofs.LevelledCalls.{write_at, move_as, wear_over, counted, tried_as}
 use Rattle.start_gap.proofs.gapped.Gapped.write_and_move.Given.{Over}
 use Rattle.start_gap.proofs.gapped.Gapped.write_and_move.Goals as goal
 
@@ -18,18 +18,14 @@ at g engine board suite audit =
 
 pub move_gap-tried-requires-clause-room : goal.move_gap-tried-requires-clause-room
 move_gap-tried-requires-clause-room g c =
-    room_after_write (setup_at g c.args.self.now.engine c.args.suite.now) _
-    (at g c.args.self.now.engine c.args.board.now c.args.suite.now c.args.audit.now)
-    (at g c.write.new.self c.write.new.board c.write.new.suite c.write.new.audit) c.in_default.field-0 132 _ _ c.in_default.ensures.written
-    c.write.ensures.capacity c.requires.room
+    let few = few_marks _ _ _ _ _ c.in_default.ensures.written in omega (arith, few, c.write.ensures.capacity, c.requires.room)
 
 pub returns-then-self-clause-written : goal.returns-then-self-clause-written
 returns-then-self-clause-written g c =
     counted (setup_at g c.args.self.now.engine c.args.suite.now) c.args.line c.args.plain.now c.args.self.now _
     (at g c.args.self.now.engine c.args.board.now c.args.suite.now c.args.audit.now)
     (at g c.write.new.self c.write.new.board c.write.new.suite c.write.new.audit) c.write.result c.in_default.not-Err (omega arith)
-    (write_as g.S.Suite.formulas_of c.args.self.now.engine.shape (g.S.Suite.keys c.args.suite.now) _ _ _ _ _ _ _ _ _ refl refl
-    c.place-at.ensures.place refl c.write.ensures.written)
+    (write_at (setup_at g c.args.self.now.engine c.args.suite.now) _ _ _ _ _ _ c.place-at.ensures.place c.write.ensures.written)
     (record { its_lines = refl; its_every = refl; its_wear = refl; its_count = refl })
 
 pub returns-clause-written : goal.returns-clause-written
@@ -38,8 +34,7 @@ returns-clause-written g c =
     (at g c.args.self.now.engine c.args.board.now c.args.suite.now c.args.audit.now)
     (at g c.write.new.self c.write.new.board c.write.new.suite c.write.new.audit) _ c.write.result c.move_gap-tried.result _
     c.in_default.not-Err (omega arith)
-    (write_as g.S.Suite.formulas_of c.args.self.now.engine.shape (g.S.Suite.keys c.args.suite.now) _ _ _ _ _ _ _ _ _ refl refl
-    c.place-at.ensures.place refl c.write.ensures.written)
-    (move_as g.S.Suite.formulas_of c.args.self.now.engine.shape (g.S.Suite.keys c.args.suite.now) c.write.new.self.shape
-    (g.S.Suite.keys c.write.new.suite) _ _ _ _ _ c.write.ensures.shape c.write.ensures.keys c.move_gap-tried.ensures.moved)
+    (write_at (setup_at g c.args.self.now.engine c.args.suite.now) _ _ _ _ _ _ c.place-at.ensures.place c.write.ensures.written)
+    (move_as g.S.Suite.formulas_of c.args.self.now.engine.shape c.write.new.self.shape (g.S.Suite.keys c.args.suite.now)
+    (g.S.Suite.keys c.write.new.suite) c.write.ensures.shape c.write.ensures.keys _ _ _ _ _ c.move_gap-tried.ensures.moved)
     (wear_over _ _ c.args.self.now _ _ c.move_gap-tried.ensures.wear refl refl) c.answer_of_move.ensures

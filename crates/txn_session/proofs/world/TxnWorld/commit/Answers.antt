@@ -7,10 +7,10 @@ use Rattle.pmem_base.specs.Geo.{shape_of}
 use Rattle.board.specs.MemBoard.{memory_of}
 use Rattle.seal_ledger.specs.View.{ledger_of}
 use Rattle.pmem_engine.specs.declared.fault.Fault.TheVariants as Fail
-use Rattle.start_gap.specs.Gapped.{IsCutOrSpent}
+use Rattle.engine_lines.specs.Lines.{IsCutOrSpent}
 use Rattle.line_txn.proofs.Commits.{some_list}
-use Rattle.wear_session.specs.Answered.{is_own_seal}
-use Rattle.wear_session.proofs.Written.{own_marks}
+use Rattle.engine_lines.specs.Writes.{is_own_seal}
+use Rattle.engine_lines.proofs.OwnSeals.{own_marks}
 use Rattle.txn_session.proofs.CommitStates.{CommitCall}
 use Rattle.txn_session.proofs.Committed.{applied_exit, stuck_exit, spent_exit, cut_held, cut_marks, kept_seen, lost_seen, sound_fault}
 use Rattle.txn_session.proofs.world.TxnWorld.commit.Given.{Over}

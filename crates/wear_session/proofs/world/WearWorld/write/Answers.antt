@@ -6,10 +6,11 @@ use Rattle.pmem_base.specs.Geo.{shape_of}
 use Rattle.board.specs.MemBoard.{memory_of}
 use Rattle.seal_ledger.specs.View.{ledger_of}
 use Rattle.pmem_engine.specs.declared.fault.Fault.TheVariants as Fail
-use Rattle.start_gap.specs.Gapped.{IsCutOrSpent}
+use Rattle.engine_lines.specs.Lines.{IsCutOrSpent}
+use Rattle.engine_lines.specs.Writes.{is_own_seal}
 use Rattle.start_gap.specs.Wear.{place_of}
-use Rattle.wear_session.specs.Answered.{is_own_seal}
-use Rattle.wear_session.proofs.Written.{WriteWearCall, made_exit, held_exit, spent_exit, cut_held, cut_marks, own_marks, kept_seen, lost_seen, sound_fault}
+use Rattle.engine_lines.proofs.OwnSeals.{own_marks}
+use Rattle.wear_session.proofs.Written.{WriteWearCall, made_exit, held_exit, spent_exit, cut_held, cut_marks, kept_seen, lost_seen, sound_fault}
 use Rattle.wear_session.proofs.world.WearWorld.write.Given.{Over}
 use Rattle.wear_session.proofs.world.WearWorld.write.Goals.{After-steps-steps, then-written, else-written, then-has_own_seal, else-has_own_seal}
 use Rattle.wear_session.proofs.world.WearWorld.write.Goals as goal

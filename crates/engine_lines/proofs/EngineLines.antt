@@ -1,36 +1,67 @@
--- What the engine's calls make of the lines, each as it was last sealed.
+-- What one call of an engine makes of the lines, each as it was last sealed, and leaves for the next call.
 use Rattle.std.proofs.Common.{rules, ℕ, ◌≡◌, ◌<◌, ◌≤◌, ◌+◌, ◌^◌, ◌⊎◌, inl, inr, Bool, true, false, cond, List, [], length, Result, Ok, Err, refl, sym, ap, subst, ◌∙◌, arith}
-use Rattle.std.specs.Prelude.{slice_set, IsOk, ◌↔◌}
-use Rattle.std.proofs.lemmas.Bool.{cases_Bool, true≢false}
+use Rattle.std.specs.Prelude.{All, slice_set, ◌↔◌}
+use Rattle.std.proofs.lemmas.Bool.{cases_Bool}
 use Rattle.std.proofs.lemmas.List.{length-set, length-append, append-nil}
 use Rattle.std.proofs.lemmas.Option.{same_Some}
+use Rattle.std.proofs.Math.Nat.{one-le-pow}
 use Rattle.pmem_base.specs.declared.lines.Line.{Line}
 use Rattle.pmem_base.specs.declared.lines.Ctr.{Ctr}
 use Rattle.pmem_base.specs.declared.commands.Posted.{Posted}
+use Rattle.pmem_base.specs.Shape.{Shape}
 use Rattle.pmem_base.specs.Layout.{data_lines}
 use Rattle.pmem_base.specs.Lines.{IsLine, line_at}
 use Rattle.pmem_base.proofs.LineLemmas.{IsLine-line_at, All-lines_set}
+use Rattle.board.specs.Device.{Device}
+use Rattle.suite.specs.Formulas.{Formulas}
 use Rattle.suite.specs.Setup.{Setup}
-use Rattle.seal_ledger.specs.Notes.{HasRoom}
+use Rattle.seal_ledger.specs.Ledger.{LedgerState}
 use Rattle.plain_model.specs.State.{memory_with}
 use Rattle.plain_model.specs.View.{plain_line}
 use Rattle.pmem_engine.specs.declared.fault.Fault.{Fault}
 use Rattle.pmem_engine.specs.declared.fault.Fault.TheVariants as Fail
+use Rattle.pmem_engine.specs.Engine.{EngineState}
 use Rattle.pmem_engine.specs.Parts.{Parts, AreTrusted, AreSound}
 use Rattle.pmem_engine.specs.Outcomes.{outcome_of, is_sealed_by, LeavesTrusted, LeavesSound}
-use Rattle.pmem_engine.specs.Calls.{IsMemory, IsUnrefused, IsDownAnswer, whole_write, HasReadLine, HasWrittenLine}
+use Rattle.pmem_engine.specs.Calls.{IsMemory, IsUnrefused, IsUsable, whole_write, HasReadLine, HasWrittenLine}
 use Rattle.pmem_engine.proofs.CallEnds.StillParts.{sound_trusted}
 use Rattle.pmem_engine.proofs.PostedWrites.PlainMakings.{put_whole}
 use Rattle.pmem_engine.proofs.PostedWrites.WriteEnds.{whole_posted}
-use Rattle.start_gap.specs.Gapped.{HasLines}
+use Rattle.engine_lines.specs.Lines.{HasLines, IsCutOrSpent}
+
+-- ---- the same geometry and keys
+
+abbrev pub setup_under : (List ℕ → Formulas) → Shape → List ℕ → Setup
+setup_under formulas_of shape keys = record { shape = shape; formulas = formulas_of keys }
+
+pub usable_as : (g g' : Shape) (engine : EngineState) (device : Device) (ledger : LedgerState) → g' ≡ g
+    → IsUsable g engine device ledger → IsUsable g' engine device ledger
+usable_as g g' engine device ledger e = subst (λ shape. IsUsable shape engine device ledger) (sym e)
+
+-- a memory has at least 64 data lines
+pub least_lines : (g : Shape) → 64 ≤ data_lines g
+least_lines g = let some = one-le-pow g.levels 4 (omega arith) in omega (arith, some)
 
 -- ---- a call that was answered
+
+pub unrefused_fault : (T : Type 0) (fault : Fault) → IsUnrefused {T = T} (Err fault) → IsCutOrSpent fault
+unrefused_fault T Fail.Cut is = tt
+unrefused_fault T (Fail.Spent page) is = tt
+unrefused_fault T fault is = absurd is
 
 -- an engine that is down answers nothing but that
 up_of : (down : Bool) (IsDown : Type 0) → IsDown ↔ (down ≡ true) → (IsDown → ⊥) → down ≡ false
 up_of down IsDown exactly not = elim (cases_Bool down) [ inl is ↦ absurd (not (exactly.1 is)) | inr is ↦ is ]
 
 -- ---- a write
+
+-- a whole line is put
+pub put_whole_line : (lines : List Line) (at : ℕ) (line : Line) → All IsLine lines → at < 2 ^ 32 → IsLine line
+    → memory_with lines (whole_write at line) ≡ slice_set lines at line
+put_whole_line lines at line each low whole =
+    let is = IsLine-line_at lines at each in
+    ap (slice_set lines at)
+    (sym (put_whole (line_at lines at) (whole_write at line) (let long = is.long in omega (arith, long)) (whole_posted at line low whole) refl))
 
 module _ (setup : Setup) (write : Posted) (old new : Parts) (answer : Result Ctr Fault)
     (it : HasWrittenLine setup write old new answer) where
@@ -46,10 +77,7 @@ module _ (setup : Setup) (at : ℕ) (plain : Line) (old new : Parts) (answer : R
     (low : at < 2 ^ 32) (inside : at < data_lines setup.shape) (whole : IsLine plain)
     (had : HasLines setup lines old) (trusted : AreTrusted setup old) where
   put_line : memory_with lines (whole_write at plain) ≡ slice_set lines at plain
-  put_line =
-      let is = IsLine-line_at lines at had.whole.each in
-      ap (slice_set lines at)
-      (sym (put_whole (line_at lines at) (whole_write at plain) (omega (arith, is.long)) (whole_posted at plain low whole) refl))
+  put_line = put_whole_line lines at plain had.whole.each low whole
 
   its_memory : IsMemory setup (cond (is_sealed_by it.made at) (memory_with lines (whole_write at plain)) lines) new
   its_memory = it.memory trusted lines (omega (arith, inside, had.whole.count)) had.sealed
@@ -96,27 +124,29 @@ spent_lines setup at plain old new page lines low inside whole had trusted it =
     unsealed_lines setup at plain old new (Err (Fail.Spent page)) it lines low inside whole had trusted
     (ap (λ made. is_sealed_by made at) none.1)
 
--- ---- room for marks
+-- ---- marks
 
 pub up_before_write : (setup : Setup) (write : Posted) (old new : Parts) (ctr : Ctr) → HasWrittenLine setup write old new (Ok ctr)
     → old.engine.down ≡ false
 up_before_write setup write old new ctr it = up_of old.engine.down _ it.down.exactly (λ h. h)
 
-pub room_after_write : (setup : Setup) (write : Posted) (old new : Parts) (ctr : Ctr) (k before after : ℕ)
-    → HasWrittenLine setup write old new (Ok ctr) → after ≡ before → HasRoom old.ledger before (k + 66) → HasRoom new.ledger after k
-room_after_write setup write old new ctr k before after it same room =
+-- a write makes at most 66 marks
+pub few_marks : (setup : Setup) (write : Posted) (old new : Parts) (ctr : Ctr) → HasWrittenLine setup write old new (Ok ctr)
+    → length new.ledger.marks ≤ length old.ledger.marks + 66
+few_marks setup write old new ctr it =
     let marks = (it.done (up_before_write setup write old new ctr it)).gone.marks in
-    omega (arith, ap length marks, length-append old.ledger.marks it.made, it.few_marks, same, room)
+    omega (arith, ap length marks, length-append old.ledger.marks it.made, it.few_marks)
 
 pub up_before_read : (setup : Setup) (at : ℕ) (old new : Parts) (line : Line) → HasReadLine setup at old new (Ok line)
     → old.engine.down ≡ false
 up_before_read setup at old new line it = up_of old.engine.down _ it.down.exactly (λ h. h)
 
-pub room_after_read : (setup : Setup) (at : ℕ) (old new : Parts) (line : Line) (k before after : ℕ)
-    → HasReadLine setup at old new (Ok line) → after ≡ before → HasRoom old.ledger before k → HasRoom new.ledger after k
-room_after_read setup at old new line k before after it same room =
+-- a read makes none
+pub no_marks : (setup : Setup) (at : ℕ) (old new : Parts) (line : Line) → HasReadLine setup at old new (Ok line)
+    → length new.ledger.marks ≡ length old.ledger.marks
+no_marks setup at old new line it =
     let marks = (it.done (up_before_read setup at old new line it)).gone.marks in
-    omega (arith, ap length marks, length-append old.ledger.marks [], same, room)
+    omega (arith, ap length marks, length-append old.ledger.marks [])
 
 -- ---- a read
 

@@ -1,8 +1,8 @@
 use Rattle.std.proofs.Common.{◌≡◌, ◌≤◌, ◌+◌, ◌*◌, length, take, Ok}
 use Rattle.pmem_engine.specs.Parts.{parts_of}
 use Rattle.pmem_engine.specs.Calls.{IsUsable}
-use Rattle.line_txn.specs.Edits.{AreEdited}
-use Rattle.line_txn.proofs.edits.edit_all.Given as goal
+use Rattle.engine_lines.specs.Edits.{AreEdited}
+use Rattle.engine_lines.proofs.edits.edit_all.Given as goal
 
 abbrev pub invariant-edits : goal.invariant-edits
 invariant-edits g l =

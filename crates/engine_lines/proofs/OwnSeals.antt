@@ -1,25 +1,22 @@
 -- Own seals among the marks of writes: each write that is done has one of its own line, and no other mark is one.
-use Rattle.std.proofs.Common.{ℕ, ◌≡◌, ◌<◌, ◌≤◌, ◌+◌, ◌-◌, ◌*◌, ◌++◌, ◌^◌, Bool, true, false, cond, List, [], ◌∷◌, length, map, take, drop, Option, Some, None, IsTrue, refl, sym, ap, subst, ◌∙◌, arith}
-use Rattle.std.specs.Prelude.{All, ◌||◌, ◌&&◌, ◌==◌, nat_lt, unwrap_or, option_map, option_and_then, is_none, slice_get}
+use Rattle.std.proofs.Common.{rules, ℕ, ◌≡◌, ◌≤◌, ◌+◌, ◌-◌, ◌*◌, ◌++◌, inl, inr, Bool, true, false, List, [], ◌∷◌, length, map, take, drop, Option, Some, None, IsTrue, refl, sym, ap, ◌∙◌, arith}
+use Rattle.std.specs.Prelude.{All, IsSome, ◌||◌, ◌&&◌, ◌==◌, nat_lt, unwrap_or, option_map, option_and_then, is_none, slice_get}
 use Rattle.std.specs.List.{list_any}
 use Rattle.std.proofs.lemmas.Option.{same_Some, none-some}
 use Rattle.std.proofs.lemmas.Bool.{or_parts, or_from, or_left, or_right, eq-eqb, ne_eqb, lt-ltb, ltb-true}
-use Rattle.std.proofs.lemmas.List.{append_assoc, length-append, take_at, take-append-le, take-append-drop, nil_from_length}
+use Rattle.std.proofs.lemmas.List.{length-append, length-drop, take_at, take_all, take-append-le, take-append-drop, nil_from_length}
 use Rattle.std.proofs.lemmas.List.Elements.{All-head, All-tail}
 use Rattle.std.proofs.lemmas.List.Folds.{list_any-append}
-use Rattle.pmem_base.specs.declared.lines.Line.{Line}
-use Rattle.pmem_base.specs.declared.lines.Ctr.{Ctr}
 use Rattle.pmem_base.specs.declared.commands.Posted.{Posted}
 use Rattle.pmem_base.specs.declared.answers.Mark.{Mark}
 use Rattle.pmem_base.specs.declared.answers.Mark.TheVariants.{Begin}
 use Rattle.pmem_base.specs.Layout.{page_of}
-use Rattle.pmem_base.specs.Lines.{line_at}
-use Rattle.pmem_base.specs.WaitingWrites.{put_write}
 use Rattle.suite.specs.Formulas.{Formulas}
-use Rattle.plain_model.specs.View.{OpenPage, counter_at, open_page, is_left}
-use Rattle.plain_model.specs.Asked.{Moment, seal_mark, next_major, reseal_mark, finishing_marks_of, page_to_finish, marks_of_write, marks_of_writes, moment_after, moment_after_writes}
+use Rattle.plain_model.specs.View.{OpenPage, open_page}
+use Rattle.plain_model.specs.Asked.{Moment, seal_mark, reseal_mark, finishing_marks_of, page_to_finish, marks_of_write, marks_of_writes, moment_after, moment_after_writes}
 use Rattle.plain_model.specs.Fits.{drained_marks, next_marks, marks_in_flight, marks_still_asked, IsStopped}
-use Rattle.wear_session.specs.Answered.{is_own_seal}
+use Rattle.engine_lines.specs.Writes.{Writing, is_own_seal, IsCutAmong}
+use Rattle.engine_lines.proofs.AskedWrites.{EndsOwn, ends_own}
 
 -- ---- one write
 
@@ -39,63 +36,22 @@ finishing_none f now a None = refl
 finishing_none f now a (Some opened) = reseals_none f now opened.page a opened.left
 
 -- marks that end with a write's own seal, before which there is none of any line
-record EndsOwn (f : Formulas) (at : ℕ) (marks : List Mark) : Type 0 where
-  front : List Mark
-  ctr : Ctr
-  plain : Line
-  form : marks ≡ front ++ seal_mark f at ctr plain ∷ []
-  minor : 0 < ctr.minor
-  none : (a : ℕ) → list_any (is_own_seal a) front ≡ false
+abbrev HasNoOwn : List Mark → Type 0
+HasNoOwn front = (a : ℕ) → list_any (is_own_seal a) front ≡ false
 
-ends_own : (f : Formulas) (now : Moment) (write : Posted) (marks : List Mark) → marks_of_write f now write ≡ Some marks → EndsOwn f write.at marks
-ends_own f now write marks asked = by_case (is_left now.view write.at) (nat_lt last.minor 127) (last.major == 2 ^ 64 - 1) asked
+one_own : (f : Formulas) (now : Moment) (write : Posted) (marks : List Mark) → marks_of_write f now write ≡ Some marks → EndsOwn f write.at HasNoOwn marks
+one_own f now write marks asked =
+    ends_own f now write HasNoOwn marks (λ a. refl)
+    (λ free a.
+    list_any-append (is_own_seal a) finishing (Begin (page_of write.at) ∷ [])
+    ∙ or_from (list_any (is_own_seal a) finishing) false
+    (finishing_none f now a (page_to_finish now.view (open_page now.view (page_of write.at)))) refl) asked
   where
-    last : Ctr
-    last = counter_at now.view write.at
-
-    plain : Line
-    plain = put_write (line_at now.memory write.at) write
-
     finishing : List Mark
     finishing = finishing_marks_of f now (page_to_finish now.view (open_page now.view (page_of write.at)))
 
-    alone : (ctr : Ctr) → 0 < ctr.minor → Some (seal_mark f write.at ctr plain ∷ []) ≡ Some marks → EndsOwn f write.at marks
-    alone ctr above it =
-        subst (EndsOwn f write.at) (same_Some (seal_mark f write.at ctr plain ∷ []) marks it)
-        (record { front = []; ctr = ctr; plain = plain; form = refl; minor = above; none = λ a. refl })
-
-    rolled : Some (finishing ++ Begin (page_of write.at) ∷ seal_mark f write.at (next_major last 1) plain ∷ []) ≡ Some marks
-        → EndsOwn f write.at marks
-    rolled it =
-        let own : Mark = seal_mark f write.at (next_major last 1) plain in
-        let ending : List Mark = Begin (page_of write.at) ∷ own ∷ [] in
-        subst (EndsOwn f write.at) (same_Some (finishing ++ ending) marks it)
-        (record {
-          front = finishing ++ Begin (page_of write.at) ∷ [];
-          ctr = next_major last 1;
-          plain = plain;
-          form = sym (append_assoc finishing (Begin (page_of write.at) ∷ []) (own ∷ []));
-          minor = omega arith;
-          none =
-              λ a.
-              list_any-append (is_own_seal a) finishing (Begin (page_of write.at) ∷ [])
-              ∙ or_from (list_any (is_own_seal a) finishing) false
-              (finishing_none f now a (page_to_finish now.view (open_page now.view (page_of write.at)))) refl;
-        })
-
-    by_case : (held low used : Bool)
-        → cond held (Some (seal_mark f write.at (next_major last 1) plain ∷ []))
-        (cond low (Some (seal_mark f write.at (record last { minor = last.minor + 1 }) plain ∷ []))
-        (cond used None (Some (finishing ++ Begin (page_of write.at) ∷ seal_mark f write.at (next_major last 1) plain ∷ []))))
-        ≡ Some marks
-        → EndsOwn f write.at marks
-    by_case true low used it = alone (next_major last 1) (omega arith) it
-    by_case false true used it = alone (record last { minor = last.minor + 1 }) (omega arith) it
-    by_case false false true it = absurd (none-some marks it)
-    by_case false false false it = rolled it
-
 -- one of its own line
-own_there : (f : Formulas) (at : ℕ) (marks : List Mark) → EndsOwn f at marks → list_any (is_own_seal at) marks ≡ true
+own_there : (f : Formulas) (at : ℕ) (marks : List Mark) → EndsOwn f at HasNoOwn marks → list_any (is_own_seal at) marks ≡ true
 own_there f at marks are =
     ap (list_any (is_own_seal at)) are.form
     ∙ list_any-append (is_own_seal at) are.front (own ∷ [])
@@ -107,11 +63,11 @@ own_there f at marks are =
     own = seal_mark f at are.ctr are.plain
 
 -- and none of another
-other_none : (f : Formulas) (at a : ℕ) (marks : List Mark) → EndsOwn f at marks → (at ≡ a → ⊥) → list_any (is_own_seal a) marks ≡ false
+other_none : (f : Formulas) (at a : ℕ) (marks : List Mark) → EndsOwn f at HasNoOwn marks → (at ≡ a → ⊥) → list_any (is_own_seal a) marks ≡ false
 other_none f at a marks are other =
     ap (list_any (is_own_seal a)) are.form
     ∙ list_any-append (is_own_seal a) are.front (own ∷ [])
-    ∙ or_from (list_any (is_own_seal a) are.front) (list_any (is_own_seal a) (own ∷ [])) (are.none a)
+    ∙ or_from (list_any (is_own_seal a) are.front) (list_any (is_own_seal a) (own ∷ [])) (are.before a)
     (or_from (at == a && nat_lt 0 are.ctr.minor) false (ap (λ b. b && nat_lt 0 are.ctr.minor) (ne_eqb at a other)) refl)
   where
     own : Mark
@@ -152,7 +108,7 @@ writes_none f now (first ∷ writes) made a it others =
     let parts = splits_off f now first writes made it in
     ap (list_any (is_own_seal a)) parts.both ∙ list_any-append (is_own_seal a) parts.here parts.later
     ∙ or_from (list_any (is_own_seal a) parts.here) (list_any (is_own_seal a) parts.later)
-    (other_none f first.at a parts.here (ends_own f now first parts.here parts.one) (All-head (λ (w : Posted). w.at ≡ a → ⊥) first writes others))
+    (other_none f first.at a parts.here (one_own f now first parts.here parts.one) (All-head (λ (w : Posted). w.at ≡ a → ⊥) first writes others))
     (writes_none f (moment_after f now first) writes parts.later a parts.rest (All-tail (λ (w : Posted). w.at ≡ a → ⊥) first writes others))
 
 -- a write of the line among them
@@ -162,7 +118,7 @@ writes_own f now [] write after made it =
     let parts = splits_off f now write after made it in
     ap (list_any (is_own_seal write.at)) parts.both ∙ list_any-append (is_own_seal write.at) parts.here parts.later
     ∙ or_left (list_any (is_own_seal write.at) parts.here) (list_any (is_own_seal write.at) parts.later)
-    (own_there f write.at parts.here (ends_own f now write parts.here parts.one))
+    (own_there f write.at parts.here (one_own f now write parts.here parts.one))
 writes_own f now (first ∷ before) write after made it =
     let parts = splits_off f now first (before ++ write ∷ after) made it in
     ap (list_any (is_own_seal write.at)) parts.both ∙ list_any-append (is_own_seal write.at) parts.here parts.later
@@ -173,7 +129,7 @@ writes_own f now (first ∷ before) write after made it =
 
 -- the first marks of a write, but not all of them, are no own seals
 front_none : (f : Formulas) (a : ℕ) (asked : Option (List Mark)) (made left : List Mark)
-    → ((marks : List Mark) → asked ≡ Some marks → (at : ℕ) × EndsOwn f at marks) → unwrap_or asked [] ≡ made ++ left
+    → ((marks : List Mark) → asked ≡ Some marks → (at : ℕ) × EndsOwn f at HasNoOwn marks) → unwrap_or asked [] ≡ made ++ left
     → IsTrue (is_none asked || nat_lt 0 (length left)) → list_any (is_own_seal a) made ≡ false
 front_none f a None made left own front some =
     let short : length made ≡ 0 = omega (arith, ap length front, length-append made left) in
@@ -189,15 +145,15 @@ front_none f a (Some marks) made left own front some =
     sym (take_at made left (length made) refl) ∙ ap (take (length made)) same ∙ take-append-le (length made) are.front ending short in
     let both : (list_any (is_own_seal a) (take (length made) are.front) || list_any (is_own_seal a) (drop (length made) are.front)) ≡ false =
     sym (list_any-append (is_own_seal a) (take (length made) are.front) (drop (length made) are.front))
-    ∙ ap (list_any (is_own_seal a)) (take-append-drop (length made) are.front) ∙ are.none a in
+    ∙ ap (list_any (is_own_seal a)) (take-append-drop (length made) are.front) ∙ are.before a in
     ap (list_any (is_own_seal a)) its
     ∙ (or_parts (list_any (is_own_seal a) (take (length made) are.front)) (list_any (is_own_seal a) (drop (length made) are.front)) both).0
 
 module _ (f : Formulas) (now : Moment) (queue : List Posted) (n : ℕ) (made : List Mark) (it : IsStopped f now queue n made) where
   next_own : (found : Option Posted) (marks : List Mark)
-      → option_and_then (marks_of_write f (moment_after_writes f now (take n queue))) found ≡ Some marks → (at : ℕ) × EndsOwn f at marks
+      → option_and_then (marks_of_write f (moment_after_writes f now (take n queue))) found ≡ Some marks → (at : ℕ) × EndsOwn f at HasNoOwn marks
   next_own None marks is = absurd (none-some marks is)
-  next_own (Some write) marks is = (write.at, ends_own f (moment_after_writes f now (take n queue)) write marks is)
+  next_own (Some write) marks is = (write.at, one_own f (moment_after_writes f now (take n queue)) write marks is)
 
   flight_none : (a : ℕ) → list_any (is_own_seal a) (marks_in_flight f now queue n made) ≡ false
   flight_none a =
@@ -216,3 +172,29 @@ module _ (f : Formulas) (now : Moment) (queue : List Posted) (n : ℕ) (made : L
       or_false : (b : Bool) → (b || false) ≡ b
       or_false true = refl
       or_false false = refl
+
+-- ---- a command that was cut
+
+some_marks : (found : Option (List Mark)) → IsSome found → (made : List Mark) × (found ≡ Some made)
+some_marks None is = absurd (search (rules, is))
+some_marks (Some made) is = (made, refl)
+
+module _ (f : Formulas) (now : Moment) (queue : List Posted) (writing : Writing) (a : ℕ) (b : Bool)
+    (each : (made : List Mark) → drained_marks f now queue writing.done ≡ Some made → list_any (is_own_seal a) made ≡ b) where
+  -- an own seal is among its marks as it is among those of the writes that are done
+  pub own_at_cut : IsCutAmong f now queue writing → list_any (is_own_seal a) writing.made ≡ b
+  own_at_cut (inl all) = each writing.made all.1
+  own_at_cut (inr stop) =
+      let found = some_marks (drained_marks f now queue writing.done) stop.none_spent in
+      stopped_as f now queue writing.done writing.made stop a found.0 b found.1 (each found.0 found.1)
+
+-- the marks of a list's end, as the program takes them
+pub own_marks : (result : Bool) (own a : ℕ) (from marks old now : List Mark)
+    → result ≡ list_any (is_own_seal own) (take (length marks - length from) (drop (length from) marks)) → own ≡ a → from ≡ old → marks ≡ now
+    → result ≡ list_any (is_own_seal a) (drop (length old) now)
+own_marks result own a from marks old now is same_own same_from same_marks =
+    is
+    ∙ ap (list_any (is_own_seal own)) (take_all (length marks - length from) (drop (length from) marks) (omega (arith, length-drop (length from) marks)))
+    ∙ ap (λ o. list_any (is_own_seal o) (drop (length from) marks)) same_own
+    ∙ ap (λ (l : List Mark). list_any (is_own_seal a) (drop (length l) marks)) same_from
+    ∙ ap (λ (l : List Mark). list_any (is_own_seal a) (drop (length old) l)) same_marks

@@ -26,9 +26,9 @@ use Rattle.pmem_engine.specs.Parts.{Parts, regs_of, AreTrusted, AreSound, AreDur
 use Rattle.pmem_engine.specs.Outcomes.{going, cut_short, is_sealed_by, OneLossEffect, TakesAtMost, TakesFewer}
 use Rattle.pmem_engine.specs.Calls.{IsMemory, IsPartOf, TakesOfWrite, moment_in, HasReadLine, HasWrittenLine}
 use Rattle.pmem_engine.proofs.CallEnds.StillParts.{sound_trusted}
-use Rattle.wear_session.specs.Answered.{write_steps, read_steps}
-use Rattle.wear_session.proofs.Worlds.{places_of, sealed_in}
-use Rattle.wear_session.proofs.AskedWrites.{AreAsked, asked_are, asked_own, part_apart}
+use Rattle.engine_lines.specs.Writes.{write_steps, read_steps}
+use Rattle.engine_lines.proofs.SealedLines.{places_of, sealed_in}
+use Rattle.engine_lines.proofs.AskedWrites.{asked_are, few_asked, asked_sealed, part_apart}
 
 -- ---- plain memory, as the marks have it
 
@@ -122,7 +122,6 @@ pub record AreCut (setup : Setup) (from : Parts) (writes : List Posted) (made : 
 pub record IsCutAfter (setup : Setup) (from : Parts) (writes : List Posted) (made : List Mark) (write : Posted) (more : List Mark) (most : ℕ)
     (to : Parts) : Type 0 where
   pub asked : marks_of_writes setup.formulas (moment_now setup from) (writes ++ write ∷ []) ≡ Some (made ++ more)
-  pub own : AreAsked setup.formulas write.at more
   pub cut : AreCut setup from (writes ++ write ∷ []) (made ++ more) most to
 
 pub record IsCutBefore (setup : Setup) (from : Parts) (writes : List Posted) (made : List Mark) (write : Posted) (more : List Mark) (most : ℕ)
@@ -131,6 +130,36 @@ pub record IsCutBefore (setup : Setup) (from : Parts) (writes : List Posted) (ma
       IsPartOf (marks_of_write setup.formulas (moment_after_writes setup.formulas (moment_now setup from) writes) write) more
   pub apart : is_sealed_by more write.at ≡ false
   pub cut : AreCut setup from writes (made ++ more) most to
+
+-- ---- bounds
+
+pub within_done : (setup : Setup) (from : Parts) (writes : List Posted) (made : List Mark) (n m : ℕ) (to : Parts) → n ≤ m
+    → AreDone setup from writes made n to → AreDone setup from writes made m to
+within_done setup from writes made n m to few it =
+    record {
+      asked = it.asked;
+      moment = it.moment;
+      marks = it.marks;
+      loss = it.loss;
+      sound = it.sound;
+      live = it.live;
+      takes = most_within from.device to.device n m few it.takes;
+    }
+
+pub within_cut : (setup : Setup) (from : Parts) (writes : List Posted) (made : List Mark) (n m : ℕ) (to : Parts) → n ≤ m
+    → AreCut setup from writes made n to → AreCut setup from writes made m to
+within_cut setup from writes made n m to few it =
+    record {
+      memory = it.memory;
+      marks = it.marks;
+      loss = it.loss;
+      durable = it.durable;
+      dark = it.dark;
+      small_group = it.small_group;
+      takes = fewer_within from.device to.device n m few it.takes;
+    }
+
+-- ---- after a list that is done
 
 pub after_more : (f : Formulas) (now : Moment) (writes : List Posted) (write : Posted)
     → moment_after_writes f now (writes ++ write ∷ []) ≡ moment_after f (moment_after_writes f now writes) write
@@ -274,12 +303,6 @@ module _ (setup : Setup) (from parts : Parts) (writes : List Posted) (made : Lis
           takes = most_more from.device parts.device to.device most (write_steps setup.shape) done.takes it.few_steps;
         }
 
-    -- the marks of one that is done
-    pub write_asked : (ctr : Ctr) (it : HasWrittenLine setup write parts to (Ok ctr)) → AreAsked f write.at it.made
-    write_asked ctr it =
-        asked_are setup (regs_of parts) parts.ledger trusted.anchored (moment_now setup parts) refl write it.made
-        (it.marks trusted.not_down trusted (memory_now setup parts) whole.each)
-
     -- its counter is used up
     pub spent_next : (page : ℕ) → HasWrittenLine setup write parts to (Err (Fail.Spent page)) → (next ≡ None) × (page ≡ page_of write.at)
     spent_next page it =
@@ -309,7 +332,7 @@ module _ (setup : Setup) (from parts : Parts) (writes : List Posted) (made : Lis
         → TakesOfWrite setup.shape asked more parts to (Err Fail.Cut) → TakesFewer (write_steps setup.shape) parts.device to.device
     cut_within (Some marks) more there takes =
         let are = asked_are setup (regs_of parts) parts.ledger trusted.anchored (moment_now setup parts) refl write marks there in
-        let few = are.few in
+        let few = few_asked f write.at marks are in
         fewer_within parts.device to.device (1 * (2 * path_length setup.shape + 1) + 4 * seal_count marks + 3 * begin_count marks) (write_steps setup.shape)
         (omega (arith, few)) takes
     cut_within None more there takes =
@@ -340,10 +363,9 @@ module _ (setup : Setup) (from parts : Parts) (writes : List Posted) (made : Lis
       write_cut = elim (it.marks trusted.not_down trusted (memory_now setup parts) whole.each) [
         | inl asked ↦
             let own = asked_are setup (regs_of parts) parts.ledger trusted.anchored (moment_now setup parts) refl write it.made asked in
-            let sealed = (asked_own f write.at it.made own).0 in
+            let sealed = asked_sealed f write.at it.made own in
             inl (record {
               asked = asked_more it.made asked;
-              own = own;
               cut =
                   cut_as (writes ++ write ∷ [])
                   (ap (λ (m : Moment). m.memory) (moment_more (sealed_memory (Err Fail.Cut) it sealed) (view_more it.made cut_effect.gone.marks asked)));

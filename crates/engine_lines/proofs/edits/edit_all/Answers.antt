@@ -1,11 +1,11 @@
 -- One change more, or the one that isn't made.
 use Rattle.std.proofs.Common.{sym, ◌∙◌, arith}
-use Rattle.start_gap.proofs.LevelledCalls.{usable_as}
+use Rattle.engine_lines.proofs.EngineLines.{usable_as}
 use Rattle.pmem_engine.specs.Engine.{EngineState}
 use Rattle.pmem_engine.specs.Parts.{Parts, parts_of}
-use Rattle.line_txn.proofs.EditLaws.{edit_under, edits_more, edits_stop}
-use Rattle.line_txn.proofs.edits.edit_all.Given.{Over}
-use Rattle.line_txn.proofs.edits.edit_all.Goals as goal
+use Rattle.engine_lines.proofs.EditLaws.{edit_under, edits_more, edits_stop}
+use Rattle.engine_lines.proofs.edits.edit_all.Given.{Over}
+use Rattle.engine_lines.proofs.edits.edit_all.Goals as goal
 
 abbrev at : (g : Over) → EngineState → g.row.B.Denot → g.row.S.Denot → g.row.A.Denot → Parts
 at g engine board suite audit =

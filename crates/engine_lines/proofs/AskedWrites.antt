@@ -1,10 +1,10 @@
--- The marks that a write of an engine asks: its own seal comes last, no other of them seals its line, and they are at most
+-- The marks that a write of an engine asks: a seal of its line comes last, no other of them seals it, and they are at most
 -- 65 seals and a begin.
 use Rattle.std.proofs.Common.{ℕ, ◌≡◌, ◌<◌, ◌≤◌, ◌+◌, ◌-◌, ◌*◌, ◌++◌, ◌^◌, Bool, true, false, cond, List, [], ◌∷◌, length, map, take, drop, Option, Some, None, IsTrue, refl, sym, ap, subst, ◌∙◌, arith}
-use Rattle.std.specs.Prelude.{⊤, MatchOption, All, ◌||◌, ◌&&◌, ◌==◌, nat_lt, nat_le, unwrap_or, is_none}
+use Rattle.std.specs.Prelude.{⊤, MatchOption, All, ◌||◌, ◌==◌, nat_lt, nat_le, unwrap_or, is_none}
 use Rattle.std.specs.List.{list_any}
 use Rattle.std.proofs.lemmas.Option.{same_Some, none-some}
-use Rattle.std.proofs.lemmas.Bool.{true≢false, or_parts, or_from, or_left, or_right, cond-true, eq-eqb, ne_eqb, lt-ltb, ltb-true}
+use Rattle.std.proofs.lemmas.Bool.{true≢false, or_parts, or_from, or_left, or_right, cond-true, eq-eqb, ne_eqb, ltb-true}
 use Rattle.std.proofs.lemmas.List.{append_assoc, length-append, length-map, take_at, take-append-le, take-append-drop, nil_from_length}
 use Rattle.std.proofs.lemmas.List.Elements.{All-head, All-tail, All-cons, All-nil}
 use Rattle.std.proofs.lemmas.List.Folds.{list_any-append}
@@ -13,7 +13,7 @@ use Rattle.pmem_base.specs.declared.lines.Line.{Line}
 use Rattle.pmem_base.specs.declared.lines.Ctr.{Ctr}
 use Rattle.pmem_base.specs.declared.commands.Posted.{Posted}
 use Rattle.pmem_base.specs.declared.answers.Mark.{Mark}
-use Rattle.pmem_base.specs.declared.answers.Mark.TheVariants.{Begin, Seal}
+use Rattle.pmem_base.specs.declared.answers.Mark.TheVariants.{Begin}
 use Rattle.pmem_base.specs.declared.registers.Progress.{Progress}
 use Rattle.pmem_base.specs.declared.registers.Regs.{Regs}
 use Rattle.pmem_base.specs.Layout.{page_of, index_in_page}
@@ -31,7 +31,6 @@ use Rattle.pmem_engine.specs.Invariants.{IsAnchored, register_page}
 use Rattle.pmem_engine.specs.Outcomes.{is_seal_of, is_sealed_by}
 use Rattle.pmem_engine.specs.Calls.{IsPartOf}
 use Rattle.pmem_engine.proofs.PostedWrites.WritePremises.{few_left}
-use Rattle.wear_session.specs.Answered.{is_own_seal}
 
 -- ---- open pages
 
@@ -126,81 +125,50 @@ finishing_are f now a (Some opened) it =
 
 -- ---- the marks of a write
 
--- marks that end with a write's own seal
-pub record AreAsked (f : Formulas) (at : ℕ) (marks : List Mark) : Type 0 where
+-- marks that end with a write's own seal; of those before it P holds
+pub record EndsOwn (f : Formulas) (at : ℕ) (P : List Mark → Type 0) (marks : List Mark) : Type 0 where
   pub front : List Mark
   pub ctr : Ctr
   pub plain : Line
   pub form : marks ≡ front ++ seal_mark f at ctr plain ∷ []
   pub minor : 0 < ctr.minor
-  pub apart : is_sealed_by front at ≡ false
-  pub few : 4 * seal_count marks + 3 * begin_count marks ≤ 263
+  pub before : P front
 
-pub asked_are : (setup : Setup) (regs : Regs) (ledger : LedgerState) → IsAnchored setup regs ledger → (now : Moment)
-    → now.view ≡ view_of setup.shape ledger.marks → (write : Posted) (marks : List Mark)
-    → marks_of_write setup.formulas now write ≡ Some marks → AreAsked setup.formulas write.at marks
-asked_are setup regs ledger anchored now its_view write marks asked =
+-- the marks that a write asks before its own seal: none, or those that finish a page, and a begin
+pub ends_own : (f : Formulas) (now : Moment) (write : Posted) (P : List Mark → Type 0) (marks : List Mark) → P []
+    → (is_left now.view write.at ≡ false
+    → P (finishing_marks_of f now (page_to_finish now.view (open_page now.view (page_of write.at))) ++ Begin (page_of write.at) ∷ []))
+    → marks_of_write f now write ≡ Some marks → EndsOwn f write.at P marks
+ends_own f now write P marks none some asked =
     by_case (is_left now.view write.at) (nat_lt last.minor 127) (last.major == 2 ^ 64 - 1) refl asked
   where
-    f : Formulas
-    f = setup.formulas
-
     last : Ctr
     last = counter_at now.view write.at
 
     plain : Line
     plain = put_write (line_at now.memory write.at) write
 
-    to_finish : Option OpenPage
-    to_finish = page_to_finish now.view (open_page now.view (page_of write.at))
-
     finishing : List Mark
-    finishing = finishing_marks_of f now to_finish
+    finishing = finishing_marks_of f now (page_to_finish now.view (open_page now.view (page_of write.at)))
 
-    pages_are : now.view.open_pages ≡ map register_page regs.progress.items
-    pages_are = ap (λ view. view.open_pages) its_view ∙ anchored.open_pages
-
-    alone : (ctr : Ctr) → 0 < ctr.minor → Some (seal_mark f write.at ctr plain ∷ []) ≡ Some marks → AreAsked f write.at marks
+    alone : (ctr : Ctr) → 0 < ctr.minor → Some (seal_mark f write.at ctr plain ∷ []) ≡ Some marks → EndsOwn f write.at P marks
     alone ctr above it =
-        subst (AreAsked f write.at) (same_Some (seal_mark f write.at ctr plain ∷ []) marks it)
-        (record {
-          front = [];
-          ctr = ctr;
-          plain = plain;
-          form = refl;
-          minor = above;
-          apart = refl;
-          few = omega arith;
-        })
+        subst (EndsOwn f write.at P) (same_Some (seal_mark f write.at ctr plain ∷ []) marks it)
+        (record { front = []; ctr = ctr; plain = plain; form = refl; minor = above; before = none })
 
     rolled : is_left now.view write.at ≡ false
         → Some (finishing ++ Begin (page_of write.at) ∷ seal_mark f write.at (next_major last 1) plain ∷ []) ≡ Some marks
-        → AreAsked f write.at marks
+        → EndsOwn f write.at P marks
     rolled free it =
-        let pages : All (IsApart write.at) now.view.open_pages =
-        subst (All (IsApart write.at)) (sym pages_are)
-        (each_apart write.at regs.progress.items
-        (subst (λ pages. list_any (λ opened. cond (opened.page == page_of write.at) (list_any (λ i. i == index_in_page write.at) opened.left) false) pages ≡ false)
-        pages_are free)) in
-        let are : AreFinishing write.at finishing = finishing_are f now write.at to_finish (finished_apart write.at (page_of write.at) now.view pages) in
         let own : Mark = seal_mark f write.at (next_major last 1) plain in
-        let ending : List Mark = Begin (page_of write.at) ∷ own ∷ [] in
-        subst (AreAsked f write.at) (same_Some (finishing ++ ending) marks it)
+        subst (EndsOwn f write.at P) (same_Some (finishing ++ Begin (page_of write.at) ∷ own ∷ []) marks it)
         (record {
           front = finishing ++ Begin (page_of write.at) ∷ [];
           ctr = next_major last 1;
           plain = plain;
           form = sym (append_assoc finishing (Begin (page_of write.at) ∷ []) (own ∷ []));
           minor = omega arith;
-          apart =
-              list_any-append (is_seal_of write.at) finishing (Begin (page_of write.at) ∷ [])
-              ∙ or_from (is_sealed_by finishing write.at) false are.apart refl;
-          few =
-              let long = length-append finishing ending in
-              let seals : seal_count (finishing ++ ending) ≡ seal_count finishing + 1 = sum_by-append (λ mark. cond (is_seal mark) 1 0) finishing ending in
-              let all = are.seals in
-              let few = are.few in
-              omega (arith, long, seals, all, few);
+          before = some free;
         })
 
     by_case : (held low used : Bool) → is_left now.view write.at ≡ held
@@ -208,36 +176,74 @@ asked_are setup regs ledger anchored now its_view write marks asked =
         (cond low (Some (seal_mark f write.at (record last { minor = last.minor + 1 }) plain ∷ []))
         (cond used None (Some (finishing ++ Begin (page_of write.at) ∷ seal_mark f write.at (next_major last 1) plain ∷ []))))
         ≡ Some marks
-        → AreAsked f write.at marks
+        → EndsOwn f write.at P marks
     by_case true low used held it = alone (next_major last 1) (omega arith) it
     by_case false true used held it = alone (record last { minor = last.minor + 1 }) (omega arith) it
     by_case false false true held it = absurd (none-some marks it)
     by_case false false false held it = rolled held it
 
--- all of them have the own seal
-pub asked_own : (f : Formulas) (at : ℕ) (marks : List Mark) → AreAsked f at marks
-    → (is_sealed_by marks at ≡ true) × (list_any (is_own_seal at) marks ≡ true)
-asked_own f at marks are = (
-  ap (λ marks. is_sealed_by marks at) are.form
-      ∙ list_any-append (is_seal_of at) are.front (own ∷ [])
-      ∙ or_right (is_sealed_by are.front at) (is_sealed_by (own ∷ []) at) (or_left (at == at) false (eq-eqb at at refl)),
-  ap (list_any (is_own_seal at)) are.form
-      ∙ list_any-append (is_own_seal at) are.front (own ∷ [])
-      ∙ or_right (list_any (is_own_seal at) are.front) (list_any (is_own_seal at) (own ∷ []))
-      (or_left (at == at && nat_lt 0 are.ctr.minor) false
-      (ap (λ b. b && nat_lt 0 are.ctr.minor) (eq-eqb at at refl) ∙ lt-ltb 0 are.ctr.minor are.minor)),
-)
-  where
-    own : Mark
-    own = seal_mark f at are.ctr are.plain
+-- no other of an anchored chip's seals the line, and they are at most 64 seals and a begin
+pub record AreBeforeOwn (at : ℕ) (front : List Mark) : Type 0 where
+  pub apart : is_sealed_by front at ≡ false
+  pub few : 4 * seal_count front + 3 * begin_count front ≤ 259
 
--- an own seal is a seal
-pub own_by_seal : (at : ℕ) (marks : List Mark) → is_sealed_by marks at ≡ false → list_any (is_own_seal at) marks ≡ false
-own_by_seal at [] none = refl
-own_by_seal at (Begin page ∷ marks) none = own_by_seal at marks none
-own_by_seal at (Seal b ctr cipher tag ∷ marks) none =
-    let parts = or_parts (b == at) (is_sealed_by marks at) none in
-    or_from (b == at && nat_lt 0 ctr.minor) (list_any (is_own_seal at) marks) (ap (λ t. t && nat_lt 0 ctr.minor) parts.0) (own_by_seal at marks parts.1)
+abbrev pub AreAsked : Formulas → ℕ → List Mark → Type 0
+AreAsked f at marks = EndsOwn f at (AreBeforeOwn at) marks
+
+pub asked_are : (setup : Setup) (regs : Regs) (ledger : LedgerState) → IsAnchored setup regs ledger → (now : Moment)
+    → now.view ≡ view_of setup.shape ledger.marks → (write : Posted) (marks : List Mark)
+    → marks_of_write setup.formulas now write ≡ Some marks → AreAsked setup.formulas write.at marks
+asked_are setup regs ledger anchored now its_view write marks asked =
+    ends_own setup.formulas now write (AreBeforeOwn write.at) marks (record { apart = refl; few = omega arith }) rolled asked
+  where
+    to_finish : Option OpenPage
+    to_finish = page_to_finish now.view (open_page now.view (page_of write.at))
+
+    finishing : List Mark
+    finishing = finishing_marks_of setup.formulas now to_finish
+
+    pages_are : now.view.open_pages ≡ map register_page regs.progress.items
+    pages_are = ap (λ view. view.open_pages) its_view ∙ anchored.open_pages
+
+    rolled : is_left now.view write.at ≡ false → AreBeforeOwn write.at (finishing ++ Begin (page_of write.at) ∷ [])
+    rolled free =
+        let pages : All (IsApart write.at) now.view.open_pages =
+        subst (All (IsApart write.at)) (sym pages_are)
+        (each_apart write.at regs.progress.items
+        (subst (λ pages. list_any (λ opened. cond (opened.page == page_of write.at) (list_any (λ i. i == index_in_page write.at) opened.left) false) pages ≡ false)
+        pages_are free)) in
+        let are : AreFinishing write.at finishing =
+        finishing_are setup.formulas now write.at to_finish (finished_apart write.at (page_of write.at) now.view pages) in
+        let ending : List Mark = Begin (page_of write.at) ∷ [] in
+        record {
+          apart =
+              list_any-append (is_seal_of write.at) finishing ending ∙ or_from (is_sealed_by finishing write.at) false are.apart refl;
+          few =
+              let long = length-append finishing ending in
+              let seals : seal_count (finishing ++ ending) ≡ seal_count finishing + 0 = sum_by-append (λ mark. cond (is_seal mark) 1 0) finishing ending in
+              let all = are.seals in
+              let few = are.few in
+              omega (arith, long, seals, all, few);
+        }
+
+-- with the own seal they are one seal more
+pub few_asked : (f : Formulas) (at : ℕ) (marks : List Mark) → AreAsked f at marks → 4 * seal_count marks + 3 * begin_count marks ≤ 263
+few_asked f at marks are =
+    let own : List Mark = seal_mark f at are.ctr are.plain ∷ [] in
+    let seals : seal_count marks ≡ seal_count are.front + 1 =
+    ap seal_count are.form ∙ sum_by-append (λ mark. cond (is_seal mark) 1 0) are.front own in
+    let long = length-append are.front own in
+    let all = ap length are.form in
+    let few = are.before.few in
+    omega (arith, seals, long, all, few)
+
+-- all of them seal the line
+pub asked_sealed : (f : Formulas) (at : ℕ) (marks : List Mark) → AreAsked f at marks → is_sealed_by marks at ≡ true
+asked_sealed f at marks are =
+    let own : List Mark = seal_mark f at are.ctr are.plain ∷ [] in
+    ap (λ marks. is_sealed_by marks at) are.form
+    ∙ list_any-append (is_seal_of at) are.front own
+    ∙ or_right (is_sealed_by are.front at) (is_sealed_by own at) (or_left (at == at) false (eq-eqb at at refl))
 
 -- a part of them doesn't seal the line
 pub part_apart : (setup : Setup) (regs : Regs) (ledger : LedgerState) → IsAnchored setup regs ledger → (now : Moment)
@@ -260,6 +266,6 @@ part_apart setup regs ledger anchored now its_view write made part = go (marks_o
         sym (take_at made part.left (length made) refl) ∙ ap (take (length made)) same ∙ take-append-le (length made) are.front own short in
         let both : (is_sealed_by (take (length made) are.front) write.at || is_sealed_by (drop (length made) are.front) write.at) ≡ false =
         sym (list_any-append (is_seal_of write.at) (take (length made) are.front) (drop (length made) are.front))
-        ∙ ap (λ marks. is_sealed_by marks write.at) (take-append-drop (length made) are.front) ∙ are.apart in
+        ∙ ap (λ marks. is_sealed_by marks write.at) (take-append-drop (length made) are.front) ∙ are.before.apart in
         ap (λ marks. is_sealed_by marks write.at) its
         ∙ (or_parts (is_sealed_by (take (length made) are.front) write.at) (is_sealed_by (drop (length made) are.front) write.at) both).0

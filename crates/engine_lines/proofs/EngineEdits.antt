@@ -13,20 +13,19 @@ use Rattle.suite.specs.Formulas.{Formulas}
 use Rattle.suite.specs.Setup.{Setup}
 use Rattle.plain_model.specs.State.{Memory, memory_with}
 use Rattle.plain_model.specs.Asked.{Moment, marks_of_write, marks_of_writes, moment_after_writes}
-use Rattle.plain_model.specs.Fits.{next_marks, IsSpentNext}
+use Rattle.plain_model.specs.Fits.{next_marks, IsStopped, IsSpentNext}
 use Rattle.pmem_engine.specs.declared.fault.Fault.{Fault}
 use Rattle.pmem_engine.specs.declared.fault.Fault.TheVariants as Fail
 use Rattle.pmem_engine.specs.Parts.{Parts}
 use Rattle.pmem_engine.specs.Calls.{whole_write, HasReadLine, HasWrittenLine}
 use Rattle.pmem_engine.proofs.CallEnds.StillParts.{sound_trusted}
-use Rattle.start_gap.specs.Gapped.{done_as}
-use Rattle.line_txn.specs.declared.edits.Edit.{Edit}
-use Rattle.line_txn.specs.declared.edits.Edit.TheVariants as Make
-use Rattle.line_txn.specs.Edits.{HasLinePut, HasPutRead, HasEdited, CommitGoesOn, AreEdited, IsEditOf}
-use Rattle.wear_session.specs.Answered.{Writing, IsCutAmong, write_steps, read_steps}
 use Rattle.pmem_engine.proofs.PostedWrites.StoppedWrites.{stopped}
-use Rattle.wear_session.proofs.WriteEnds.{within_done, within_cut}
-use Rattle.wear_session.proofs.EngineWrites.{after_more, memory_now, moment_now, AreDone, AreCut, memory_done, read_line, read_done, read_cut, write_done, spent_next, spent_done, write_cut}
+use Rattle.engine_lines.specs.declared.edits.Edit.{Edit}
+use Rattle.engine_lines.specs.declared.edits.Edit.TheVariants as Make
+use Rattle.engine_lines.specs.Lines.{done_as}
+use Rattle.engine_lines.specs.Edits.{HasLinePut, HasPutRead, HasEdited, GoesOn, AreEdited, IsEditOf}
+use Rattle.engine_lines.specs.Writes.{Writing, IsCutAmong, write_steps, read_steps}
+use Rattle.engine_lines.proofs.EngineWrites.{after_more, memory_now, moment_now, within_done, within_cut, AreDone, AreCut, memory_done, read_line, read_done, read_cut, write_done, spent_next, spent_done, write_cut}
 
 -- ---- the writes of changes
 
@@ -51,7 +50,7 @@ cost g (edit ∷ edits) = cost_of g edit + cost g edits
 -- ---- ends
 
 -- so many of the writes are done
-pub record AreTxnGone (setup : Setup) (from : Parts) (queue : List Posted) (count most : ℕ) (to : Parts) : Type 0 where
+pub record AreGone (setup : Setup) (from : Parts) (queue : List Posted) (count most : ℕ) (to : Parts) : Type 0 where
   pub made : List Mark
   pub done : AreDone setup from (take count queue) made most to
 
@@ -65,26 +64,42 @@ pub record IsSpentAt (setup : Setup) (from : Parts) (queue : List Posted) (first
   pub next : IsSpentNext setup.formulas (moment_now setup from) queue count page made
 
 -- power was cut with so many done, from the first on
-pub record IsTxnCutAt (setup : Setup) (from : Parts) (queue : List Posted) (first last most : ℕ) (to : Parts) : Type 0 where
+pub record IsCutAt (setup : Setup) (from : Parts) (queue : List Posted) (first last most : ℕ) (to : Parts) : Type 0 where
   pub writing : Writing
   pub low : first ≤ writing.done
   pub high : writing.done ≤ last
   pub came : IsCutAmong setup.formulas (moment_now setup from) queue writing
   pub cut : AreCut setup from (take writing.done queue) writing.made most to
 
+-- power was cut in the next one after so many
+pub record IsStoppedAt (setup : Setup) (from : Parts) (queue : List Posted) (count most : ℕ) (to : Parts) : Type 0 where
+  pub made : List Mark
+  pub came : IsStopped setup.formulas (moment_now setup from) queue count made
+  pub cut : AreCut setup from (take count queue) made most to
+
 -- by the answer of changes whose writes are those from the first to before the last
-abbrev pub EndsTxnAt : Setup → Parts → List Posted → ℕ → ℕ → ℕ → Result (Unit {0}) Fault → Parts → Type 0
-EndsTxnAt setup from queue first last most (Ok done) to = AreTxnGone setup from queue last most to
-EndsTxnAt setup from queue first last most (Err (Fail.Spent page)) to = IsSpentAt setup from queue first last page most to
-EndsTxnAt setup from queue first last most (Err Fail.Cut) to = IsTxnCutAt setup from queue first last most to
-EndsTxnAt setup from queue first last most (Err fault) to = ⊥
+abbrev pub EndsAt : Setup → Parts → List Posted → ℕ → ℕ → ℕ → Result (Unit {0}) Fault → Parts → Type 0
+EndsAt setup from queue first last most (Ok done) to = AreGone setup from queue last most to
+EndsAt setup from queue first last most (Err (Fail.Spent page)) to = IsSpentAt setup from queue first last page most to
+EndsAt setup from queue first last most (Err Fail.Cut) to = IsCutAt setup from queue first last most to
+EndsAt setup from queue first last most (Err fault) to = ⊥
 
 -- ---- bounds
 
+pub gone_within : (setup : Setup) (from : Parts) (queue : List Posted) (last last' n m : ℕ) (to : Parts) → last ≡ last' → n ≤ m
+    → AreGone setup from queue last n to → AreGone setup from queue last' m to
+gone_within setup from queue last last' n m to same few it =
+    record {
+      made = it.made;
+      done =
+          subst (λ k. AreDone setup from (take k queue) it.made m to) same
+          (within_done setup from (take last queue) it.made n m to few it.done);
+    }
+
 -- an end of fewer changes is one of more
 pub ends_within : (setup : Setup) (from : Parts) (queue : List Posted) (first first' last last' n m : ℕ) (fault : Fault) (to : Parts)
-    → first' ≤ first → last ≤ last' → n ≤ m → EndsTxnAt setup from queue first last n (Err fault) to
-    → EndsTxnAt setup from queue first' last' m (Err fault) to
+    → first' ≤ first → last ≤ last' → n ≤ m → EndsAt setup from queue first last n (Err fault) to
+    → EndsAt setup from queue first' last' m (Err fault) to
 ends_within setup from queue first first' last last' n m (Fail.Spent page) to lower higher few it =
     record {
       count = it.count;
@@ -107,13 +122,13 @@ ends_within setup from queue first first' last last' n m fault to lower higher f
 -- ---- the writes of a list, one by one
 
 -- the next one of them
-record IsTxnNext (queue : List Posted) (k : ℕ) (write : Posted) (rest : List Posted) : Type 0 where
+record IsNextOf (queue : List Posted) (k : ℕ) (write : Posted) (rest : List Posted) : Type 0 where
   place : slice_get queue k ≡ Some write
   more : take (suc k) queue ≡ take k queue ++ write ∷ []
   waits : k < length queue
   later : drop (suc k) queue ≡ rest
 
-next_of : (queue : List Posted) (k : ℕ) (write : Posted) (rest : List Posted) → drop k queue ≡ write ∷ rest → IsTxnNext queue k write rest
+next_of : (queue : List Posted) (k : ℕ) (write : Posted) (rest : List Posted) → drop k queue ≡ write ∷ rest → IsNextOf queue k write rest
 next_of [] zero write rest is = absurd (omega (arith, ap length is))
 next_of [] (suc k) write rest is = absurd (omega (arith, ap length is))
 next_of (first ∷ queue) zero write rest is =
@@ -152,13 +167,13 @@ module _ (setup : Setup) (from : Parts) (queue : List Posted) where
     abbrev write : Posted
     write = whole_write at line
 
-    it : IsTxnNext queue k write rest
+    it : IsNextOf queue k write rest
     it = next_of queue k write rest there
 
     next_is : next_marks f now queue k ≡ marks_of_write f (moment_after_writes f now (take k queue)) write
     next_is = ap (option_and_then (marks_of_write f (moment_after_writes f now (take k queue)))) it.place
 
-    write_gone : (ctr : Ctr) → HasWrittenLine setup write parts to (Ok ctr) → AreTxnGone setup from queue (suc k) (most + w) to
+    pub write_gone : (ctr : Ctr) → HasWrittenLine setup write parts to (Ok ctr) → AreGone setup from queue (suc k) (most + w) to
     write_gone ctr written =
         record {
           made = made ++ written.made;
@@ -167,56 +182,68 @@ module _ (setup : Setup) (from : Parts) (queue : List Posted) where
               (write_done setup from parts (take k queue) made most done write to within ctr written);
         }
 
-    write_spent : (page : ℕ) → HasWrittenLine setup write parts to (Err (Fail.Spent page)) → IsSpentAt setup from queue k (suc k) page (most + w) to
-    write_spent page written =
+    pub write_spent_next : (page : ℕ) → HasWrittenLine setup write parts to (Err (Fail.Spent page)) → IsSpentNext f now queue k page made
+    write_spent_next page written =
         let none = spent_next setup from parts (take k queue) made most done write to within page written in
         record {
-          count = k;
-          low = omega arith;
-          high = omega arith;
-          made = made;
-          done = spent_done setup from parts (take k queue) made most done write to within page written;
-          next =
-              record {
-                one_waits = it.waits;
-                all_drained = done.asked;
-                spent = next_is ∙ none.0;
-                its_page = subst (λ o. MatchOption o ⊥ (λ (w : Posted). page_of w.at ≡ page)) (sym it.place) (sym none.1);
-              };
+          one_waits = it.waits;
+          all_drained = done.asked;
+          spent = next_is ∙ none.0;
+          its_page = subst (λ o. MatchOption o ⊥ (λ (w : Posted). page_of w.at ≡ page)) (sym it.place) (sym none.1);
         }
 
-    write_stopped : HasWrittenLine setup write parts to (Err Fail.Cut) → IsTxnCutAt setup from queue k (suc k) (most + w) to
+    -- after all of its marks, or within them
+    pub write_stopped : HasWrittenLine setup write parts to (Err Fail.Cut)
+        → IsCutAt setup from queue (suc k) (suc k) (most + w) to ⊎ IsStoppedAt setup from queue k (most + w) to
     write_stopped written =
         elim (write_cut setup from parts (take k queue) made most done write to within written) [
           | inl after ↦
-              record {
+              inl (record {
                 writing = record { done = suc k; made = made ++ written.made };
                 low = omega arith;
                 high = omega arith;
                 came = inl (let waits = it.waits in omega (arith, waits), ap (marks_of_writes f now) it.more ∙ after.asked);
                 cut = subst (λ ws. AreCut setup from ws (made ++ written.made) (most + w) to) (sym it.more) after.cut;
-              }
+              })
           | inr before ↦
-              record {
-                writing = record { done = k; made = made ++ written.made };
-                low = omega arith;
-                high = omega arith;
+              inr (record {
+                made = made ++ written.made;
                 came =
-                    inr
-                    (stopped f now queue k made written.made (marks_of_write f (moment_after_writes f now (take k queue)) write) write
-                    it.place done.asked next_is before.part);
+                    stopped f now queue k made written.made (marks_of_write f (moment_after_writes f now (take k queue)) write) write
+                    it.place done.asked next_is before.part;
                 cut = before.cut;
-              }
+              })
         ]
 
-    pub put_goes : (answer : Result (Unit {0}) Fault) → HasLinePut setup at line parts to answer → EndsTxnAt setup from queue k (suc k) (most + w) answer to
-    put_goes answer put = subst (λ a. EndsTxnAt setup from queue k (suc k) (most + w) a to) (sym put.its_answer) (go put.made put.was_written)
+    stopped_ends : IsCutAt setup from queue (suc k) (suc k) (most + w) to ⊎ IsStoppedAt setup from queue k (most + w) to
+        → IsCutAt setup from queue k (suc k) (most + w) to
+    stopped_ends (inl after) =
+        ends_within setup from queue (suc k) k (suc k) (suc k) (most + w) (most + w) Fail.Cut to (omega arith) (omega arith) (omega arith) after
+    stopped_ends (inr before) =
+        record {
+          writing = record { done = k; made = before.made };
+          low = omega arith;
+          high = omega arith;
+          came = inr before.came;
+          cut = before.cut;
+        }
+
+    pub put_goes : (answer : Result (Unit {0}) Fault) → HasLinePut setup at line parts to answer → EndsAt setup from queue k (suc k) (most + w) answer to
+    put_goes answer put = subst (λ a. EndsAt setup from queue k (suc k) (most + w) a to) (sym put.its_answer) (go put.made put.was_written)
       where
         go : (made_by : Result Ctr Fault) → HasWrittenLine setup write parts to made_by
-            → EndsTxnAt setup from queue k (suc k) (most + w) (done_as made_by) to
+            → EndsAt setup from queue k (suc k) (most + w) (done_as made_by) to
         go (Ok ctr) written = write_gone ctr written
-        go (Err (Fail.Spent page)) written = write_spent page written
-        go (Err Fail.Cut) written = write_stopped written
+        go (Err (Fail.Spent page)) written =
+            record {
+              count = k;
+              low = omega arith;
+              high = omega arith;
+              made = made;
+              done = spent_done setup from parts (take k queue) made most done write to within page written;
+              next = write_spent_next page written;
+            }
+        go (Err Fail.Cut) written = stopped_ends (write_stopped written)
         go (Err fault) written = absurd (written.unrefused (sound_trusted setup parts done.sound).not_down done.sound)
 
   -- ---- one change
@@ -224,17 +251,17 @@ module _ (setup : Setup) (from : Parts) (queue : List Posted) where
   pub edit_goes : (edit : Edit) (k most : ℕ) (made : List Mark) (parts to : Parts) (rest : List Posted) (answer : Result (Unit {0}) Fault)
       → IsEditOf (data_lines setup.shape) edit → AreDone setup from (take k queue) made most parts
       → drop k queue ≡ posted_of (memory_now setup parts) edit ∷ rest → HasEdited setup edit parts to answer
-      → EndsTxnAt setup from queue k (suc k) (most + cost_of setup.shape edit) answer to
+      → EndsAt setup from queue k (suc k) (most + cost_of setup.shape edit) answer to
   edit_goes (Make.Put at line) k most made parts to rest answer fit done there it = put_goes at line k most made parts to rest fit.0 done there answer it
   edit_goes (Make.Copy source at) k most made parts to rest answer fit done there it = go it.read it.was_read it.then
     where
       -- the steps of the read and of the write
-      sum : (answer : Result (Unit {0}) Fault) → EndsTxnAt setup from queue k (suc k) (most + r + w) answer to
-          → EndsTxnAt setup from queue k (suc k) (most + (r + w)) answer to
-      sum answer = subst (λ n. EndsTxnAt setup from queue k (suc k) n answer to) (omega arith)
+      sum : (answer : Result (Unit {0}) Fault) → EndsAt setup from queue k (suc k) (most + r + w) answer to
+          → EndsAt setup from queue k (suc k) (most + (r + w)) answer to
+      sum answer = subst (λ n. EndsAt setup from queue k (suc k) n answer to) (omega arith)
 
       go : (read : Result Line Fault) → HasReadLine setup source parts it.between read → HasPutRead read setup at it.between to answer
-          → EndsTxnAt setup from queue k (suc k) (most + (r + w)) answer to
+          → EndsAt setup from queue k (suc k) (most + (r + w)) answer to
       go (Ok line) was put =
           let same : line ≡ line_at (memory_now setup parts) source =
           read_line setup from parts (take k queue) made most done source it.between line fit.0 was in
@@ -244,10 +271,10 @@ module _ (setup : Setup) (from : Parts) (queue : List Posted) where
           (subst (λ l. HasLinePut setup at l it.between to answer) same put))
       go (Err (Fail.Spent page)) was put = absurd was.possible
       go (Err Fail.Cut) was put =
-          subst (λ a. EndsTxnAt setup from queue k (suc k) (most + (r + w)) a to) (sym put.0)
-          (subst (IsTxnCutAt setup from queue k (suc k) (most + (r + w))) (sym put.1)
+          subst (λ a. EndsAt setup from queue k (suc k) (most + (r + w)) a to) (sym put.0)
+          (subst (IsCutAt setup from queue k (suc k) (most + (r + w))) (sym put.1)
           (let waits = (next_of queue k (whole_write at (line_at (memory_now setup parts) source)) rest there).waits in
-          let end : IsTxnCutAt setup from queue k (suc k) (most + (r + w)) it.between =
+          let end : IsCutAt setup from queue k (suc k) (most + (r + w)) it.between =
           record {
             writing = record { done = k; made = made };
             low = omega arith;
@@ -275,11 +302,11 @@ module _ (setup : Setup) (from : Parts) (queue : List Posted) where
   pub edits_go : (edits : List Edit) (k most : ℕ) (made : List Mark) (parts to : Parts) (tail : List Posted) (answer : Result (Unit {0}) Fault)
       → All (IsEditOf (data_lines setup.shape)) edits → AreDone setup from (take k queue) made most parts
       → drop k queue ≡ all_posted (memory_now setup parts) edits ++ tail → AreEdited setup edits parts to answer
-      → EndsTxnAt setup from queue k (k + length edits) (most + cost setup.shape edits) answer to
+      → EndsAt setup from queue k (k + length edits) (most + cost setup.shape edits) answer to
   edits_go [] k most made parts to tail answer fits done there it =
-      subst (λ a. EndsTxnAt setup from queue k (k + 0) (most + 0) a to) (sym it.0)
-      (subst (AreTxnGone setup from queue (k + 0) (most + 0)) (sym it.1)
-      (let end : AreTxnGone setup from queue (k + 0) (most + 0) parts =
+      subst (λ a. EndsAt setup from queue k (k + 0) (most + 0) a to) (sym it.0)
+      (subst (AreGone setup from queue (k + 0) (most + 0)) (sym it.1)
+      (let end : AreGone setup from queue (k + 0) (most + 0) parts =
       record {
         made = made;
         done =
@@ -304,16 +331,16 @@ module _ (setup : Setup) (from : Parts) (queue : List Posted) where
       most_of : ℕ
       most_of = most + cost_of setup.shape edit
 
-      one : (first : Result (Unit {0}) Fault) → HasEdited setup edit parts it.0 first → EndsTxnAt setup from queue k (suc k) most_of first it.0
+      one : (first : Result (Unit {0}) Fault) → HasEdited setup edit parts it.0 first → EndsAt setup from queue k (suc k) most_of first it.0
       one first edited = edit_goes edit k most made parts it.0 rest first fit done there edited
 
       -- from the second on
       from_second : (answer : Result (Unit {0}) Fault)
-          → EndsTxnAt setup from queue (suc k) (suc k + length edits) (most_of + cost setup.shape edits) answer to
-          → EndsTxnAt setup from queue k (k + length (edit ∷ edits)) (most + cost setup.shape (edit ∷ edits)) answer to
+          → EndsAt setup from queue (suc k) (suc k + length edits) (most_of + cost setup.shape edits) answer to
+          → EndsAt setup from queue k (k + length (edit ∷ edits)) (most + cost setup.shape (edit ∷ edits)) answer to
       from_second (Ok done) gone =
-          subst (λ n. AreTxnGone setup from queue n (most + cost setup.shape (edit ∷ edits)) to) (omega arith)
-          (subst (λ n. AreTxnGone setup from queue (suc k + length edits) n to) (omega arith) gone)
+          subst (λ n. AreGone setup from queue n (most + cost setup.shape (edit ∷ edits)) to) (omega arith)
+          (subst (λ n. AreGone setup from queue (suc k + length edits) n to) (omega arith) gone)
       from_second (Err fault) ends =
           ends_within setup from queue (suc k) k (suc k + length edits) (k + length (edit ∷ edits)) (most_of + cost setup.shape edits)
           (most + cost setup.shape (edit ∷ edits)) fault to (omega arith) (omega arith) (omega arith) ends
@@ -321,17 +348,17 @@ module _ (setup : Setup) (from : Parts) (queue : List Posted) where
       go : (first : Result (Unit {0}) Fault)
           → ((n : ℕ) (made_now : List Mark) → AreDone setup from (take (suc k) queue) made_now n it.0
           → drop (suc k) queue ≡ all_posted (memory_now setup it.0) edits ++ tail → AreEdited setup edits it.0 to answer
-          → EndsTxnAt setup from queue (suc k) (suc k + length edits) (n + cost setup.shape edits) answer to)
+          → EndsAt setup from queue (suc k) (suc k + length edits) (n + cost setup.shape edits) answer to)
           → HasEdited setup edit parts it.0 first
-          → CommitGoesOn first (AreEdited setup edits it.0 to answer) it.0 to answer
-          → EndsTxnAt setup from queue k (k + length (edit ∷ edits)) (most + cost setup.shape (edit ∷ edits)) answer to
+          → GoesOn first (AreEdited setup edits it.0 to answer) it.0 to answer
+          → EndsAt setup from queue k (k + length (edit ∷ edits)) (most + cost setup.shape (edit ∷ edits)) answer to
       go (Ok done_now) next edited then =
-          let gone : AreTxnGone setup from queue (suc k) most_of it.0 = one (Ok done_now) edited in
+          let gone : AreGone setup from queue (suc k) most_of it.0 = one (Ok done_now) edited in
           let memory = memory_more k most_of gone.made parts it.0 write rest (sym (memory_done setup from parts (take k queue) made most done)) there gone.done in
           from_second answer
           (next most_of gone.made gone.done ((next_of queue k write rest there).later ∙ ap (λ m. all_posted m edits ++ tail) (sym memory)) then)
       go (Err fault) next edited then =
-          subst (λ a. EndsTxnAt setup from queue k (k + length (edit ∷ edits)) (most + cost setup.shape (edit ∷ edits)) a to) (sym then.0)
-          (subst (EndsTxnAt setup from queue k (k + length (edit ∷ edits)) (most + cost setup.shape (edit ∷ edits)) (Err fault)) (sym then.1)
+          subst (λ a. EndsAt setup from queue k (k + length (edit ∷ edits)) (most + cost setup.shape (edit ∷ edits)) a to) (sym then.0)
+          (subst (EndsAt setup from queue k (k + length (edit ∷ edits)) (most + cost setup.shape (edit ∷ edits)) (Err fault)) (sym then.1)
           (ends_within setup from queue k k (suc k) (k + length (edit ∷ edits)) most_of (most + cost setup.shape (edit ∷ edits)) fault it.0
           (omega arith) (omega arith) (omega arith) (one (Err fault) edited)))

@@ -17,13 +17,11 @@ use Rattle.pmem_engine.specs.declared.fault.Fault.TheVariants as Fail
 use Rattle.pmem_engine.specs.Parts.{Parts, AreTrusted, AreSound}
 use Rattle.pmem_engine.specs.Outcomes.{outcome_of_fault, LeavesTrusted, LeavesSound}
 use Rattle.pmem_engine.specs.Calls.{whole_write, HasReadLine, HasWrittenLine}
-use Rattle.start_gap.specs.Gapped.{HasLines, IsCutOrSpent, done_as}
-use Rattle.start_gap.proofs.LevelledCalls.{setup_under}
-use Rattle.start_gap.proofs.EngineLines.{trusted_after_write, sound_after_write, trusted_after_read, sound_after_read, either_lines, written_lines, spent_lines, lines_after_read, line_read}
-use Rattle.start_gap.proofs.LevelledEnds.{unrefused_fault}
-use Rattle.line_txn.specs.declared.edits.Edit.{Edit}
-use Rattle.line_txn.specs.declared.edits.Edit.TheVariants as Make
-use Rattle.line_txn.specs.Edits.{HasLinePut, HasPutRead, HasEdited, CommitGoesOn, AreEdited, IsEditOf, edited, all_edited}
+use Rattle.engine_lines.proofs.EngineLines.{setup_under, unrefused_fault, trusted_after_write, sound_after_write, trusted_after_read, sound_after_read, either_lines, written_lines, spent_lines, lines_after_read, line_read}
+use Rattle.engine_lines.specs.Lines.{HasLines, IsCutOrSpent, done_as}
+use Rattle.engine_lines.specs.declared.edits.Edit.{Edit}
+use Rattle.engine_lines.specs.declared.edits.Edit.TheVariants as Make
+use Rattle.engine_lines.specs.Edits.{HasLinePut, HasPutRead, HasEdited, GoesOn, AreEdited, IsEditOf, edited, all_edited}
 
 -- ---- one change after others
 
@@ -44,8 +42,8 @@ edits_append setup (edit ∷ edits) more old between new answer done then =
   where
     go : (first : Result (Unit {0}) Fault)
         → (AreEdited setup edits done.0 between (Ok tt) → AreEdited setup (edits ++ more) done.0 new answer)
-        → CommitGoesOn first (AreEdited setup edits done.0 between (Ok tt)) done.0 between (Ok tt)
-        → CommitGoesOn first (AreEdited setup (edits ++ more) done.0 new answer) done.0 new answer
+        → GoesOn first (AreEdited setup edits done.0 between (Ok tt)) done.0 between (Ok tt)
+        → GoesOn first (AreEdited setup (edits ++ more) done.0 new answer) done.0 new answer
     go (Ok it) next rest = next rest
     go (Err fault) next rest = absurd (done_not_fault fault rest.0)
 
@@ -71,27 +69,36 @@ edits_stop setup (edit ∷ edits) (suc i) d old between new fault inside done it
   where
     go : (first : Result (Unit {0}) Fault)
         → (AreEdited setup (take i edits) done.0 between (Ok tt) → AreEdited setup edits done.0 new (Err fault))
-        → CommitGoesOn first (AreEdited setup (take i edits) done.0 between (Ok tt)) done.0 between (Ok tt)
-        → CommitGoesOn first (AreEdited setup edits done.0 new (Err fault)) done.0 new (Err fault)
+        → GoesOn first (AreEdited setup (take i edits) done.0 between (Ok tt)) done.0 between (Ok tt)
+        → GoesOn first (AreEdited setup edits done.0 new (Err fault)) done.0 new (Err fault)
     go (Ok made) next rest = next rest
     go (Err other) next rest = absurd (done_not_fault other rest.0)
+
+-- a write is one change
+pub one_put : (setup : Setup) (at : ℕ) (line : Line) (old new : Parts) (made : Result Ctr Fault)
+    → HasWrittenLine setup (whole_write at line) old new made → AreEdited setup (Make.Put at line ∷ []) old new (done_as made)
+one_put setup at line old new made written = (new, done_as made, record { made = made; was_written = written; its_answer = refl }, rest made)
+  where
+    rest : (made : Result Ctr Fault) → GoesOn (done_as made) (AreEdited setup [] new new (done_as made)) new new (done_as made)
+    rest (Ok ctr) = (refl, refl)
+    rest (Err fault) = (refl, refl)
 
 -- ---- a later call is of the same geometry and keys
 
 module _ (formulas_of : List ℕ → Formulas) (g g' : Shape) (keys keys' : List ℕ) (same : g' ≡ g) (same_keys : keys' ≡ keys) where
   pub edit_under : (edit : Edit) (old new : Parts) (answer : Result (Unit {0}) Fault)
-      → HasEdited (setup_under formulas_of g keys g' keys') edit old new answer
-      → HasEdited (setup_under formulas_of g keys g keys) edit old new answer
+      → HasEdited (setup_under formulas_of g' keys') edit old new answer
+      → HasEdited (setup_under formulas_of g keys) edit old new answer
   edit_under edit old new answer it =
-      subst (λ k. HasEdited (setup_under formulas_of g keys g k) edit old new answer) same_keys
-      (subst (λ s. HasEdited (setup_under formulas_of g keys s keys') edit old new answer) same it)
+      subst (λ k. HasEdited (setup_under formulas_of g k) edit old new answer) same_keys
+      (subst (λ s. HasEdited (setup_under formulas_of s keys') edit old new answer) same it)
 
   pub edits_under : (edits : List Edit) (old new : Parts) (answer : Result (Unit {0}) Fault)
-      → AreEdited (setup_under formulas_of g keys g' keys') edits old new answer
-      → AreEdited (setup_under formulas_of g keys g keys) edits old new answer
+      → AreEdited (setup_under formulas_of g' keys') edits old new answer
+      → AreEdited (setup_under formulas_of g keys) edits old new answer
   edits_under edits old new answer it =
-      subst (λ k. AreEdited (setup_under formulas_of g keys g k) edits old new answer) same_keys
-      (subst (λ s. AreEdited (setup_under formulas_of g keys s keys') edits old new answer) same it)
+      subst (λ k. AreEdited (setup_under formulas_of g k) edits old new answer) same_keys
+      (subst (λ s. AreEdited (setup_under formulas_of s keys') edits old new answer) same it)
 
 -- ---- what each call of the engine leaves, so do changes
 
@@ -134,7 +141,7 @@ module _ (setup : Setup) (P : Parts → Type 0) (E : Fault → Parts → Type 0)
     where
       go : (first : Result (Unit {0}) Fault) → (P it.0 → AreEdited setup edits it.0 new answer → AfterEdits P E answer new)
           → HasEdited setup edit old it.0 first
-          → CommitGoesOn first (AreEdited setup edits it.0 new answer) it.0 new answer → AfterEdits P E answer new
+          → GoesOn first (AreEdited setup edits it.0 new answer) it.0 new answer → AfterEdits P E answer new
       go (Ok done) next made then = next (edit_ends edit old it.0 (Ok done) had made) then
       go (Err fault) next made then =
           subst (λ r. AfterEdits P E r new) (sym then.0)
@@ -142,16 +149,16 @@ module _ (setup : Setup) (P : Parts → Type 0) (E : Fault → Parts → Type 0)
 
 -- ---- trusted and sound
 
-abbrev pub CommitLeftTrusted : Setup → Fault → Parts → Type 0
-CommitLeftTrusted setup fault parts = LeavesTrusted setup (outcome_of_fault fault) parts
+abbrev pub LeftTrusted : Setup → Fault → Parts → Type 0
+LeftTrusted setup fault parts = LeavesTrusted setup (outcome_of_fault fault) parts
 
-abbrev pub CommitLeftSound : Setup → Fault → Parts → Type 0
-CommitLeftSound setup fault parts = LeavesSound setup (outcome_of_fault fault) parts × IsCutOrSpent fault
+abbrev pub LeftSound : Setup → Fault → Parts → Type 0
+LeftSound setup fault parts = LeavesSound setup (outcome_of_fault fault) parts × IsCutOrSpent fault
 
 pub trusted_after_edits : (setup : Setup) (edits : List Edit) (old new : Parts) (answer : Result (Unit {0}) Fault)
-    → AreEdited setup edits old new answer → AreTrusted setup old → AfterEdits (AreTrusted setup) (CommitLeftTrusted setup) answer new
+    → AreEdited setup edits old new answer → AreTrusted setup old → AfterEdits (AreTrusted setup) (LeftTrusted setup) answer new
 trusted_after_edits setup edits old new answer it trusted =
-    edits_ends setup (AreTrusted setup) (CommitLeftTrusted setup)
+    edits_ends setup (AreTrusted setup) (LeftTrusted setup)
     (λ at here there line read. trusted_after_read setup at here there (Ok line) read)
     (λ at here there fault read. trusted_after_read setup at here there (Err fault) read)
     (λ write here there ctr done. trusted_after_write setup write here there (Ok ctr) done)
@@ -159,9 +166,9 @@ trusted_after_edits setup edits old new answer it trusted =
     edits old new answer trusted it
 
 pub trusted_after_edit : (setup : Setup) (edit : Edit) (old new : Parts) (answer : Result (Unit {0}) Fault)
-    → HasEdited setup edit old new answer → AreTrusted setup old → AfterEdits (AreTrusted setup) (CommitLeftTrusted setup) answer new
+    → HasEdited setup edit old new answer → AreTrusted setup old → AfterEdits (AreTrusted setup) (LeftTrusted setup) answer new
 trusted_after_edit setup edit old new answer it trusted =
-    edit_ends setup (AreTrusted setup) (CommitLeftTrusted setup)
+    edit_ends setup (AreTrusted setup) (LeftTrusted setup)
     (λ at here there line read. trusted_after_read setup at here there (Ok line) read)
     (λ at here there fault read. trusted_after_read setup at here there (Err fault) read)
     (λ write here there ctr done. trusted_after_write setup write here there (Ok ctr) done)
@@ -169,9 +176,9 @@ trusted_after_edit setup edit old new answer it trusted =
     edit old new answer trusted it
 
 pub sound_after_edits : (setup : Setup) (edits : List Edit) (old new : Parts) (answer : Result (Unit {0}) Fault)
-    → AreEdited setup edits old new answer → AreSound setup old → AfterEdits (AreSound setup) (CommitLeftSound setup) answer new
+    → AreEdited setup edits old new answer → AreSound setup old → AfterEdits (AreSound setup) (LeftSound setup) answer new
 sound_after_edits setup edits old new answer it sound =
-    edits_ends setup (AreSound setup) (CommitLeftSound setup)
+    edits_ends setup (AreSound setup) (LeftSound setup)
     (λ at here there line read had. (sound_after_read setup at here there (Ok line) read had).0)
     (λ at here there fault read had.
     let after = sound_after_read setup at here there (Err fault) read had in (after.0, unrefused_fault Line fault after.1))
@@ -194,7 +201,7 @@ same_lines setup (Fail.Spent page) before after new holds = holds
 same_lines setup fault before after new holds = inl holds
 
 module _ (setup : Setup) (few : data_lines setup.shape ≤ 2 ^ 32) where
-  put_leaves : (at : ℕ) (line : Line) (lines : List Line) (old new : Parts) (answer : Result (Unit {0}) Fault)
+  pub put_leaves : (at : ℕ) (line : Line) (lines : List Line) (old new : Parts) (answer : Result (Unit {0}) Fault)
       → at < data_lines setup.shape → IsLine line → HasLines setup lines old → AreTrusted setup old
       → HasLinePut setup at line old new answer → LeavesLines setup answer lines (slice_set lines at line) new
   put_leaves at line lines old new answer inside whole had trusted it =
@@ -264,7 +271,7 @@ module _ (setup : Setup) (few : data_lines setup.shape ≤ 2 ^ 32) where
           → (HasLines setup (edited edit lines) it.0 → AreTrusted setup it.0 → AreEdited setup edits it.0 new answer
           → LeavesAll answer edits (edited edit lines) new)
           → HasEdited setup edit old it.0 first
-          → CommitGoesOn first (AreEdited setup edits it.0 new answer) it.0 new answer → LeavesAll answer (edit ∷ edits) lines new
+          → GoesOn first (AreEdited setup edits it.0 new answer) it.0 new answer → LeavesAll answer (edit ∷ edits) lines new
       go (Ok done) next made then =
           later answer
           (next (edit_leaves edit lines old it.0 (Ok done) fit had trusted made)

@@ -1,0 +1,9 @@
+pub mod EngineLines
+pub mod EditLaws
+pub mod EditStages
+pub mod SealedLines
+pub mod AskedWrites
+pub mod OwnSeals
+pub mod EngineWrites
+pub mod EngineEdits
+pub mod EditWrites
