@@ -5,6 +5,7 @@ ghost use Rattle.any_session.specs.Told.{HasTold};
 
 use crate::Told;
 use crate::replies::{push_answer_line, push_line};
+use access_log::AccessLog;
 use pmem_base::Answer;
 use std::alloc::Global;
 use trace_text::{Halt, Talk};
@@ -37,7 +38,7 @@ impl<T: Talk + Drop> TalkSession<T> {
         if self.over {
             return Told::Over;
         }
-        match self.session.talk(alloc, line) {
+        match self.session.talk(alloc, line, &mut AccessLog::none()) {
             Ok(None) => Told::Skipped,
             Ok(Some(text)) => Told::Replied {
                 over: false,

@@ -1,5 +1,5 @@
 -- A run over a trace in the grammar goes through.
-use Rattle.std.proofs.Common.{◌≡◌, ◌≢◌, ◌∙◌, ℕ, List, ◌++◌, length, sym, ap, subst, arith, inl, inr, length-append}
+use Rattle.std.proofs.Common.{◌≡◌, ◌≢◌, ◌∙◌, ℕ, List, ◌++◌, length, sym, ap, subst, arith, inl, inr, length-append, Bool}
 use Rattle.std.specs.Prelude.{◌⊎◌, All, IsOk, is_ok, Option, None, Some, IfSome}
 use Rattle.std.proofs.lemmas.Bool.{true≢false}
 use Rattle.pmem_base.proofs.ListLaws.{All-middle}
@@ -15,7 +15,7 @@ use Rattle.trace_text.specs.Conversations.{Protocol, line_sort, TalkEnds}
 use Rattle.pmem_cli.specs.declared.options.Task.{Task}
 use Rattle.pmem_cli.specs.HasRun.{HasRun, TaskOutcome, IsInGrammar, IsComplete}
 use Rattle.pmem_cli.specs.Logged.{LoggedEnds, HasLoggedRun, steps_logged}
-use Rattle.pmem_cli.specs.Sessions.{Session, session_protocol, HasSession}
+use Rattle.pmem_cli.specs.Sessions.{Session, telling, HasSession}
 use Rattle.pmem_cli.specs.Talked.{HasTalked, IsNoFault, IsInLanguage, IsRunThrough, IsTalkComplete}
 use Rattle.pmem_cli.specs.Tree.{tree_chosen}
 use Rattle.pmem_cli.specs.Txn.{txn_chosen}
@@ -95,16 +95,16 @@ talk_complete p first status (Some bytes) left before after reads writes talked 
     (λ three. no_fault (inl (read three))) (λ four. no_fault (inr (write four))) within
 
 -- the same of a session of a command, also where memory was wanted for it
-session_complete : {S R : Type 0} (session : Session S R) (status : ℕ) (trace left before after : Option (List ℕ)) (reads writes : Type 0)
-    → HasSession session status reads trace left before after → (status ≡ 3 → reads) → (status ≡ 4 → writes)
-    → IsTalkComplete (session_protocol session) status trace (reads ⊎ writes)
-session_complete session status None left before after reads writes done read write = tt
-session_complete session status (Some bytes) left before after reads writes done read write = λ within no_fault.
+session_complete : {S R : Type 0} (session : Session S R) (logged : Bool) (status : ℕ) (trace left before after : Option (List ℕ)) (reads writes : Type 0)
+    → HasSession session logged status reads trace left before after → (status ≡ 3 → reads) → (status ≡ 4 → writes)
+    → IsTalkComplete (telling session logged).protocol status trace (reads ⊎ writes)
+session_complete session logged status None left before after reads writes done read write = tt
+session_complete session logged status (Some bytes) left before after reads writes done read write = λ within no_fault.
     let its = done.its_status (λ four. no_fault (inr (write four))) in
     elim done.talked [
       | inl none ↦ inr (inr (its ∙ ap status_of none.0))
       | inr talked ↦
-          talk_through (session_protocol session) talked.first done.stop status bytes left done.said talked.ends its
+          talk_through (telling session logged).protocol talked.first done.stop status bytes left done.replies talked.ends its
           (λ three. no_fault (inl (read three))) (λ four. no_fault (inr (write four))) within
     ]
 
@@ -115,9 +115,9 @@ pub complete : (task : Task) (status : ℕ) (trace left before after : Option (L
 complete (Task.Run c) status trace left before after reads writes done read write = run_complete _ status trace left before after reads writes done read write
 complete (Task.Log c) status trace left before after reads writes done read write = logged_complete _ status trace left before after reads writes done read write
 complete (Task.Wear c) status trace left before after reads writes done read write =
-    session_complete (wear_chosen c) status trace left before after reads writes done read write
+    session_complete (wear_chosen c) c.log status trace left before after reads writes done read write
 complete (Task.Tree c) status trace left before after reads writes done read write =
-    session_complete (tree_chosen c) status trace left before after reads writes done read write
+    session_complete (tree_chosen c) c.log status trace left before after reads writes done read write
 complete (Task.Txn c) status trace left before after reads writes done read write =
-    session_complete (txn_chosen c) status trace left before after reads writes done read write
+    session_complete (txn_chosen c) c.log status trace left before after reads writes done read write
 complete task status trace left before after reads writes done read write = tt

@@ -1,13 +1,16 @@
 -- What was answered by one protocol was answered by another, in the same states and with the same texts.
-use Rattle.std.proofs.Common.{◌≡◌, ◌∙◌, ℕ, List, [], ◌∷◌, ◌++◌, refl, sym, ap, subst, inl, inr}
+use Rattle.std.proofs.Common.{◌≡◌, ◌∙◌, ℕ, List, [], ◌∷◌, ◌++◌, refl, sym, ap, subst, inl, inr, Bool, true, false, map}
 use Rattle.std.specs.Prelude.{Option, None, Some, IfSome}
 use Rattle.std.proofs.lemmas.List.Concat.{flat_map-append}
+use Rattle.access_log.specs.declared.access.Access.{Access}
 use Rattle.plain_model.specs.declared.Stop.{Stop}
 use Rattle.plain_model.specs.declared.Stop.TheVariants.{Finished, Words, Memory, ReadFault, WriteFault, Refused, Shown, TooManyLines}
 use Rattle.plain_model.specs.Lines.{lines_of}
 use Rattle.trace_text.specs.Conversations.{Protocol, line_sort, texts_of, AnswersOne, IsTalk, AreRepliesGiven, IsShownTalk, TalkEnds}
 use Rattle.pmem_cli.specs.Printed.{Output, PutsAtLeast}
+use Rattle.pmem_cli.specs.Logged.{log_text}
 use Rattle.pmem_cli.specs.Talked.{HasToldFirst}
+use Rattle.pmem_cli.specs.Telling.{Told, told_protocol, voice}
 use Rattle.pmem_cli.proofs.TalkLemmas.{AreRepliesGiven-all, AreRepliesGiven-after, AreRepliesGiven-shown}
 
 -- each reply by the first is one by the second with the same text, where an invariant of the states holds and stays
@@ -218,3 +221,40 @@ module _ {S X Y : Type 0} (p : Protocol S X) (q : Protocol S Y) (I : S → Type 
           told = subst (λ text. PutsAtLeast o put text) (sym talk.2) are.told;
         },
       )
+
+-- so it is where replies are told by themselves or with what their commands took
+pub follows_voiced : {S X Y : Type 0} (p : Protocol S X) (q : Protocol S Y) (I : S → Type 0) (logs : S → List ℕ → Option (List Access) → Option (List Access) → S → Type 0)
+    (work : S → ℕ × ℕ) (logged : Bool) → Follows p q I → Follows (voice p logs work logged).protocol (voice q logs work logged).protocol I
+follows_voiced p q I logs work false f = f
+follows_voiced p q I logs work true f =
+    record {
+      sorts = f.sorts;
+      wants = λ old line i wanted. elim wanted [ inl its ↦ inl (f.wants old line i its) | inr lost ↦ inr lost ];
+      answered = λ old new line told i answered.
+          let one = f.answered old new line told.said i answered.0 in (
+            record { said = one.0; accesses = told.accesses; tags = told.tags; digests = told.digests },
+            (one.1, record { accessed = answered.1.accessed; tags = answered.1.tags; digests = answered.1.digests }),
+            ap (λ text. log_text told.accesses told.tags told.digests ++ text) one.2,
+            one.3,
+          );
+      shown = λ old line told i shown.
+          let one = f.shown old line told.said i shown.0 in (
+            record { said = one.0; accesses = told.accesses; tags = told.tags; digests = told.digests },
+            (one.1, (shown.1.0, record { accessed = shown.1.1.accessed; tags = shown.1.1.tags; digests = shown.1.1.digests })),
+            ap (λ text. log_text told.accesses told.tags told.digests ++ text) one.2,
+          );
+    }
+
+-- what was said by replies was given by itself
+untold : {S X : Type 0} (p : Protocol S X) (logs : S → List ℕ → Option (List Access) → Option (List Access) → S → Type 0) (work : S → ℕ × ℕ) (first : S)
+    (all : List (Told X)) → AreRepliesGiven (told_protocol p logs work) first all → AreRepliesGiven p first (map (λ (told : Told X). told.said) all)
+untold p logs work first [] given = tt
+untold p logs work first (told ∷ all) (line, its_sort, inl (next, answered, more)) = (line, its_sort, inl (next, answered.0, untold p logs work next all more))
+untold {S} {X} p logs work first (told ∷ all) (line, its_sort, inr (shown, none)) =
+    (line, its_sort, inr (shown.0, ap (map (λ (told : Told X). told.said)) none))
+
+pub said_given : {S X : Type 0} (p : Protocol S X) (logs : S → List ℕ → Option (List Access) → Option (List Access) → S → Type 0) (work : S → ℕ × ℕ) (logged : Bool)
+    (first : S) (all : List (voice p logs work logged).Reply) → AreRepliesGiven (voice p logs work logged).protocol first all
+    → AreRepliesGiven p first ((voice p logs work logged).said_by all)
+said_given p logs work false first all given = given
+said_given p logs work true first all given = untold p logs work first all given

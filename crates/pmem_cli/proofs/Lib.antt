@@ -16,6 +16,7 @@ pub mod WordLemmas
 pub mod SampleLemmas
 pub mod WorldTalks
 pub mod LoggedTalks
+pub mod TellingLemmas
 pub mod ReplayLemmas
 pub mod Untampering
 pub mod StepSums

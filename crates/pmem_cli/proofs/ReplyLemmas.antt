@@ -1,5 +1,5 @@
 -- Replies that were put before the source was pulled.
-use Rattle.std.proofs.Common.{rules, ◌≡◌, ◌≢◌, ◌∙◌, ℕ, List, [], ◌++◌, refl, sym, ap, subst, append_assoc, append-nil, inl, inr}
+use Rattle.std.proofs.Common.{rules, ◌≡◌, ◌≢◌, ◌∙◌, ℕ, List, [], ◌++◌, refl, sym, ap, subst, append_assoc, append-nil, inl, inr, Bool}
 use Rattle.std.specs.Prelude.{◌⊎◌, Option, None, Some, Contains}
 use Rattle.std.specs.List.{flat_map}
 use Rattle.std.specs.Io.KnownBytes.{Appends, Consumes, prepend_known}
@@ -25,7 +25,7 @@ use Rattle.pmem_cli.specs.Logged.{logged_protocol, logged_texts, HasRepliedLogge
 use Rattle.pmem_cli.specs.Pulling.{RemembersLeft}
 use Rattle.pmem_cli.specs.Standing.{standing_of}
 use Rattle.pmem_cli.specs.Replies.{world_protocol}
-use Rattle.pmem_cli.specs.Sessions.{Session, session_protocol, HasSaidFirst}
+use Rattle.pmem_cli.specs.Sessions.{Session, telling, HasSaidFirst}
 use Rattle.pmem_cli.specs.Talked.{HasToldFirst}
 use Rattle.pmem_cli.specs.Turns.{HasServed, Turns}
 use Rattle.pmem_cli.specs.Tree.{tree_chosen}
@@ -137,10 +137,10 @@ told_more w s (Some bytes) (Some behind) p put later more (given, cut, are) grow
 )
 
 -- so it is of a new session
-pub said_more : {S R : Type 0} (session : Session S R) (trace told : Option (List ℕ)) (o : Output) (put later : Option (List ℕ)) (more : List ℕ)
-    → HasSaidFirst session trace told o put → Appends put later more → HasSaidFirst session trace told o later
-said_more session trace told o put later more (first, begins, are) grown =
-    (first, begins, told_more (session_protocol session) first trace told o put later more are grown)
+pub said_more : {S R : Type 0} (session : Session S R) (logged : Bool) (trace told : Option (List ℕ)) (o : Output) (put later : Option (List ℕ)) (more : List ℕ)
+    → HasSaidFirst session logged trace told o put → Appends put later more → HasSaidFirst session logged trace told o later
+said_more session logged trace told o put later more (first, begins, are) grown =
+    (first, begins, told_more (telling session logged).protocol first trace told o put later more are grown)
 
 pub told_more_since : {S X T : Type 0} (w : Protocol S X) (first last : T) (s : S) (a told : Option (List ℕ)) (p : Output) (put later : Option (List ℕ)) (more : List ℕ)
     → (last ≡ first) ⊎ HasToldFirst w s a told p put → Appends put later more → (last ≡ first) ⊎ HasToldFirst w s a told p later
@@ -230,7 +230,7 @@ task_replied_more (Task.Run c) a left told p put later more replies grown =
     λ given. replied_more (setup_chosen c) (start (setup_chosen c)) a told p put later more (replies given) grown
 task_replied_more (Task.Log c) a left told p put later more replies grown =
     λ given. replied_logged_more (setup_chosen c) (start (setup_chosen c)) a told p put later more (replies given) grown
-task_replied_more (Task.Wear c) a left told p put later more replies grown = λ given. said_more (wear_chosen c) a told p put later more (replies given) grown
-task_replied_more (Task.Tree c) a left told p put later more replies grown = λ given. said_more (tree_chosen c) a told p put later more (replies given) grown
-task_replied_more (Task.Txn c) a left told p put later more replies grown = λ given. said_more (txn_chosen c) a told p put later more (replies given) grown
+task_replied_more (Task.Wear c) a left told p put later more replies grown = λ given. said_more (wear_chosen c) c.log a told p put later more (replies given) grown
+task_replied_more (Task.Tree c) a left told p put later more replies grown = λ given. said_more (tree_chosen c) c.log a told p put later more (replies given) grown
+task_replied_more (Task.Txn c) a left told p put later more replies grown = λ given. said_more (txn_chosen c) c.log a told p put later more (replies given) grown
 task_replied_more task a left told p put later more replies grown = tt

@@ -1,5 +1,5 @@
 -- A session that was made for a command, over a trace.
-use Rattle.std.proofs.Common.{◌≡◌, ℕ, List, [], refl, sym, subst, inl, inr}
+use Rattle.std.proofs.Common.{◌≡◌, ℕ, List, [], refl, sym, subst, inl, inr, Bool}
 use Rattle.std.specs.Prelude.{◌⊎◌, Option}
 use Rattle.pmem_base.specs.Shape.{Shape}
 use Rattle.suite.specs.Formulas.{Formulas}
@@ -10,17 +10,18 @@ use Rattle.trace_text.specs.Conversations.{Protocol, AreRepliesGiven}
 use Rattle.pmem_cli.specs.declared.options.Choices.{Choices}
 use Rattle.pmem_cli.specs.Keys.{shape_chosen, formulas_of, setup_chosen}
 use Rattle.pmem_cli.specs.Printed.{Output, Prints, PrintsFront}
-use Rattle.pmem_cli.specs.Sessions.{Session, Said, session_protocol, HasConversed, HasSaidFirst}
+use Rattle.pmem_cli.specs.Sessions.{Session, Said, session_protocol, telling, HasConversed, HasSaidFirst}
 use Rattle.pmem_cli.specs.Talked.{HasToldFirst}
+use Rattle.pmem_cli.specs.Telling.{voice}
 use Rattle.pmem_cli.specs.Turns.{HasStopped}
-use Rattle.pmem_cli.proofs.Following.{Follows, follow_all, follow_told}
+use Rattle.pmem_cli.proofs.Following.{Follows, follow_all, follow_told, follows_voiced, said_given}
 use Rattle.pmem_cli.proofs.KeyLemmas.{setup_same}
 use Rattle.pmem_cli.proofs.PrintLemmas.{Prints-nil, Prints-front}
 
 -- memory was wanted for the session itself
-pub HasConversed-memory : {S R : Type 0} (session : Session S R) (trace : Option (List ℕ)) (o : Output) → HasConversed session Memory trace trace o o
-HasConversed-memory session trace o = record {
-  said = [];
+pub HasConversed-memory : {S R : Type 0} (session : Session S R) (logged : Bool) (trace : Option (List ℕ)) (o : Output) → HasConversed session logged Memory trace trace o o
+HasConversed-memory session logged trace o = record {
+  replies = [];
   talked = inl (refl, refl, refl);
   printed = record { whole = λ told. Prints-nil o; front = Prints-front o o [] (Prints-nil o) };
 }
@@ -31,38 +32,54 @@ KeepsPromise {S} {R} session =
     (first : S) (said : List (Said R)) → session.begins first → AreRepliesGiven (session_protocol session) first said
     → session.promises first said
 
-module _ {S R X : Type 0} (session : Session S R) (p : Protocol S X) (I : S → Type 0) (f : Follows p (session_protocol session) I) where
+-- a session of commands and answers, by one of lines and texts
+module _ {S R X : Type 0} (session : Session S R) (p : Protocol S X) (I : S → Type 0) (logged : Bool) (f : Follows p (session_protocol session) I) where
+  abbrev its : Protocol S (voice p session.logs session.work logged).Reply
+  its = (voice p session.logs session.work logged).protocol
+
+  follows : Follows its (telling session logged).protocol I
+  follows = follows_voiced p (session_protocol session) I session.logs session.work logged f
+
   pub HasConversed-stopped : (first : S) (stop : Stop) (trace left : Option (List ℕ)) (a b : Output) → KeepsPromise session → session.begins first → I first
-      → HasStopped p stop trace left first a b 0 → HasConversed session stop trace left a b
+      → HasStopped its stop trace left first a b 0 → HasConversed session logged stop trace left a b
   HasConversed-stopped first stop trace left a b keeps begins i stopped =
-      let its = follow_all p (session_protocol session) I f stop first trace left stopped.replies i stopped.ends stopped.given in
+      let all = follow_all its (telling session logged).protocol I follows stop first trace left stopped.replies i stopped.ends stopped.given in
       record {
-        said = its.0;
-        talked = inr (record { first = first; begins = begins; ends = its.1; given = its.2; promised = keeps first its.0 begins its.2 });
+        replies = all.0;
+        talked =
+            inr (record {
+              first = first;
+              begins = begins;
+              ends = all.1;
+              given = all.2;
+              promised =
+                  keeps first ((telling session logged).said_by all.0) begins
+                  (said_given (session_protocol session) session.logs session.work logged first all.0 all.2);
+            });
         printed = record {
-          whole = λ told. subst (λ text. Prints a b text) (sym its.3) (stopped.whole told);
-          front = subst (λ text. PrintsFront a b text) (sym its.3) stopped.front;
+          whole = λ told. subst (λ text. Prints a b text) (sym all.3) (stopped.whole told);
+          front = subst (λ text. PrintsFront a b text) (sym all.3) stopped.front;
         };
       }
 
   pub said_first : {T : Type 0} (before now : T) (first : S) (trace told : Option (List ℕ)) (o : Output) (put : Option (List ℕ)) → session.begins first → I first
-      → (now ≡ before) ⊎ HasToldFirst p first trace told o put → (now ≡ before) ⊎ HasSaidFirst session trace told o put
+      → (now ≡ before) ⊎ HasToldFirst its first trace told o put → (now ≡ before) ⊎ HasSaidFirst session logged trace told o put
   said_first before now first trace told o put begins i (inl same) = inl same
   said_first before now first trace told o put begins i (inr are) =
-      inr (first, begins, follow_told p (session_protocol session) I f first trace told o put i are)
+      inr (first, begins, follow_told its (telling session logged).protocol I follows first trace told o put i are)
 
 -- ---- as it is chosen
 
-module _ {S R : Type 0} (session : Setup → Session S R) where
+module _ {S R : Type 0} (session : Setup → Session S R) (logged : Bool) where
   pub conversed_as : (c : Choices) (shape : Shape) (formulas : Formulas) (stop : Stop) (trace left : Option (List ℕ)) (a b : Output)
-      → shape ≡ shape_chosen c → formulas ≡ formulas_of c → HasConversed (session (record { shape = shape; formulas = formulas })) stop trace left a b
-      → HasConversed (session (setup_chosen c)) stop trace left a b
+      → shape ≡ shape_chosen c → formulas ≡ formulas_of c → HasConversed (session (record { shape = shape; formulas = formulas })) logged stop trace left a b
+      → HasConversed (session (setup_chosen c)) logged stop trace left a b
   conversed_as c shape formulas stop trace left a b its_shape its_formulas =
-      subst (λ (setup : Setup). HasConversed (session setup) stop trace left a b) (setup_same c shape formulas its_shape its_formulas)
+      subst (λ (setup : Setup). HasConversed (session setup) logged stop trace left a b) (setup_same c shape formulas its_shape its_formulas)
 
   pub said_as : {T : Type 0} (before now : T) (c : Choices) (shape : Shape) (formulas : Formulas) (trace told : Option (List ℕ)) (o : Output) (put : Option (List ℕ))
       → shape ≡ shape_chosen c → formulas ≡ formulas_of c
-      → (now ≡ before) ⊎ HasSaidFirst (session (record { shape = shape; formulas = formulas })) trace told o put
-      → (now ≡ before) ⊎ HasSaidFirst (session (setup_chosen c)) trace told o put
+      → (now ≡ before) ⊎ HasSaidFirst (session (record { shape = shape; formulas = formulas })) logged trace told o put
+      → (now ≡ before) ⊎ HasSaidFirst (session (setup_chosen c)) logged trace told o put
   said_as before now c shape formulas trace told o put its_shape its_formulas =
-      subst (λ (setup : Setup). (now ≡ before) ⊎ HasSaidFirst (session setup) trace told o put) (setup_same c shape formulas its_shape its_formulas)
+      subst (λ (setup : Setup). (now ≡ before) ⊎ HasSaidFirst (session setup) logged trace told o put) (setup_same c shape formulas its_shape its_formulas)

@@ -1,6 +1,6 @@
 -- What a run's status says, by its stop and its last line.
 use Rattle.std.proofs.lemmas.Grind.{common_steps}
-use Rattle.std.proofs.Common.{rules, ◌≡◌, ◌≢◌, ◌∙◌, ◌+◌, ◌≤◌, ℕ, List, [], ◌++◌, refl, ap, subst, inl, inr, arith}
+use Rattle.std.proofs.Common.{rules, ◌≡◌, ◌≢◌, ◌∙◌, ◌+◌, ◌≤◌, ℕ, List, [], ◌++◌, refl, ap, subst, inl, inr, arith, Bool}
 use Rattle.std.specs.Prelude.{◌⊎◌, Option}
 use Rattle.suite.specs.Setup.{Setup}
 use Rattle.plain_model.specs.declared.Stop.{Stop}
@@ -21,7 +21,7 @@ use Rattle.pmem_cli.specs.declared.ending.Ending.TheVariants.{Stopped}
 use Rattle.pmem_cli.specs.Endings.{ending_text, ending_status}
 use Rattle.pmem_cli.specs.HasRun.{HasRun, HasTextPut, HasSampled, HasCheckedTrace, TaskOutcome, TextOutcome, HasReplayed, HasRunSample, CheckEnds, HasEnded}
 use Rattle.trace_text.specs.Conversations.{Protocol, texts_of}
-use Rattle.pmem_cli.specs.Sessions.{Session, session_protocol, HasConversed, HasSession}
+use Rattle.pmem_cli.specs.Sessions.{Session, telling, HasConversed, HasSession}
 use Rattle.pmem_cli.specs.Logged.{LoggedEnds, HasLoggedRun, HasReplayedLogged, steps_logged, logged_texts}
 use Rattle.pmem_cli.specs.Sums.{AreStepSums}
 use Rattle.pmem_cli.specs.Talked.{HasTalked}
@@ -119,17 +119,17 @@ talk_done p first stop status pull_failed trace left before after between stoppe
     }
 
 -- a session of a command came to its stop
-session_done : {S R : Type 0} (session : Session S R) (stop : Stop) (status : ℕ) (pull_failed : Type 0) (trace left before after : Option (List ℕ)) (between : Output)
-    → HasConversed session stop trace left (with_waiting before []) between → (Stopped stop ≡ Stopped ReadFault → pull_failed) → IsFinished (Stopped stop) status between after
-    → HasSession session status pull_failed trace left before after
-session_done session stop status pull_failed trace left before after between conversed read finished = record {
+session_done : {S R : Type 0} (session : Session S R) (logged : Bool) (stop : Stop) (status : ℕ) (pull_failed : Type 0) (trace left before after : Option (List ℕ)) (between : Output)
+    → HasConversed session logged stop trace left (with_waiting before []) between → (Stopped stop ≡ Stopped ReadFault → pull_failed) → IsFinished (Stopped stop) status between after
+    → HasSession session logged status pull_failed trace left before after
+session_done session logged stop status pull_failed trace left before after between conversed read finished = record {
   stop = stop;
-  said = conversed.said;
+  replies = conversed.replies;
   talked = conversed.talked;
   read = λ same. read (ap Stopped same);
   its_status = finished.its_status;
-  whole = said_whole stop status before after between (texts_of (session_protocol session) conversed.said) conversed.printed finished;
-  front = said_front stop status before after between (texts_of (session_protocol session) conversed.said) conversed.printed finished;
+  whole = said_whole stop status before after between (texts_of (telling session logged).protocol conversed.replies) conversed.printed finished;
+  front = said_front stop status before after between (texts_of (telling session logged).protocol conversed.replies) conversed.printed finished;
 }
 
 sample_done : (setup : Setup) (commands : List Command) (stop : Stop) (status : ℕ) (before after : Option (List ℕ)) (between : Output)
@@ -176,13 +176,13 @@ TaskOutcome-finished (Task.Sample seed count) ending status pull_failed trace le
 TaskOutcome-finished (Task.Check c) ending status pull_failed trace left before after between ended read finished =
     told_done c ending status pull_failed trace left before after between ended read finished
 TaskOutcome-finished (Task.Wear c) ending status pull_failed trace left before after between ended read finished =
-    session_done (wear_chosen c) ended.stop status pull_failed trace left before after between ended.conversed (λ same. read (ended.its_stop ∙ same))
+    session_done (wear_chosen c) c.log ended.stop status pull_failed trace left before after between ended.conversed (λ same. read (ended.its_stop ∙ same))
     (subst (λ (e : Ending). IsFinished e status between after) ended.its_stop finished)
 TaskOutcome-finished (Task.Tree c) ending status pull_failed trace left before after between ended read finished =
-    session_done (tree_chosen c) ended.stop status pull_failed trace left before after between ended.conversed (λ same. read (ended.its_stop ∙ same))
+    session_done (tree_chosen c) c.log ended.stop status pull_failed trace left before after between ended.conversed (λ same. read (ended.its_stop ∙ same))
     (subst (λ (e : Ending). IsFinished e status between after) ended.its_stop finished)
 TaskOutcome-finished (Task.Txn c) ending status pull_failed trace left before after between ended read finished =
-    session_done (txn_chosen c) ended.stop status pull_failed trace left before after between ended.conversed (λ same. read (ended.its_stop ∙ same))
+    session_done (txn_chosen c) c.log ended.stop status pull_failed trace left before after between ended.conversed (λ same. read (ended.its_stop ∙ same))
     (subst (λ (e : Ending). IsFinished e status between after) ended.its_stop finished)
 
 -- ---- faults, by the status

@@ -38,7 +38,7 @@ same_off true old = record { shape = refl; keys = refl }
 same_off false old = same_self old
 
 same_decided : (old : WearState) (command : WearCommand) → AreWearSame old (wear_after_decided old command)
-same_decided old Do.Off = same_off old.power old
+same_decided old Do.Off = same_off old.board.powered old
 same_decided old command = record { shape = refl; keys = refl }
 
 same_writes : (b : Bool) (old : WearState) (memory : Memory) (wear : Wear) (count : ℕ) (marks : List Mark)

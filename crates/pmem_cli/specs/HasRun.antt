@@ -21,7 +21,7 @@ use Rattle.pmem_cli.specs.Keys.{formulas_of, setup_chosen}
 use Rattle.pmem_cli.specs.Logged.{HasLoggedRun, LoggedRunEnds}
 use Rattle.pmem_cli.specs.Printed.{Output, AppendsFront}
 use Rattle.pmem_cli.specs.Sampled.{HasSaidText, SampleEnds}
-use Rattle.pmem_cli.specs.Sessions.{session_protocol, HasSession, SessionEnds}
+use Rattle.pmem_cli.specs.Sessions.{telling, HasSession, SessionEnds}
 use Rattle.pmem_cli.specs.Standing.{IsReplayed}
 use Rattle.pmem_cli.specs.Sums.{AreStepSums}
 use Rattle.pmem_cli.specs.Talked.{IsRunThrough, IsTalkComplete}
@@ -85,9 +85,9 @@ TaskOutcome (Task.Make seed count) status pull_failed trace left before after = 
 TaskOutcome (Task.Sample seed count) status pull_failed trace left before after =
     HasSampled default_setup (sample_trace seed count) status before after
 TaskOutcome (Task.Check c) status pull_failed trace left before after = HasCheckedTrace c status pull_failed trace left before after
-TaskOutcome (Task.Wear c) status pull_failed trace left before after = HasSession (wear_chosen c) status pull_failed trace left before after
-TaskOutcome (Task.Tree c) status pull_failed trace left before after = HasSession (tree_chosen c) status pull_failed trace left before after
-TaskOutcome (Task.Txn c) status pull_failed trace left before after = HasSession (txn_chosen c) status pull_failed trace left before after
+TaskOutcome (Task.Wear c) status pull_failed trace left before after = HasSession (wear_chosen c) c.log status pull_failed trace left before after
+TaskOutcome (Task.Tree c) status pull_failed trace left before after = HasSession (tree_chosen c) c.log status pull_failed trace left before after
+TaskOutcome (Task.Txn c) status pull_failed trace left before after = HasSession (txn_chosen c) c.log status pull_failed trace left before after
 
 -- all lines of these bytes are in the grammar, and there are no more of them than a trace may have
 abbrev pub IsInGrammar : List ℕ → Type 0
@@ -97,9 +97,9 @@ IsInGrammar bytes = All (λ line. IsOk (reading_of line)) (lines_of bytes) × (l
 abbrev pub IsComplete : Task → ℕ → Option (List ℕ) → Type 0 → Type 0
 IsComplete (Task.Run c) status trace fault = IfSome trace (λ bytes. IsInGrammar bytes → ¬ fault → IsRunThrough status)
 IsComplete (Task.Log c) status trace fault = IfSome trace (λ bytes. IsInGrammar bytes → ¬ fault → IsRunThrough status)
-IsComplete (Task.Wear c) status trace fault = IsTalkComplete (session_protocol (wear_chosen c)) status trace fault
-IsComplete (Task.Tree c) status trace fault = IsTalkComplete (session_protocol (tree_chosen c)) status trace fault
-IsComplete (Task.Txn c) status trace fault = IsTalkComplete (session_protocol (txn_chosen c)) status trace fault
+IsComplete (Task.Wear c) status trace fault = IsTalkComplete (telling (wear_chosen c) c.log).protocol status trace fault
+IsComplete (Task.Tree c) status trace fault = IsTalkComplete (telling (tree_chosen c) c.log).protocol status trace fault
+IsComplete (Task.Txn c) status trace fault = IsTalkComplete (telling (txn_chosen c) c.log).protocol status trace fault
 IsComplete task status trace fault = ⊤
 
 -- The one line that faulty words are answered with was put, or the sink failed and a front of it was.
@@ -162,6 +162,6 @@ HasEnded (Task.Log c) ending trace left from to = LoggedRunEnds (setup_chosen c)
 HasEnded (Task.Make seed count) ending trace left from to = MakeEnds (commands_text (sample_trace seed count)) ending from to
 HasEnded (Task.Sample seed count) ending trace left from to = SampleStops default_setup (sample_trace seed count) ending from to
 HasEnded (Task.Check c) ending trace left from to = CheckEnds c ending trace left from to
-HasEnded (Task.Wear c) ending trace left from to = SessionEnds (wear_chosen c) ending trace left from to
-HasEnded (Task.Tree c) ending trace left from to = SessionEnds (tree_chosen c) ending trace left from to
-HasEnded (Task.Txn c) ending trace left from to = SessionEnds (txn_chosen c) ending trace left from to
+HasEnded (Task.Wear c) ending trace left from to = SessionEnds (wear_chosen c) c.log ending trace left from to
+HasEnded (Task.Tree c) ending trace left from to = SessionEnds (tree_chosen c) c.log ending trace left from to
+HasEnded (Task.Txn c) ending trace left from to = SessionEnds (txn_chosen c) c.log ending trace left from to

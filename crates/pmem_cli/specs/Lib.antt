@@ -15,6 +15,7 @@ pub mod Untampered
 pub mod Sums
 pub mod Sampled
 pub mod Talked
+pub mod Telling
 pub mod Sessions
 pub mod Wear
 pub mod Tree

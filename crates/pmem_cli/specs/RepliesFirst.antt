@@ -39,7 +39,7 @@ HasRepliedFirst setup machine trace left_before from put =
 abbrev pub TaskRepliesFirst : Task → Option (List ℕ) → Option (List ℕ) → Option (List ℕ) → Output → Option (List ℕ) → Type 0
 TaskRepliesFirst (Task.Run c) trace left left_before from put = left ≢ trace → HasRepliedFirst (setup_chosen c) (start (setup_chosen c)) trace left_before from put
 TaskRepliesFirst (Task.Log c) trace left left_before from put = left ≢ trace → HasRepliedLoggedFirst (setup_chosen c) (start (setup_chosen c)) trace left_before from put
-TaskRepliesFirst (Task.Wear c) trace left left_before from put = left ≢ trace → HasSaidFirst (wear_chosen c) trace left_before from put
-TaskRepliesFirst (Task.Tree c) trace left left_before from put = left ≢ trace → HasSaidFirst (tree_chosen c) trace left_before from put
-TaskRepliesFirst (Task.Txn c) trace left left_before from put = left ≢ trace → HasSaidFirst (txn_chosen c) trace left_before from put
+TaskRepliesFirst (Task.Wear c) trace left left_before from put = left ≢ trace → HasSaidFirst (wear_chosen c) c.log trace left_before from put
+TaskRepliesFirst (Task.Tree c) trace left left_before from put = left ≢ trace → HasSaidFirst (tree_chosen c) c.log trace left_before from put
+TaskRepliesFirst (Task.Txn c) trace left left_before from put = left ≢ trace → HasSaidFirst (txn_chosen c) c.log trace left_before from put
 TaskRepliesFirst task trace left left_before from put = ⊤

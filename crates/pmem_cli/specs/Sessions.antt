@@ -1,8 +1,9 @@
 -- What the program says of a session that a command of its own runs, whichever session that is.
-use Rattle.std.specs.Prelude.{◌≡◌, ◌≢◌, ◌⊎◌, ◌++◌, ⊤, ℕ, List, [], ◌∷◌, Option, IfSome}
+use Rattle.std.specs.Prelude.{◌≡◌, ◌≢◌, ◌⊎◌, ◌++◌, ⊤, ℕ, Bool, List, [], ◌∷◌, Option, IfSome}
 use Rattle.std.specs.Io.KnownBytes.{Appends}
 use Rattle.pmem_base.specs.declared.answers.Exhibit.{Exhibit}
 use Rattle.pmem_base.specs.declared.answers.Answer.TheVariants as Say
+use Rattle.access_log.specs.declared.access.Access.{Access}
 use Rattle.plain_model.specs.declared.Stop.{Stop}
 use Rattle.plain_model.specs.declared.Stop.TheVariants.{Memory, ReadFault}
 use Rattle.plain_model.specs.Run.{stop_text, status_of}
@@ -14,6 +15,7 @@ use Rattle.pmem_cli.specs.declared.ending.Ending.TheVariants.{Stopped}
 use Rattle.pmem_cli.specs.Printed.{Output, AppendsFront}
 use Rattle.pmem_cli.specs.Sampled.{HasSaidText}
 use Rattle.pmem_cli.specs.Talked.{HasToldFirst}
+use Rattle.pmem_cli.specs.Telling.{Voice, voice}
 
 -- ---- a session
 
@@ -36,6 +38,10 @@ pub record Session (S R : Type 0) : Type 1 where
   pub wants_memory : S → List ℕ → Type 0
   -- the text of a reply's answer, without its LF
   pub text_of : R → List ℕ
+  -- the state before, a line, the log of the board's accesses before and after, and the state after
+  pub logs : S → List ℕ → Option (List Access) → Option (List Access) → S → Type 0
+  -- how many tags and digests were made
+  pub work : S → ℕ × ℕ
   -- what all that it says from a new state on promises
   pub promises : S → List (Said R) → Type 0
 
@@ -74,48 +80,54 @@ exhibits_among [] = []
 exhibits_among (reply its ∷ said) = exhibits_among said
 exhibits_among (exhibit its ∷ said) = its ∷ exhibits_among said
 
+-- the same as it is told: each reply by itself, or with what its command took before it
+abbrev pub telling : {S R : Type 0} → Session S R → Bool → Voice S (Said R)
+telling session logged = voice (session_protocol session) session.logs session.work logged
+
 -- ---- a session over a trace
 
 -- A new session said this to the lines of the trace, up to the stop; and it is as the session promises.
-pub record IsConversation {S R : Type 0} (session : Session S R) (stop : Stop) (trace left : Option (List ℕ)) (said : List (Said R)) : Type 0 where
+pub record IsConversation {S R : Type 0} (session : Session S R) (logged : Bool) (stop : Stop) (trace left : Option (List ℕ))
+    (replies : List (telling session logged).Reply) : Type 0 where
   pub first : S
   pub begins : session.begins first
-  pub ends : IfSome trace (λ bytes. TalkEnds (session_protocol session) first 0 stop bytes left said)
-  pub given : AreRepliesGiven (session_protocol session) first said
-  pub promised : session.promises first said
+  pub ends : IfSome trace (λ bytes. TalkEnds (telling session logged).protocol first 0 stop bytes left replies)
+  pub given : AreRepliesGiven (telling session logged).protocol first replies
+  pub promised : session.promises first ((telling session logged).said_by replies)
 
 -- Memory was wanted for the session itself, and nothing was taken; or it came to the stop.
-abbrev pub Converses : {S R : Type 0} → Session S R → Stop → Option (List ℕ) → Option (List ℕ) → List (Said R) → Type 0
-Converses session stop trace left said =
-    ((stop ≡ Memory) × (said ≡ []) × (left ≡ trace)) ⊎ IsConversation session stop trace left said
+abbrev pub Converses : {S R : Type 0} (session : Session S R) (logged : Bool) → Stop → Option (List ℕ) → Option (List ℕ)
+    → List (telling session logged).Reply → Type 0
+Converses session logged stop trace left replies =
+    ((stop ≡ Memory) × (replies ≡ []) × (left ≡ trace)) ⊎ IsConversation session logged stop trace left replies
 
--- The session came to a stop, and what it said and the stop's line were put: the whole of them, with the
+-- The session came to a stop, and its replies and the stop's line were put: the whole of them, with the
 -- stop's own status, or a front of them, with status 4. Whatever the status, the stop is a failed pull only
 -- where one failed.
-pub record HasSession {S R : Type 0} (session : Session S R) (status : ℕ) (pull_failed : Type 0)
+pub record HasSession {S R : Type 0} (session : Session S R) (logged : Bool) (status : ℕ) (pull_failed : Type 0)
     (trace left put_before put_after : Option (List ℕ)) : Type 0 where
   pub stop : Stop
-  pub said : List (Said R)
-  pub talked : Converses session stop trace left said
+  pub replies : List (telling session logged).Reply
+  pub talked : Converses session logged stop trace left replies
   pub read : stop ≡ ReadFault → pull_failed
   pub its_status : status ≢ 4 → status ≡ status_of stop
-  pub whole : status ≢ 4 → Appends put_before put_after (texts_of (session_protocol session) said ++ stop_text stop)
-  pub front : AppendsFront put_before put_after (texts_of (session_protocol session) said ++ stop_text stop)
+  pub whole : status ≢ 4 → Appends put_before put_after (texts_of (telling session logged).protocol replies ++ stop_text stop)
+  pub front : AppendsFront put_before put_after (texts_of (telling session logged).protocol replies ++ stop_text stop)
 
--- What a new session said to all whole lines that the source had given before its last pull was put.
-abbrev pub HasSaidFirst : {S R : Type 0} → Session S R → Option (List ℕ) → Option (List ℕ) → Output → Option (List ℕ) → Type 0
-HasSaidFirst {S} session trace left_before from put =
-    (first : S) × session.begins first × HasToldFirst (session_protocol session) first trace left_before from put
+-- The replies of a new session to all whole lines that the source had given before its last pull were put.
+abbrev pub HasSaidFirst : {S R : Type 0} → Session S R → Bool → Option (List ℕ) → Option (List ℕ) → Output → Option (List ℕ) → Type 0
+HasSaidFirst {S} session logged trace left_before from put =
+    (first : S) × session.begins first × HasToldFirst (telling session logged).protocol first trace left_before from put
 
 -- ---- before the last line
 
--- a session came to a stop, with all that it said printed
-pub record HasConversed {S R : Type 0} (session : Session S R) (stop : Stop) (trace left : Option (List ℕ)) (from to : Output) : Type 0 where
-  pub said : List (Said R)
-  pub talked : Converses session stop trace left said
-  pub printed : HasSaidText stop from to (texts_of (session_protocol session) said)
+-- a session came to a stop, with all its replies printed
+pub record HasConversed {S R : Type 0} (session : Session S R) (logged : Bool) (stop : Stop) (trace left : Option (List ℕ)) (from to : Output) : Type 0 where
+  pub replies : List (telling session logged).Reply
+  pub talked : Converses session logged stop trace left replies
+  pub printed : HasSaidText stop from to (texts_of (telling session logged).protocol replies)
 
-pub record SessionEnds {S R : Type 0} (session : Session S R) (ending : Ending) (trace left : Option (List ℕ)) (from to : Output) : Type 0 where
+pub record SessionEnds {S R : Type 0} (session : Session S R) (logged : Bool) (ending : Ending) (trace left : Option (List ℕ)) (from to : Output) : Type 0 where
   pub stop : Stop
   pub its_stop : ending ≡ Stopped stop
-  pub conversed : HasConversed session stop trace left from to
+  pub conversed : HasConversed session logged stop trace left from to

@@ -8,6 +8,7 @@ use Rattle.tree_session.specs.Answered.{IsTreeAnswered, IsEngineShown, IsTreeSta
 use Rattle.tree_session.specs.Answers.{tree_text}
 use Rattle.tree_session.specs.Commands.{reading_of_tree, sort_of_tree}
 use Rattle.tree_session.specs.Guarantees.{TreeReply, AreAllowed, History, first_history, history_after, MayShow, IsNoTampering, IsTreeAnswerUnrefused}
+use Rattle.tree_session.specs.Logged.{IsTreeLogOf}
 use Rattle.tree_session.specs.State.{SessionState, IsNewTree}
 use Rattle.pmem_cli.specs.declared.options.Choices.{Choices}
 use Rattle.pmem_cli.specs.Keys.{setup_chosen}
@@ -52,6 +53,8 @@ counter_tree_session setup =
       shows = IsExhibitOf setup;
       wants_memory = IsTreeStarvedOf;
       text_of = λ reply. tree_text reply.answer;
+      logs = λ old line log_old log_new new. IsTreeLogOf (reading_of_tree line) log_old old log_new new;
+      work = λ state. (state.tags, state.digests);
       promises = λ first said. IsAsPromised setup said;
     }
 

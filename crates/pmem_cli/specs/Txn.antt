@@ -6,6 +6,7 @@ use Rattle.txn_session.specs.Answered.{IsTxnAnswered, IsTxnShownOf, IsTxnStarved
 use Rattle.txn_session.specs.Answers.{txn_text}
 use Rattle.txn_session.specs.Commands.{reading_of_txn, sort_of_txn}
 use Rattle.txn_session.specs.Guarantees.{TxnReply, AreTxnReplies, AreTxnSpentAsUsedUp}
+use Rattle.txn_session.specs.Logged.{IsTxnLogOf}
 use Rattle.txn_session.specs.State.{TxnState, IsNewTxn}
 use Rattle.pmem_cli.specs.declared.options.Choices.{Choices}
 use Rattle.pmem_cli.specs.Keys.{setup_chosen}
@@ -23,6 +24,8 @@ transactions_session setup =
       shows = IsTxnShownOf setup;
       wants_memory = IsTxnStarvedOf;
       text_of = λ reply. txn_text reply.answer;
+      logs = λ old line log_old log_new new. IsTxnLogOf (reading_of_txn line) log_old old log_new new;
+      work = λ state. (state.tags, state.digests);
       promises =
           λ first said. AreTxnReplies (logged_lines setup.shape) (replies_among said)
           × AreTxnSpentAsUsedUp setup first (replies_among said);

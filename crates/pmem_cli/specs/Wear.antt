@@ -6,6 +6,7 @@ use Rattle.wear_session.specs.Answered.{IsWearAnswered, IsWearShownOf, IsWearSta
 use Rattle.wear_session.specs.Answers.{wear_text}
 use Rattle.wear_session.specs.Commands.{reading_of_wear, sort_of_wear}
 use Rattle.wear_session.specs.Guarantees.{WearReply, AreWearReplies, AreWearSpentAsUsedUp}
+use Rattle.wear_session.specs.Logged.{IsWearLogOf}
 use Rattle.wear_session.specs.State.{WearState, IsNewWear}
 use Rattle.pmem_cli.specs.declared.options.Choices.{Choices}
 use Rattle.pmem_cli.specs.Keys.{setup_chosen, every_chosen}
@@ -23,6 +24,8 @@ levelled_session setup every =
       shows = IsWearShownOf setup;
       wants_memory = IsWearStarvedOf;
       text_of = λ reply. wear_text reply.answer;
+      logs = λ old line log_old log_new new. IsWearLogOf (reading_of_wear line) log_old old log_new new;
+      work = λ state. (state.tags, state.digests);
       promises =
           λ first said. AreWearReplies (logical_lines setup.shape) every (replies_among said)
           × AreWearSpentAsUsedUp setup first (replies_among said);

@@ -105,7 +105,6 @@ abbrev pub choose : Allowed → Choices → Word → Word → Option Choices
 choose Allowed.Suite c name value = choose_suite c name value
 choose Allowed.Tree c name value = choose_tree c name value
 choose Allowed.Run c name value = choose_run c name value
-choose Allowed.Log c name value = choose_run c name value
 choose Allowed.Wear c name value = choose_wear c name value
 
 -- ---- the words of options
@@ -136,8 +135,8 @@ next_value None (next ∷ words) = Some (next, words)
 
 -- the word is a flag that the task takes, which has no value
 abbrev pub is_flag : Allowed → Word → Bool
-is_flag Allowed.Log word = bytes_eq word (codes "--log")
-is_flag allowed word = false
+is_flag Allowed.Suite word = false
+is_flag allowed word = bytes_eq word (codes "--log")
 
 -- what is chosen by these words, after earlier choices: options as `--name value` or `--name=value`, or the flag
 unfoldable pub take_options : Allowed → Choices → List Word → Option Choices
@@ -167,7 +166,7 @@ seed_and_count words = None
 unfoldable pub task_of : List Word → Option Task
 task_of [] = None
 task_of (name ∷ words) =
-    if bytes_eq name (codes "run") then (take_options Allowed.Log no_choices words >>= λ c. Some (if c.log then Task.Log c else Task.Run c))
+    if bytes_eq name (codes "run") then (take_options Allowed.Run no_choices words >>= λ c. Some (if c.log then Task.Log c else Task.Run c))
     else if bytes_eq name (codes "check") then (take_options Allowed.Suite no_choices words >>= λ c. Some (Task.Check c))
     else if bytes_eq name (codes "make") then (seed_and_count words >>= λ found. Some (Task.Make found.0 found.1))
     else if bytes_eq name (codes "sample") then (seed_and_count words >>= λ found. Some (Task.Sample found.0 found.1))

@@ -17,6 +17,7 @@ mod session;
 mod sink;
 mod source;
 mod talking;
+mod telling;
 mod tree;
 mod txn;
 mod wear;

@@ -46,7 +46,7 @@ impl<U: Counted + Drop> Model for LoggedWorld<U> {
 }
 
 /// Prints the log of a command: its accesses in their order, and the tags and digests that were made.
-fn print_log<K: Sink>(
+pub(crate) fn print_log<K: Sink>(
     accesses: &[Access],
     tags: u64,
     digests: u64,

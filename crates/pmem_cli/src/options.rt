@@ -55,8 +55,6 @@ pub(crate) enum Allowed {
     Tree,
     /// Those of a run.
     Run,
-    /// Those of a run that may tell its log.
-    Log,
     /// Those of a levelled memory.
     Wear,
 }
@@ -319,7 +317,6 @@ impl Choices {
             Allowed::Suite => self.with_suite(name, value),
             Allowed::Tree => self.with_tree(name, value),
             Allowed::Run => self.with_run(name, value),
-            Allowed::Log => self.with_run(name, value),
             Allowed::Wear => self.with_wear(name, value),
         }
     }
@@ -344,8 +341,8 @@ fn is_log_flag(allowed: Allowed, word: &str) -> bool
     ensures { result ≡ is_flag allowed word.now }
 {
     match allowed {
-        Allowed::Log => word == "--log",
-        _ => false,
+        Allowed::Suite => false,
+        _ => word == "--log",
     }
 }
 
@@ -476,7 +473,7 @@ pub(crate) fn read_task(words: &[String]) -> Option<Task>
     };
     match name.as_str() {
         "run" => {
-            let choices = read_options(Allowed::Log, words)?;
+            let choices = read_options(Allowed::Run, words)?;
             if choices.log {
                 Some(Task::Log(choices))
             } else {

@@ -14,6 +14,7 @@ use crate::serving::Serve;
 use crate::session::serve_all;
 use crate::sink::Sink;
 use crate::source::{Failed, Source};
+use access_log::AccessLog;
 use plain_model::Stop;
 use pmem_base::Answer;
 use std::alloc::Global;
@@ -46,7 +47,7 @@ impl<T: Talk> Serve for Talker<T> {
         printer: &mut Printer,
         out: &mut K,
     ) -> Option<Stop> {
-        match self.session.talk(alloc, line) {
+        match self.session.talk(alloc, line, &mut AccessLog::none()) {
             Err(Halt::Memory) => Some(Stop::Memory),
             Err(Halt::Line(kind)) => Some(Stop::Refused { number, kind }),
             Err(Halt::Shown(exhibit)) => {

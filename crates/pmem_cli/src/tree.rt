@@ -14,37 +14,38 @@ use crate::options::{Choices, SuiteName};
 use crate::printer::Printer;
 use crate::sink::Sink;
 use crate::source::Source;
-use crate::talking::talk_trace;
+use crate::telling::converse;
 use plain_model::Stop;
 use pmem_base::Geo;
 use std::alloc::Global;
-use suite::Suite;
+use suite::Counted;
 use tree_session::TreeWorld;
 use tree_session::laws::sessions_keep_lines;
 
 /// Answers a trace by a new memory over a counter tree of this geometry and suite, and says why that stops. The
 /// watch has a suite of its own, of equal keys.
-fn tree_with<U: Suite + Drop, S: Source, K: Sink>(
+fn tree_with<U: Counted + Drop, S: Source, K: Sink>(
     alloc: Global,
     geo: Geo,
     suite: U,
     watch_suite: U,
+    logged: bool,
     trace: &mut S,
     printer: &mut Printer,
     out: &mut K,
 ) -> Stop
     requires keys { U.keys watch_suite ≡ U.keys suite }
     ensures talked { let setup : Setup = record { shape = shape_of geo; formulas = U.formulas_of (U.keys suite) } in
-        HasConversed (counter_tree_session setup) result (S.left trace.old) (S.left trace.new)
+        HasConversed (counter_tree_session setup) logged result (S.left trace.old) (S.left trace.new)
         (with_waiting (K.put out.old) printer.old) (with_waiting (K.put out.new) printer.new) }
     ensures cause { StopsByCause (Some result) (S.faults trace.old) (S.faults trace.new) (K.faults out.old) (K.faults out.new) }
     ensures in_time { IsInTime (S.pulls trace.old) (S.pulls trace.new) }
     ensures replies_first { let setup : Setup = record { shape = shape_of geo; formulas = U.formulas_of (U.keys suite) } in (trace.new ≡ trace.old)
-        ⊎ HasSaidFirst (counter_tree_session setup) (S.left trace.old) (S.left_before trace.new) (with_waiting (K.put out.old) printer.old) (K.put out.new) }
+        ⊎ HasSaidFirst (counter_tree_session setup) logged (S.left trace.old) (S.left_before trace.new) (with_waiting (K.put out.old) printer.old) (K.put out.new) }
 {
     sessions_keep_lines(&geo, &suite);
     match TreeWorld::new(alloc, geo, suite, watch_suite) {
-        Ok(session) => talk_trace(alloc, session, trace, printer, out),
+        Ok(session) => converse(alloc, session, logged, trace, printer, out),
         Err(_) => Stop::Memory,
     }
 }
@@ -58,11 +59,11 @@ pub(crate) fn tree_trace<S: Source, K: Sink>(
     out: &mut K,
 ) -> Stop
     requires { AreChosen choices.now }
-    ensures talked { HasConversed (counter_tree_session (setup_chosen choices.now)) result (S.left trace.old) (S.left trace.new)
+    ensures talked { HasConversed (counter_tree_session (setup_chosen choices.now)) choices.now.log result (S.left trace.old) (S.left trace.new)
         (with_waiting (K.put out.old) printer.old) (with_waiting (K.put out.new) printer.new) }
     ensures cause { StopsByCause (Some result) (S.faults trace.old) (S.faults trace.new) (K.faults out.old) (K.faults out.new) }
     ensures in_time { IsInTime (S.pulls trace.old) (S.pulls trace.new) }
-    ensures replies_first { (trace.new ≡ trace.old) ⊎ HasSaidFirst (counter_tree_session (setup_chosen choices.now))
+    ensures replies_first { (trace.new ≡ trace.old) ⊎ HasSaidFirst (counter_tree_session (setup_chosen choices.now)) choices.now.log
         (S.left trace.old) (S.left_before trace.new) (with_waiting (K.put out.old) printer.old) (K.put out.new) }
 {
     let geo = choices.geometry();
@@ -70,17 +71,44 @@ pub(crate) fn tree_trace<S: Source, K: Sink>(
         SuiteName::Aes => {
             let suite = choices.aes_suite();
             let watch_suite = choices.aes_suite();
-            tree_with(alloc, geo, suite, watch_suite, trace, printer, out)
+            tree_with(
+                alloc,
+                geo,
+                suite,
+                watch_suite,
+                choices.log,
+                trace,
+                printer,
+                out,
+            )
         }
         SuiteName::Weak => {
             let suite = choices.weak_suite(false);
             let watch_suite = choices.weak_suite(false);
-            tree_with(alloc, geo, suite, watch_suite, trace, printer, out)
+            tree_with(
+                alloc,
+                geo,
+                suite,
+                watch_suite,
+                choices.log,
+                trace,
+                printer,
+                out,
+            )
         }
         SuiteName::Blur => {
             let suite = choices.weak_suite(true);
             let watch_suite = choices.weak_suite(true);
-            tree_with(alloc, geo, suite, watch_suite, trace, printer, out)
+            tree_with(
+                alloc,
+                geo,
+                suite,
+                watch_suite,
+                choices.log,
+                trace,
+                printer,
+                out,
+            )
         }
     }
 }

@@ -14,36 +14,37 @@ use crate::options::{Choices, SuiteName};
 use crate::printer::Printer;
 use crate::sink::Sink;
 use crate::source::Source;
-use crate::talking::talk_trace;
+use crate::telling::converse;
 use plain_model::Stop;
 use pmem_base::Geo;
 use std::alloc::Global;
-use suite::Suite;
+use suite::Counted;
 use wear_session::{WearWorld, sessions_keep_lines};
 
 /// Answers a trace by a new levelled memory of this geometry and suite, whose gap moves at each `every`th write,
 /// and says why that stops.
-fn wear_with<U: Suite + Drop, S: Source, K: Sink>(
+fn wear_with<U: Counted + Drop, S: Source, K: Sink>(
     alloc: Global,
     geo: Geo,
     suite: U,
     every: u32,
+    logged: bool,
     trace: &mut S,
     printer: &mut Printer,
     out: &mut K,
 ) -> Stop
     requires { 1 ≤ every }
     ensures talked { let setup : Setup = record { shape = shape_of geo; formulas = U.formulas_of (U.keys suite) } in
-        HasConversed (levelled_session setup every) result (S.left trace.old) (S.left trace.new)
+        HasConversed (levelled_session setup every) logged result (S.left trace.old) (S.left trace.new)
         (with_waiting (K.put out.old) printer.old) (with_waiting (K.put out.new) printer.new) }
     ensures cause { StopsByCause (Some result) (S.faults trace.old) (S.faults trace.new) (K.faults out.old) (K.faults out.new) }
     ensures in_time { IsInTime (S.pulls trace.old) (S.pulls trace.new) }
     ensures replies_first { let setup : Setup = record { shape = shape_of geo; formulas = U.formulas_of (U.keys suite) } in (trace.new ≡ trace.old)
-        ⊎ HasSaidFirst (levelled_session setup every) (S.left trace.old) (S.left_before trace.new) (with_waiting (K.put out.old) printer.old) (K.put out.new) }
+        ⊎ HasSaidFirst (levelled_session setup every) logged (S.left trace.old) (S.left_before trace.new) (with_waiting (K.put out.old) printer.old) (K.put out.new) }
 {
     sessions_keep_lines(&geo, &suite);
     match WearWorld::new(alloc, geo, suite, every) {
-        Ok(session) => talk_trace(alloc, session, trace, printer, out),
+        Ok(session) => converse(alloc, session, logged, trace, printer, out),
         Err(_) => Stop::Memory,
     }
 }
@@ -57,24 +58,33 @@ pub(crate) fn wear_trace<S: Source, K: Sink>(
     out: &mut K,
 ) -> Stop
     requires { AreChosen choices.now }
-    ensures talked { HasConversed (levelled_session (setup_chosen choices.now) (every_chosen choices.now)) result (S.left trace.old) (S.left trace.new)
+    ensures talked { HasConversed (levelled_session (setup_chosen choices.now) (every_chosen choices.now)) choices.now.log result (S.left trace.old) (S.left trace.new)
         (with_waiting (K.put out.old) printer.old) (with_waiting (K.put out.new) printer.new) }
     ensures cause { StopsByCause (Some result) (S.faults trace.old) (S.faults trace.new) (K.faults out.old) (K.faults out.new) }
     ensures in_time { IsInTime (S.pulls trace.old) (S.pulls trace.new) }
-    ensures replies_first { (trace.new ≡ trace.old) ⊎ HasSaidFirst (levelled_session (setup_chosen choices.now) (every_chosen choices.now))
+    ensures replies_first { (trace.new ≡ trace.old) ⊎ HasSaidFirst (levelled_session (setup_chosen choices.now) (every_chosen choices.now)) choices.now.log
         (S.left trace.old) (S.left_before trace.new) (with_waiting (K.put out.old) printer.old) (K.put out.new) }
 {
     let geo = choices.geometry();
     let every = choices.every();
     match choices.suite_name() {
-        SuiteName::Aes => wear_with(alloc, geo, choices.aes_suite(), every, trace, printer, out),
+        SuiteName::Aes => wear_with(
+            alloc,
+            geo,
+            choices.aes_suite(),
+            every,
+            choices.log,
+            trace,
+            printer,
+            out,
+        ),
         SuiteName::Weak => {
             let suite = choices.weak_suite(false);
-            wear_with(alloc, geo, suite, every, trace, printer, out)
+            wear_with(alloc, geo, suite, every, choices.log, trace, printer, out)
         }
         SuiteName::Blur => {
             let suite = choices.weak_suite(true);
-            wear_with(alloc, geo, suite, every, trace, printer, out)
+            wear_with(alloc, geo, suite, every, choices.log, trace, printer, out)
         }
     }
 }

@@ -9,6 +9,7 @@ mod tree_engine;
 mod txn;
 mod wear;
 
+use access_log::AccessLog;
 use collision_witness::shown_text;
 use pmem_base::Kind;
 use std::alloc::Global;
@@ -87,7 +88,7 @@ fn ask<T: Talk>(
     answer: &str,
 ) -> Result<(), Fail> {
     let line = spelled(alloc, command)?;
-    match session.talk(alloc, line.as_bytes()) {
+    match session.talk(alloc, line.as_bytes(), &mut AccessLog::none()) {
         Ok(Some(text)) => compare(rt, alloc, command, text.as_slice(), answer),
         Ok(None) => compare(rt, alloc, command, b"skipped", answer),
         Err(Halt::Shown(exhibit)) => {
@@ -107,7 +108,7 @@ fn begins<T: Talk>(
     command: &str,
     front: &str,
 ) -> Result<bool, Fail> {
-    match session.talk(alloc, command.as_bytes()) {
+    match session.talk(alloc, command.as_bytes(), &mut AccessLog::none()) {
         Ok(Some(text)) => Ok(text.as_slice().starts_with(front.as_bytes())),
         _ => Err(Fail::new("no answer")),
     }

@@ -1,9 +1,11 @@
 //! What a session is asked, and what it answers.
-ghost use Rattle.std.specs.Prelude.{◌≡◌, ℕ, List};
+ghost use Rattle.std.specs.Prelude.{◌≡◌, ℕ, List, Option};
 ghost use Rattle.pmem_base.specs.declared.answers.Exhibit.{Exhibit};
+ghost use Rattle.access_log.specs.declared.access.Access.{Access};
 ghost use Rattle.collision_witness.specs.Exhibits.{AreSmallMinors};
 ghost use Rattle.trace_text.specs.Talks.{Sort, IsOfSort, IfText, IfShown, IfMemory, IfNothing};
 
+use access_log::AccessLog;
 use arrayvec::ArrayVec;
 use pmem_base::{Exhibit, Kind};
 use std::alloc::Global;
@@ -37,13 +39,30 @@ pub trait Talk {
     /// The state before, and a line that asks, whose answer may want memory.
     ghost wants_memory: { Self → List ℕ → Type 0 };
 
+    /// The state before, a line, the log of the board's accesses before and after, and the state after.
+    ghost logs: { Self → List ℕ → Option (List Access) → Option (List Access) → Self → Type 0 };
+
+    /// How many tags and digests were made.
+    ghost work: { Self → ℕ × ℕ };
+
     /// Answers a line of at most 1,024 bytes, without its LF. None comes exactly of a skipped line, and `Line`
     /// exactly of a faulty one. These, and `Memory`, leave the state as it was. After `Shown` no call follows.
-    fn talk(&mut self, alloc: Global, line: &[u8]) -> Result<Option<ArrayVec<u8, TEXT_BYTES>>, Halt>
+    /// Accesses of the board are logged, where a log is kept.
+    fn talk(
+        &mut self,
+        alloc: Global,
+        line: &[u8],
+        log: &mut AccessLog,
+    ) -> Result<Option<ArrayVec<u8, TEXT_BYTES>>, Halt>
         ensures sort { IsOfSort result (sort_of line.now) }
         ensures text { IfText result (λ text. answers self.old line.now text self.new) }
         ensures shown { IfShown result (λ exhibit. shows self.old line.now exhibit) }
         ensures minors { IfShown result AreSmallMinors }
         ensures memory { IfMemory result (wants_memory self.old line.now) }
-        ensures unchanged { IfNothing result (self.new ≡ self.old) };
+        ensures unchanged { IfNothing result (self.new ≡ self.old) }
+        ensures logged { logs self.old line.now log.old log.new self.new };
+
+    /// How many tags and digests were made: of the engine and of recovery, since the device was made.
+    fn work(&self) -> (u64, u64)
+        ensures { result ≡ work self.now };
 }

@@ -1,6 +1,6 @@
 -- The steps of a call on a watched board, as an answer tells them.
 use Rattle.std.proofs.Common.{ℕ, ◌≡◌, ◌<◌, ◌≤◌, ◌+◌, ◌-◌, true, false, Bool, refl, ap, ◌∙◌, arith}
-use Rattle.std.specs.Prelude.{min, option_map, IfSome}
+use Rattle.std.specs.Prelude.{min, option_map}
 use Rattle.std.proofs.lemmas.Option.{same_Some}
 use Rattle.pmem_base.specs.Counts.{last_count}
 use Rattle.board.specs.Counts.{RisesBy}

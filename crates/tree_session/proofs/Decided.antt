@@ -165,7 +165,7 @@ module _ (c : QuietCall) where
   -- ---- the fuse, a snapshot, and power
 
   abbrev with_board : BoardMemory → Option TreeState → TreeParts
-  with_board board engine = record { keys = c.parts.keys; board = board; watch = c.parts.watch; engine = engine; tampered = c.parts.tampered; hurt = c.parts.hurt }
+  with_board board engine = record { keys = c.parts.keys; tags = c.parts.tags; digests = c.parts.digests; board = board; watch = c.parts.watch; engine = engine; tampered = c.parts.tampered; hurt = c.parts.hurt }
 
   module _ (board : BoardMemory) where
     pub cut_held : (n : ℕ) → board ≡ record c.parts.board { fuse = Some n } → IsTreeWorld setup (with_board board c.parts.engine)
@@ -203,6 +203,8 @@ module _ (c : QuietCall) where
     changed =
         record {
           keys = c.parts.keys;
+          tags = c.parts.tags;
+          digests = c.parts.digests;
           board = board;
           watch = c.parts.watch;
           engine = c.parts.engine;

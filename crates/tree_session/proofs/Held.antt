@@ -149,6 +149,8 @@ pub record TreeEngineCall : Type 0 where
   pub parts : TreeParts
   pub engine : TreeState
   pub after : TreeState
+  pub tags : ℕ
+  pub digests : ℕ
   pub board : BoardMemory
   pub watch : WatchState
   pub taken : Taken
@@ -165,10 +167,10 @@ module _ (c : TreeEngineCall) where
   to = tree_parts_of c.after (device_during c.board c.taken) c.watch
 
   abbrev pub left : Option TreeState → List Bool → TreeParts
-  left found hurt = record { keys = c.parts.keys; board = c.board; watch = c.watch; engine = found; tampered = c.parts.tampered; hurt = hurt }
+  left found hurt = record { keys = c.parts.keys; tags = c.tags; digests = c.digests; board = c.board; watch = c.watch; engine = found; tampered = c.parts.tampered; hurt = hurt }
 
   abbrev pub left_resting : TreeParts
-  left_resting = record { keys = c.parts.keys; board = record c.board { powered = false }; watch = c.watch; engine = None; tampered = c.parts.tampered; hurt = c.parts.hurt }
+  left_resting = record { keys = c.parts.keys; tags = c.tags; digests = c.digests; board = record c.board { powered = false }; watch = c.watch; engine = None; tampered = c.parts.tampered; hurt = c.parts.hurt }
 
   abbrev opened_in : IsTreeOpen c.setup c.parts
   opened_in = open_in c.setup c.parts c.world c.none

@@ -4,7 +4,7 @@ use Rattle.std.specs.Prelude.{All, is_none, is_some, map, replicate, slice_set}
 use Rattle.std.specs.List.{range_with_len}
 use Rattle.std.proofs.lemmas.List.{ext_get_or, length-replicate, map-set}
 use Rattle.std.proofs.lemmas.List.FromFn.{length-map-range_with_len, get_or-map-range_with_len}
-use Rattle.std.proofs.lemmas.Bool.{cases_eq, and_parts, and_from, not-true}
+use Rattle.std.proofs.lemmas.Bool.{and_parts, not-true}
 use Rattle.pmem_base.specs.Lines.{IsLine, zero_line}
 use Rattle.pmem_base.specs.Shape.{IsShape}
 use Rattle.pmem_base.specs.Layout.{meta_lines}
@@ -41,13 +41,15 @@ map-replicate : {X Y : Type 0} (f : X → Y) (n : ℕ) (x : X) → map f (replic
 map-replicate f zero x = refl
 map-replicate f (suc n) x = ap (λ ys. f x ∷ ys) (map-replicate f n x)
 
-module _ (setup : Setup) (keys : List ℕ) (engine : TreeState) (board : BoardMemory) (watch : WatchState) (shape : IsShape setup.shape) (in_range : AreInRange setup.formulas)
+module _ (setup : Setup) (keys : List ℕ) (tags digests : ℕ) (engine : TreeState) (board : BoardMemory) (watch : WatchState) (shape : IsShape setup.shape) (in_range : AreInRange setup.formulas)
     (it : HasTreeFormatted setup (rest_of (device_of (new_memory (tree_size setup.shape))) (new_watch setup)) (rest_of (device_of board) watch) engine)
     (each : All IsLine board.lines) (snapshot : board.snapshot ≡ None) where
   abbrev pub parts : TreeParts
   parts =
       record {
         keys = keys;
+        tags = tags;
+        digests = digests;
         board = board;
         watch = watch;
         engine = Some engine;

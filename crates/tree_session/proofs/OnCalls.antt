@@ -38,11 +38,14 @@ pub record OnTreeCall : Type 0 where
   pub is_lit : lit ≡ record parts.board { powered = true }
   pub keys : List ℕ
   pub same_keys : keys ≡ parts.keys
+  pub tags : ℕ
+  pub same_tags : tags ≡ parts.tags
   pub board : BoardMemory
   pub watch : WatchState
   pub taken : Taken
   pub watched : IsWatched lit board taken
   pub before : ℕ
+  pub same_before : before ≡ parts.digests
   pub later : ℕ
   pub answer : Result (TreeState × Work) TreeRec
   pub recovered :
@@ -64,7 +67,10 @@ module _ (o : OnTreeCall) where
         none = ap (λ (s : SessionState). s.shown) o.is ∙ o.unshown;
         there = o.there;
         watched = subst (λ (b : BoardMemory). IsWatched b o.board o.taken) o.is_lit o.watched;
+        tags = o.tags;
+        same_tags = o.same_tags;
         before = o.before;
+        same_before = o.same_before;
         later = o.later;
       }
 

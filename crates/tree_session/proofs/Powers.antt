@@ -16,6 +16,8 @@ module _ (setup : Setup) (p : TreeParts) (world : IsTreeWorld setup p) (none : p
     other =
         record {
           keys = p.keys;
+          tags = p.tags;
+          digests = p.digests;
           board = record p.board { fuse = fuse; snapshot = snapshot };
           watch = p.watch;
           engine = p.engine;
@@ -43,7 +45,7 @@ module _ (setup : Setup) (p : TreeParts) (world : IsTreeWorld setup p) (none : p
           nodes = λ x unchanged. on.nodes x unchanged;
         }
 
-    pub other_held : IsTreeWorld setup (record { keys = p.keys; board = record p.board { fuse = fuse; snapshot = snapshot }; watch = p.watch; engine = p.engine; tampered = p.tampered; hurt = p.hurt })
+    pub other_held : IsTreeWorld setup (record { keys = p.keys; tags = p.tags; digests = p.digests; board = record p.board { fuse = fuse; snapshot = snapshot }; watch = p.watch; engine = p.engine; tampered = p.tampered; hurt = p.hurt })
     other_held =
         let opened_in = open_in setup p world none in
         opened setup other
@@ -71,6 +73,8 @@ module _ (setup : Setup) (p : TreeParts) (world : IsTreeWorld setup p) (none : p
     dark =
         record {
           keys = p.keys;
+          tags = p.tags;
+          digests = p.digests;
           board = record p.board { powered = false; fuse = None };
           watch = p.watch;
           engine = None;
@@ -78,7 +82,7 @@ module _ (setup : Setup) (p : TreeParts) (world : IsTreeWorld setup p) (none : p
           hurt = p.hurt;
         }
 
-    pub dark_held : IsTreeWorld setup (record { keys = p.keys; board = record p.board { powered = false; fuse = None }; watch = p.watch; engine = None; tampered = p.tampered; hurt = p.hurt })
+    pub dark_held : IsTreeWorld setup (record { keys = p.keys; tags = p.tags; digests = p.digests; board = record p.board { powered = false; fuse = None }; watch = p.watch; engine = None; tampered = p.tampered; hurt = p.hurt })
     dark_held =
         let opened_in = open_in setup p world none in
         let on = on_in setup p engine (open_in setup p world none) there in

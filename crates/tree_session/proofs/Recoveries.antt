@@ -72,7 +72,10 @@ pub record TreeRecoveryCall : Type 0 where
   pub none : parts.watch.exhibit ≡ None
   pub there : parts.engine ≡ None
   pub watched : IsWatched (record parts.board { powered = true }) board taken
+  pub tags : ℕ
+  pub same_tags : tags ≡ parts.tags
   pub before : ℕ
+  pub same_before : before ≡ parts.digests
   pub later : ℕ
 
 module _ (c : TreeRecoveryCall) where
@@ -83,7 +86,7 @@ module _ (c : TreeRecoveryCall) where
   rest_to = rest_of (device_during c.board c.taken) c.watch
 
   abbrev pub left_with : BoardMemory → Option TreeState → TreeParts
-  left_with board found = record { keys = c.parts.keys; board = board; watch = c.watch; engine = found; tampered = c.parts.tampered; hurt = c.parts.hurt }
+  left_with board found = record { keys = c.parts.keys; tags = c.tags; digests = c.later; board = board; watch = c.watch; engine = found; tampered = c.parts.tampered; hurt = c.parts.hurt }
 
   abbrev pub resting : BoardMemory
   resting = record c.board { powered = false }
@@ -372,16 +375,10 @@ module _ (c : TreeRecoveryCall) where
         let lit : c.board ≡ record c.parts.board { powered = true } = untouched (record c.parts.board { powered = true }) c.board c.taken c.watched refl same_device in
         let rests : resting ≡ record c.parts.board { powered = false } = ap (λ (b : BoardMemory). record b { powered = false }) lit in
         let off : record c.parts.board { powered = false } ≡ c.parts.board = ap (λ p. record c.parts.board { powered = p }) (sym dark) in
-        same_parts (left_with resting None) c.parts refl (rests ∙ off) (ap (λ (r : Rest). r.watch) it.answered) (sym c.there) refl refl
+        same_parts (left_with resting None) c.parts refl c.same_tags (it.work ∙ c.same_before) (rests ∙ off) (ap (λ (r : Rest). r.watch) it.answered) (sym c.there) refl refl
       where
-        same_parts : (p q : TreeParts) → p.keys ≡ q.keys → p.board ≡ q.board → p.watch ≡ q.watch → p.engine ≡ q.engine → p.tampered ≡ q.tampered → p.hurt ≡ q.hurt → p ≡ q
-        same_parts p q keys board watch engine tampered hurt =
-            ap (λ v. let r : TreeParts = record { keys = v; board = p.board; watch = p.watch; engine = p.engine; tampered = p.tampered; hurt = p.hurt } in r) keys
-            ∙ (ap (λ v. let r : TreeParts = record { keys = q.keys; board = v; watch = p.watch; engine = p.engine; tampered = p.tampered; hurt = p.hurt } in r) board
-            ∙ (ap (λ v. let r : TreeParts = record { keys = q.keys; board = q.board; watch = v; engine = p.engine; tampered = p.tampered; hurt = p.hurt } in r) watch
-            ∙ (ap (λ v. let r : TreeParts = record { keys = q.keys; board = q.board; watch = q.watch; engine = v; tampered = p.tampered; hurt = p.hurt } in r) engine
-            ∙ (ap (λ v. let r : TreeParts = record { keys = q.keys; board = q.board; watch = q.watch; engine = q.engine; tampered = v; hurt = p.hurt } in r) tampered
-            ∙ (ap (λ v. let r : TreeParts = record { keys = q.keys; board = q.board; watch = q.watch; engine = q.engine; tampered = q.tampered; hurt = v } in r) hurt)))))
+        same_parts : (p q : TreeParts) → p.keys ≡ q.keys → p.tags ≡ q.tags → p.digests ≡ q.digests → p.board ≡ q.board → p.watch ≡ q.watch → p.engine ≡ q.engine → p.tampered ≡ q.tampered → p.hurt ≡ q.hurt → p ≡ q
+        same_parts p q keys tags digests board watch engine tampered hurt = grind arith
 
     -- it wasn't on already
     pub memory_wanted : IsTreeMemoryWanted (state_of c.setup c.parts) Do.On × (state_of c.setup (left_with resting None) ≡ state_of c.setup c.parts)

@@ -60,6 +60,8 @@ pub record WorldCall : Type 0 where
   pub after : TreeState
   pub keys : List ℕ
   pub same_keys : keys ≡ parts.keys
+  pub tags : ℕ
+  pub digests : ℕ
   pub board : BoardMemory
   pub watch : WatchState
   pub taken : Taken
@@ -81,6 +83,8 @@ module _ (w : WorldCall) where
         parts = w.parts;
         engine = w.engine;
         after = w.after;
+        tags = w.tags;
+        digests = w.digests;
         board = w.board;
         watch = w.watch;
         taken = w.taken;

@@ -78,6 +78,8 @@ module _ (setup : Setup) (p : TreeParts) (board : BoardMemory) (world : IsTreeWo
   changed =
       record {
         keys = p.keys;
+        tags = p.tags;
+        digests = p.digests;
         board = with_line_at p.board d line;
         watch = p.watch;
         engine = p.engine;
@@ -146,9 +148,9 @@ module _ (setup : Setup) (p : TreeParts) (board : BoardMemory) (world : IsTreeWo
             ];
       }
 
-  pub changed_held : IsTreeWorld setup (record { keys = p.keys; board = board; watch = p.watch; engine = p.engine; tampered = slice_set p.tampered d true; hurt = hurt_with setup.shape p.hurt d })
+  pub changed_held : IsTreeWorld setup (record { keys = p.keys; tags = p.tags; digests = p.digests; board = board; watch = p.watch; engine = p.engine; tampered = slice_set p.tampered d true; hurt = hurt_with setup.shape p.hurt d })
   changed_held =
-      subst (λ (b : BoardMemory). IsTreeWorld setup (record { keys = p.keys; board = b; watch = p.watch; engine = p.engine; tampered = slice_set p.tampered d true; hurt = hurt_with setup.shape p.hurt d })) (sym is)
+      subst (λ (b : BoardMemory). IsTreeWorld setup (record { keys = p.keys; tags = p.tags; digests = p.digests; board = b; watch = p.watch; engine = p.engine; tampered = slice_set p.tampered d true; hurt = hurt_with setup.shape p.hurt d })) (sym is)
       (opened setup changed
       (record {
         shape = world.whole_shape;

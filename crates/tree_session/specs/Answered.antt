@@ -1,6 +1,6 @@
 -- Which answers a command has in which states, and the state after: where the state alone decides, the first
 -- condition that holds does; else the engine gives one of the answers that are listed.
-use Rattle.std.specs.Prelude.{ℕ, ◌≡◌, ◌≢◌, ◌<◌, ◌≤◌, ◌+◌, ◌-◌, ◌*◌, ◌^◌, ◌⊎◌, nat_lt, not, Bool, true, false, List, [], ◌∷◌, map, sum, length, slice_index_or, Option, Some, None, Ok, is_none, if◌then◌else◌, IsTrue, ⊤}
+use Rattle.std.specs.Prelude.{ℕ, ◌≡◌, ◌≢◌, ◌<◌, ◌≤◌, ◌+◌, ◌-◌, ◌*◌, ◌^◌, ◌⊎◌, nat_lt, not, Bool, true, false, List, [], ◌∷◌, map, sum, length, slice_index_or, Option, Some, None, Ok, is_none, if◌then◌else◌, IsTrue}
 use Rattle.pmem_base.specs.declared.lines.Line.{Line}
 use Rattle.pmem_base.specs.declared.answers.Exhibit.{Exhibit}
 use Rattle.pmem_base.specs.declared.answers.Exhibit.TheVariants.{Clash, Forged}

@@ -3,4 +3,5 @@ pub mod Answers
 pub mod State
 pub mod World
 pub mod Answered
+pub mod Logged
 pub mod Guarantees

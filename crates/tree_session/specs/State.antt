@@ -18,6 +18,9 @@ pub record SessionState : Type 0 where
   pub plain : PlainTree
   -- the exhibit that ended the session
   pub shown : Option Exhibit
+  -- how many tags and digests were made, without those of the watch
+  pub tags : ℕ
+  pub digests : ℕ
 
 -- the geometry, and a suite's formulas under the session's keys
 abbrev pub tree_setup_in : (List ℕ → Formulas) → SessionState → Setup

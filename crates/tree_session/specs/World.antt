@@ -29,6 +29,8 @@ use Rattle.tree_session.specs.State.{SessionState}
 -- what the program keeps of a session beside the geometry
 pub record TreeParts : Type 0 where
   pub keys : List ℕ
+  pub tags : ℕ
+  pub digests : ℕ
   pub board : BoardMemory
   pub watch : WatchState
   pub engine : Option TreeState
@@ -57,6 +59,8 @@ state_of setup parts =
       keys = parts.keys;
       plain = plain_of_parts setup parts;
       shown = parts.watch.exhibit;
+      tags = parts.tags;
+      digests = parts.digests;
     }
 
 -- ---- what it always holds

@@ -7,12 +7,14 @@ ghost use Rattle.pmem_base.specs.Lines.{IsLine};
 ghost use Rattle.board.specs.Memory.{device_of};
 ghost use Rattle.board.specs.MemBoard.{memory_of};
 ghost use Rattle.watched_board.specs.Watching.{IsWatched, device_during, none_taken};
+ghost use Rattle.access_log.specs.Traced.{GoesOn};
 ghost use Rattle.counter_tree.specs.Layout.{tree_lines, tree_slots, tree_size};
 ghost use Rattle.asit_shadow.specs.Parts.{tree_parts_of, IsTreeUsable};
 ghost use Rattle.asit_shadow.specs.Calls.{HasReadTreeLine, HasWrittenTreeLine};
 ghost use Rattle.asit_shadow.specs.Recovering.{rest_of, IsRestUsable, HasTreeRecovered};
 ghost use Rattle.asit_shadow.specs.Formatting.{HasTreeFormatted};
 
+use access_log::{AccessLog, Entry, Logged};
 use asit_shadow::{TreeEngine, TreeFault, TreeRec, tree_format, tree_recover};
 use board::MemBoard;
 use counter_tree::Watch;
@@ -21,7 +23,7 @@ use pmem_recovery::Work;
 use std::alloc::Global;
 use std::marker::Brand;
 use suite::Suite;
-use watched_board::{Kept, Left, Made, Start, Taken, Watched};
+use watched_board::{Kept, Left, Made, Start, Taken};
 
 /// A call's answer, and the steps that it took.
 #[derive(Drop)]
@@ -37,6 +39,7 @@ pub(crate) fn read<S: Suite, W: Watch>(
     suite: &mut S,
     watch: &mut W,
     at: u32,
+    log: &mut AccessLog,
 ) -> Done<Result<Line, TreeFault>>
     requires line { at < tree_lines engine.old.shape }
     requires on { (memory_of board.old).powered ≡ true }
@@ -45,11 +48,12 @@ pub(crate) fn read<S: Suite, W: Watch>(
         (tree_parts_of engine.old (device_during (memory_of board.old) none_taken) (W.watched watch.old))
         (tree_parts_of engine.new (device_during (memory_of board.new) result.taken) (W.watched watch.new)) result.answer }
     ensures watched { IsWatched (memory_of board.old) (memory_of board.new) result.taken }
+    ensures logged { GoesOn log.old (memory_of board.old) log.new (memory_of board.new) }
     ensures usable { IsTreeUsable engine.old.shape (tree_parts_of engine.new (device_during (memory_of board.new) result.taken) (W.watched watch.new)) }
     ensures keys { S.keys suite.new ≡ S.keys suite.old }
     ensures shape { engine.new.shape ≡ engine.old.shape }
 {
-    let left = read_watched::<Brand, S, W>(engine, board, suite, watch, at);
+    let left = read_logged::<Brand, S, W>(engine, board, suite, watch, at, log);
     let Left {
         board: _,
         taken,
@@ -58,16 +62,18 @@ pub(crate) fn read<S: Suite, W: Watch>(
     Done { taken, answer }
 }
 
-fn read_watched<'a, K: Start, S: Suite, W: Watch>(
+fn read_logged<'a, K: Start + Entry, S: Suite, W: Watch>(
     engine: &mut TreeEngine,
     board: &'a mut MemBoard,
     suite: &mut S,
     watch: &mut W,
     at: u32,
+    log: &mut AccessLog,
 ) -> Left<'a, Result<Line, TreeFault>>
     requires line { at < tree_lines engine.old.shape }
     requires start { memory_of board.old ≡ K.start }
     requires name { board.ghost_name ≡ K.name }
+    requires log { log.old ≡ K.log }
     requires on { (memory_of board.old).powered ≡ true }
     requires usable { IsTreeUsable engine.old.shape (tree_parts_of engine.old (device_during (memory_of board.old) none_taken) (W.watched watch.old)) }
     ensures name { result.board.ghost_name ≡ K.name }
@@ -75,13 +81,14 @@ fn read_watched<'a, K: Start, S: Suite, W: Watch>(
         (tree_parts_of engine.old (device_during (memory_of board.old) none_taken) (W.watched watch.old))
         (tree_parts_of engine.new (device_during (memory_of result.board.now) result.taken) (W.watched watch.new)) result.answer }
     ensures watched { IsWatched K.start (memory_of result.board.now) result.taken }
+    ensures logged { GoesOn K.log K.start log.new (memory_of result.board.now) }
     ensures usable { IsTreeUsable engine.old.shape (tree_parts_of engine.new (device_during (memory_of result.board.now) result.taken) (W.watched watch.new)) }
     ensures keys { S.keys suite.new ≡ S.keys suite.old }
     ensures shape { engine.new.shape ≡ engine.old.shape }
 {
-    let mut watched = Watched::<K>::new(board);
-    let answer = engine.read(&mut watched, suite, watch, at);
-    watched.left(answer)
+    let mut logged = Logged::<K>::new(board, log.take());
+    let answer = engine.read(&mut logged, suite, watch, at);
+    logged.left(answer, log)
 }
 
 /// Writes a data line.
@@ -92,6 +99,7 @@ pub(crate) fn write<S: Suite, W: Watch>(
     watch: &mut W,
     at: u32,
     line: &Line,
+    log: &mut AccessLog,
 ) -> Done<Result<u64, TreeFault>>
     requires line { at < tree_lines engine.old.shape }
     requires on { (memory_of board.old).powered ≡ true }
@@ -100,11 +108,12 @@ pub(crate) fn write<S: Suite, W: Watch>(
         (tree_parts_of engine.old (device_during (memory_of board.old) none_taken) (W.watched watch.old))
         (tree_parts_of engine.new (device_during (memory_of board.new) result.taken) (W.watched watch.new)) result.answer }
     ensures watched { IsWatched (memory_of board.old) (memory_of board.new) result.taken }
+    ensures logged { GoesOn log.old (memory_of board.old) log.new (memory_of board.new) }
     ensures usable { IsTreeUsable engine.old.shape (tree_parts_of engine.new (device_during (memory_of board.new) result.taken) (W.watched watch.new)) }
     ensures keys { S.keys suite.new ≡ S.keys suite.old }
     ensures shape { engine.new.shape ≡ engine.old.shape }
 {
-    let left = write_watched::<Brand, S, W>(engine, board, suite, watch, at, line);
+    let left = write_logged::<Brand, S, W>(engine, board, suite, watch, at, line, log);
     let Left {
         board: _,
         taken,
@@ -113,17 +122,19 @@ pub(crate) fn write<S: Suite, W: Watch>(
     Done { taken, answer }
 }
 
-fn write_watched<'a, K: Start, S: Suite, W: Watch>(
+fn write_logged<'a, K: Start + Entry, S: Suite, W: Watch>(
     engine: &mut TreeEngine,
     board: &'a mut MemBoard,
     suite: &mut S,
     watch: &mut W,
     at: u32,
     line: &Line,
+    log: &mut AccessLog,
 ) -> Left<'a, Result<u64, TreeFault>>
     requires line { at < tree_lines engine.old.shape }
     requires start { memory_of board.old ≡ K.start }
     requires name { board.ghost_name ≡ K.name }
+    requires log { log.old ≡ K.log }
     requires on { (memory_of board.old).powered ≡ true }
     requires usable { IsTreeUsable engine.old.shape (tree_parts_of engine.old (device_during (memory_of board.old) none_taken) (W.watched watch.old)) }
     ensures name { result.board.ghost_name ≡ K.name }
@@ -131,13 +142,14 @@ fn write_watched<'a, K: Start, S: Suite, W: Watch>(
         (tree_parts_of engine.old (device_during (memory_of board.old) none_taken) (W.watched watch.old))
         (tree_parts_of engine.new (device_during (memory_of result.board.now) result.taken) (W.watched watch.new)) result.answer }
     ensures watched { IsWatched K.start (memory_of result.board.now) result.taken }
+    ensures logged { GoesOn K.log K.start log.new (memory_of result.board.now) }
     ensures usable { IsTreeUsable engine.old.shape (tree_parts_of engine.new (device_during (memory_of result.board.now) result.taken) (W.watched watch.new)) }
     ensures keys { S.keys suite.new ≡ S.keys suite.old }
     ensures shape { engine.new.shape ≡ engine.old.shape }
 {
-    let mut watched = Watched::<K>::new(board);
-    let answer = engine.write(&mut watched, suite, watch, at, line);
-    watched.left(answer)
+    let mut logged = Logged::<K>::new(board, log.take());
+    let answer = engine.write(&mut logged, suite, watch, at, line);
+    logged.left(answer, log)
 }
 
 /// Recovers an engine.
@@ -147,6 +159,7 @@ pub(crate) fn recover<S: Suite, W: Watch>(
     board: &mut MemBoard,
     suite: &mut S,
     watch: &mut W,
+    log: &mut AccessLog,
 ) -> Done<Result<(TreeEngine, Work), TreeRec>>
     requires on { (memory_of board.old).powered ≡ true }
     requires usable { IsRestUsable (shape_of geo.now) (rest_of (device_during (memory_of board.old) none_taken) (W.watched watch.old)) }
@@ -155,11 +168,13 @@ pub(crate) fn recover<S: Suite, W: Watch>(
         (rest_of (device_during (memory_of board.new) result.taken) (W.watched watch.new))
         (S.digests suite.old) (S.digests suite.new) result.answer }
     ensures watched { IsWatched (memory_of board.old) (memory_of board.new) result.taken }
+    ensures logged { GoesOn log.old (memory_of board.old) log.new (memory_of board.new) }
     ensures usable { IsRestUsable (shape_of geo.now) (rest_of (device_during (memory_of board.new) result.taken) (W.watched watch.new)) }
     ensures shape { IfOk result.answer (λ made. made.0.shape ≡ shape_of geo.now) }
     ensures keys { S.keys suite.new ≡ S.keys suite.old }
+    ensures tags { S.tags suite.new ≡ S.tags suite.old }
 {
-    let left = recover_watched::<Brand, S, W>(alloc, geo, board, suite, watch);
+    let left = recover_logged::<Brand, S, W>(alloc, geo, board, suite, watch, log);
     let Left {
         board: _found,
         taken,
@@ -168,15 +183,17 @@ pub(crate) fn recover<S: Suite, W: Watch>(
     Done { taken, answer }
 }
 
-fn recover_watched<'a, K: Start, S: Suite, W: Watch>(
+fn recover_logged<'a, K: Start + Entry, S: Suite, W: Watch>(
     alloc: Global,
     geo: &Geo,
     board: &'a mut MemBoard,
     suite: &mut S,
     watch: &mut W,
+    log: &mut AccessLog,
 ) -> Left<'a, Result<(TreeEngine, Work), TreeRec>>
     requires start { memory_of board.old ≡ K.start }
     requires name { board.ghost_name ≡ K.name }
+    requires log { log.old ≡ K.log }
     requires on { (memory_of board.old).powered ≡ true }
     requires usable { IsRestUsable (shape_of geo.now) (rest_of (device_during (memory_of board.old) none_taken) (W.watched watch.old)) }
     ensures name { result.board.ghost_name ≡ K.name }
@@ -185,13 +202,15 @@ fn recover_watched<'a, K: Start, S: Suite, W: Watch>(
         (rest_of (device_during (memory_of result.board.now) result.taken) (W.watched watch.new))
         (S.digests suite.old) (S.digests suite.new) result.answer }
     ensures watched { IsWatched K.start (memory_of result.board.now) result.taken }
+    ensures logged { GoesOn K.log K.start log.new (memory_of result.board.now) }
     ensures usable { IsRestUsable (shape_of geo.now) (rest_of (device_during (memory_of result.board.now) result.taken) (W.watched watch.new)) }
     ensures shape { IfOk result.answer (λ made. made.0.shape ≡ shape_of geo.now) }
     ensures keys { S.keys suite.new ≡ S.keys suite.old }
+    ensures tags { S.tags suite.new ≡ S.tags suite.old }
 {
-    let mut watched = Watched::<K>::new(board);
-    let answer = tree_recover(alloc, geo, &mut watched, suite, watch);
-    watched.left(answer)
+    let mut logged = Logged::<K>::new(board, log.take());
+    let answer = tree_recover(alloc, geo, &mut logged, suite, watch);
+    logged.left(answer, log)
 }
 
 /// Makes the device new.

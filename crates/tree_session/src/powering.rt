@@ -1,5 +1,6 @@
 //! Power, and recovery.
 ghost use Rattle.std.specs.Prelude.{◌≡◌, IfOk, IfErr, None};
+ghost use Rattle.access_log.specs.Traced.{GoesOn};
 ghost use Rattle.tree_session.specs.declared.commands.TreeCommand.TheVariants as Do;
 ghost use Rattle.tree_session.specs.State.{tree_setup_in};
 ghost use Rattle.tree_session.specs.Answered.{IsTreeAnswered, IsTreeHalt};
@@ -7,6 +8,7 @@ ghost use Rattle.tree_session.specs.Answered.{IsTreeAnswered, IsTreeHalt};
 use crate::answers::TreeAnswer;
 use crate::calls::{self, Done};
 use crate::world::TreeWorld;
+use access_log::AccessLog;
 use asit_shadow::TreeRec;
 use std::alloc::Global;
 use suite::Suite;
@@ -36,10 +38,11 @@ impl<S: Suite + Drop> TreeWorld<S> {
     }
 
     /// Power comes on, with recovery. It stops for want of memory, or at a clash.
-    pub(crate) fn on(&mut self, alloc: Global) -> Result<TreeAnswer, Halt>
+    pub(crate) fn on(&mut self, alloc: Global, log: &mut AccessLog) -> Result<TreeAnswer, Halt>
         requires { self.old.shown ≡ None }
         ensures answered { IfOk result (λ answer. IsTreeAnswered (tree_setup_in S.formulas_of self.old) self.old Do.On answer self.new) }
         ensures halted { IfErr result (λ halt. IsTreeHalt (tree_setup_in S.formulas_of self.old) self.old Do.On halt self.new) }
+        ensures logged { GoesOn log.old self.old.plain.board log.new self.new.plain.board }
     {
         if self.engine.is_some() {
             return Ok(TreeAnswer::Already);
@@ -51,6 +54,7 @@ impl<S: Suite + Drop> TreeWorld<S> {
             &mut self.board,
             &mut self.suite,
             &mut self.watch,
+            log,
         );
         let Done { taken, answer } = done;
         let steps = taken.steps();

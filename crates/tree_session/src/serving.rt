@@ -1,6 +1,7 @@
 //! Commands on data lines.
 ghost use Rattle.std.specs.Prelude.{◌≡◌, IfOk, IfErr, IsSome, Some, None};
 ghost use Rattle.std.specs.Option.{option_map};
+ghost use Rattle.access_log.specs.Traced.{GoesOn};
 ghost use Rattle.tree_session.specs.declared.commands.TreeCommand.TheVariants as Do;
 ghost use Rattle.trace_text.specs.declared.talk.Halt.TheVariants as Stop;
 ghost use Rattle.tree_session.specs.State.{tree_setup_in};
@@ -9,6 +10,7 @@ ghost use Rattle.tree_session.specs.Answered.{IsTreeAnswered, IsTreeHalt};
 use crate::answers::TreeAnswer;
 use crate::calls;
 use crate::world::TreeWorld;
+use access_log::AccessLog;
 use asit_shadow::TreeFault;
 use counter_tree::tree_lines;
 use pmem_base::Line;
@@ -17,10 +19,16 @@ use trace_text::Halt;
 
 impl<S: Suite + Drop> TreeWorld<S> {
     /// A data line is written. It stops at a forged node.
-    pub(crate) fn write(&mut self, at: u64, line: &Line) -> Result<TreeAnswer, Halt>
+    pub(crate) fn write(
+        &mut self,
+        at: u64,
+        line: &Line,
+        log: &mut AccessLog,
+    ) -> Result<TreeAnswer, Halt>
         requires { self.old.shown ≡ None }
         ensures answered { IfOk result (λ answer. IsTreeAnswered (tree_setup_in S.formulas_of self.old) self.old (Do.Write at line.now) answer self.new) }
         ensures halted { IfErr result (λ halt. IsTreeHalt (tree_setup_in S.formulas_of self.old) self.old (Do.Write at line.now) halt self.new) }
+        ensures logged { GoesOn log.old self.old.plain.board log.new self.new.plain.board }
     {
         let Some(engine) = &mut self.engine else {
             return Ok(TreeAnswer::Off);
@@ -36,6 +44,7 @@ impl<S: Suite + Drop> TreeWorld<S> {
             &mut self.watch,
             at as u32,
             line,
+            log,
         );
         let steps = done.taken.steps();
         match done.answer {
@@ -66,10 +75,11 @@ impl<S: Suite + Drop> TreeWorld<S> {
     }
 
     /// A data line is read. It stops at a forged node or line.
-    pub(crate) fn read(&mut self, at: u64) -> Result<TreeAnswer, Halt>
+    pub(crate) fn read(&mut self, at: u64, log: &mut AccessLog) -> Result<TreeAnswer, Halt>
         requires { self.old.shown ≡ None }
         ensures answered { IfOk result (λ answer. IsTreeAnswered (tree_setup_in S.formulas_of self.old) self.old (Do.Read at) answer self.new) }
         ensures halted { IfErr result (λ halt. IsTreeHalt (tree_setup_in S.formulas_of self.old) self.old (Do.Read at) halt self.new) }
+        ensures logged { GoesOn log.old self.old.plain.board log.new self.new.plain.board }
     {
         let Some(engine) = &mut self.engine else {
             return Ok(TreeAnswer::Off);
@@ -83,6 +93,7 @@ impl<S: Suite + Drop> TreeWorld<S> {
             &mut self.suite,
             &mut self.watch,
             at as u32,
+            log,
         );
         let steps = done.taken.steps();
         match done.answer {

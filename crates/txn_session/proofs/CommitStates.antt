@@ -138,10 +138,10 @@ module _ (c : CommitCall) where
   places_now = plain_memory setup c.ledger.marks
 
   abbrev pub left : Option Store → TxnParts
-  left store = record { keys = c.before.keys; board = c.board; ledger = c.ledger; store = store; txn = None }
+  left store = record { keys = c.before.keys; tags = c.tags_new; digests = c.digests_new; board = c.board; ledger = c.ledger; store = store; txn = None }
 
   abbrev pub left_under : Option Store → TxnParts
-  left_under store = record { keys = c.keys; board = c.board; ledger = c.ledger; store = store; txn = None }
+  left_under store = record { keys = c.keys; tags = c.tags_new; digests = c.digests_new; board = c.board; ledger = c.ledger; store = store; txn = None }
 
   pub world : IsTxnWorld setup p
   world = subst (λ ledger. IsTxnWorld setup (record (c.before) { ledger = ledger })) (sym c.same_ledger) c.world
@@ -245,7 +245,7 @@ module _ (c : CommitCall) where
     module _ (limit : ℕ) (writes : List Posted) (done : AreDone setup from writes made limit to) (page : Option ℕ) (its_page : c.after.stuck ≡ page)
         (its_log : c.after.logged.items ≡ cond (nat_lt count k) (cond (k == 2 * count + 2) [] (targets_of c.entries)) []) where
       pub going_world : IsTxnWorld setup (left (Some c.after))
-      going_world = on_after setup p c.board c.ledger world logged c.after None done.live done.sound (its_log ∙ sym targets_now) tt
+      going_world = on_after setup p c.tags_new c.digests_new c.board c.ledger world logged c.after None done.live done.sound (its_log ∙ sym targets_now) tt
 
       becomes : IsTxnButForSteps
           (record (with_commit old c.entries k) { stuck = page; marks = old.marks ++ made })
@@ -293,13 +293,13 @@ module _ (c : CommitCall) where
     -- power was cut
     module _ (limit : ℕ) (writes : List Posted) (cut : AreCut setup from writes made limit to) where
       pub cut_world : IsTxnWorld setup (left None)
-      cut_world = off_after setup p c.board c.ledger world logged cut.dark cut.durable cut.small_group
+      cut_world = off_after setup p c.tags_new c.digests_new c.board c.ledger world logged cut.dark cut.durable cut.small_group
 
       pub cuts : limit ≤ step_limit → IsTxnCutOff (after_commit old c.entries writing) (steps_in c.taken) limit old (txn_of setup (left None))
       cuts small =
           cut_off setup p (left None) c.taken c.watched (after_commit old c.entries writing) limit cut.dark
           (fewer c.taken limit c.watched.follows.few cut.takes.sum) small
-          (subst (λ e. IsTxnButForSteps (record e { marks = old.marks ++ made; stuck = None; txn = None; power = false; fuse = None })
+          (subst (λ e. IsTxnButForSteps (record e { marks = old.marks ++ made; stuck = None; txn = None; board = record e.board { powered = false; fuse = None } })
           (txn_of setup (left None))) (sym (with_commit_is old c.entries k))
           (record {
             shape = refl;

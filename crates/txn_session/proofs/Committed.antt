@@ -63,7 +63,7 @@ module _ (c : CommitCall) where
   left store = state.left c store
 
   abbrev pub left_under : Option Store → TxnParts
-  left_under store = record { keys = c.keys; board = c.board; ledger = c.ledger; store = store; txn = None }
+  left_under store = record { keys = c.keys; tags = c.tags_new; digests = c.digests_new; board = c.board; ledger = c.ledger; store = store; txn = None }
 
   -- ---- as contracts write it
 

@@ -158,7 +158,7 @@ module _ (c : NewTxnCall) where
   lit = (and_parts c.middle.powered (is_none c.middle.fuse) c.formatted.steady).0
 
   abbrev pub held : Store → TxnParts
-  held store = record { keys = c.keys; board = c.board; ledger = c.ledger; store = Some store; txn = None }
+  held store = record { keys = c.keys; tags = c.tags_new; digests = c.digests_new; board = c.board; ledger = c.ledger; store = Some store; txn = None }
 
   module _ (store : Store) (line : Line) (was : HasReadLine c.setup n from (to store.engine) (Ok line)) (log : store.logged.items ≡ [])
       (unstuck : store.stuck ≡ None) where

@@ -34,7 +34,7 @@ use Rattle.watched_board.specs.Watching.{steps_in}
 use Rattle.engine_lines.specs.Writes.{Writing, read_steps}
 use Rattle.engine_lines.proofs.EngineLines.{setup_under}
 use Rattle.wear_session.proofs.Twins.{seal_twin}
-use Rattle.wear_session.proofs.Recoveries.{few_recovery, sound_recovered, cut_left, wanted_left, untouched, twin_left, twin_of_last, twin_within}
+use Rattle.wear_session.proofs.Recoveries.{few_recovery, sound_recovered, cut_left, wanted_left, untouched, twin_left, twin_of_last, twin_within, rests}
 use Rattle.engine_lines.proofs.EngineWrites.{fewer_within, memory_done, read_line, read_cut}
 use Rattle.txn_session.specs.declared.calls.StartFault.{StartFault}
 use Rattle.txn_session.specs.declared.calls.StartFault.TheVariants as Start
@@ -50,6 +50,11 @@ use Rattle.engine_lines.proofs.EngineEdits.{IsCutAt, EndsAt}
 use Rattle.txn_session.proofs.RedoLists.{none_redone, few_redone}
 use Rattle.txn_session.proofs.Starts.{OnTxnCall}
 use Rattle.txn_session.proofs.Redone as state
+
+-- parts of one session that are equal one by one
+same_parts : (a b : TxnParts) → a.tags ≡ b.tags → a.digests ≡ b.digests → a.board ≡ b.board → a.ledger ≡ b.ledger → a.store ≡ b.store → a.txn ≡ b.txn
+    → record a { keys = b.keys } ≡ b
+same_parts a b tags digests board ledger store txn = grind arith
 
 module _ (c : OnTxnCall) where
   abbrev setup : Setup
@@ -89,7 +94,7 @@ module _ (c : OnTxnCall) where
   left board store = state.left c board store
 
   abbrev pub left_under : BoardMemory → Option Store → TxnParts
-  left_under board store = record { keys = c.keys; board = board; ledger = c.ledger; store = store; txn = p.txn }
+  left_under board store = record { keys = c.keys; tags = c.suite_new.tags; digests = c.suite_new.digests; board = board; ledger = c.ledger; store = store; txn = p.txn }
 
   -- ---- the answers
 
@@ -257,21 +262,16 @@ module _ (c : OnTxnCall) where
 
   -- nothing was done, for want of memory
   recovery_wanted : (suite_between : SuiteState) → HasRecovered setup p.ledger from to c.suite_old suite_between (Err Rec.Memory)
-      → c.ledger ≡ p.ledger → OpenOutcome (Err (Start.Recovery Rec.Memory))
-  recovery_wanted suite_between it ledger =
+      → c.ledger ≡ p.ledger → c.suite_new ≡ suite_between → OpenOutcome (Err (Start.Recovery Rec.Memory))
+  recovery_wanted suite_between it ledger suite =
       let marks : c.ledger.marks ≡ p.ledger.marks = ap (λ (l : LedgerState). l.marks) ledger in
       let is = wanted_left setup p.ledger c.ledger lit c.board c.taken c.suite_old suite_between ledger (state.off c).durable (state.world c).few_armed it in
-      let still = untouched lit c.board c.taken (state.watched c) it.unchanged refl in
-      let loss : c.board.regs.loss ≡ p.board.regs.loss = is.loss in
-      let fuse : c.board.fuse ≡ p.board.fuse = still.fuse in
-      let writes : c.board.writes ≡ p.board.writes = still.writes in
-      let latches : c.board.latches ≡ p.board.latches = still.latches in
-      let cuts : c.board.cuts ≡ p.board.cuts = still.cuts in
-      let power : p.board.powered ≡ false = (state.off c).unpowered in
-      let stuck : stuck_in p.store ≡ None = ap stuck_in c.there in
-      let txn : p.txn ≡ None = (state.off c).no_txn in (
+      let board = rests p.board lit c.board refl (state.off c).unpowered (untouched lit c.board c.taken (state.watched c) it.unchanged refl) in
+      let uncounted : c.suite_new ≡ c.suite_old = suite ∙ it.uncounted in (
         state.dark_world c nothing_done (state.still_come c marks) rested refl is.durable is.few_armed,
-        cc (power, fuse, loss, marks, writes, latches, cuts, stuck, txn),
+        ap (txn_of setup)
+            (same_parts (left rested None) p (ap (λ (s : SuiteState). s.tags) uncounted ∙ c.tags_old) (ap (λ (s : SuiteState). s.digests) uncounted ∙ c.digests_old)
+            board ledger (sym c.there) (sym (state.off c).no_txn)),
       )
 
   recovery_twin : (suite_between : SuiteState) (at major low high : ℕ) (cipher : Line) (tag : List ℕ)
@@ -309,7 +309,7 @@ module _ (c : OnTxnCall) where
       go (Err Rec.Cut) it later =
           subst OpenOutcome (sym later.0) (recovery_cut (state.started c).suite_between (refused Rec.Cut it later.1) later.2)
       go (Err Rec.Memory) it later =
-          subst OpenOutcome (sym later.0) (recovery_wanted (state.started c).suite_between (refused Rec.Memory it later.1) later.2)
+          subst OpenOutcome (sym later.0) (recovery_wanted (state.started c).suite_between (refused Rec.Memory it later.1) later.2 later.3)
       go (Err (Rec.Twin at major low high cipher tag)) it later =
           subst OpenOutcome (sym later.0)
           (recovery_twin (state.started c).suite_between at major low high cipher tag (refused (Rec.Twin at major low high cipher tag) it later.1) later.2)

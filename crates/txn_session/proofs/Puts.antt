@@ -1,5 +1,5 @@
 -- A line that is put into a transaction: where it goes, and which targets the transaction has then.
-use Rattle.std.proofs.Common.{ℕ, zero, suc, ◌≡◌, ◌<◌, ◌≤◌, ◌+◌, ◌++◌, inl, inr, Bool, true, false, cond, eqb, List, [], ◌∷◌, length, drop, Option, Some, None, refl, sym, ap, subst, ◌∙◌, arith}
+use Rattle.std.proofs.Common.{ℕ, suc, ◌≡◌, ◌<◌, ◌≤◌, ◌+◌, ◌++◌, inl, inr, Bool, true, false, cond, [], ◌∷◌, length, drop, Option, Some, None, refl, sym, ap, subst, ◌∙◌, arith}
 use Rattle.std.specs.Prelude.{◌≢◌, All, is_some, not, nat_lt, slice_set, ◌==◌}
 use Rattle.std.specs.List.{position_or_len, position_from, refill}
 use Rattle.std.proofs.lemmas.Iterator.Adapters.{position_from-zero}
@@ -10,7 +10,7 @@ use Rattle.std.proofs.lemmas.List.Elements.{All-nil, All-cons, All-push}
 use Rattle.std.proofs.lemmas.List.Quantifiers.{all_pairs_push}
 use Rattle.std.proofs.lemmas.List.Recursion.{is_position_or_len}
 use Rattle.pmem_base.specs.declared.lines.Line.{Line}
-use Rattle.line_txn.specs.Header.{AreDistinctBelow, AreTargets}
+use Rattle.line_txn.specs.Header.{AreTargets}
 use Rattle.line_txn.specs.Logged.{targets_of}
 use Rattle.suite.specs.Setup.{Setup}
 use Rattle.line_txn.specs.Store.{logged_lines}

@@ -102,10 +102,10 @@ module _ (c : ReadTxnCall) where
   to = parts_of c.after.engine (device_during c.board c.taken) c.ledger c.tags_new c.digests_new
 
   abbrev left : Option Store → Option Entries → TxnParts
-  left store txn = record { keys = p.keys; board = c.board; ledger = c.ledger; store = store; txn = txn }
+  left store txn = record { keys = p.keys; tags = c.tags_new; digests = c.digests_new; board = c.board; ledger = c.ledger; store = store; txn = txn }
 
   abbrev pub left_under : Option Store → Option Entries → TxnParts
-  left_under store txn = record { keys = c.keys; board = c.board; ledger = c.ledger; store = store; txn = txn }
+  left_under store txn = record { keys = c.keys; tags = c.tags_new; digests = c.digests_new; board = c.board; ledger = c.ledger; store = store; txn = txn }
 
   on : IsStoreOn setup p c.store
   on = on_in setup p c.store c.world c.there
@@ -174,7 +174,7 @@ module _ (c : ReadTxnCall) where
 
     on_world : IsTxnWorld setup (left (Some c.after) p.txn)
     on_world =
-        on_after setup p c.board c.ledger c.world (logged marks_on) c.after p.txn powered (done.gone.sound on.sound)
+        on_after setup p c.tags_new c.digests_new c.board c.ledger c.world (logged marks_on) c.after p.txn powered (done.gone.sound on.sound)
         (c.served_as.its_targets ∙ on.its_log ∙ sym (same_targets marks_on))
         (subst (λ s. IsOpenTxn setup s p.txn) (sym c.served_as.its_page) on.its_txn)
 
@@ -223,7 +223,7 @@ module _ (c : ReadTxnCall) where
 
     off_world : IsTxnWorld setup (left None None)
     off_world =
-        off_after setup p c.board c.ledger c.world (logged marks_off) off (cut_done.gone.sound on.sound)
+        off_after setup p c.tags_new c.digests_new c.board c.ledger c.world (logged marks_off) off (cut_done.gone.sound on.sound)
         (cut_done.gone.small_group on.sound.trusted.no_group)
 
     pub cut_held : IsTxnWorld (setup_under c.formulas_of c.geometry c.keys) (left_under None None)

@@ -94,10 +94,10 @@ module _ (c : OnTxnCall) where
   most = txn_most_of_on old
 
   abbrev pub left : BoardMemory → Option Store → TxnParts
-  left board store = record { keys = p.keys; board = board; ledger = c.ledger; store = store; txn = None }
+  left board store = record { keys = p.keys; tags = c.suite_new.tags; digests = c.suite_new.digests; board = board; ledger = c.ledger; store = store; txn = None }
 
   abbrev pub left_under : BoardMemory → Option Store → TxnParts
-  left_under board store = record { keys = c.keys; board = board; ledger = c.ledger; store = store; txn = p.txn }
+  left_under board store = record { keys = c.keys; tags = c.suite_new.tags; digests = c.suite_new.digests; board = board; ledger = c.ledger; store = store; txn = p.txn }
 
   pub world : IsTxnWorld setup p
   world = subst (λ ledger. IsTxnWorld setup (record (c.before) { ledger = ledger })) (sym c.same_ledger) c.world
@@ -191,7 +191,7 @@ module _ (c : OnTxnCall) where
   module _ (writing : Writing) (come : HasTxnCome writing) where
     pub dark_world : (board : BoardMemory) → board.powered ≡ false → IsDurable setup board.lines board.regs c.ledger
         → length board.regs.group.items ≤ 3 → IsTxnWorld setup (left board None)
-    dark_world board dark durable few = off_after setup p board c.ledger world come.logged dark durable few
+    dark_world board dark durable few = off_after setup p c.suite_new.tags c.suite_new.digests board c.ledger world come.logged dark durable few
 
     -- power was cut
     pub cut_seen : IsCutAmong setup.formulas start queue writing → c.board.powered ≡ false → c.board.regs.loss ≡ p.board.regs.loss
@@ -251,7 +251,7 @@ module _ (c : OnTxnCall) where
 
     pub lit_world : (store : Store) → c.board.powered ≡ true → IsSound setup store.engine c.board.lines c.board.regs c.ledger
         → store.logged.items ≡ cond (nat_lt (length targets) writing.done) [] targets → IsTxnWorld setup (left c.board (Some store))
-    lit_world store powered sound log = on_after setup p c.board c.ledger world come.logged store None powered sound (log ∙ sym come.in_force) tt
+    lit_world store powered sound log = on_after setup p c.suite_new.tags c.suite_new.digests c.board c.ledger world come.logged store None powered sound (log ∙ sym come.in_force) tt
 
   -- ---- recovery is done
 

@@ -16,7 +16,7 @@ use Rattle.txn_session.specs.Answered.{of_open, txn_of_line, committed, held, li
 
 -- ---- where the state decides nothing
 
-pub read_undecided : (state : TxnState) (a : ℕ) → state.power ≡ true → a < txn_lines_in state → line_held state a ≡ None
+pub read_undecided : (state : TxnState) (a : ℕ) → state.board.powered ≡ true → a < txn_lines_in state → line_held state a ≡ None
     → txn_decided state (Do.Read a) ≡ None
 read_undecided state a lit low none =
     ap (λ b. if b then txn_of_line state a (held (line_held state a)) else Some Say.Off) lit
@@ -27,13 +27,13 @@ uncommitted : (entries : Entries) → (entries ≡ [] → ⊥) → committed ent
 uncommitted [] some = absurd (some refl)
 uncommitted (entry ∷ entries) some = refl
 
-pub commit_undecided : (state : TxnState) (entries : Entries) → state.power ≡ true → state.txn ≡ Some entries → (entries ≡ [] → ⊥)
+pub commit_undecided : (state : TxnState) (entries : Entries) → state.board.powered ≡ true → state.txn ≡ Some entries → (entries ≡ [] → ⊥)
     → txn_decided state Do.Commit ≡ None
 commit_undecided state entries lit there some =
     ap (λ b. if b then of_open state.txn committed else Some Say.Off) lit
     ∙ ap (λ txn. of_open txn committed) there ∙ uncommitted entries some
 
-pub on_undecided : (state : TxnState) → state.power ≡ false → txn_decided state Do.On ≡ None
+pub on_undecided : (state : TxnState) → state.board.powered ≡ false → txn_decided state Do.On ≡ None
 on_undecided state dark = ap (λ b. if b then Some Say.Already else None) dark
 
 -- the engine does

@@ -1,5 +1,5 @@
 -- What the answers of a session promise: of one answer, and of each chain of them.
-use Rattle.std.proofs.Common.{ℕ, zero, suc, ◌≡◌, ◌<◌, ◌≤◌, ◌+◌, ◌*◌, ◌++◌, Bool, true, false, List, [], ◌∷◌, length, Option, Some, None, refl, sym, ap, subst, ◌∙◌, arith}
+use Rattle.std.proofs.Common.{ℕ, ◌≡◌, ◌<◌, ◌≤◌, ◌+◌, ◌*◌, Bool, true, false, List, [], ◌∷◌, length, Option, Some, None, refl, sym, ap, subst, ◌∙◌, arith}
 use Rattle.std.specs.Prelude.{All, nat_lt, replicate, unwrap_or, MatchOption, ◌==◌, if◌then◌else◌}
 use Rattle.std.proofs.lemmas.Bool.{lt-ltb, le-ltb}
 use Rattle.std.proofs.lemmas.List.Elements.{All-nil, All-cons}
@@ -314,15 +314,15 @@ commit_step setup old answer new false txn e it =
 
 step : (setup : Setup) (old : TxnState) (command : TxnCommand) (answer : TxnAnswer) (new : TxnState) → IsTxnAnswered setup old command answer new
     → TxnStep old command answer new
-step setup old Do.Begin answer new it = begin_step old setup answer new old.power it
-step setup old (Do.Put a line) answer new it = put_step old setup a line answer new old.power old.txn it
-step setup old Do.Commit answer new it = commit_step setup old answer new old.power old.txn refl it
-step setup old Do.Abort answer new it = abort_step old setup answer new old.power old.txn it
-step setup old (Do.Read a) answer new it = read_step old setup a answer new old.power it
+step setup old Do.Begin answer new it = begin_step old setup answer new old.board.powered it
+step setup old (Do.Put a line) answer new it = put_step old setup a line answer new old.board.powered old.txn it
+step setup old Do.Commit answer new it = commit_step setup old answer new old.board.powered old.txn refl it
+step setup old Do.Abort answer new it = abort_step old setup answer new old.board.powered old.txn it
+step setup old (Do.Read a) answer new it = read_step old setup a answer new old.board.powered it
 step setup old (Do.Cut n) answer new it =
     fixed_step old (Do.Cut n) Say.Ok answer new it.0 it.1 (record { seen = refl; its_stuck = refl; read = tt; mended = tt; refused = tt })
-step setup old Do.Off answer new it = off_step old setup answer new old.power it
-step setup old Do.On answer new it = on_step old setup answer new old.power it
+step setup old Do.Off answer new it = off_step old setup answer new old.board.powered it
+step setup old Do.On answer new it = on_step old setup answer new old.board.powered it
 
 -- ---- a chain of answers
 
@@ -395,8 +395,8 @@ module _ (setup : Setup) (first next : TxnState) where
 
   spent_answer : (command : TxnCommand) (answer : TxnAnswer) → IsTxnAnswered setup first command answer next
       → IsTxnSpentAnswer setup first command answer next
-  spent_answer Do.Commit answer it = by_txn answer first.power first.txn it
-  spent_answer Do.On answer it = by_power answer first.power it
+  spent_answer Do.Commit answer it = by_txn answer first.board.powered first.txn it
+  spent_answer Do.On answer it = by_power answer first.board.powered it
   spent_answer command answer it = tt
 
 all_spent : (setup : Setup) (first last : TxnState) (replies : List TxnReply) → AreTxnAnswered setup first replies last

@@ -99,6 +99,8 @@ pub record OnTxnCall : Type 0 where
   pub taken : Taken
   pub watched : IsWatched lit board taken
   pub suite_old : SuiteState
+  pub tags_old : suite_old.tags ≡ before.tags
+  pub digests_old : suite_old.digests ≡ before.digests
   pub suite_new : SuiteState
   pub said : ℕ
   pub counted : said ≡ steps_in taken

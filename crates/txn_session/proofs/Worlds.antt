@@ -125,21 +125,21 @@ on_of setup parts store there shape formulas logged powered sound log txn =
       chip = subst (λ s. IsStoredBy setup parts s) (sym there) chip;
     }
 
-module _ (setup : Setup) (p : TxnParts) (board : BoardMemory) (ledger : LedgerState) (world : IsTxnWorld setup p)
+module _ (setup : Setup) (p : TxnParts) (tags digests : ℕ) (board : BoardMemory) (ledger : LedgerState) (world : IsTxnWorld setup p)
     (logged :
     IsLogged (logged_lines setup.shape) (plain_memory setup ledger.marks) (targets_in_force setup (plain_memory setup ledger.marks))
     (redone_memory setup (plain_memory setup ledger.marks))) where
   -- after a call with power on
   pub on_after : (after : Store) (txn : Option Entries) → board.powered ≡ true → IsSound setup after.engine board.lines board.regs ledger
       → after.logged.items ≡ targets_in_force setup (plain_memory setup ledger.marks) → IsOpenTxn setup after.stuck txn
-      → IsTxnWorld setup (record { keys = p.keys; board = board; ledger = ledger; store = Some after; txn = txn })
+      → IsTxnWorld setup (record { keys = p.keys; tags = tags; digests = digests; board = board; ledger = ledger; store = Some after; txn = txn })
   on_after after txn powered sound log its_txn =
-      on_of setup (record { keys = p.keys; board = board; ledger = ledger; store = Some after; txn = txn }) after refl world.whole_shape
+      on_of setup (record { keys = p.keys; tags = tags; digests = digests; board = board; ledger = ledger; store = Some after; txn = txn }) after refl world.whole_shape
       world.whole_formulas logged powered sound log its_txn
 
   -- with power off, where the device is durable
   pub off_after : board.powered ≡ false → IsDurable setup board.lines board.regs ledger → length board.regs.group.items ≤ 3
-      → IsTxnWorld setup (record { keys = p.keys; board = board; ledger = ledger; store = None; txn = None })
+      → IsTxnWorld setup (record { keys = p.keys; tags = tags; digests = digests; board = board; ledger = ledger; store = None; txn = None })
   off_after unpowered durable few =
       let anchored = durable.mendable.anchored in
       record {

@@ -34,7 +34,7 @@ use Rattle.txn_session.specs.State.{TxnState, Entries, txn_lines_in, txn_view_in
 
 -- the answer, where power is on
 abbrev pub of_power : TxnState → Option TxnAnswer → Option TxnAnswer
-of_power state answer = if state.power then answer else Some Say.Off
+of_power state answer = if state.board.powered then answer else Some Say.Off
 
 -- the answer, where there is such a line
 abbrev pub txn_of_line : TxnState → ℕ → Option TxnAnswer → Option TxnAnswer
@@ -81,7 +81,7 @@ txn_decided state Do.Abort = of_power state (of_open state.txn (λ entries. Some
 txn_decided state (Do.Read a) = of_power state (txn_of_line state a (held (line_held state a)))
 txn_decided state (Do.Cut n) = Some Say.Ok
 txn_decided state Do.Off = of_power state (Some Say.Ok)
-txn_decided state Do.On = if state.power then Some Say.Already else None
+txn_decided state Do.On = if state.board.powered then Some Say.Already else None
 
 -- the state after such an answer
 abbrev pub txn_after_decided : TxnState → TxnCommand → TxnAnswer → TxnState
@@ -90,13 +90,13 @@ txn_after_decided state (Do.Put a line) Say.Ok =
     record state { txn = option_map (λ entries. with_put_line entries a line) state.txn }
 txn_after_decided state Do.Commit (Say.Applied steps) = record state { txn = None }
 txn_after_decided state Do.Abort Say.Ok = record state { txn = None }
-txn_after_decided state (Do.Cut n) answer = record state { fuse = Some n }
+txn_after_decided state (Do.Cut n) answer = record state { board = record state.board { fuse = Some n } }
 txn_after_decided state Do.Off Say.Ok = txn_without_power state
 txn_after_decided state command answer = state
 
 -- ---- steps
 
--- a state that is another but for the fuse and the board's counts
+-- a state that is another but for the fuse, and for what steps and reads change and count
 pub record IsTxnButForSteps (expected new : TxnState) : Type 0 where
   pub shape : new.shape ≡ expected.shape
   pub keys : new.keys ≡ expected.keys
@@ -104,23 +104,23 @@ pub record IsTxnButForSteps (expected new : TxnState) : Type 0 where
   pub in_force : new.in_force ≡ expected.in_force
   pub stuck : new.stuck ≡ expected.stuck
   pub txn : new.txn ≡ expected.txn
-  pub power : new.power ≡ expected.power
-  pub loss : new.loss ≡ expected.loss
+  pub power : new.board.powered ≡ expected.board.powered
+  pub loss : new.board.regs.loss ≡ expected.board.regs.loss
   pub marks : new.marks ≡ expected.marks
 
 -- steps were done, at most `most` and no more than the fuse had left, and nothing was cut
 pub record GoesToTxnState (expected : TxnState) (steps most : ℕ) (old new : TxnState) : Type 0 where
   pub becomes : IsTxnButForSteps expected new
-  pub rises : RisesBySteps steps old.writes old.latches new.writes new.latches
+  pub rises : RisesBySteps steps old.board.writes old.board.latches new.board.writes new.board.latches
   pub few : steps ≤ most
-  pub fuse : HasBurnt steps old.fuse new.fuse old.cuts new.cuts
+  pub fuse : HasBurnt steps old.board.fuse new.board.fuse old.board.cuts new.board.cuts
 
 -- power was cut with the fuse used up, after fewer than `most` steps
 pub record IsTxnCutOff (expected : TxnState) (steps most : ℕ) (old new : TxnState) : Type 0 where
   pub becomes : IsTxnButForSteps (txn_without_power expected) new
-  pub rises : RisesBySteps steps old.writes old.latches new.writes new.latches
+  pub rises : RisesBySteps steps old.board.writes old.board.latches new.board.writes new.board.latches
   pub below : steps < most
-  pub fuse : HasRunOut steps old.fuse new.fuse old.cuts new.cuts
+  pub fuse : HasRunOut steps old.board.fuse new.board.fuse old.board.cuts new.board.cuts
 
 -- the most steps of a commit of so many lines
 abbrev pub most_of_commit : Shape → ℕ → ℕ
@@ -206,7 +206,10 @@ IsRedoing f now writes writing answer = ⊥
 -- the state that so many done writes of a redo leave, with power on
 abbrev pub after_redo : TxnState → Writing → TxnState
 after_redo old writing =
-    record (with_redo old writing.done) { power = true; marks = old.marks ++ writing.made }
+    record (with_redo old writing.done) {
+      board = record old.board { powered = true };
+      marks = old.marks ++ writing.made;
+    }
 
 abbrev pub EndsRedo : TxnState → TxnAnswer → TxnState → TxnState → Type 0
 EndsRedo expected (Say.Opened redone steps) old new =
@@ -247,9 +250,9 @@ IsTxnAnswered setup old command answer new =
 -- an exhibit comes of recovery alone: a twin that holds, of the last seal of one of the data lines
 abbrev pub IsTxnShownBy : Setup → TxnState → TxnCommand → Exhibit → Type 0
 IsTxnShownBy setup old Do.On (Twin at major low high cipher tag) =
-    (old.power ≡ false) × (at < data_lines setup.shape)
+    (old.board.powered ≡ false) × (at < data_lines setup.shape)
     × IsExhibit setup.formulas (Twin at major low high cipher tag)
-    × IsTwinOfSeal setup (txn_places_in setup old) old.loss (txn_view_in old) at major low high cipher tag
+    × IsTwinOfSeal setup (txn_places_in setup old) old.board.regs.loss (txn_view_in old) at major low high cipher tag
 IsTxnShownBy setup old command exhibit = ⊥
 
 -- whether a command may want memory

@@ -1,6 +1,6 @@
 -- The state of a session of transactions, which is plain data, and what it says of the memory.
-use Rattle.std.specs.Prelude.{ℕ, ◌≡◌, ◌≤◌, ◌<◌, ◌+◌, ◌*◌, ◌==◌, nat_lt, Bool, true, false, List, [], ◌∷◌, ◌++◌, length, map, replicate, take, drop, Option, Some, None, slice_index_or, if◌then◌else◌}
-use Rattle.std.specs.List.{range_with_len, zip}
+use Rattle.std.specs.Prelude.{ℕ, ◌≡◌, ◌+◌, ◌*◌, ◌==◌, nat_lt, true, false, List, [], ◌∷◌, ◌++◌, length, map, replicate, Option, Some, None, if◌then◌else◌}
+use Rattle.std.specs.List.{range_with_len}
 use Rattle.pmem_base.specs.declared.lines.Line.{Line}
 use Rattle.pmem_base.specs.declared.commands.Posted.{Posted}
 use Rattle.pmem_base.specs.declared.answers.Mark.{Mark}
@@ -8,6 +8,7 @@ use Rattle.pmem_base.specs.Shape.{Shape}
 use Rattle.pmem_base.specs.Layout as layout
 use Rattle.pmem_base.specs.Lines.{put_lines, zero_line}
 use Rattle.board.specs.Counts.{RisesBy}
+use Rattle.board.specs.Memory.{BoardMemory}
 use Rattle.suite.specs.Formulas.{Formulas}
 use Rattle.suite.specs.Setup.{Setup}
 use Rattle.plain_model.specs.State.{Memory}
@@ -34,17 +35,13 @@ pub record TxnState : Type 0 where
   pub stuck : Option ℕ
   -- the open transaction; none without power
   pub txn : Option Entries
-  -- the board's power, and how many more persist steps are done before power is cut, where a cut is set
-  pub power : Bool
-  pub fuse : Option ℕ
-  -- the stop-loss number in the registers
-  pub loss : ℕ
+  -- the device with its registers, its power, a cut that is set, and its counts
+  pub board : BoardMemory
   -- all marks in order, those of formatting first
   pub marks : List Mark
-  -- the board's counts of line writes, latches and cuts
-  pub writes : ℕ
-  pub latches : ℕ
-  pub cuts : ℕ
+  -- how many tags and digests were made
+  pub tags : ℕ
+  pub digests : ℕ
 
 -- ---- what it says
 
@@ -108,7 +105,8 @@ redo_writes n (target ∷ targets) places =
 -- ---- the state after
 
 abbrev pub txn_without_power : TxnState → TxnState
-txn_without_power state = record state { stuck = None; txn = None; power = false; fuse = None }
+txn_without_power state =
+    record state { stuck = None; txn = None; board = record state.board { powered = false; fuse = None } }
 
 -- So many of a commit's writes were done. With the header, which comes after the bodies, the transaction is in
 -- memory and in force; with the last one it is in force no more.
@@ -137,10 +135,10 @@ pub record IsNewTxn (setup : Setup) (state : TxnState) : Type 0 where
   pub in_force : state.in_force ≡ []
   pub stuck : state.stuck ≡ None
   pub txn : state.txn ≡ None
-  pub power : state.power ≡ true
-  pub fuse : state.fuse ≡ None
-  pub loss : state.loss ≡ setup.shape.loss
+  pub power : state.board.powered ≡ true
+  pub fuse : state.board.fuse ≡ None
+  pub loss : state.board.regs.loss ≡ setup.shape.loss
   pub marks : state.marks ≡ map (first_seal setup) (range_with_len 0 (layout.data_lines setup.shape))
-  pub writes : RisesBy (layout.device_lines setup.shape) 0 state.writes
-  pub latches : RisesBy 1 0 state.latches
-  pub cuts : state.cuts ≡ 0
+  pub writes : RisesBy (layout.device_lines setup.shape) 0 state.board.writes
+  pub latches : RisesBy 1 0 state.board.latches
+  pub cuts : state.board.cuts ≡ 0

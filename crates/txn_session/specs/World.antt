@@ -1,9 +1,8 @@
 -- The state of a session made from the parts that it keeps, and what always holds of these.
-use Rattle.std.specs.Prelude.{ℕ, ◌≡◌, ◌≤◌, ◌+◌, true, false, List, [], take, length, is_none, Option, Some, None, slice_index, IfSome, IsTrue, MatchOption}
-use Rattle.pmem_base.specs.declared.lines.Line.{Line}
+use Rattle.std.specs.Prelude.{ℕ, ◌≡◌, ◌≤◌, true, false, List, length, is_none, Option, Some, None, slice_index, IfSome, IsTrue}
 use Rattle.pmem_base.specs.Shape.{IsShape}
 use Rattle.pmem_base.specs.Layout as layout
-use Rattle.pmem_base.specs.Lines.{IsLine, line_at}
+use Rattle.pmem_base.specs.Lines.{line_at}
 use Rattle.pmem_base.specs.Registers.{IsValidRegs}
 use Rattle.board.specs.Device.{AreLinesOf}
 use Rattle.board.specs.Memory.{BoardMemory, device_of}
@@ -37,6 +36,8 @@ redone_memory setup places =
 -- what the program keeps of a session beside the geometry
 pub record TxnParts : Type 0 where
   pub keys : List ℕ
+  pub tags : ℕ
+  pub digests : ℕ
   pub board : BoardMemory
   pub ledger : LedgerState
   pub store : Option Store
@@ -57,13 +58,10 @@ txn_of setup parts =
       in_force = targets_in_force setup places;
       stuck = stuck_in parts.store;
       txn = parts.txn;
-      power = parts.board.powered;
-      fuse = parts.board.fuse;
-      loss = parts.board.regs.loss;
+      board = parts.board;
       marks = parts.ledger.marks;
-      writes = parts.board.writes;
-      latches = parts.board.latches;
-      cuts = parts.board.cuts;
+      tags = parts.tags;
+      digests = parts.digests;
     }
 
 -- ---- what it always holds

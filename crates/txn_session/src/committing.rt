@@ -1,6 +1,7 @@
 //! The open transaction, and its commit.
 ghost use Rattle.std.specs.Prelude.{◌≡◌, ◌<◌, ◌==◌, not, length, IfSome, IfOk, OnErr, true, false};
 ghost use Rattle.std.specs.List.{list_any, position_from};
+ghost use Rattle.access_log.specs.Traced.{GoesOn};
 ghost use Rattle.txn_session.specs.declared.commands.TxnCommand.TheVariants as Do;
 ghost use Rattle.txn_session.specs.State.{txn_setup_in, with_put_line};
 ghost use Rattle.engine_lines.specs.Writes.{is_own_seal};
@@ -9,6 +10,7 @@ ghost use Rattle.txn_session.specs.Answered.{IsTxnAnswered, is_txn_full, IsTxnMe
 use crate::answers::TxnAnswer;
 use crate::calls;
 use crate::world::TxnWorld;
+use access_log::AccessLog;
 use arrayvec::ArrayVec;
 use line_txn::{CommitFault, Done};
 use pmem_base::{Line, Mark, MemFault};
@@ -120,10 +122,11 @@ impl<S: Suite + Drop> TxnWorld<S> {
     }
 
     /// The open transaction is written. The one error is want of memory.
-    pub(crate) fn commit(&mut self) -> Result<TxnAnswer, MemFault>
+    pub(crate) fn commit(&mut self, log: &mut AccessLog) -> Result<TxnAnswer, MemFault>
         ensures answered { IfOk result (λ answer. IsTxnAnswered (txn_setup_in S.formulas_of self.old) self.old Do.Commit answer self.new) }
         ensures err { OnErr result (self.new ≡ self.old) }
         ensures wanting { OnErr result (IsTxnMemoryWanted self.old Do.Commit) }
+        ensures logged { GoesOn log.old self.old.board log.new self.new.board }
     {
         let Some(store) = &mut self.store else {
             return Ok(TxnAnswer::Off);
@@ -144,6 +147,7 @@ impl<S: Suite + Drop> TxnWorld<S> {
             &mut self.suite,
             &mut self.ledger,
             txn,
+            log,
         );
         self.txn = None;
         let steps = done.taken.steps();

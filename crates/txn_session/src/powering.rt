@@ -1,5 +1,6 @@
 //! Power, and recovery.
 ghost use Rattle.std.specs.Prelude.{◌≡◌, IfOk, IfErr};
+ghost use Rattle.access_log.specs.Traced.{GoesOn};
 ghost use Rattle.txn_session.specs.declared.commands.TxnCommand.TheVariants as Do;
 ghost use Rattle.txn_session.specs.State.{txn_setup_in};
 ghost use Rattle.txn_session.specs.Answered.{IsTxnAnswered, IsTxnHalt};
@@ -7,6 +8,7 @@ ghost use Rattle.txn_session.specs.Answered.{IsTxnAnswered, IsTxnHalt};
 use crate::answers::TxnAnswer;
 use crate::calls::{self, StartFault};
 use crate::world::{OPENING_MARKS, TxnWorld};
+use access_log::AccessLog;
 use line_txn::TxnFault;
 use pmem_base::{Exhibit, MemFault};
 use pmem_engine::Fault;
@@ -40,9 +42,10 @@ impl<S: Suite + Drop> TxnWorld<S> {
 
     /// Power comes on, with recovery, and the transaction in force is redone. It stops for want of memory, or at
     /// a twin.
-    pub(crate) fn on(&mut self, alloc: Global) -> Result<TxnAnswer, Halt>
+    pub(crate) fn on(&mut self, alloc: Global, log: &mut AccessLog) -> Result<TxnAnswer, Halt>
         ensures answered { IfOk result (λ answer. IsTxnAnswered (txn_setup_in S.formulas_of self.old) self.old Do.On answer self.new) }
         ensures halted { IfErr result (λ halt. IsTxnHalt (txn_setup_in S.formulas_of self.old) self.old Do.On halt self.new) }
+        ensures logged { GoesOn log.old self.old.board log.new self.new.board }
     {
         if self.store.is_some() {
             return Ok(TxnAnswer::Already);
@@ -57,6 +60,7 @@ impl<S: Suite + Drop> TxnWorld<S> {
             &mut self.board,
             &mut self.suite,
             &mut self.ledger,
+            log,
         );
         let steps = done.taken.steps();
         match done.answer {

@@ -1,5 +1,6 @@
 //! Reads.
 ghost use Rattle.std.specs.Prelude.{◌≡◌, [], option_map, unwrap_or};
+ghost use Rattle.access_log.specs.Traced.{GoesOn};
 ghost use Rattle.txn_session.specs.declared.commands.TxnCommand.TheVariants as Do;
 ghost use Rattle.txn_session.specs.State.{txn_setup_in, entry_in};
 ghost use Rattle.txn_session.specs.Answered.{IsTxnAnswered};
@@ -7,6 +8,7 @@ ghost use Rattle.txn_session.specs.Answered.{IsTxnAnswered};
 use crate::answers::TxnAnswer;
 use crate::calls;
 use crate::world::TxnWorld;
+use access_log::AccessLog;
 use arrayvec::ArrayVec;
 use pmem_base::Line;
 use pmem_engine::Fault;
@@ -36,8 +38,9 @@ fn line_held(txn: &Option<ArrayVec<(u32, Line), 15>>, at: u32) -> Option<Line>
 
 impl<S: Suite + Drop> TxnWorld<S> {
     /// A data line is read: as the open transaction has it, where that holds it.
-    pub(crate) fn read(&mut self, at: u64) -> TxnAnswer
-        ensures { IsTxnAnswered (txn_setup_in S.formulas_of self.old) self.old (Do.Read at) result self.new }
+    pub(crate) fn read(&mut self, at: u64, log: &mut AccessLog) -> TxnAnswer
+        ensures answered { IsTxnAnswered (txn_setup_in S.formulas_of self.old) self.old (Do.Read at) result self.new }
+        ensures logged { GoesOn log.old self.old.board log.new self.new.board }
     {
         let Some(store) = &mut self.store else {
             return TxnAnswer::Off;
@@ -54,6 +57,7 @@ impl<S: Suite + Drop> TxnWorld<S> {
             &mut self.suite,
             &mut self.ledger,
             at as u32,
+            log,
         );
         let steps = done.taken.steps();
         match done.answer {

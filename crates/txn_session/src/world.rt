@@ -40,6 +40,8 @@ impl<S: Suite + Drop> Model for TxnWorld<S> {
     ghost view = { λ w. txn_of (record { shape = shape_of w.geo; formulas = S.formulas_of (S.keys w.suite) })
         (record {
           keys = S.keys w.suite;
+          tags = S.tags w.suite;
+          digests = S.digests w.suite;
           board = memory_of w.board;
           ledger = ledger_of w.ledger;
           store = w.store;
@@ -49,6 +51,8 @@ impl<S: Suite + Drop> Model for TxnWorld<S> {
     ghost invariant = { λ w. IsTxnWorld (record { shape = shape_of w.geo; formulas = S.formulas_of (S.keys w.suite) })
         (record {
           keys = S.keys w.suite;
+          tags = S.tags w.suite;
+          digests = S.digests w.suite;
           board = memory_of w.board;
           ledger = ledger_of w.ledger;
           store = w.store;

@@ -154,7 +154,7 @@ module _ (c : NewWearCall) where
   lit = (and_parts c.middle.powered (is_none c.middle.fuse) c.formatted.steady).0
 
   abbrev pub held : Gapped → WearParts
-  held gapped = record { keys = c.keys; every = c.every; board = c.board; ledger = c.ledger; gapped = Some gapped }
+  held gapped = record { keys = c.keys; tags = c.tags_new; digests = c.digests_new; every = c.every; board = c.board; ledger = c.ledger; gapped = Some gapped }
 
   module _ (gapped : Gapped) (line : Line) (read : HasReadRecord c.setup c.every line from (to gapped.engine) gapped) where
     was : HasReadLine c.setup (n + 1) from (to gapped.engine) (Ok line)

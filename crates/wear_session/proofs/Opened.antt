@@ -50,7 +50,12 @@ use Rattle.engine_lines.proofs.EngineWrites.{fewer_within, AreDone, read_line, r
 use Rattle.wear_session.proofs.Seen.{served, seen_from, held_under}
 use Rattle.wear_session.proofs.Starts.{OnWearCall, few_of_on}
 use Rattle.wear_session.proofs.Twins.{seal_twin}
-use Rattle.wear_session.proofs.Recoveries.{few_recovery, recovered, sound_recovered, cut_left, wanted_left, untouched, twin_left, twin_of_last, twin_within}
+use Rattle.wear_session.proofs.Recoveries.{few_recovery, recovered, sound_recovered, cut_left, wanted_left, untouched, rests, twin_left, twin_of_last, twin_within}
+
+-- parts of one session that are equal one by one
+same_parts : (a b : WearParts) → a.tags ≡ b.tags → a.digests ≡ b.digests → a.board ≡ b.board → a.ledger ≡ b.ledger → a.gapped ≡ b.gapped
+    → record a { keys = b.keys; every = b.every } ≡ b
+same_parts a b tags digests board ledger gapped = grind arith
 
 module _ (c : OnWearCall) where
   abbrev setup : Setup
@@ -75,10 +80,10 @@ module _ (c : OnWearCall) where
   most = recovery_bound c.geometry + read_steps c.geometry
 
   abbrev left : BoardMemory → Option Gapped → WearParts
-  left board gapped = record { keys = p.keys; every = p.every; board = board; ledger = c.ledger; gapped = gapped }
+  left board gapped = record { keys = p.keys; tags = c.suite_new.tags; digests = c.suite_new.digests; every = p.every; board = board; ledger = c.ledger; gapped = gapped }
 
   abbrev pub left_under : BoardMemory → Option Gapped → WearParts
-  left_under board gapped = record { keys = c.keys; every = p.every; board = board; ledger = c.ledger; gapped = gapped }
+  left_under board gapped = record { keys = c.keys; tags = c.suite_new.tags; digests = c.suite_new.digests; every = p.every; board = board; ledger = c.ledger; gapped = gapped }
 
   off : IsLevelledOff setup p
   off = subst (λ g. IsLevelledBy setup p g) c.there c.world.chip
@@ -116,7 +121,7 @@ module _ (c : OnWearCall) where
 
     dark_world : (board : BoardMemory) → board.powered ≡ false → IsDurable setup board.lines board.regs c.ledger
         → length board.regs.group.items ≤ 3 → IsWearWorld setup (left board None)
-    dark_world board dark durable few = off_after setup p board c.ledger c.world levelled dark durable few
+    dark_world board dark durable few = off_after setup p c.suite_new.tags c.suite_new.digests board c.ledger c.world levelled dark durable few
 
     -- power was cut
     cut_seen : c.board.powered ≡ false → c.board.regs.loss ≡ p.board.regs.loss → TakesFewer most from to
@@ -259,7 +264,7 @@ module _ (c : OnWearCall) where
         same_Some gapped.wear old.wear
         (sym read.its_wear ∙ ap (λ n. recorded n line) read.its_lines ∙ record_read between suite_between engine work it (parts_to gapped.engine) line was) in
         exit_of c.board (Some gapped) (Say.Opened gapped.wear.start gapped.wear.gap (steps_in c.taken))
-        (on_after setup p c.board c.ledger c.world (levelled marks) gapped done.live done.sound read.its_every (its_wear ∙ sym (same_wear marks)))
+        (on_after setup p c.suite_new.tags c.suite_new.digests c.board c.ledger c.world (levelled marks) gapped done.live done.sound read.its_every (its_wear ∙ sym (same_wear marks)))
         (open_seen marks gapped done.live done.loss done.takes read.no_writes its_wear)
 
     read_cut_exit : (dropped : EngineState)
@@ -299,20 +304,16 @@ module _ (c : OnWearCall) where
 
   -- nothing was done, for want of memory
   recovery_wanted : (suite_between : SuiteState) → HasRecovered setup p.ledger from to c.suite_old suite_between (Err Rec.Memory)
-      → c.ledger ≡ p.ledger → WearOutcome (Err (Start.Recovery Rec.Memory))
-  recovery_wanted suite_between it ledger =
+      → c.ledger ≡ p.ledger → c.suite_new ≡ suite_between → WearOutcome (Err (Start.Recovery Rec.Memory))
+  recovery_wanted suite_between it ledger suite =
       let marks : c.ledger.marks ≡ p.ledger.marks = ap (λ (l : LedgerState). l.marks) ledger in
       let is = wanted_left setup p.ledger c.ledger lit c.board c.taken c.suite_old suite_between ledger off.durable c.world.few_armed it in
-      let still = untouched lit c.board c.taken watched it.unchanged refl in
-      let loss : c.board.regs.loss ≡ p.board.regs.loss = is.loss in
-      let fuse : c.board.fuse ≡ p.board.fuse = still.fuse in
-      let writes : c.board.writes ≡ p.board.writes = still.writes in
-      let latches : c.board.latches ≡ p.board.latches = still.latches in
-      let cuts : c.board.cuts ≡ p.board.cuts = still.cuts in
-      let power : p.board.powered ≡ false = off.unpowered in
-      let count : unwrap_or (option_map (λ (k : Gapped). k.count) p.gapped) 0 ≡ 0 = no_count in (
+      let board = rests p.board lit c.board refl off.unpowered (untouched lit c.board c.taken watched it.unchanged refl) in
+      let uncounted : c.suite_new ≡ c.suite_old = suite ∙ it.uncounted in (
         dark_world marks rested refl is.durable is.few_armed,
-        cc (power, fuse, loss, marks, writes, latches, cuts),
+        ap (wear_of setup)
+            (same_parts (left rested None) p (ap (λ (s : SuiteState). s.tags) uncounted ∙ c.tags_old) (ap (λ (s : SuiteState). s.digests) uncounted ∙ c.digests_old)
+            board ledger (sym c.there)),
       )
 
   recovery_twin : (suite_between : SuiteState) (at major low high : ℕ) (cipher : Line) (tag : List ℕ)
@@ -350,7 +351,7 @@ module _ (c : OnWearCall) where
       go (Err Rec.Cut) it later =
           subst WearOutcome (sym later.0) (recovery_cut started.suite_between (refused Rec.Cut it later.1) later.2)
       go (Err Rec.Memory) it later =
-          subst WearOutcome (sym later.0) (recovery_wanted started.suite_between (refused Rec.Memory it later.1) later.2)
+          subst WearOutcome (sym later.0) (recovery_wanted started.suite_between (refused Rec.Memory it later.1) later.2 later.3)
       go (Err (Rec.Twin at major low high cipher tag)) it later =
           subst WearOutcome (sym later.0)
           (recovery_twin started.suite_between at major low high cipher tag (refused (Rec.Twin at major low high cipher tag) it later.1) later.2)

@@ -54,10 +54,10 @@ module _ (setup : Setup) (p : WearParts) (gapped after : Gapped) (board : BoardM
   to = parts_of after.engine (device_during board taken) ledger tags_new digests_new
 
   abbrev left_on : WearParts
-  left_on = record { keys = p.keys; every = p.every; board = board; ledger = ledger; gapped = Some after }
+  left_on = record { keys = p.keys; tags = tags_new; digests = digests_new; every = p.every; board = board; ledger = ledger; gapped = Some after }
 
   abbrev left_off : WearParts
-  left_off = record { keys = p.keys; every = p.every; board = board; ledger = ledger; gapped = None }
+  left_off = record { keys = p.keys; tags = tags_new; digests = digests_new; every = p.every; board = board; ledger = ledger; gapped = None }
 
   levelled_after : ledger.marks ≡ p.ledger.marks
       → IsLevelled (logical_lines setup.shape) (plain_memory setup ledger.marks) (wear_in setup (plain_memory setup ledger.marks))
@@ -86,7 +86,7 @@ module _ (setup : Setup) (p : WearParts) (gapped after : Gapped) (board : BoardM
 
     pub read_world : IsWearWorld setup left_on
     read_world =
-        on_after setup p board ledger world (levelled_after marks) after powered (done.gone.sound on.sound) (wear.its_every ∙ on.its_every)
+        on_after setup p tags_new digests_new board ledger world (levelled_after marks) after powered (done.gone.sound on.sound) (wear.its_every ∙ on.its_every)
         (its_wear marks)
 
     shown : line ≡ line_at (levelled_memory setup (plain_memory setup p.ledger.marks)) a
@@ -134,7 +134,7 @@ module _ (setup : Setup) (p : WearParts) (gapped after : Gapped) (board : BoardM
 
     pub cut_world : IsWearWorld setup left_off
     cut_world =
-        off_after setup p board ledger world (levelled_after cut_marks) off (cut_done.gone.sound on.sound)
+        off_after setup p tags_new digests_new board ledger world (levelled_after cut_marks) off (cut_done.gone.sound on.sound)
         (cut_done.gone.small_group on.sound.trusted.no_group)
 
     pub read_cut : path_length setup.shape ≤ step_limit → HasWearRead (wear_of setup p) a (Say.Cut (steps_in taken)) (wear_of setup left_off)

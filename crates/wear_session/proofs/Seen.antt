@@ -28,7 +28,7 @@ use Rattle.wear_session.specs.Answered.{wear_of_line, wear_decided, IsWearServed
 use Rattle.wear_session.proofs.ReadLaws.{on_in, lines_are, read_world, read_done, cut_world, read_cut}
 
 -- with power on and a line that there is, the inner answer holds
-pub of_line_is : (state : WearState) (a : ℕ) (answer : Option WearAnswer) → state.power ≡ true → a < wear_lines_in state → wear_of_line state a answer ≡ answer
+pub of_line_is : (state : WearState) (a : ℕ) (answer : Option WearAnswer) → state.board.powered ≡ true → a < wear_lines_in state → wear_of_line state a answer ≡ answer
 of_line_is state a answer lit low =
     ap (λ b. if b then (if nat_lt a (wear_lines_in state) then answer else Some Say.Range) else Some Say.Off) lit
     ∙ ap (λ b. if b then answer else Some Say.Range) (lt-ltb a (wear_lines_in state) low)
@@ -94,10 +94,10 @@ module _ (c : ReadWearCall) where
   setup = setup_under c.formulas_of c.geometry c.parts.keys
 
   abbrev pub left : Option Gapped → WearParts
-  left gapped = record { keys = c.parts.keys; every = c.parts.every; board = c.board; ledger = c.ledger; gapped = gapped }
+  left gapped = record { keys = c.parts.keys; tags = c.tags_new; digests = c.digests_new; every = c.parts.every; board = c.board; ledger = c.ledger; gapped = gapped }
 
   abbrev pub left_under : Option Gapped → WearParts
-  left_under gapped = record { keys = c.keys; every = c.parts.every; board = c.board; ledger = c.ledger; gapped = gapped }
+  left_under gapped = record { keys = c.keys; tags = c.tags_new; digests = c.digests_new; every = c.parts.every; board = c.board; ledger = c.ledger; gapped = gapped }
 
   read_as : (answer : Result Line Fault) → c.answer ≡ answer
       → HasReadLine setup (place_of c.gapped.lines c.gapped.wear c.at)

@@ -32,7 +32,7 @@ turning_of state w = record { wear = state.wear; written = w }
 
 -- the writes that the answers count, up to whole turns, are those that the session counts
 abbrev Counts : WearState → ℕ → Type 0
-Counts state w = state.power ≡ true → state.count ≡ w % state.every
+Counts state w = state.board.powered ≡ true → state.count ≡ w % state.every
 
 record IsWearStep (first next : WearState) (w : ℕ) (command : WearCommand) (answer : WearAnswer) : Type 0 where
   shape : next.shape ≡ first.shape
@@ -50,7 +50,7 @@ record IsStill (first next : WearState) : Type 0 where
   its_every : next.every ≡ first.every
   memory : next.memory ≡ first.memory
   wear : next.wear ≡ first.wear
-  count : next.power ≡ true → (first.power ≡ true) × (next.count ≡ first.count)
+  count : next.board.powered ≡ true → (first.board.powered ≡ true) × (next.count ≡ first.count)
 
 still_same : (first next : WearState) → next ≡ first → IsStill first next
 still_same first next is =
@@ -93,7 +93,7 @@ still_step first next w command answer read memory turns mended counts same =
 dark_step : (first next : WearState) (w : ℕ) (command : WearCommand) (answer : WearAnswer) → IsWearReadOf first.memory command answer
     → memory_with_reply first.memory command answer ≡ first.memory
     → ((new : Turning) → (new.wear ≡ first.wear) × (new.written ≡ 0) → TurnsTo (wear_lines_in first) first.every (turning_of first w) command answer new)
-    → IsWearMendedAnswer command answer → next.power ≡ false → IsStill first next → IsWearStep first next w command answer
+    → IsWearMendedAnswer command answer → next.board.powered ≡ false → IsStill first next → IsWearStep first next w command answer
 dark_step first next w command answer read memory turns mended dark same =
     record {
       shape = same.shape;
@@ -115,8 +115,8 @@ record IsLeft (first next : WearState) (a : ℕ) (plain : Line) (k : ℕ) : Type
   memory : next.memory ≡ cond (k == 0) first.memory (slice_set first.memory a plain)
   wear : next.wear ≡ cond (k == 0) first.wear (cond (k == 3) (next_wear (wear_lines_in first) first.wear) first.wear)
   count :
-      next.power ≡ true
-      → (first.power ≡ true) × (next.count ≡ cond (k == 0) first.count (cond (is_due first) 0 (first.count + 1)))
+      next.board.powered ≡ true
+      → (first.board.powered ≡ true) × (next.count ≡ cond (k == 0) first.count (cond (is_due first) 0 (first.count + 1)))
 
 left_going : (first next : WearState) (a : ℕ) (plain : Line) (writing : Writing) (steps most : ℕ)
     → GoesToWearState (after_writing first a plain writing) steps most first next → IsLeft first next a plain writing.done
@@ -128,7 +128,7 @@ left_going first next a plain writing steps most goes =
       its_every = it.every ∙ ap (λ (s : WearState). s.every) is;
       memory = it.memory ∙ ap (λ (s : WearState). s.memory) is;
       wear = it.wear ∙ ap (λ (s : WearState). s.wear) is;
-      count = λ lit. (sym (it.power ∙ ap (λ (s : WearState). s.power) is) ∙ lit, it.count ∙ ap (λ (s : WearState). s.count) is);
+      count = λ lit. (sym (it.power ∙ ap (λ (s : WearState). s.board.powered) is) ∙ lit, it.count ∙ ap (λ (s : WearState). s.count) is);
     }
 
 left_cut : (first next : WearState) (a : ℕ) (plain : Line) (writing : Writing) (steps most : ℕ)
@@ -149,7 +149,7 @@ still_left first next a plain k none left =
     let it : IsLeft first next a plain 0 = subst (IsLeft first next a plain) none left in
     record { shape = it.shape; its_every = it.its_every; memory = it.memory; wear = it.wear; count = it.count }
 
-module _ (setup : Setup) (first next : WearState) (w a : ℕ) (plain : Line) (some : 1 ≤ first.every) (lit : first.power ≡ true) (counts : Counts first w) where
+module _ (setup : Setup) (first next : WearState) (w a : ℕ) (plain : Line) (some : 1 ≤ first.every) (lit : first.board.powered ≡ true) (counts : Counts first w) where
   abbrev writes : List Posted
   writes = engine_writes setup first a plain
 
@@ -233,7 +233,7 @@ module _ (setup : Setup) (first next : WearState) (w a : ℕ) (plain : Line) (so
       absurd (omega (arith, long, waits, done))
 
   kept_step : (writing : Writing) (steps : ℕ) (due : Bool) → is_due first ≡ due → 0 < writing.done → writing.done ≤ length writes
-      → next.power ≡ false → IsLeft first next a plain writing.done → IsWearStep first next w (Do.Write a plain) (Say.CutKept steps)
+      → next.board.powered ≡ false → IsLeft first next a plain writing.done → IsWearStep first next w (Do.Write a plain) (Say.CutKept steps)
   kept_step writing steps due is done few dark left =
       let wears : (next.wear ≡ first.wear) ⊎ (next.wear ≡ wear_turned (wear_lines_in first) first.every (turning_of first w)) =
       elim (cases_eq writing.done 3) [
@@ -323,7 +323,7 @@ module _ (setup : Setup) (first next : WearState) (w : ℕ) (some : 1 ≤ first.
   open_step answer it = absurd it
 
   -- a line's command, where power is on and there is such a line, or else
-  write_by : (p b : Bool) (a : ℕ) (plain : Line) (answer : WearAnswer) → first.power ≡ p
+  write_by : (p b : Bool) (a : ℕ) (plain : Line) (answer : WearAnswer) → first.board.powered ≡ p
       → IsWearAnsweredAs (if p then (if b then None else Some Say.Range) else Some Say.Off) setup first (Do.Write a plain) answer next
       → IsWearStep first next w (Do.Write a plain) answer
   write_by true true a plain answer lit it = write_step setup first next w a plain some lit counts answer it
@@ -368,13 +368,13 @@ module _ (setup : Setup) (first next : WearState) (w : ℕ) (some : 1 ≤ first.
       subst (IsWearStep first next w (Do.Place a)) (sym it.0)
       (still_step first next w (Do.Place a) Say.Off tt refl (λ new h. h) tt counts (still_same first next it.1))
 
-  off_by : (p : Bool) (answer : WearAnswer) → first.power ≡ p
+  off_by : (p : Bool) (answer : WearAnswer) → first.board.powered ≡ p
       → (fixed : WearAnswer) → fixed ≡ (if p then Say.Ok else Say.Off) → answer ≡ fixed
-      → next ≡ (if p then record first { count = 0; power = false; fuse = None } else first)
+      → next ≡ (if p then record first { count = 0; board = record first.board { powered = false; fuse = None } } else first)
       → IsWearStep first next w Do.Off answer
   off_by true answer lit fixed same is it =
       subst (IsWearStep first next w Do.Off) (sym (is ∙ same))
-      (dark_step first next w Do.Off Say.Ok tt refl (λ new h. h) tt (ap (λ (s : WearState). s.power) it)
+      (dark_step first next w Do.Off Say.Ok tt refl (λ new h. h) tt (ap (λ (s : WearState). s.board.powered) it)
       (subst (λ (s : WearState). IsStill first s) (sym it)
       (record { shape = refl; its_every = refl; memory = refl; wear = refl; count = λ lit. absurd (true≢false (sym lit)) })))
   off_by false answer dark fixed same is it =
@@ -389,21 +389,21 @@ module _ (setup : Setup) (first next : WearState) (w : ℕ) (some : 1 ≤ first.
   on_by false answer it = open_step answer it
 
   step : (command : WearCommand) (answer : WearAnswer) → IsWearAnswered setup first command answer next → IsWearStep first next w command answer
-  step (Do.Write a plain) answer it = write_by first.power (nat_lt a (wear_lines_in first)) a plain answer refl it
-  step (Do.Read a) answer it = read_by first.power (nat_lt a (wear_lines_in first)) a answer it
-  step (Do.Place a) answer it = place_by first.power (nat_lt a (wear_lines_in first)) a answer it
+  step (Do.Write a plain) answer it = write_by first.board.powered (nat_lt a (wear_lines_in first)) a plain answer refl it
+  step (Do.Read a) answer it = read_by first.board.powered (nat_lt a (wear_lines_in first)) a answer it
+  step (Do.Place a) answer it = place_by first.board.powered (nat_lt a (wear_lines_in first)) a answer it
   step (Do.Cut n) answer it =
       subst (IsWearStep first next w (Do.Cut n)) (sym it.0)
       (still_step first next w (Do.Cut n) Say.Ok tt refl (λ new h. h) tt counts
       (subst (λ (s : WearState). IsStill first s) (sym it.1)
       (record { shape = refl; its_every = refl; memory = refl; wear = refl; count = λ lit. (lit, refl) })))
-  step Do.Off answer it = off_as first.power refl it
+  step Do.Off answer it = off_as first.board.powered refl it
     where
-      off_as : (p : Bool) → first.power ≡ p
+      off_as : (p : Bool) → first.board.powered ≡ p
           → IsWearAnsweredAs (if p then Some Say.Ok else Some Say.Off) setup first Do.Off answer next → IsWearStep first next w Do.Off answer
-      off_as true lit it = off_by true answer lit Say.Ok refl it.0 (it.1 ∙ ap (λ b. if b then record first { count = 0; power = false; fuse = None } else first) lit)
-      off_as false dark it = off_by false answer dark Say.Off refl it.0 (it.1 ∙ ap (λ b. if b then record first { count = 0; power = false; fuse = None } else first) dark)
-  step Do.On answer it = on_by first.power answer it
+      off_as true lit it = off_by true answer lit Say.Ok refl it.0 (it.1 ∙ ap (λ b. if b then record first { count = 0; board = record first.board { powered = false; fuse = None } } else first) lit)
+      off_as false dark it = off_by false answer dark Say.Off refl it.0 (it.1 ∙ ap (λ b. if b then record first { count = 0; board = record first.board { powered = false; fuse = None } } else first) dark)
+  step Do.On answer it = on_by first.board.powered answer it
 
 -- ---- chains
 
@@ -473,7 +473,7 @@ spent_by setup first next a plain answer it = go answer it.came it.ends
 
 spent_answer : (setup : Setup) (first next : WearState) (command : WearCommand) (answer : WearAnswer) → IsWearAnswered setup first command answer next
     → IsWearSpentAnswer setup first command answer next
-spent_answer setup first next (Do.Write a plain) answer it = by_line first.power (nat_lt a (wear_lines_in first)) it
+spent_answer setup first next (Do.Write a plain) answer it = by_line first.board.powered (nat_lt a (wear_lines_in first)) it
   where
     by_line : (p b : Bool) → IsWearAnsweredAs (if p then (if b then None else Some Say.Range) else Some Say.Off) setup first (Do.Write a plain) answer next
         → IsWearSpentAnswer setup first (Do.Write a plain) answer next

@@ -83,6 +83,8 @@ pub record OnWearCall : Type 0 where
   pub taken : Taken
   pub watched : IsWatched lit board taken
   pub suite_old : SuiteState
+  pub tags_old : suite_old.tags ≡ parts.tags
+  pub digests_old : suite_old.digests ≡ parts.digests
   pub suite_new : SuiteState
   pub said : ℕ
   pub counted : said ≡ steps_in taken

@@ -1,5 +1,10 @@
 -- What a session holds after a call that goes on or is cut, and how its state stands to the one before.
-use Rattle.std.proofs.Common.{rules, ℕ, ◌≡◌, ◌<◌, ◌≤◌, true, false, length, Some, None, refl, sym, ap, subst, arith}
+use Rattle.std.proofs.Common.{rules, ℕ, ◌≡◌, ◌<◌, ◌≤◌, true, false, length, Some, None, refl, sym, ap, subst, arith, List, Option, ◌∙◌}
+use Rattle.std.specs.Prelude.{IsSome, option_map}
+use Rattle.std.proofs.lemmas.Option.{none-some}
+use Rattle.pmem_base.specs.declared.answers.Mark.{Mark}
+use Rattle.pmem_base.specs.Layout as layout
+use Rattle.pmem_base.specs.Marks.{SealOf, last_seal}
 use Rattle.pmem_base.specs.Shape.{IsShape}
 use Rattle.board.specs.Memory.{BoardMemory}
 use Rattle.seal_ledger.specs.Ledger.{LedgerState}
@@ -114,21 +119,21 @@ on_of setup parts gapped there shape formulas some levelled powered sound every 
       chip = subst (λ g. IsLevelledBy setup parts g) (sym there) chip;
     }
 
-module _ (setup : Setup) (p : WearParts) (board : BoardMemory) (ledger : LedgerState) (world : IsWearWorld setup p)
+module _ (setup : Setup) (p : WearParts) (tags digests : ℕ) (board : BoardMemory) (ledger : LedgerState) (world : IsWearWorld setup p)
     (levelled :
     IsLevelled (logical_lines setup.shape) (plain_memory setup ledger.marks) (wear_in setup (plain_memory setup ledger.marks))
     (levelled_memory setup (plain_memory setup ledger.marks))) where
   -- after a call with power on
   pub on_after : (after : Gapped) → board.powered ≡ true → IsSound setup after.engine board.lines board.regs ledger → after.every ≡ p.every
       → after.wear ≡ wear_in setup (plain_memory setup ledger.marks)
-      → IsWearWorld setup (record { keys = p.keys; every = p.every; board = board; ledger = ledger; gapped = Some after })
+      → IsWearWorld setup (record { keys = p.keys; tags = tags; digests = digests; every = p.every; board = board; ledger = ledger; gapped = Some after })
   on_after after powered sound every wear =
-      on_of setup (record { keys = p.keys; every = p.every; board = board; ledger = ledger; gapped = Some after }) after refl world.whole_shape
+      on_of setup (record { keys = p.keys; tags = tags; digests = digests; every = p.every; board = board; ledger = ledger; gapped = Some after }) after refl world.whole_shape
       world.whole_formulas world.some_every levelled powered sound every wear
 
   -- with power off, where the device is durable
   pub off_after : board.powered ≡ false → IsDurable setup board.lines board.regs ledger → length board.regs.group.items ≤ 3
-      → IsWearWorld setup (record { keys = p.keys; every = p.every; board = board; ledger = ledger; gapped = None })
+      → IsWearWorld setup (record { keys = p.keys; tags = tags; digests = digests; every = p.every; board = board; ledger = ledger; gapped = None })
   off_after unpowered durable few =
       let anchored = durable.mendable.anchored in
       record {

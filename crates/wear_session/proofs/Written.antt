@@ -122,10 +122,10 @@ module _ (c : WriteWearCall) where
   to = parts_of c.after.engine (device_during c.board c.taken) c.ledger c.tags_new c.digests_new
 
   abbrev left : Option Gapped → WearParts
-  left gapped = record { keys = c.before.keys; every = c.before.every; board = c.board; ledger = c.ledger; gapped = gapped }
+  left gapped = record { keys = c.before.keys; tags = c.tags_new; digests = c.digests_new; every = c.before.every; board = c.board; ledger = c.ledger; gapped = gapped }
 
   abbrev pub left_under : Option Gapped → WearParts
-  left_under gapped = record { keys = c.keys; every = c.before.every; board = c.board; ledger = c.ledger; gapped = gapped }
+  left_under gapped = record { keys = c.keys; tags = c.tags_new; digests = c.digests_new; every = c.before.every; board = c.board; ledger = c.ledger; gapped = gapped }
 
   world : IsWearWorld setup p
   world = subst (λ ledger. IsWearWorld setup (record (c.before) { ledger = ledger })) (sym c.same_ledger) c.world
@@ -227,7 +227,7 @@ module _ (c : WriteWearCall) where
         (count : c.after.count ≡ cond (k == 0) c.gapped.count (cond due 0 (c.gapped.count + 1))) (every : c.after.every ≡ c.gapped.every) where
       going_world : IsWearWorld setup (left (Some c.after))
       going_world =
-          on_after setup p c.board c.ledger world levelled c.after done.live done.sound (every ∙ on.its_every) (its_after ∙ sym its_wear)
+          on_after setup p c.tags_new c.digests_new c.board c.ledger world levelled c.after done.live done.sound (every ∙ on.its_every) (its_after ∙ sym its_wear)
 
       goes : GoesToWearState (after_writing old c.at c.plain writing) (steps_in c.taken) limit old (wear_of setup (left (Some c.after)))
       goes =
@@ -252,13 +252,13 @@ module _ (c : WriteWearCall) where
     -- power was cut
     module _ (limit : ℕ) (writes : List Posted) (cut : AreCut setup from writes made limit to) where
       cut_world : IsWearWorld setup (left None)
-      cut_world = off_after setup p c.board c.ledger world levelled cut.dark cut.durable cut.small_group
+      cut_world = off_after setup p c.tags_new c.digests_new c.board c.ledger world levelled cut.dark cut.durable cut.small_group
 
       cuts : limit ≤ step_limit → IsWearCutOff (after_writing old c.at c.plain writing) (steps_in c.taken) limit old (wear_of setup (left None))
       cuts small =
           cut_off setup p (left None) c.taken c.watched (after_writing old c.at c.plain writing) limit cut.dark
           (fewer c.taken limit c.watched.follows.few cut.takes.sum) small
-          (subst (λ e. IsWearButForSteps (record e { marks = old.marks ++ made; count = 0; power = false; fuse = None })
+          (subst (λ e. IsWearButForSteps (record e { marks = old.marks ++ made; count = 0; board = record e.board { powered = false; fuse = None } })
           (wear_of setup (left None))) (sym (with_writes_is old c.at c.plain k))
           (record {
             shape = refl;

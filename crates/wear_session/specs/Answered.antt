@@ -34,7 +34,7 @@ use Rattle.wear_session.specs.State.{WearState, wear_lines_in, wear_view_in, wea
 -- the answer, where power is on and there is such a line
 abbrev pub wear_of_line : WearState → ℕ → Option WearAnswer → Option WearAnswer
 wear_of_line state a answer =
-    if state.power then (if nat_lt a (wear_lines_in state) then answer else Some Say.Range) else Some Say.Off
+    if state.board.powered then (if nat_lt a (wear_lines_in state) then answer else Some Say.Range) else Some Say.Off
 
 -- the answer that the state alone decides; none where the engine decides
 abbrev pub wear_decided : WearState → WearCommand → Option WearAnswer
@@ -42,17 +42,17 @@ wear_decided state (Do.Write a plain) = wear_of_line state a None
 wear_decided state (Do.Read a) = wear_of_line state a None
 wear_decided state (Do.Place a) = wear_of_line state a (Some (Say.At (place_in state a)))
 wear_decided state (Do.Cut n) = Some Say.Ok
-wear_decided state Do.Off = if state.power then Some Say.Ok else Some Say.Off
-wear_decided state Do.On = if state.power then Some Say.Already else None
+wear_decided state Do.Off = if state.board.powered then Some Say.Ok else Some Say.Off
+wear_decided state Do.On = if state.board.powered then Some Say.Already else None
 
 abbrev pub wear_after_decided : WearState → WearCommand → WearState
-wear_after_decided state (Do.Cut n) = record state { fuse = Some n }
-wear_after_decided state Do.Off = if state.power then wear_without_power state else state
+wear_after_decided state (Do.Cut n) = record state { board = record state.board { fuse = Some n } }
+wear_after_decided state Do.Off = if state.board.powered then wear_without_power state else state
 wear_after_decided state command = state
 
 -- ---- steps
 
--- a state that is another but for the fuse and the board's counts
+-- a state that is another but for the fuse, and for what steps and reads change and count
 pub record IsWearButForSteps (expected new : WearState) : Type 0 where
   pub shape : new.shape ≡ expected.shape
   pub keys : new.keys ≡ expected.keys
@@ -60,8 +60,8 @@ pub record IsWearButForSteps (expected new : WearState) : Type 0 where
   pub memory : new.memory ≡ expected.memory
   pub wear : new.wear ≡ expected.wear
   pub count : new.count ≡ expected.count
-  pub power : new.power ≡ expected.power
-  pub loss : new.loss ≡ expected.loss
+  pub power : new.board.powered ≡ expected.board.powered
+  pub loss : new.board.regs.loss ≡ expected.board.regs.loss
   pub marks : new.marks ≡ expected.marks
 
 -- line writes and latches rose by so many together
@@ -75,16 +75,16 @@ pub record RisesBySteps (steps writes latches writes_after latches_after : ℕ) 
 -- steps were done, at most `most` and no more than the fuse had left, and nothing was cut
 pub record GoesToWearState (expected : WearState) (steps most : ℕ) (old new : WearState) : Type 0 where
   pub becomes : IsWearButForSteps expected new
-  pub rises : RisesBySteps steps old.writes old.latches new.writes new.latches
+  pub rises : RisesBySteps steps old.board.writes old.board.latches new.board.writes new.board.latches
   pub few : steps ≤ most
-  pub fuse : HasBurnt steps old.fuse new.fuse old.cuts new.cuts
+  pub fuse : HasBurnt steps old.board.fuse new.board.fuse old.board.cuts new.board.cuts
 
 -- power was cut with the fuse used up, after fewer than `most` steps
 pub record IsWearCutOff (expected : WearState) (steps most : ℕ) (old new : WearState) : Type 0 where
   pub becomes : IsWearButForSteps (wear_without_power expected) new
-  pub rises : RisesBySteps steps old.writes old.latches new.writes new.latches
+  pub rises : RisesBySteps steps old.board.writes old.board.latches new.board.writes new.board.latches
   pub below : steps < most
-  pub fuse : HasRunOut steps old.fuse new.fuse old.cuts new.cuts
+  pub fuse : HasRunOut steps old.board.fuse new.board.fuse old.board.cuts new.board.cuts
 
 -- those of a write, with its move where one is due, and of recovery with the opening
 abbrev pub most_of_write : WearState → ℕ
@@ -147,7 +147,7 @@ HasWearRead old a answer new = ⊥
 
 -- no write was done since power came on
 abbrev pub with_power : WearState → WearState
-with_power state = record state { power = true; count = 0 }
+with_power state = record state { count = 0; board = record state.board { powered = true } }
 
 abbrev pub HasWearOpened : WearState → WearAnswer → WearState → Type 0
 HasWearOpened old (Say.Opened start gap steps) new =
@@ -179,9 +179,9 @@ IsWearAnswered setup old command answer new =
 -- an exhibit comes of recovery alone: a twin that holds, of the last seal of one of the data lines
 abbrev pub IsWearShownBy : Setup → WearState → WearCommand → Exhibit → Type 0
 IsWearShownBy setup old Do.On (Twin at major low high cipher tag) =
-    (old.power ≡ false) × (at < data_lines setup.shape)
+    (old.board.powered ≡ false) × (at < data_lines setup.shape)
     × IsExhibit setup.formulas (Twin at major low high cipher tag)
-    × IsTwinOfSeal setup (wear_places_in setup old) old.loss (wear_view_in old) at major low high cipher tag
+    × IsTwinOfSeal setup (wear_places_in setup old) old.board.regs.loss (wear_view_in old) at major low high cipher tag
 IsWearShownBy setup old command exhibit = ⊥
 
 -- whether a command may want memory

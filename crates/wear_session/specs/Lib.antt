@@ -4,4 +4,5 @@ pub mod State
 pub mod World
 pub mod During
 pub mod Answered
+pub mod Logged
 pub mod Guarantees

@@ -1,5 +1,5 @@
 -- The state of a levelled memory's session, which is plain data, and what it says of the memory.
-use Rattle.std.specs.Prelude.{ℕ, ◌≡◌, ◌≤◌, ◌+◌, ◌==◌, nat_lt, Bool, true, false, not, List, [], ◌∷◌, map, replicate, Option, None, slice_set, if◌then◌else◌}
+use Rattle.std.specs.Prelude.{ℕ, ◌≡◌, ◌≤◌, ◌+◌, ◌==◌, nat_lt, Bool, true, false, not, List, [], ◌∷◌, map, replicate, None, slice_set, if◌then◌else◌}
 use Rattle.std.specs.List.{range_with_len}
 use Rattle.pmem_base.specs.declared.lines.Line.{Line}
 use Rattle.pmem_base.specs.declared.commands.Posted.{Posted}
@@ -8,6 +8,7 @@ use Rattle.pmem_base.specs.Shape.{Shape}
 use Rattle.pmem_base.specs.Layout as layout
 use Rattle.pmem_base.specs.Lines.{line_at, zero_line}
 use Rattle.board.specs.Counts.{RisesBy}
+use Rattle.board.specs.Memory.{BoardMemory}
 use Rattle.suite.specs.Formulas.{Formulas}
 use Rattle.suite.specs.Setup.{Setup}
 use Rattle.plain_model.specs.State.{Memory, memory_with}
@@ -31,17 +32,13 @@ pub record WearState : Type 0 where
   pub wear : Wear
   -- how many writes were done since power came on or a move was last due; 0 without power
   pub count : ℕ
-  -- the board's power, and how many more persist steps are done before power is cut, where a cut is set
-  pub power : Bool
-  pub fuse : Option ℕ
-  -- the stop-loss number in the registers
-  pub loss : ℕ
+  -- the device with its registers, its power, a cut that is set, and its counts
+  pub board : BoardMemory
   -- all marks in order, those of formatting first
   pub marks : List Mark
-  -- the board's counts of line writes, latches and cuts
-  pub writes : ℕ
-  pub latches : ℕ
-  pub cuts : ℕ
+  -- how many tags and digests were made
+  pub tags : ℕ
+  pub digests : ℕ
 
 -- ---- what it says
 
@@ -93,7 +90,8 @@ engine_writes setup state a plain =
 -- ---- the state after
 
 abbrev pub wear_without_power : WearState → WearState
-wear_without_power state = record state { count = 0; power = false; fuse = None }
+wear_without_power state =
+    record state { count = 0; board = record state.board { powered = false; fuse = None } }
 
 -- So many of a write's engine writes were done: by the first the line is written, and by all three of a
 -- write with its move the next wear is recorded.
@@ -118,10 +116,10 @@ pub record IsNewWear (setup : Setup) (every : ℕ) (state : WearState) : Type 0 
   pub memory : state.memory ≡ replicate (logical_lines setup.shape) zero_line
   pub wear : state.wear ≡ first_wear (logical_lines setup.shape)
   pub count : state.count ≡ 0
-  pub power : state.power ≡ true
-  pub fuse : state.fuse ≡ None
-  pub loss : state.loss ≡ setup.shape.loss
+  pub power : state.board.powered ≡ true
+  pub fuse : state.board.fuse ≡ None
+  pub loss : state.board.regs.loss ≡ setup.shape.loss
   pub marks : state.marks ≡ map (first_seal setup) (range_with_len 0 (layout.data_lines setup.shape))
-  pub writes : RisesBy (layout.device_lines setup.shape) 0 state.writes
-  pub latches : RisesBy 1 0 state.latches
-  pub cuts : state.cuts ≡ 0
+  pub writes : RisesBy (layout.device_lines setup.shape) 0 state.board.writes
+  pub latches : RisesBy 1 0 state.board.latches
+  pub cuts : state.board.cuts ≡ 0

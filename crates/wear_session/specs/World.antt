@@ -40,6 +40,8 @@ levelled_memory setup places =
 -- what the program keeps of a session beside the geometry
 pub record WearParts : Type 0 where
   pub keys : List ℕ
+  pub tags : ℕ
+  pub digests : ℕ
   pub every : ℕ
   pub board : BoardMemory
   pub ledger : LedgerState
@@ -55,13 +57,10 @@ wear_of setup parts =
       memory = levelled_memory setup places;
       wear = wear_in setup places;
       count = unwrap_or (option_map (λ gapped. gapped.count) parts.gapped) 0;
-      power = parts.board.powered;
-      fuse = parts.board.fuse;
-      loss = parts.board.regs.loss;
+      board = parts.board;
       marks = parts.ledger.marks;
-      writes = parts.board.writes;
-      latches = parts.board.latches;
-      cuts = parts.board.cuts;
+      tags = parts.tags;
+      digests = parts.digests;
     }
 
 -- ---- what it always holds

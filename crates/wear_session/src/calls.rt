@@ -10,7 +10,7 @@ ghost use Rattle.seal_ledger.specs.Ledger.{IsOfShape};
 ghost use Rattle.seal_ledger.specs.Notes.{HasRoom};
 ghost use Rattle.seal_ledger.specs.View.{capacity_of, ledger_of};
 ghost use Rattle.pmem_base.specs.Marks.{last_seal};
-ghost use Rattle.pmem_engine.specs.Parts.{parts_of, AreTrusted, AreSound};
+ghost use Rattle.pmem_engine.specs.Parts.{parts_of, AreTrusted, AreSound, setup_at};
 ghost use Rattle.pmem_engine.specs.Outcomes.{LeavesTrusted, LeavesSound};
 ghost use Rattle.pmem_engine.specs.Calls.{IsUsable, HasReadLine};
 ghost use Rattle.pmem_recovery.specs.Parts.{suite_state};
@@ -18,8 +18,10 @@ ghost use Rattle.start_gap.specs.Wear.{place_of};
 ghost use Rattle.engine_lines.specs.Lines.{HasLines};
 ghost use Rattle.start_gap.specs.Gapped.{HasWear, HasLevelledWrite, IsLeftLevelled, IsSoundWriteAnswer, IsSpentUnwritten, write_outcome_by};
 ghost use Rattle.watched_board.specs.Watching.{IsWatched, device_during, none_taken};
+ghost use Rattle.access_log.specs.Traced.{GoesOn};
 ghost use Rattle.wear_session.specs.During.{HasWearStarted};
 
+use access_log::{AccessLog, Entry, Logged};
 use board::{Board, MemBoard};
 use pmem_base::{Geo, Line};
 use pmem_engine::Fault;
@@ -29,7 +31,7 @@ use start_gap::{GapFault, Gapped, Moved, WriteFault};
 use std::alloc::Global;
 use std::marker::Brand;
 use suite::Suite;
-use watched_board::{Left, Start, Taken, Watched};
+use watched_board::{Left, Start, Taken};
 
 /// A call's answer, and the steps that it took.
 #[derive(Drop)]
@@ -54,21 +56,23 @@ pub(crate) fn read<S: Suite>(
     suite: &mut S,
     ledger: &mut Ledger,
     line: u32,
+    log: &mut AccessLog,
 ) -> Done<Result<Line, Fault>>
     requires line { line < gapped.old.lines }
     requires on { (memory_of board.old).powered ≡ true }
     requires usable { IsUsable gapped.old.engine.shape gapped.old.engine (device_during (memory_of board.old) none_taken) (ledger_of ledger.old) }
-    ensures read { HasReadLine (record { shape = gapped.old.engine.shape; formulas = S.formulas_of (S.keys suite.old) })
+    ensures read { HasReadLine (setup_at S.Suite gapped.old.engine suite.old)
         (place_of gapped.old.lines gapped.old.wear line)
         (parts_of gapped.old.engine (device_during (memory_of board.old) none_taken) (ledger_of ledger.old) (S.tags suite.old) (S.digests suite.old))
         (parts_of gapped.new.engine (device_during (memory_of board.new) result.taken) (ledger_of ledger.new) (S.tags suite.new) (S.digests suite.new)) result.answer }
     ensures wear { HasWear gapped.old.wear gapped.old.count gapped.old gapped.new }
     ensures watched { IsWatched (memory_of board.old) (memory_of board.new) result.taken }
+    ensures logged { GoesOn log.old (memory_of board.old) log.new (memory_of board.new) }
     ensures keys { S.keys suite.new ≡ S.keys suite.old }
     ensures usable { IsUsable gapped.old.engine.shape gapped.new.engine (device_during (memory_of board.new) result.taken) (ledger_of ledger.new) }
     ensures shape { gapped.new.engine.shape ≡ gapped.old.engine.shape }
 {
-    let left = read_watched::<Brand, S>(gapped, board, suite, ledger, line);
+    let left = read_logged::<Brand, S>(gapped, board, suite, ledger, line, log);
     let Left {
         board: _,
         taken,
@@ -77,32 +81,35 @@ pub(crate) fn read<S: Suite>(
     Done { taken, answer }
 }
 
-fn read_watched<'a, K: Start, S: Suite>(
+fn read_logged<'a, K: Start + Entry, S: Suite>(
     gapped: &mut Gapped,
     board: &'a mut MemBoard,
     suite: &mut S,
     ledger: &mut Ledger,
     line: u32,
+    log: &mut AccessLog,
 ) -> Left<'a, Result<Line, Fault>>
     requires line { line < gapped.old.lines }
     requires start { memory_of board.old ≡ K.start }
     requires name { board.ghost_name ≡ K.name }
+    requires log { log.old ≡ K.log }
     requires on { (memory_of board.old).powered ≡ true }
     requires usable { IsUsable gapped.old.engine.shape gapped.old.engine (device_during (memory_of board.old) none_taken) (ledger_of ledger.old) }
     ensures name { result.board.ghost_name ≡ K.name }
-    ensures read { HasReadLine (record { shape = gapped.old.engine.shape; formulas = S.formulas_of (S.keys suite.old) })
+    ensures read { HasReadLine (setup_at S.Suite gapped.old.engine suite.old)
         (place_of gapped.old.lines gapped.old.wear line)
         (parts_of gapped.old.engine (device_during (memory_of board.old) none_taken) (ledger_of ledger.old) (S.tags suite.old) (S.digests suite.old))
         (parts_of gapped.new.engine (device_during (memory_of result.board.now) result.taken) (ledger_of ledger.new) (S.tags suite.new) (S.digests suite.new)) result.answer }
     ensures wear { HasWear gapped.old.wear gapped.old.count gapped.old gapped.new }
     ensures watched { IsWatched K.start (memory_of result.board.now) result.taken }
+    ensures logged { GoesOn K.log K.start log.new (memory_of result.board.now) }
     ensures keys { S.keys suite.new ≡ S.keys suite.old }
     ensures usable { IsUsable gapped.old.engine.shape gapped.new.engine (device_during (memory_of result.board.now) result.taken) (ledger_of ledger.new) }
     ensures shape { gapped.new.engine.shape ≡ gapped.old.engine.shape }
 {
-    let mut watched = Watched::<K>::new(board);
-    let answer = gapped.read(&mut watched, suite, ledger, line);
-    watched.left(answer)
+    let mut logged = Logged::<K>::new(board, log.take());
+    let answer = gapped.read(&mut logged, suite, ledger, line);
+    logged.left(answer, log)
 }
 
 /// Writes a logical line, and moves the gap where that is due.
@@ -113,37 +120,39 @@ pub(crate) fn write<S: Suite>(
     ledger: &mut Ledger,
     line: u32,
     plain: &Line,
+    log: &mut AccessLog,
 ) -> Done<Result<Moved, WriteFault>>
     requires line { line < gapped.old.lines }
     requires room { HasRoom (ledger_of ledger.old) (capacity_of ledger.old) 198 }
     requires on { (memory_of board.old).powered ≡ true }
     requires usable { IsUsable gapped.old.engine.shape gapped.old.engine (device_during (memory_of board.old) none_taken) (ledger_of ledger.old) }
-    ensures written { HasLevelledWrite (record { shape = gapped.old.engine.shape; formulas = S.formulas_of (S.keys suite.old) })
+    ensures written { HasLevelledWrite (setup_at S.Suite gapped.old.engine suite.old)
         line plain.now gapped.old gapped.new
         (parts_of gapped.old.engine (device_during (memory_of board.old) none_taken) (ledger_of ledger.old) (S.tags suite.old) (S.digests suite.old))
         (parts_of gapped.new.engine (device_during (memory_of board.new) result.taken) (ledger_of ledger.new) (S.tags suite.new) (S.digests suite.new)) result.answer }
-    ensures levelled { AreTrusted (record { shape = gapped.old.engine.shape; formulas = S.formulas_of (S.keys suite.old) })
+    ensures levelled { AreTrusted (setup_at S.Suite gapped.old.engine suite.old)
         (parts_of gapped.old.engine (device_during (memory_of board.old) none_taken) (ledger_of ledger.old) (S.tags suite.old) (S.digests suite.old))
         → (lines : List Line)
-        → HasLines (record { shape = gapped.old.engine.shape; formulas = S.formulas_of (S.keys suite.old) }) lines
+        → HasLines (setup_at S.Suite gapped.old.engine suite.old) lines
         (parts_of gapped.old.engine (device_during (memory_of board.old) none_taken) (ledger_of ledger.old) (S.tags suite.old) (S.digests suite.old))
-        → IsLeftLevelled (record { shape = gapped.old.engine.shape; formulas = S.formulas_of (S.keys suite.old) }) line plain.now gapped.old lines
+        → IsLeftLevelled (setup_at S.Suite gapped.old.engine suite.old) line plain.now gapped.old lines
         (parts_of gapped.new.engine (device_during (memory_of board.new) result.taken) (ledger_of ledger.new) (S.tags suite.new) (S.digests suite.new)) result.answer }
-    ensures trusted { AreTrusted (record { shape = gapped.old.engine.shape; formulas = S.formulas_of (S.keys suite.old) })
+    ensures trusted { AreTrusted (setup_at S.Suite gapped.old.engine suite.old)
         (parts_of gapped.old.engine (device_during (memory_of board.old) none_taken) (ledger_of ledger.old) (S.tags suite.old) (S.digests suite.old))
-        → LeavesTrusted (record { shape = gapped.old.engine.shape; formulas = S.formulas_of (S.keys suite.old) }) (write_outcome_by result.answer)
+        → LeavesTrusted (setup_at S.Suite gapped.old.engine suite.old) (write_outcome_by result.answer)
         (parts_of gapped.new.engine (device_during (memory_of board.new) result.taken) (ledger_of ledger.new) (S.tags suite.new) (S.digests suite.new)) }
-    ensures sound { AreSound (record { shape = gapped.old.engine.shape; formulas = S.formulas_of (S.keys suite.old) })
+    ensures sound { AreSound (setup_at S.Suite gapped.old.engine suite.old)
         (parts_of gapped.old.engine (device_during (memory_of board.old) none_taken) (ledger_of ledger.old) (S.tags suite.old) (S.digests suite.old))
-        → LeavesSound (record { shape = gapped.old.engine.shape; formulas = S.formulas_of (S.keys suite.old) }) (write_outcome_by result.answer)
+        → LeavesSound (setup_at S.Suite gapped.old.engine suite.old) (write_outcome_by result.answer)
         (parts_of gapped.new.engine (device_during (memory_of board.new) result.taken) (ledger_of ledger.new) (S.tags suite.new) (S.digests suite.new)) × IsSoundWriteAnswer result.answer }
     ensures spent { IsSpentUnwritten result.answer }
     ensures watched { IsWatched (memory_of board.old) (memory_of board.new) result.taken }
+    ensures logged { GoesOn log.old (memory_of board.old) log.new (memory_of board.new) }
     ensures keys { S.keys suite.new ≡ S.keys suite.old }
     ensures usable { IsUsable gapped.old.engine.shape gapped.new.engine (device_during (memory_of board.new) result.taken) (ledger_of ledger.new) }
     ensures shape { gapped.new.engine.shape ≡ gapped.old.engine.shape }
 {
-    let left = write_watched::<Brand, S>(gapped, board, suite, ledger, line, plain);
+    let left = write_logged::<Brand, S>(gapped, board, suite, ledger, line, plain, log);
     let Left {
         board: _,
         taken,
@@ -152,49 +161,52 @@ pub(crate) fn write<S: Suite>(
     Done { taken, answer }
 }
 
-fn write_watched<'a, K: Start, S: Suite>(
+fn write_logged<'a, K: Start + Entry, S: Suite>(
     gapped: &mut Gapped,
     board: &'a mut MemBoard,
     suite: &mut S,
     ledger: &mut Ledger,
     line: u32,
     plain: &Line,
+    log: &mut AccessLog,
 ) -> Left<'a, Result<Moved, WriteFault>>
     requires line { line < gapped.old.lines }
     requires room { HasRoom (ledger_of ledger.old) (capacity_of ledger.old) 198 }
     requires start { memory_of board.old ≡ K.start }
     requires name { board.ghost_name ≡ K.name }
+    requires log { log.old ≡ K.log }
     requires on { (memory_of board.old).powered ≡ true }
     requires usable { IsUsable gapped.old.engine.shape gapped.old.engine (device_during (memory_of board.old) none_taken) (ledger_of ledger.old) }
     ensures name { result.board.ghost_name ≡ K.name }
-    ensures written { HasLevelledWrite (record { shape = gapped.old.engine.shape; formulas = S.formulas_of (S.keys suite.old) })
+    ensures written { HasLevelledWrite (setup_at S.Suite gapped.old.engine suite.old)
         line plain.now gapped.old gapped.new
         (parts_of gapped.old.engine (device_during (memory_of board.old) none_taken) (ledger_of ledger.old) (S.tags suite.old) (S.digests suite.old))
         (parts_of gapped.new.engine (device_during (memory_of result.board.now) result.taken) (ledger_of ledger.new) (S.tags suite.new) (S.digests suite.new)) result.answer }
-    ensures levelled { AreTrusted (record { shape = gapped.old.engine.shape; formulas = S.formulas_of (S.keys suite.old) })
+    ensures levelled { AreTrusted (setup_at S.Suite gapped.old.engine suite.old)
         (parts_of gapped.old.engine (device_during (memory_of board.old) none_taken) (ledger_of ledger.old) (S.tags suite.old) (S.digests suite.old))
         → (lines : List Line)
-        → HasLines (record { shape = gapped.old.engine.shape; formulas = S.formulas_of (S.keys suite.old) }) lines
+        → HasLines (setup_at S.Suite gapped.old.engine suite.old) lines
         (parts_of gapped.old.engine (device_during (memory_of board.old) none_taken) (ledger_of ledger.old) (S.tags suite.old) (S.digests suite.old))
-        → IsLeftLevelled (record { shape = gapped.old.engine.shape; formulas = S.formulas_of (S.keys suite.old) }) line plain.now gapped.old lines
+        → IsLeftLevelled (setup_at S.Suite gapped.old.engine suite.old) line plain.now gapped.old lines
         (parts_of gapped.new.engine (device_during (memory_of result.board.now) result.taken) (ledger_of ledger.new) (S.tags suite.new) (S.digests suite.new)) result.answer }
-    ensures trusted { AreTrusted (record { shape = gapped.old.engine.shape; formulas = S.formulas_of (S.keys suite.old) })
+    ensures trusted { AreTrusted (setup_at S.Suite gapped.old.engine suite.old)
         (parts_of gapped.old.engine (device_during (memory_of board.old) none_taken) (ledger_of ledger.old) (S.tags suite.old) (S.digests suite.old))
-        → LeavesTrusted (record { shape = gapped.old.engine.shape; formulas = S.formulas_of (S.keys suite.old) }) (write_outcome_by result.answer)
+        → LeavesTrusted (setup_at S.Suite gapped.old.engine suite.old) (write_outcome_by result.answer)
         (parts_of gapped.new.engine (device_during (memory_of result.board.now) result.taken) (ledger_of ledger.new) (S.tags suite.new) (S.digests suite.new)) }
-    ensures sound { AreSound (record { shape = gapped.old.engine.shape; formulas = S.formulas_of (S.keys suite.old) })
+    ensures sound { AreSound (setup_at S.Suite gapped.old.engine suite.old)
         (parts_of gapped.old.engine (device_during (memory_of board.old) none_taken) (ledger_of ledger.old) (S.tags suite.old) (S.digests suite.old))
-        → LeavesSound (record { shape = gapped.old.engine.shape; formulas = S.formulas_of (S.keys suite.old) }) (write_outcome_by result.answer)
+        → LeavesSound (setup_at S.Suite gapped.old.engine suite.old) (write_outcome_by result.answer)
         (parts_of gapped.new.engine (device_during (memory_of result.board.now) result.taken) (ledger_of ledger.new) (S.tags suite.new) (S.digests suite.new)) × IsSoundWriteAnswer result.answer }
     ensures spent { IsSpentUnwritten result.answer }
     ensures watched { IsWatched K.start (memory_of result.board.now) result.taken }
+    ensures logged { GoesOn K.log K.start log.new (memory_of result.board.now) }
     ensures keys { S.keys suite.new ≡ S.keys suite.old }
     ensures usable { IsUsable gapped.old.engine.shape gapped.new.engine (device_during (memory_of result.board.now) result.taken) (ledger_of ledger.new) }
     ensures shape { gapped.new.engine.shape ≡ gapped.old.engine.shape }
 {
-    let mut watched = Watched::<K>::new(board);
-    let answer = gapped.write(&mut watched, suite, ledger, line, plain);
-    watched.left(answer)
+    let mut logged = Logged::<K>::new(board, log.take());
+    let answer = gapped.write(&mut logged, suite, ledger, line, plain);
+    logged.left(answer, log)
 }
 
 /// Recovers the device, and opens its lines.
@@ -205,6 +217,7 @@ pub(crate) fn start<S: Suite>(
     suite: &mut S,
     ledger: &mut Ledger,
     every: u32,
+    log: &mut AccessLog,
 ) -> Done<Result<Gapped, StartFault>>
     requires every { 1 ≤ every }
     requires size { length (memory_of board.old).lines ≡ device_lines (shape_of geo.now) }
@@ -218,11 +231,12 @@ pub(crate) fn start<S: Suite>(
         (suite_state (S.keys suite.old) (S.pads suite.old) (S.tags suite.old) (S.digests suite.old))
         (suite_state (S.keys suite.new) (S.pads suite.new) (S.tags suite.new) (S.digests suite.new)) result.answer }
     ensures watched { IsWatched (memory_of board.old) (memory_of board.new) result.taken }
+    ensures logged { GoesOn log.old (memory_of board.old) log.new (memory_of board.new) }
     ensures keys { S.keys suite.new ≡ S.keys suite.old }
     ensures usable { IfOk result.answer (λ gapped. IsUsable (shape_of geo.now) gapped.engine (device_during (memory_of board.new) result.taken) (ledger_of ledger.new)) }
     ensures shape { IfOk result.answer (λ gapped. gapped.engine.shape ≡ shape_of geo.now) }
 {
-    let left = start_watched::<Brand, S>(alloc, geo, board, suite, ledger, every);
+    let left = start_logged::<Brand, S>(alloc, geo, board, suite, ledger, every, log);
     let Left {
         board: _found,
         taken,
@@ -231,18 +245,20 @@ pub(crate) fn start<S: Suite>(
     Done { taken, answer }
 }
 
-fn start_watched<'a, K: Start, S: Suite>(
+fn start_logged<'a, K: Start + Entry, S: Suite>(
     alloc: Global,
     geo: &Geo,
     board: &'a mut MemBoard,
     suite: &mut S,
     ledger: &mut Ledger,
     every: u32,
+    log: &mut AccessLog,
 ) -> Left<'a, Result<Gapped, StartFault>>
     requires every { 1 ≤ every }
     requires size { length (memory_of board.old).lines ≡ device_lines (shape_of geo.now) }
     requires start { memory_of board.old ≡ K.start }
     requires name { board.ghost_name ≡ K.name }
+    requires log { log.old ≡ K.log }
     requires on { (memory_of board.old).powered ≡ true }
     requires regs { IsValidRegs (shape_of geo.now) (memory_of board.old).regs }
     requires ledger { IsOfShape (shape_of geo.now) (ledger_of ledger.old) }
@@ -254,13 +270,14 @@ fn start_watched<'a, K: Start, S: Suite>(
         (suite_state (S.keys suite.old) (S.pads suite.old) (S.tags suite.old) (S.digests suite.old))
         (suite_state (S.keys suite.new) (S.pads suite.new) (S.tags suite.new) (S.digests suite.new)) result.answer }
     ensures watched { IsWatched K.start (memory_of result.board.now) result.taken }
+    ensures logged { GoesOn K.log K.start log.new (memory_of result.board.now) }
     ensures keys { S.keys suite.new ≡ S.keys suite.old }
     ensures usable { IfOk result.answer (λ gapped. IsUsable (shape_of geo.now) gapped.engine (device_during (memory_of result.board.now) result.taken) (ledger_of ledger.new)) }
     ensures shape { IfOk result.answer (λ gapped. gapped.engine.shape ≡ shape_of geo.now) }
 {
-    let mut watched = Watched::<K>::new(board);
-    let answer = recover_and_open(alloc, geo, &mut watched, suite, ledger, every);
-    watched.left(answer)
+    let mut logged = Logged::<K>::new(board, log.take());
+    let answer = recover_and_open(alloc, geo, &mut logged, suite, ledger, every);
+    logged.left(answer, log)
 }
 
 /// The same over any board.

@@ -1,5 +1,6 @@
 //! Power, and recovery.
 ghost use Rattle.std.specs.Prelude.{◌≡◌, IfOk, IfErr};
+ghost use Rattle.access_log.specs.Traced.{GoesOn};
 ghost use Rattle.wear_session.specs.declared.commands.WearCommand.TheVariants as Do;
 ghost use Rattle.wear_session.specs.State.{wear_setup_in};
 ghost use Rattle.wear_session.specs.Answered.{IsWearAnswered, IsWearHalt};
@@ -7,6 +8,7 @@ ghost use Rattle.wear_session.specs.Answered.{IsWearAnswered, IsWearHalt};
 use crate::answers::WearAnswer;
 use crate::calls::{self, StartFault};
 use crate::world::WearWorld;
+use access_log::AccessLog;
 use pmem_base::Exhibit;
 use pmem_engine::Fault;
 use pmem_recovery::RecFault;
@@ -37,9 +39,10 @@ impl<S: Suite + Drop> WearWorld<S> {
     }
 
     /// Power comes on, with recovery, and the lines are opened. It stops for want of memory, or at a twin.
-    pub(crate) fn on(&mut self, alloc: Global) -> Result<WearAnswer, Halt>
+    pub(crate) fn on(&mut self, alloc: Global, log: &mut AccessLog) -> Result<WearAnswer, Halt>
         ensures answered { IfOk result (λ answer. IsWearAnswered (wear_setup_in S.formulas_of self.old) self.old Do.On answer self.new) }
         ensures halted { IfErr result (λ halt. IsWearHalt (wear_setup_in S.formulas_of self.old) self.old Do.On halt self.new) }
+        ensures logged { GoesOn log.old self.old.board log.new self.new.board }
     {
         if self.gapped.is_some() {
             return Ok(WearAnswer::Already);
@@ -52,6 +55,7 @@ impl<S: Suite + Drop> WearWorld<S> {
             &mut self.suite,
             &mut self.ledger,
             self.every,
+            log,
         );
         let steps = done.taken.steps();
         match done.answer {

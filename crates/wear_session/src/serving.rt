@@ -1,6 +1,7 @@
 //! Commands on logical lines.
 ghost use Rattle.std.specs.Prelude.{◌≡◌, IfOk, OnErr};
 ghost use Rattle.std.specs.List.{list_any};
+ghost use Rattle.access_log.specs.Traced.{GoesOn};
 ghost use Rattle.wear_session.specs.declared.commands.WearCommand.TheVariants as Do;
 ghost use Rattle.wear_session.specs.State.{wear_setup_in};
 ghost use Rattle.engine_lines.specs.Writes.{is_own_seal};
@@ -9,6 +10,7 @@ ghost use Rattle.wear_session.specs.Answered.{IsWearAnswered, IsWearMemoryWanted
 use crate::answers::WearAnswer;
 use crate::calls;
 use crate::world::WearWorld;
+use access_log::AccessLog;
 use pmem_base::{Line, Mark, MemFault};
 use pmem_engine::Fault;
 use seal_ledger::Audit;
@@ -34,10 +36,16 @@ fn has_own_seal(marks: &[Mark], at: u32) -> bool
 
 impl<S: Suite + Drop> WearWorld<S> {
     /// A logical line is written. The one error is want of memory.
-    pub(crate) fn write(&mut self, at: u64, line: &Line) -> Result<WearAnswer, MemFault>
+    pub(crate) fn write(
+        &mut self,
+        at: u64,
+        line: &Line,
+        log: &mut AccessLog,
+    ) -> Result<WearAnswer, MemFault>
         ensures answered { IfOk result (λ answer. IsWearAnswered (wear_setup_in S.formulas_of self.old) self.old (Do.Write at line.now) answer self.new) }
         ensures err { OnErr result (self.new ≡ self.old) }
         ensures wanting { OnErr result (IsWearMemoryWanted self.old (Do.Write at line.now)) }
+        ensures logged { GoesOn log.old self.old.board log.new self.new.board }
     {
         let Some(gapped) = &mut self.gapped else {
             return Ok(WearAnswer::Off);
@@ -56,6 +64,7 @@ impl<S: Suite + Drop> WearWorld<S> {
             &mut self.ledger,
             at as u32,
             line,
+            log,
         );
         let steps = done.taken.steps();
         match done.answer {
@@ -81,8 +90,9 @@ impl<S: Suite + Drop> WearWorld<S> {
     }
 
     /// A logical line is read.
-    pub(crate) fn read(&mut self, at: u64) -> WearAnswer
-        ensures { IsWearAnswered (wear_setup_in S.formulas_of self.old) self.old (Do.Read at) result self.new }
+    pub(crate) fn read(&mut self, at: u64, log: &mut AccessLog) -> WearAnswer
+        ensures answered { IsWearAnswered (wear_setup_in S.formulas_of self.old) self.old (Do.Read at) result self.new }
+        ensures logged { GoesOn log.old self.old.board log.new self.new.board }
     {
         let Some(gapped) = &mut self.gapped else {
             return WearAnswer::Off;
@@ -96,6 +106,7 @@ impl<S: Suite + Drop> WearWorld<S> {
             &mut self.suite,
             &mut self.ledger,
             at as u32,
+            log,
         );
         let steps = done.taken.steps();
         match done.answer {

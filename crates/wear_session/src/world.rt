@@ -36,6 +36,8 @@ impl<S: Suite + Drop> Model for WearWorld<S> {
     ghost view = { λ w. wear_of (record { shape = shape_of w.geo; formulas = S.formulas_of (S.keys w.suite) })
         (record {
           keys = S.keys w.suite;
+          tags = S.tags w.suite;
+          digests = S.digests w.suite;
           every = w.every;
           board = memory_of w.board;
           ledger = ledger_of w.ledger;
@@ -45,6 +47,8 @@ impl<S: Suite + Drop> Model for WearWorld<S> {
     ghost invariant = { λ w. IsWearWorld (record { shape = shape_of w.geo; formulas = S.formulas_of (S.keys w.suite) })
         (record {
           keys = S.keys w.suite;
+          tags = S.tags w.suite;
+          digests = S.digests w.suite;
           every = w.every;
           board = memory_of w.board;
           ledger = ledger_of w.ledger;

@@ -16,6 +16,10 @@ fn answers_sessions(rt: HostRuntime) -> Result<(), Fail> {
         cut 8 / write 0 [aa] / on / read 0
         0: ok / cut kept 8 / on 0 1022 5 / line [aa] 0
 
+        wear --suite weak --every=1 --log
+        cut 8 / write 0 [aa] / place 0 / off
+        0: work 0 0 / ok / look 1281 / look 1285 / line 1302 / line 1302 / line 1301 / look 1024 / latch 2 / line 0 / line 1024 / latch 0 / look 1021 / look 1279 / line 1302 / work 2 5 / cut kept 8 / work 0 0 / off / work 0 0 / off
+
         wear
         write 5 [11] / # a comment /  / read 5 / read 1021 / read 1022 / place 1022
         0: ok 7 / line [11] 0 / line [00] 0 / range / range
@@ -47,6 +51,10 @@ fn answers_sessions(rt: HostRuntime) -> Result<(), Fail> {
         txn --suite weak
         begin / put 0 [11] / put 64 [22] / cut 12 / commit / on / read 0
         0: ok / ok / ok / ok / cut kept 12 / on 2 26 / line [11] 0
+
+        txn --log --suite weak
+        begin / put 0 [11] / cut 9 / commit / # a comment / read 0
+        0: work 0 0 / ok / work 0 0 / ok / work 0 0 / ok / line 1302 / line 1302 / line 1301 / look 1276 / latch 2 / line 1009 / line 1276 / latch 0 / look 1276 / latch 2 / line 1008 / work 2 6 / cut kept 9 / work 0 0 / off
 
         txn --suite weak --levels 1
         begin / put 239 [11] / put 240 [11] / # a comment / commit / commit /  / read 239 / off / read 0 / on
@@ -84,9 +92,9 @@ fn answers_sessions(rt: HostRuntime) -> Result<(), Fail> {
         write 5 [11] / off / poke 149 [00] / on / read 5
         6: ok 7 / ok / ok / clash 5 [00] 00000001000000000000000000000001000000000000000000000000000000000000000000000000000000000000000000000000000000000000000000000000
 
-        tree --suite weak --levels 1 --sets=1 --key 000102030405060708090a0b0c0d0e0f --tag-key 10
+        tree --suite weak --log --levels 1 --sets=1 --key 000102030405060708090a0b0c0d0e0f --tag-key 10
         write 5 [11] / write 0 [22] / poke 5 [33] / read 5
-        6: ok 6 / ok 7 / ok / forged 5 1.0 [33] {14}
+        6: look 34 / latch 4 / line 5 / line 21 / line 37 / line 38 / latch 0 / work 2 4 / ok 6 / look 33 / line 34 / latch 4 / line 0 / line 16 / line 37 / line 38 / latch 0 / work 3 4 / ok 7 / work 0 0 / ok / look 34 / line 33 / look 5 / look 21 / work 3 0 / forged 5 1.0 [33] {14}
 
         tree --suite weak --levels 1 --sets 1
         write 0 [11] / write 4 [22] / poke 33 00000000000000000000000000000001000000000000000000000000000000000000000000000000000000000000000000000000000000000000000000000091 / read 0
@@ -129,7 +137,8 @@ const REFUSED: &str = "wear x
     txn --every 1
     txn --levels 7
     txn --loss 3
-    txn --log
+    txn --log=1
+    tree --log --log
     tree x
     tree --every 1
     tree --ways 1

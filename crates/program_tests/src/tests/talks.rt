@@ -2,6 +2,7 @@
 ghost use Rattle.std.specs.Prelude.{ℕ, List, [], ◌∷◌, ◌++◌, ◌≡◌, ◌+◌, ◌%◌, ⊤, codes};
 ghost use Rattle.program_tests.specs.Echoes.{sort_of_echo};
 
+use access_log::AccessLog;
 use arrayvec::ArrayVec;
 use pmem_base::{Exhibit, Kind, Line};
 use pmem_cli::{MemSink, MemSource, talk_all};
@@ -27,10 +28,15 @@ impl Talk for Echo {
 
     ghost wants_memory = { λ old line. line ≡ codes "m" };
 
+    ghost logs = { λ old line log_old log_new new. log_new ≡ log_old };
+
+    ghost work = { λ state. (0, 0) };
+
     fn talk(
         &mut self,
         _alloc: Global,
         line: &[u8],
+        _log: &mut AccessLog,
     ) -> Result<Option<ArrayVec<u8, TEXT_BYTES>>, Halt> {
         if line.is_empty() {
             return Ok(None);
@@ -54,6 +60,10 @@ impl Talk for Echo {
         text.push(b'0' + self.said % 10);
         self.said = self.said.wrapping_add(1);
         Ok(Some(text))
+    }
+
+    fn work(&self) -> (u64, u64) {
+        (0, 0)
     }
 }
 

@@ -6,20 +6,20 @@ use Rattle.pmem_cli.proofs.TreeLemmas.{IsOpen, tree_protocol, follows_tree, keep
 use Rattle.pmem_cli.proofs.tree.tree_with.Goals as goal
 
 pub returns-in-Err-clause-talked : goal.returns-in-Err-clause-talked
-returns-in-Err-clause-talked g c = HasConversed-memory _ _ _
+returns-in-Err-clause-talked g c = HasConversed-memory _ c.args.logged _ _
 
 pub returns-in-Ok-clause-talked : goal.returns-in-Ok-clause-talked
 returns-in-Ok-clause-talked g c =
     let f = g.U.Suite.formulas_of in
     let setup : Setup = record { shape = shape_of c.args.geo; formulas = f (g.U.Suite.keys c.args.suite) } in
     let law = c.sessions_keep_lines.ensures in
-    HasConversed-stopped (counter_tree_session setup) (tree_protocol f) (IsOpen f setup) (follows_tree f setup)
-    _ c.talk_trace.result _ _ _ _ (keeps_tree setup law.kept law.shown law.untouched)
-    c.in-Ok.ensures.new (open_begins f _ _ _ c.in-Ok.ensures.new c.in-Ok.ensures.keys) c.talk_trace.ensures.stopped
+    HasConversed-stopped (counter_tree_session setup) (tree_protocol f) (IsOpen f setup) c.args.logged (follows_tree f setup)
+    _ c.converse.result _ _ _ _ (keeps_tree setup law.kept law.shown law.untouched)
+    c.in-Ok.ensures.new (open_begins f _ _ _ c.in-Ok.ensures.new c.in-Ok.ensures.keys) c.converse.ensures.stopped
 
 pub returns-in-Ok-clause-replies_first : goal.returns-in-Ok-clause-replies_first
 returns-in-Ok-clause-replies_first g c =
     let f = g.U.Suite.formulas_of in
     let setup : Setup = record { shape = shape_of c.args.geo; formulas = f (g.U.Suite.keys c.args.suite) } in
-    said_first (counter_tree_session setup) (tree_protocol f) (IsOpen f setup) (follows_tree f setup)
-    _ _ _ _ _ _ _ c.in-Ok.ensures.new (open_begins f _ _ _ c.in-Ok.ensures.new c.in-Ok.ensures.keys) c.talk_trace.ensures.replies_first
+    said_first (counter_tree_session setup) (tree_protocol f) (IsOpen f setup) c.args.logged (follows_tree f setup)
+    _ _ _ _ _ _ _ c.in-Ok.ensures.new (open_begins f _ _ _ c.in-Ok.ensures.new c.in-Ok.ensures.keys) c.converse.ensures.replies_first

@@ -8,19 +8,19 @@ use Rattle.pmem_cli.proofs.TxnLemmas.{txn_protocol, follows_txn, keeps_txn, setu
 use Rattle.pmem_cli.proofs.txn.txn_with.Goals as goal
 
 pub returns-in-Err-clause-talked : goal.returns-in-Err-clause-talked
-returns-in-Err-clause-talked g c = HasConversed-memory _ _ _
+returns-in-Err-clause-talked g c = HasConversed-memory _ c.args.logged _ _
 
 pub returns-in-Ok-clause-talked : goal.returns-in-Ok-clause-talked
 returns-in-Ok-clause-talked g c =
     let f = g.U.Suite.formulas_of in
     let setup : Setup = record { shape = shape_of c.args.geo; formulas = f (g.U.Suite.keys c.args.suite) } in
-    HasConversed-stopped (transactions_session setup) (txn_protocol f) (λ (state : TxnState). ◌≡◌ {A = Setup} (txn_setup_in f state) setup) (follows_txn f setup)
-    _ c.talk_trace.result _ _ _ _ (keeps_txn setup c.sessions_keep_transactions.ensures.kept c.sessions_keep_transactions.ensures.spent)
-    c.in-Ok.ensures.new (setup_begins f _ _ _ c.in-Ok.ensures.new c.in-Ok.ensures.keys) c.talk_trace.ensures.stopped
+    HasConversed-stopped (transactions_session setup) (txn_protocol f) (λ (state : TxnState). ◌≡◌ {A = Setup} (txn_setup_in f state) setup) c.args.logged (follows_txn f setup)
+    _ c.converse.result _ _ _ _ (keeps_txn setup c.sessions_keep_transactions.ensures.kept c.sessions_keep_transactions.ensures.spent)
+    c.in-Ok.ensures.new (setup_begins f _ _ _ c.in-Ok.ensures.new c.in-Ok.ensures.keys) c.converse.ensures.stopped
 
 pub returns-in-Ok-clause-replies_first : goal.returns-in-Ok-clause-replies_first
 returns-in-Ok-clause-replies_first g c =
     let f = g.U.Suite.formulas_of in
     let setup : Setup = record { shape = shape_of c.args.geo; formulas = f (g.U.Suite.keys c.args.suite) } in
-    said_first (transactions_session setup) (txn_protocol f) (λ (state : TxnState). ◌≡◌ {A = Setup} (txn_setup_in f state) setup) (follows_txn f setup)
-    _ _ _ _ _ _ _ c.in-Ok.ensures.new (setup_begins f _ _ _ c.in-Ok.ensures.new c.in-Ok.ensures.keys) c.talk_trace.ensures.replies_first
+    said_first (transactions_session setup) (txn_protocol f) (λ (state : TxnState). ◌≡◌ {A = Setup} (txn_setup_in f state) setup) c.args.logged (follows_txn f setup)
+    _ _ _ _ _ _ _ c.in-Ok.ensures.new (setup_begins f _ _ _ c.in-Ok.ensures.new c.in-Ok.ensures.keys) c.converse.ensures.replies_first

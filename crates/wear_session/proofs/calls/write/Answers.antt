@@ -3,7 +3,6 @@ use Rattle.std.proofs.Common.{List, refl, rules, subst}
 use Rattle.pmem_base.specs.declared.lines.Line.{Line}
 use Rattle.suite.specs.Setup.{Setup}
 use Rattle.board.specs.Device.{Device}
-use Rattle.board.specs.Memory.{BoardMemory}
 use Rattle.board.specs.MemBoard.{memory_of}
 use Rattle.seal_ledger.specs.View.{ledger_of}
 use Rattle.pmem_engine.specs.Parts.{Parts, parts_of, AreTrusted, AreSound}
@@ -14,13 +13,13 @@ use Rattle.start_gap.specs.Gapped.{HasLevelledWrite, IsLeftLevelled, IsSoundWrit
 use Rattle.watched_board.specs.Watching.{IsWatched, device_during, none_taken}
 use Rattle.wear_session.proofs.calls.write.Goals as goal
 
-pub write_watched-left-requires : goal.write_watched-left-requires
-write_watched-left-requires g c =
-    record { line = c.requires.line; room = c.requires.room; start = refl; name = refl; on = c.requires.on; usable = c.requires.usable }
+pub write_logged-left-requires : goal.write_logged-left-requires
+write_logged-left-requires g c =
+    record { line = c.requires.line; room = c.requires.room; start = refl; name = refl; log = refl; on = c.requires.on; usable = c.requires.usable }
 
-pub returns : goal.returns
-returns g c =
-    let left = c.write_watched-left in
+pub returns-clause-levelled : goal.returns-clause-levelled
+returns-clause-levelled g c =
+    let left = c.write_logged-left in
     let setup : Setup = record { shape = c.args.gapped.now.engine.shape; formulas = g.S.Suite.formulas_of (g.S.Suite.keys c.args.suite.now) } in
     let old : Parts =
     parts_of c.args.gapped.now.engine (device_during (memory_of c.args.board.now) none_taken) (ledger_of c.args.ledger.now)
@@ -28,35 +27,36 @@ returns g c =
     let new : Device → Parts =
     λ device. parts_of left.new.gapped.engine device (ledger_of left.new.ledger)
     (g.S.Suite.tags left.new.suite) (g.S.Suite.digests left.new.suite) in
-    record {
-      written =
-          subst
-          (λ (device : Device). HasLevelledWrite setup c.args.line c.args.plain.now c.args.gapped.now left.new.gapped old
-          (new device) left.result.answer)
-          (search rules) left.ensures.written;
-      levelled =
-          subst
-          (λ (device : Device). AreTrusted setup old → (lines : List Line) → HasLines setup lines old
-          → IsLeftLevelled setup c.args.line c.args.plain.now c.args.gapped.now lines (new device) left.result.answer)
-          (search rules) left.ensures.levelled;
-      trusted =
-          subst
-          (λ (device : Device). AreTrusted setup old → LeavesTrusted setup (write_outcome_by left.result.answer) (new device))
-          (search rules) left.ensures.trusted;
-      sound =
-          subst
-          (λ (device : Device). AreSound setup old
-          → LeavesSound setup (write_outcome_by left.result.answer) (new device) × IsSoundWriteAnswer left.result.answer)
-          (search rules) left.ensures.sound;
-      spent = left.ensures.spent;
-      watched =
-          subst (λ (memory : BoardMemory). IsWatched (memory_of c.args.board.now) memory left.result.taken) (search rules)
-          left.ensures.watched;
-      keys = left.ensures.keys;
-      usable =
-          subst
-          (λ (device : Device). IsUsable c.args.gapped.now.engine.shape left.new.gapped.engine device
-          (ledger_of left.new.ledger))
-          (search rules) left.ensures.usable;
-      shape = left.ensures.shape;
-    }
+    subst
+    (λ (device : Device). AreTrusted setup old → (lines : List Line) → HasLines setup lines old
+    → IsLeftLevelled setup c.args.line c.args.plain.now c.args.gapped.now lines (new device) left.result.answer)
+    (search rules) left.ensures.levelled
+
+pub returns-clause-trusted : goal.returns-clause-trusted
+returns-clause-trusted g c =
+    let left = c.write_logged-left in
+    let setup : Setup = record { shape = c.args.gapped.now.engine.shape; formulas = g.S.Suite.formulas_of (g.S.Suite.keys c.args.suite.now) } in
+    let old : Parts =
+    parts_of c.args.gapped.now.engine (device_during (memory_of c.args.board.now) none_taken) (ledger_of c.args.ledger.now)
+    (g.S.Suite.tags c.args.suite.now) (g.S.Suite.digests c.args.suite.now) in
+    let new : Device → Parts =
+    λ device. parts_of left.new.gapped.engine device (ledger_of left.new.ledger)
+    (g.S.Suite.tags left.new.suite) (g.S.Suite.digests left.new.suite) in
+    subst
+    (λ (device : Device). AreTrusted setup old → LeavesTrusted setup (write_outcome_by left.result.answer) (new device))
+    (search rules) left.ensures.trusted
+
+pub returns-clause-sound : goal.returns-clause-sound
+returns-clause-sound g c =
+    let left = c.write_logged-left in
+    let setup : Setup = record { shape = c.args.gapped.now.engine.shape; formulas = g.S.Suite.formulas_of (g.S.Suite.keys c.args.suite.now) } in
+    let old : Parts =
+    parts_of c.args.gapped.now.engine (device_during (memory_of c.args.board.now) none_taken) (ledger_of c.args.ledger.now)
+    (g.S.Suite.tags c.args.suite.now) (g.S.Suite.digests c.args.suite.now) in
+    let new : Device → Parts =
+    λ device. parts_of left.new.gapped.engine device (ledger_of left.new.ledger)
+    (g.S.Suite.tags left.new.suite) (g.S.Suite.digests left.new.suite) in
+    subst
+    (λ (device : Device). AreSound setup old
+    → LeavesSound setup (write_outcome_by left.result.answer) (new device) × IsSoundWriteAnswer left.result.answer)
+    (search rules) left.ensures.sound

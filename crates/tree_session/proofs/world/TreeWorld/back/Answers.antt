@@ -18,6 +18,8 @@ returns-then-at-from g c =
       parts =
           record {
             keys = g.S.Suite.keys c.self.inside.suite;
+            tags = g.S.Suite.tags c.self.inside.suite;
+            digests = g.S.Suite.digests c.self.inside.suite;
             board = memory_of c.self.inside.board;
             watch = watch_of g.S.Suite.formulas_of g.S.Suite.keys c.self.inside.watch;
             engine = c.self.inside.engine;
@@ -40,6 +42,8 @@ returns-then-is_err g c =
       parts =
           record {
             keys = g.S.Suite.keys c.self.inside.suite;
+            tags = g.S.Suite.tags c.self.inside.suite;
+            digests = g.S.Suite.digests c.self.inside.suite;
             board = memory_of c.self.inside.board;
             watch = watch_of g.S.Suite.formulas_of g.S.Suite.keys c.self.inside.watch;
             engine = c.self.inside.engine;
@@ -63,6 +67,8 @@ invariant_of-self-2 g c =
       parts =
           record {
             keys = g.S.Suite.keys c.self.inside.suite;
+            tags = g.S.Suite.tags c.self.inside.suite;
+            digests = g.S.Suite.digests c.self.inside.suite;
             board = memory_of c.self.inside.board;
             watch = watch_of g.S.Suite.formulas_of g.S.Suite.keys c.self.inside.watch;
             engine = c.self.inside.engine;
@@ -87,6 +93,8 @@ returns g c =
       parts =
           record {
             keys = g.S.Suite.keys c.self.inside.suite;
+            tags = g.S.Suite.tags c.self.inside.suite;
+            digests = g.S.Suite.digests c.self.inside.suite;
             board = memory_of c.self.inside.board;
             watch = watch_of g.S.Suite.formulas_of g.S.Suite.keys c.self.inside.watch;
             engine = c.self.inside.engine;

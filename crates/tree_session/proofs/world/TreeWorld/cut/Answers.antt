@@ -14,6 +14,8 @@ invariant_of-self g c =
       parts =
           record {
             keys = g.S.Suite.keys c.self.inside.suite;
+            tags = g.S.Suite.tags c.self.inside.suite;
+            digests = g.S.Suite.digests c.self.inside.suite;
             board = memory_of c.self.inside.board;
             watch = watch_of g.S.Suite.formulas_of g.S.Suite.keys c.self.inside.watch;
             engine = c.self.inside.engine;
@@ -36,6 +38,8 @@ returns g c =
       parts =
           record {
             keys = g.S.Suite.keys c.self.inside.suite;
+            tags = g.S.Suite.tags c.self.inside.suite;
+            digests = g.S.Suite.digests c.self.inside.suite;
             board = memory_of c.self.inside.board;
             watch = watch_of g.S.Suite.formulas_of g.S.Suite.keys c.self.inside.watch;
             engine = c.self.inside.engine;

@@ -1,10 +1,13 @@
 -- Power comes on.
-use Rattle.std.proofs.Common.{rules}
+use Rattle.std.proofs.Common.{rules, refl, ap, ◌∙◌}
 use Rattle.pmem_base.specs.Geo.{shape_of}
 use Rattle.board.specs.MemBoard.{memory_of}
 use Rattle.counter_tree.specs.BookView.{watch_of}
 use Rattle.tree_session.specs.declared.commands.TreeCommand.TheVariants as Do
 use Rattle.tree_session.specs.declared.answers.TreeAnswer.TheVariants as Say
+use Rattle.access_log.specs.Traced.{GoesOn, traced_of}
+use Rattle.access_log.proofs.TraceLemmas.{goes_on-between}
+use Rattle.tree_session.specs.State.{SessionState}
 use Rattle.tree_session.proofs.Decided.{QuietCall, found_some, already, as_now}
 use Rattle.pmem_recovery.proofs.ResultLaws.{none_of}
 use Rattle.tree_session.proofs.OnCalls.{OnTreeCall, on_held, on_seen, cut_kept, cut_seen, shadow_kept, shadow_seen, shown_kept, shown_seen}
@@ -22,6 +25,8 @@ module _ (g : Over) (c : After-steps-steps g) where
         parts =
             record {
               keys = g.S.Suite.keys c.self.inside.suite;
+              tags = g.S.Suite.tags c.self.inside.suite;
+              digests = g.S.Suite.digests c.self.inside.suite;
               board = memory_of c.self.inside.board;
               watch = watch_of g.S.Suite.formulas_of g.S.Suite.keys c.self.inside.watch;
               engine = c.self.inside.engine;
@@ -37,17 +42,27 @@ module _ (g : Over) (c : After-steps-steps g) where
         is_lit = c.power.ensures;
         keys = g.S.Suite.keys c.recover-done.new.suite;
         same_keys = c.recover-done.ensures.keys;
+        tags = g.S.Suite.tags c.recover-done.new.suite;
+        same_tags = c.recover-done.ensures.tags;
         board = memory_of c.recover-done.new.board;
         watch = watch_of g.S.Suite.formulas_of g.S.Suite.keys c.recover-done.new.watch;
         taken = c.recover-done.result.taken;
         watched = c.recover-done.ensures.watched;
         before = g.S.Suite.digests c.self.inside.suite;
+        same_before = refl;
         later = g.S.Suite.digests c.recover-done.new.suite;
         answer = c.recover-done.result.answer;
         recovered = c.recover-done.ensures.recovered;
         said = c.steps-steps.result;
         counted = c.steps-steps.ensures;
       }
+
+  -- the log goes on from the board before to the board as the call left it
+  logged : GoesOn c.args.log.now c.args.self.now.plain.board c.recover-done.new.log (memory_of c.recover-done.new.board)
+  logged =
+      goes_on-between c.args.log.now c.recover-done.new.log c.args.self.now.plain.board (memory_of c.power.new.self) (memory_of c.recover-done.new.board)
+      (memory_of c.recover-done.new.board) (ap traced_of c.power.ensures ∙ ap (λ (w : SessionState). traced_of w.plain.board) c.self.view_is) refl
+      c.recover-done.ensures.logged
 
 pub returns-then-is_some-clause-answered : goal.returns-then-is_some-clause-answered
 returns-then-is_some-clause-answered g c =
@@ -58,6 +73,8 @@ returns-then-is_some-clause-answered g c =
       parts =
           record {
             keys = g.S.Suite.keys c.self.inside.suite;
+            tags = g.S.Suite.tags c.self.inside.suite;
+            digests = g.S.Suite.digests c.self.inside.suite;
             board = memory_of c.self.inside.board;
             watch = watch_of g.S.Suite.formulas_of g.S.Suite.keys c.self.inside.watch;
             engine = c.self.inside.engine;
@@ -97,3 +114,26 @@ pub returns-in-Err-Shown-clause-halted : goal.returns-in-Err-Shown-clause-halted
 returns-in-Err-Shown-clause-halted g c =
     let r = call g ((goal.at.returns-in-Err-Shown-clause-halted g c).After-steps-steps) in
     shown_seen r (memory_of c.rest-in-Err-Shown.new.self) c.rest-in-Err-Shown.ensures (let h = c.in-Err-Shown.is in let k = c.in-Err-Shown.field-0-is in search rules) c.shown.result c.shown.ensures
+
+-- ---- the log
+
+pub returns-in-Ok-clause-logged : goal.returns-in-Ok-clause-logged
+returns-in-Ok-clause-logged g c = logged g ((goal.at.returns-in-Ok-clause-logged g c).After-steps-steps)
+
+pub returns-in-Err-Cut-clause-logged : goal.returns-in-Err-Cut-clause-logged
+returns-in-Err-Cut-clause-logged g c = logged g ((goal.at.returns-in-Err-Cut-clause-logged g c).After-steps-steps)
+
+pub returns-in-Err-Shadow-clause-logged : goal.returns-in-Err-Shadow-clause-logged
+returns-in-Err-Shadow-clause-logged g c =
+    goes_on-between c.args.log.now c.recover-done.new.log c.args.self.now.plain.board c.args.self.now.plain.board (memory_of c.recover-done.new.board)
+    (memory_of c.rest.new.self) refl (ap traced_of c.rest.ensures) (logged g ((goal.at.returns-in-Err-Shadow-clause-logged g c).After-steps-steps))
+
+pub returns-in-Err-Memory-clause-logged : goal.returns-in-Err-Memory-clause-logged
+returns-in-Err-Memory-clause-logged g c =
+    goes_on-between c.args.log.now c.recover-done.new.log c.args.self.now.plain.board c.args.self.now.plain.board (memory_of c.recover-done.new.board)
+    (memory_of c.rest-in-Err-Memory.new.self) refl (ap traced_of c.rest-in-Err-Memory.ensures) (logged g ((goal.at.returns-in-Err-Memory-clause-logged g c).After-steps-steps))
+
+pub returns-in-Err-Shown-clause-logged : goal.returns-in-Err-Shown-clause-logged
+returns-in-Err-Shown-clause-logged g c =
+    goes_on-between c.args.log.now c.recover-done.new.log c.args.self.now.plain.board c.args.self.now.plain.board (memory_of c.recover-done.new.board)
+    (memory_of c.rest-in-Err-Shown.new.self) refl (ap traced_of c.rest-in-Err-Shown.ensures) (logged g ((goal.at.returns-in-Err-Shown-clause-logged g c).After-steps-steps))

@@ -1,8 +1,11 @@
 -- A line is read, refused or shown, or power is cut.
-use Rattle.std.proofs.Common.{rules, arith}
+use Rattle.std.proofs.Common.{rules, arith, refl, ap}
 use Rattle.pmem_base.specs.Geo.{shape_of}
 use Rattle.board.specs.MemBoard.{memory_of}
 use Rattle.counter_tree.specs.BookView.{watch_of}
+use Rattle.access_log.specs.Traced.{GoesOn, traced_of}
+use Rattle.access_log.proofs.TraceLemmas.{goes_on-between}
+use Rattle.tree_session.specs.State.{SessionState}
 use Rattle.tree_session.proofs.Seen.{WorldCall}
 use Rattle.tree_session.proofs.Decided.{QuietCall, read_off, read_past}
 use Rattle.tree_session.proofs.ReadCalls.{ReadTreeCall, got_held, got_seen, node_kept, node_seen, tag_kept, tag_seen, cut_kept, cut_seen, shown_kept, shown_seen}
@@ -20,6 +23,8 @@ module _ (g : Over) (c : After-steps-steps g) where
         parts =
             record {
               keys = g.S.Suite.keys c.self.inside.suite;
+              tags = g.S.Suite.tags c.self.inside.suite;
+              digests = g.S.Suite.digests c.self.inside.suite;
               board = memory_of c.self.inside.board;
               watch = watch_of g.S.Suite.formulas_of g.S.Suite.keys c.self.inside.watch;
               engine = c.self.inside.engine;
@@ -35,6 +40,8 @@ module _ (g : Over) (c : After-steps-steps g) where
         after = c.read-done.new.engine;
         keys = g.S.Suite.keys c.read-done.new.suite;
         same_keys = c.read-done.ensures.keys;
+        tags = g.S.Suite.tags c.read-done.new.suite;
+        digests = g.S.Suite.digests c.read-done.new.suite;
         board = memory_of c.read-done.new.board;
         watch = watch_of g.S.Suite.formulas_of g.S.Suite.keys c.read-done.new.watch;
         taken = c.read-done.result.taken;
@@ -53,6 +60,12 @@ module _ (g : Over) (c : After-steps-steps g) where
         was_read = c.read-done.ensures.read;
       }
 
+  -- the log goes on by that call
+  logged : GoesOn c.args.log.now c.args.self.now.plain.board c.read-done.new.log (memory_of c.read-done.new.board)
+  logged =
+      goes_on-between c.args.log.now c.read-done.new.log c.args.self.now.plain.board (memory_of c.self.inside.board) (memory_of c.read-done.new.board)
+      (memory_of c.read-done.new.board) (ap (λ (w : SessionState). traced_of w.plain.board) c.self.view_is) refl c.read-done.ensures.logged
+
 pub returns-in_default-clause-answered : goal.returns-in_default-clause-answered
 returns-in_default-clause-answered g c =
     let q : QuietCall =
@@ -62,6 +75,8 @@ returns-in_default-clause-answered g c =
       parts =
           record {
             keys = g.S.Suite.keys c.self.inside.suite;
+            tags = g.S.Suite.tags c.self.inside.suite;
+            digests = g.S.Suite.digests c.self.inside.suite;
             board = memory_of c.self.inside.board;
             watch = watch_of g.S.Suite.formulas_of g.S.Suite.keys c.self.inside.watch;
             engine = c.self.inside.engine;
@@ -84,6 +99,8 @@ returns-then-at-from-clause-answered g c =
       parts =
           record {
             keys = g.S.Suite.keys c.self.inside.suite;
+            tags = g.S.Suite.tags c.self.inside.suite;
+            digests = g.S.Suite.digests c.self.inside.suite;
             board = memory_of c.self.inside.board;
             watch = watch_of g.S.Suite.formulas_of g.S.Suite.keys c.self.inside.watch;
             engine = c.self.inside.engine;
@@ -128,3 +145,22 @@ pub returns-in-Err-Shown-clause-halted : goal.returns-in-Err-Shown-clause-halted
 returns-in-Err-Shown-clause-halted g c =
     let r = call g ((goal.at.returns-in-Err-Shown-clause-halted g c).After-steps-steps) in
     shown_seen r (let h = c.in-Err-Shown.is in let k = c.in-Err-Shown.field-0-is in search rules) (memory_of c.rest.new.self) c.rest.ensures c.shown.result c.shown.ensures
+
+-- ---- the log
+
+pub returns-in-Ok-clause-logged : goal.returns-in-Ok-clause-logged
+returns-in-Ok-clause-logged g c = logged g ((goal.at.returns-in-Ok-clause-logged g c).After-steps-steps)
+
+pub returns-in-Err-Node-clause-logged : goal.returns-in-Err-Node-clause-logged
+returns-in-Err-Node-clause-logged g c = logged g ((goal.at.returns-in-Err-Node-clause-logged g c).After-steps-steps)
+
+pub returns-in-Err-Tag-clause-logged : goal.returns-in-Err-Tag-clause-logged
+returns-in-Err-Tag-clause-logged g c = logged g ((goal.at.returns-in-Err-Tag-clause-logged g c).After-steps-steps)
+
+pub returns-in-Err-Cut-clause-logged : goal.returns-in-Err-Cut-clause-logged
+returns-in-Err-Cut-clause-logged g c = logged g ((goal.at.returns-in-Err-Cut-clause-logged g c).After-steps-steps)
+
+pub returns-in-Err-Shown-clause-logged : goal.returns-in-Err-Shown-clause-logged
+returns-in-Err-Shown-clause-logged g c =
+    goes_on-between c.args.log.now c.read-done.new.log c.args.self.now.plain.board c.args.self.now.plain.board (memory_of c.read-done.new.board)
+    (memory_of c.rest.new.self) refl (ap traced_of c.rest.ensures) (logged g ((goal.at.returns-in-Err-Shown-clause-logged g c).After-steps-steps))

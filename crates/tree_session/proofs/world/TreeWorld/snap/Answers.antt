@@ -17,6 +17,8 @@ invariant_of-self-2 g c =
       parts =
           record {
             keys = g.S.Suite.keys c.self.inside.suite;
+            tags = g.S.Suite.tags c.self.inside.suite;
+            digests = g.S.Suite.digests c.self.inside.suite;
             board = memory_of c.self.inside.board;
             watch = watch_of g.S.Suite.formulas_of g.S.Suite.keys c.self.inside.watch;
             engine = c.self.inside.engine;
@@ -40,6 +42,8 @@ returns-then-is_err-clause-halted g c =
       parts =
           record {
             keys = g.S.Suite.keys c.self.inside.suite;
+            tags = g.S.Suite.tags c.self.inside.suite;
+            digests = g.S.Suite.digests c.self.inside.suite;
             board = memory_of c.self.inside.board;
             watch = watch_of g.S.Suite.formulas_of g.S.Suite.keys c.self.inside.watch;
             engine = c.self.inside.engine;
@@ -63,6 +67,8 @@ returns-clause-answered g c =
       parts =
           record {
             keys = g.S.Suite.keys c.self.inside.suite;
+            tags = g.S.Suite.tags c.self.inside.suite;
+            digests = g.S.Suite.digests c.self.inside.suite;
             board = memory_of c.self.inside.board;
             watch = watch_of g.S.Suite.formulas_of g.S.Suite.keys c.self.inside.watch;
             engine = c.self.inside.engine;

@@ -1,8 +1,11 @@
 -- A line is written, refused or shown, or power is cut; or no write can be counted any more.
-use Rattle.std.proofs.Common.{rules, arith}
+use Rattle.std.proofs.Common.{rules, arith, refl, ap}
 use Rattle.pmem_base.specs.Geo.{shape_of}
 use Rattle.board.specs.MemBoard.{memory_of}
 use Rattle.counter_tree.specs.BookView.{watch_of}
+use Rattle.access_log.specs.Traced.{GoesOn, traced_of}
+use Rattle.access_log.proofs.TraceLemmas.{goes_on-between}
+use Rattle.tree_session.specs.State.{SessionState}
 use Rattle.tree_session.proofs.Seen.{WorldCall}
 use Rattle.tree_session.proofs.Decided.{QuietCall, write_off, write_past}
 use Rattle.tree_session.proofs.WriteCalls.{WriteTreeCall, made_held, made_seen, node_kept, node_seen, spent_kept, spent_seen, lost_kept, lost_seen, cut_kept, cut_seen, shown_kept, shown_seen}
@@ -20,6 +23,8 @@ module _ (g : Over) (c : After-steps-steps g) where
         parts =
             record {
               keys = g.S.Suite.keys c.self.inside.suite;
+              tags = g.S.Suite.tags c.self.inside.suite;
+              digests = g.S.Suite.digests c.self.inside.suite;
               board = memory_of c.self.inside.board;
               watch = watch_of g.S.Suite.formulas_of g.S.Suite.keys c.self.inside.watch;
               engine = c.self.inside.engine;
@@ -35,6 +40,8 @@ module _ (g : Over) (c : After-steps-steps g) where
         after = c.write-done.new.engine;
         keys = g.S.Suite.keys c.write-done.new.suite;
         same_keys = c.write-done.ensures.keys;
+        tags = g.S.Suite.tags c.write-done.new.suite;
+        digests = g.S.Suite.digests c.write-done.new.suite;
         board = memory_of c.write-done.new.board;
         watch = watch_of g.S.Suite.formulas_of g.S.Suite.keys c.write-done.new.watch;
         taken = c.write-done.result.taken;
@@ -55,6 +62,12 @@ module _ (g : Over) (c : After-steps-steps g) where
         was_written = c.write-done.ensures.written;
       }
 
+  -- the log goes on by that call
+  logged : GoesOn c.args.log.now c.args.self.now.plain.board c.write-done.new.log (memory_of c.write-done.new.board)
+  logged =
+      goes_on-between c.args.log.now c.write-done.new.log c.args.self.now.plain.board (memory_of c.self.inside.board) (memory_of c.write-done.new.board)
+      (memory_of c.write-done.new.board) (ap (λ (w : SessionState). traced_of w.plain.board) c.self.view_is) refl c.write-done.ensures.logged
+
 pub returns-in_default-clause-answered : goal.returns-in_default-clause-answered
 returns-in_default-clause-answered g c =
     let q : QuietCall =
@@ -64,6 +77,8 @@ returns-in_default-clause-answered g c =
       parts =
           record {
             keys = g.S.Suite.keys c.self.inside.suite;
+            tags = g.S.Suite.tags c.self.inside.suite;
+            digests = g.S.Suite.digests c.self.inside.suite;
             board = memory_of c.self.inside.board;
             watch = watch_of g.S.Suite.formulas_of g.S.Suite.keys c.self.inside.watch;
             engine = c.self.inside.engine;
@@ -86,6 +101,8 @@ returns-then-at-from-clause-answered g c =
       parts =
           record {
             keys = g.S.Suite.keys c.self.inside.suite;
+            tags = g.S.Suite.tags c.self.inside.suite;
+            digests = g.S.Suite.digests c.self.inside.suite;
             board = memory_of c.self.inside.board;
             watch = watch_of g.S.Suite.formulas_of g.S.Suite.keys c.self.inside.watch;
             engine = c.self.inside.engine;
@@ -136,3 +153,25 @@ pub returns-in-Err-Shown-clause-halted : goal.returns-in-Err-Shown-clause-halted
 returns-in-Err-Shown-clause-halted g c =
     let r = call g ((goal.at.returns-in-Err-Shown-clause-halted g c).After-steps-steps) in
     shown_seen r (let h = c.in-Err-Shown.is in let k = c.in-Err-Shown.field-0-is in search rules) (memory_of c.rest.new.self) c.rest.ensures c.shown.result c.shown.ensures
+
+-- ---- the log
+
+pub returns-in-Ok-clause-logged : goal.returns-in-Ok-clause-logged
+returns-in-Ok-clause-logged g c = logged g ((goal.at.returns-in-Ok-clause-logged g c).After-steps-steps)
+
+pub returns-in-Err-Node-clause-logged : goal.returns-in-Err-Node-clause-logged
+returns-in-Err-Node-clause-logged g c = logged g ((goal.at.returns-in-Err-Node-clause-logged g c).After-steps-steps)
+
+pub returns-in-Err-Spent-clause-logged : goal.returns-in-Err-Spent-clause-logged
+returns-in-Err-Spent-clause-logged g c = logged g ((goal.at.returns-in-Err-Spent-clause-logged g c).After-steps-steps)
+
+pub returns-then-done-gt0-clause-logged : goal.returns-then-done-gt0-clause-logged
+returns-then-done-gt0-clause-logged g c = logged g ((goal.at.returns-then-done-gt0-clause-logged g c).After-steps-steps)
+
+pub returns-else-done-gt0-clause-logged : goal.returns-else-done-gt0-clause-logged
+returns-else-done-gt0-clause-logged g c = logged g ((goal.at.returns-else-done-gt0-clause-logged g c).After-steps-steps)
+
+pub returns-in-Err-Shown-clause-logged : goal.returns-in-Err-Shown-clause-logged
+returns-in-Err-Shown-clause-logged g c =
+    goes_on-between c.args.log.now c.write-done.new.log c.args.self.now.plain.board c.args.self.now.plain.board (memory_of c.write-done.new.board)
+    (memory_of c.rest.new.self) refl (ap traced_of c.rest.ensures) (logged g ((goal.at.returns-in-Err-Shown-clause-logged g c).After-steps-steps))

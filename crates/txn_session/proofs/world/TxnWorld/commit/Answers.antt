@@ -1,5 +1,5 @@
 -- The open transaction is committed; or its store is stuck, it is spent, or power is cut.
-use Rattle.std.proofs.Common.{rules, arith, ◌≡◌, ◌⊎◌, inl, inr, true, false, length, drop, Err, sym, ap, subst, ◌∙◌}
+use Rattle.std.proofs.Common.{rules, arith, ◌≡◌, ◌⊎◌, inl, inr, true, false, length, drop, Err, sym, ap, subst, ◌∙◌, refl}
 use Rattle.std.specs.Prelude.{option_map}
 use Rattle.std.specs.List.{list_any}
 use Rattle.std.proofs.lemmas.Bool.{true≢false}
@@ -11,6 +11,9 @@ use Rattle.engine_lines.specs.Lines.{IsCutOrSpent}
 use Rattle.line_txn.proofs.Commits.{some_list}
 use Rattle.engine_lines.specs.Writes.{is_own_seal}
 use Rattle.engine_lines.proofs.OwnSeals.{own_marks}
+use Rattle.access_log.specs.Traced.{GoesOn, traced_of}
+use Rattle.access_log.proofs.TraceLemmas.{goes_on-between}
+use Rattle.txn_session.specs.State.{TxnState}
 use Rattle.txn_session.proofs.CommitStates.{CommitCall}
 use Rattle.txn_session.proofs.Committed.{applied_exit, stuck_exit, spent_exit, cut_held, cut_marks, kept_seen, lost_seen, sound_fault}
 use Rattle.txn_session.proofs.world.TxnWorld.commit.Given.{Over}
@@ -27,6 +30,8 @@ module _ (g : Over) (c : After-steps-steps g) where
         before =
             record {
               keys = g.S.Suite.keys c.self.inside.suite;
+              tags = g.S.Suite.tags c.self.inside.suite;
+              digests = g.S.Suite.digests c.self.inside.suite;
               board = memory_of c.self.inside.board;
               ledger = ledger_of c.self.inside.ledger;
               store = c.self.inside.store;
@@ -60,17 +65,19 @@ module _ (g : Over) (c : After-steps-steps g) where
         was_committed = c.commit-done.ensures.committed;
       }
 
+  -- the log goes on by that call
+  logged : GoesOn c.args.log.now c.args.self.now.board c.commit-done.new.log (memory_of c.commit-done.new.board)
+  logged =
+      goes_on-between c.args.log.now c.commit-done.new.log c.args.self.now.board (memory_of c.self.inside.board) (memory_of c.commit-done.new.board)
+      (memory_of c.commit-done.new.board) (ap (λ (w : TxnState). traced_of w.board) c.self.view_is) refl c.commit-done.ensures.noted
+
 pub invariant_of-self-in-Ok-Applied : goal.invariant_of-self-in-Ok-Applied
 invariant_of-self-in-Ok-Applied g c =
     (applied_exit (call g ((goal.at.invariant_of-self-in-Ok-Applied g c).After-steps-steps)) (let h = c.in-Ok-Applied.is in search rules)).0
 
-pub returns-in-Ok-Applied : goal.returns-in-Ok-Applied
-returns-in-Ok-Applied g c =
-    record {
-      answered = (applied_exit (call g ((goal.at.returns-in-Ok-Applied g c).After-steps-steps)) (let h = c.in-Ok-Applied.is in search rules)).1;
-      err = tt;
-      wanting = tt;
-    }
+pub returns-in-Ok-Applied-clause-answered : goal.returns-in-Ok-Applied-clause-answered
+returns-in-Ok-Applied-clause-answered g c =
+    (applied_exit (call g ((goal.at.returns-in-Ok-Applied-clause-answered g c).After-steps-steps)) (let h = c.in-Ok-Applied.is in search rules)).1
 
 pub invariant_of-self-in-Ok-Stuck : goal.invariant_of-self-in-Ok-Stuck
 invariant_of-self-in-Ok-Stuck g c =
@@ -155,3 +162,17 @@ returns-after-has_own_seal-clause-answered g c =
           ] in
           rw w.result-is (lost_seen its c.in-Err.committed is none)
     ]
+
+-- ---- the log
+
+pub returns-in-Ok-Applied-clause-logged : goal.returns-in-Ok-Applied-clause-logged
+returns-in-Ok-Applied-clause-logged g c = logged g ((goal.at.returns-in-Ok-Applied-clause-logged g c).After-steps-steps)
+
+pub returns-in-Ok-Stuck-clause-logged : goal.returns-in-Ok-Stuck-clause-logged
+returns-in-Ok-Stuck-clause-logged g c = logged g ((goal.at.returns-in-Ok-Stuck-clause-logged g c).After-steps-steps)
+
+pub returns-in-Spent-clause-logged : goal.returns-in-Spent-clause-logged
+returns-in-Spent-clause-logged g c = logged g ((goal.at.returns-in-Spent-clause-logged g c).After-steps-steps)
+
+pub returns-after-has_own_seal-clause-logged : goal.returns-after-has_own_seal-clause-logged
+returns-after-has_own_seal-clause-logged g c = logged g ((goal.at.returns-after-has_own_seal-clause-logged g c).After-steps-steps)

@@ -1,5 +1,5 @@
 -- Power comes on, and the store may be stuck; or it is cut, memory is wanted, or a twin is shown.
-use Rattle.std.proofs.Common.{rules, ◌≡◌, inl, inr, Err, ap, ◌∙◌}
+use Rattle.std.proofs.Common.{rules, ◌≡◌, inl, inr, Err, ap, ◌∙◌, refl}
 use Rattle.std.specs.Prelude.{option_map}
 use Rattle.pmem_base.specs.Geo.{shape_of}
 use Rattle.board.specs.MemBoard.{memory_of}
@@ -10,6 +10,9 @@ use Rattle.pmem_recovery.specs.Parts.{suite_state}
 use Rattle.line_txn.specs.declared.store.TxnFault.TheVariants as Txn
 use Rattle.pmem_recovery.proofs.ResultLaws.{none_of}
 use Rattle.txn_session.specs.declared.calls.StartFault.TheVariants as Start
+use Rattle.access_log.specs.Traced.{GoesOn, traced_of}
+use Rattle.access_log.proofs.TraceLemmas.{goes_on-between}
+use Rattle.txn_session.specs.State.{TxnState}
 use Rattle.txn_session.proofs.Starts.{OnTxnCall}
 use Rattle.txn_session.proofs.Opened.{open_held, open_exit, stuck_exit, cut_exit, wanted_on, wanted_exit, twin_exit, possible}
 use Rattle.txn_session.proofs.world.TxnWorld.on.Given.{Over}
@@ -26,6 +29,8 @@ module _ (g : Over) (c : After-steps-steps g) where
         before =
             record {
               keys = g.S.Suite.keys c.self.inside.suite;
+              tags = g.S.Suite.tags c.self.inside.suite;
+              digests = g.S.Suite.digests c.self.inside.suite;
               board = memory_of c.self.inside.board;
               ledger = ledger_of c.self.inside.ledger;
               store = c.self.inside.store;
@@ -48,6 +53,8 @@ module _ (g : Over) (c : After-steps-steps g) where
         suite_old =
             suite_state (g.S.Suite.keys c.self.inside.suite) (g.S.Suite.pads c.self.inside.suite) (g.S.Suite.tags c.self.inside.suite)
             (g.S.Suite.digests c.self.inside.suite);
+        tags_old = refl;
+        digests_old = refl;
         suite_new =
             suite_state (g.S.Suite.keys c.start-done.new.suite) (g.S.Suite.pads c.start-done.new.suite) (g.S.Suite.tags c.start-done.new.suite)
             (g.S.Suite.digests c.start-done.new.suite);
@@ -56,6 +63,13 @@ module _ (g : Over) (c : After-steps-steps g) where
         answer = c.start-done.result.answer;
         started = c.start-done.ensures.started;
       }
+
+  -- the log goes on from the board before to the board as the call left it
+  logged : GoesOn c.args.log.now c.args.self.now.board c.start-done.new.log (memory_of c.start-done.new.board)
+  logged =
+      goes_on-between c.args.log.now c.start-done.new.log c.args.self.now.board (memory_of c.power.new.self) (memory_of c.start-done.new.board)
+      (memory_of c.start-done.new.board) (ap traced_of c.power.ensures ∙ ap (λ (w : TxnState). traced_of w.board) c.self.view_is) refl
+      c.start-done.ensures.noted
 
 pub invariant_of-self-in-Ok : goal.invariant_of-self-in-Ok
 invariant_of-self-in-Ok g c =
@@ -170,3 +184,24 @@ pub unreachable-requires-in-Header : goal.unreachable-requires-in-Header
 unreachable-requires-in-Header g c =
     possible (call g ((goal.at.unreachable-requires-in-Header g c).After-steps-steps)) (Err (Start.Opening (Txn.Header c.in-Header.line)))
     (opening_fault g ((goal.at.unreachable-requires-in-Header g c).In-Err-Opening) ∙ ap (λ f. Err (Start.Opening f)) c.in-Header.is)
+
+-- ---- the log
+
+pub returns-after-opened-clause-logged : goal.returns-after-opened-clause-logged
+returns-after-opened-clause-logged g c = logged g ((goal.at.returns-after-opened-clause-logged g c).After-steps-steps)
+
+pub returns-in-Cut-clause-logged : goal.returns-in-Cut-clause-logged
+returns-in-Cut-clause-logged g c = logged g ((goal.at.returns-in-Cut-clause-logged g c).After-steps-steps)
+
+pub returns-in-Cut-fault-clause-logged : goal.returns-in-Cut-fault-clause-logged
+returns-in-Cut-fault-clause-logged g c = logged g ((goal.at.returns-in-Cut-fault-clause-logged g c).After-steps-steps)
+
+pub returns-in-Memory-clause-logged : goal.returns-in-Memory-clause-logged
+returns-in-Memory-clause-logged g c =
+    goes_on-between c.args.log.now c.start-done.new.log c.args.self.now.board c.args.self.now.board (memory_of c.start-done.new.board)
+    (memory_of c.rest.new.self) refl (ap traced_of c.rest.ensures) (logged g ((goal.at.returns-in-Memory-clause-logged g c).After-steps-steps))
+
+pub returns-in-Twin-clause-logged : goal.returns-in-Twin-clause-logged
+returns-in-Twin-clause-logged g c =
+    goes_on-between c.args.log.now c.start-done.new.log c.args.self.now.board c.args.self.now.board (memory_of c.start-done.new.board)
+    (memory_of c.rest-in-Twin.new.self) refl (ap traced_of c.rest-in-Twin.ensures) (logged g ((goal.at.returns-in-Twin-clause-logged g c).After-steps-steps))

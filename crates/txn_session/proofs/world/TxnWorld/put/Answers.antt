@@ -1,6 +1,6 @@
 -- A line is put, or isn't, where the transaction is full.
-use Rattle.std.proofs.Common.{rules, ◌≡◌, true, false, Some, sym, ap, subst, ◌∙◌, arith}
-use Rattle.std.specs.Prelude.{option_map, not}
+use Rattle.std.proofs.Common.{Some, ap, subst, arith}
+use Rattle.std.specs.Prelude.{option_map}
 use Rattle.pmem_base.specs.Geo.{shape_of}
 use Rattle.board.specs.MemBoard.{memory_of}
 use Rattle.seal_ledger.specs.View.{ledger_of}
@@ -16,6 +16,8 @@ invariant_of-self-2 g c =
     let p : TxnParts =
     record {
       keys = g.S.Suite.keys c.self.inside.suite;
+      tags = g.S.Suite.tags c.self.inside.suite;
+      digests = g.S.Suite.digests c.self.inside.suite;
       board = memory_of c.self.inside.board;
       ledger = ledger_of c.self.inside.ledger;
       store = c.self.inside.store;

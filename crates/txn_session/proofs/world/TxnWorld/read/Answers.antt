@@ -1,9 +1,12 @@
 -- A line is read, or power is cut.
-use Rattle.std.proofs.Common.{rules, arith}
+use Rattle.std.proofs.Common.{rules, arith, refl, ap}
 use Rattle.std.specs.Prelude.{option_map}
 use Rattle.pmem_base.specs.Geo.{shape_of}
 use Rattle.board.specs.MemBoard.{memory_of}
 use Rattle.seal_ledger.specs.View.{ledger_of}
+use Rattle.access_log.specs.Traced.{GoesOn, traced_of}
+use Rattle.access_log.proofs.TraceLemmas.{goes_on-between}
+use Rattle.txn_session.specs.State.{TxnState}
 use Rattle.txn_session.proofs.ReadLaws.{ReadTxnCall, got_held, got_seen, cut_held, cut_seen}
 use Rattle.txn_session.proofs.world.TxnWorld.read.Given.{Over}
 use Rattle.txn_session.proofs.world.TxnWorld.read.Goals.{After-steps-steps}
@@ -19,6 +22,8 @@ module _ (g : Over) (c : After-steps-steps g) where
         parts =
             record {
               keys = g.S.Suite.keys c.self.inside.suite;
+              tags = g.S.Suite.tags c.self.inside.suite;
+              digests = g.S.Suite.digests c.self.inside.suite;
               board = memory_of c.self.inside.board;
               ledger = ledger_of c.self.inside.ledger;
               store = c.self.inside.store;
@@ -51,19 +56,33 @@ module _ (g : Over) (c : After-steps-steps g) where
         read_logged = c.read-done.ensures.logged;
       }
 
+  -- the log goes on by that call
+  logged : GoesOn c.args.log.now c.args.self.now.board c.read-done.new.log (memory_of c.read-done.new.board)
+  logged =
+      goes_on-between c.args.log.now c.read-done.new.log c.args.self.now.board (memory_of c.self.inside.board) (memory_of c.read-done.new.board)
+      (memory_of c.read-done.new.board) (ap (λ (w : TxnState). traced_of w.board) c.self.view_is) refl c.read-done.ensures.noted
+
 pub invariant_of-self-in-Ok : goal.invariant_of-self-in-Ok
 invariant_of-self-in-Ok g c =
     got_held (call g ((goal.at.invariant_of-self-in-Ok g c).After-steps-steps)) c.in-Ok.line (let h = c.in-Ok.is in search rules)
 
-pub returns-in-Ok : goal.returns-in-Ok
-returns-in-Ok g c = got_seen (call g ((goal.at.returns-in-Ok g c).After-steps-steps)) c.in-Ok.line (let h = c.in-Ok.is in search rules)
+pub returns-in-Ok-clause-answered : goal.returns-in-Ok-clause-answered
+returns-in-Ok-clause-answered g c = got_seen (call g ((goal.at.returns-in-Ok-clause-answered g c).After-steps-steps)) c.in-Ok.line (let h = c.in-Ok.is in search rules)
 
 pub invariant_of-self-in-Err-Cut : goal.invariant_of-self-in-Err-Cut
 invariant_of-self-in-Err-Cut g c =
     cut_held (call g ((goal.at.invariant_of-self-in-Err-Cut g c).After-steps-steps))
     (let h = c.in-Err-Cut.is in let k = c.in-Err-Cut.field-0-is in search rules)
 
-pub returns-in-Err-Cut : goal.returns-in-Err-Cut
-returns-in-Err-Cut g c =
-    cut_seen (call g ((goal.at.returns-in-Err-Cut g c).After-steps-steps))
+pub returns-in-Err-Cut-clause-answered : goal.returns-in-Err-Cut-clause-answered
+returns-in-Err-Cut-clause-answered g c =
+    cut_seen (call g ((goal.at.returns-in-Err-Cut-clause-answered g c).After-steps-steps))
     (let h = c.in-Err-Cut.is in let k = c.in-Err-Cut.field-0-is in search rules)
+
+-- ---- the log
+
+pub returns-in-Ok-clause-logged : goal.returns-in-Ok-clause-logged
+returns-in-Ok-clause-logged g c = logged g ((goal.at.returns-in-Ok-clause-logged g c).After-steps-steps)
+
+pub returns-in-Err-Cut-clause-logged : goal.returns-in-Err-Cut-clause-logged
+returns-in-Err-Cut-clause-logged g c = logged g ((goal.at.returns-in-Err-Cut-clause-logged g c).After-steps-steps)

@@ -1,5 +1,5 @@
 -- Power comes on; or it is cut, memory is wanted, or a twin is shown.
-use Rattle.std.proofs.Common.{rules, ◌≡◌, inl, inr, Err, ap, ◌∙◌}
+use Rattle.std.proofs.Common.{rules, ◌≡◌, refl, inl, inr, Err, ap, ◌∙◌}
 use Rattle.pmem_base.specs.Geo.{shape_of}
 use Rattle.board.specs.MemBoard.{memory_of}
 use Rattle.seal_ledger.specs.View.{ledger_of}
@@ -9,6 +9,9 @@ use Rattle.pmem_recovery.specs.Parts.{suite_state}
 use Rattle.start_gap.specs.declared.gapped.Gapped.{Gapped}
 use Rattle.start_gap.specs.declared.gapped.GapFault.TheVariants as Gap
 use Rattle.wear_session.specs.declared.calls.StartFault.TheVariants as Start
+use Rattle.access_log.specs.Traced.{GoesOn, traced_of}
+use Rattle.access_log.proofs.TraceLemmas.{goes_on-between}
+use Rattle.wear_session.specs.State.{WearState}
 use Rattle.wear_session.proofs.Starts.{OnWearCall}
 use Rattle.pmem_recovery.proofs.ResultLaws.{none_of}
 use Rattle.wear_session.proofs.Opened.{open_exit, cut_exit, wanted_on, wanted_exit, twin_exit, possible}
@@ -26,6 +29,8 @@ module _ (g : Over) (c : After-steps-steps g) where
         parts =
             record {
               keys = g.S.Suite.keys c.self.inside.suite;
+              tags = g.S.Suite.tags c.self.inside.suite;
+              digests = g.S.Suite.digests c.self.inside.suite;
               every = c.self.inside.every;
               board = memory_of c.self.inside.board;
               ledger = ledger_of c.self.inside.ledger;
@@ -46,6 +51,8 @@ module _ (g : Over) (c : After-steps-steps g) where
         suite_old =
             suite_state (g.S.Suite.keys c.self.inside.suite) (g.S.Suite.pads c.self.inside.suite) (g.S.Suite.tags c.self.inside.suite)
             (g.S.Suite.digests c.self.inside.suite);
+        tags_old = refl;
+        digests_old = refl;
         suite_new =
             suite_state (g.S.Suite.keys c.start-done.new.suite) (g.S.Suite.pads c.start-done.new.suite) (g.S.Suite.tags c.start-done.new.suite)
             (g.S.Suite.digests c.start-done.new.suite);
@@ -54,6 +61,13 @@ module _ (g : Over) (c : After-steps-steps g) where
         answer = c.start-done.result.answer;
         started = c.start-done.ensures.started;
       }
+
+  -- the log goes on from the board before to the board as the call left it
+  logged : GoesOn c.args.log.now c.args.self.now.board c.start-done.new.log (memory_of c.start-done.new.board)
+  logged =
+      goes_on-between c.args.log.now c.start-done.new.log c.args.self.now.board (memory_of c.power.new.self) (memory_of c.start-done.new.board)
+      (memory_of c.start-done.new.board) (ap traced_of c.power.ensures ∙ ap (λ (w : WearState). traced_of w.board) c.self.view_is) refl
+      c.start-done.ensures.logged
 
 pub invariant_of-self : goal.invariant_of-self
 invariant_of-self g c =
@@ -158,3 +172,24 @@ pub unreachable-requires-in-BadWear : goal.unreachable-requires-in-BadWear
 unreachable-requires-in-BadWear g c =
     possible (call g ((goal.at.unreachable-requires-in-BadWear g c).After-steps-steps)) (Err (Start.Opening (Gap.BadWear c.in-BadWear.line)))
     (opening_fault g ((goal.at.unreachable-requires-in-BadWear g c).In-Err-Opening) ∙ ap (λ f. Err (Start.Opening f)) c.in-BadWear.is)
+
+-- ---- the log
+
+pub returns-in-Ok-clause-logged : goal.returns-in-Ok-clause-logged
+returns-in-Ok-clause-logged g c = logged g ((goal.at.returns-in-Ok-clause-logged g c).After-steps-steps)
+
+pub returns-in-Cut-clause-logged : goal.returns-in-Cut-clause-logged
+returns-in-Cut-clause-logged g c = logged g ((goal.at.returns-in-Cut-clause-logged g c).After-steps-steps)
+
+pub returns-in-Cut-fault-clause-logged : goal.returns-in-Cut-fault-clause-logged
+returns-in-Cut-fault-clause-logged g c = logged g ((goal.at.returns-in-Cut-fault-clause-logged g c).After-steps-steps)
+
+pub returns-in-Memory-clause-logged : goal.returns-in-Memory-clause-logged
+returns-in-Memory-clause-logged g c =
+    goes_on-between c.args.log.now c.start-done.new.log c.args.self.now.board c.args.self.now.board (memory_of c.start-done.new.board)
+    (memory_of c.rest.new.self) refl (ap traced_of c.rest.ensures) (logged g ((goal.at.returns-in-Memory-clause-logged g c).After-steps-steps))
+
+pub returns-in-Twin-clause-logged : goal.returns-in-Twin-clause-logged
+returns-in-Twin-clause-logged g c =
+    goes_on-between c.args.log.now c.start-done.new.log c.args.self.now.board c.args.self.now.board (memory_of c.start-done.new.board)
+    (memory_of c.rest-in-Twin.new.self) refl (ap traced_of c.rest-in-Twin.ensures) (logged g ((goal.at.returns-in-Twin-clause-logged g c).After-steps-steps))

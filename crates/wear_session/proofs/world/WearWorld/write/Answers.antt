@@ -1,5 +1,5 @@
 -- A line is written, with its move where one is due; or its move is held, it is spent, or power is cut.
-use Rattle.std.proofs.Common.{rules, arith, ◌≡◌, ◌⊎◌, inl, inr, true, false, length, drop, Err, sym, ap, subst, ◌∙◌}
+use Rattle.std.proofs.Common.{rules, arith, ◌≡◌, ◌⊎◌, inl, inr, true, false, length, drop, Err, sym, ap, subst, ◌∙◌, refl}
 use Rattle.std.specs.List.{list_any}
 use Rattle.std.proofs.lemmas.Bool.{true≢false}
 use Rattle.pmem_base.specs.Geo.{shape_of}
@@ -11,6 +11,10 @@ use Rattle.engine_lines.specs.Writes.{is_own_seal}
 use Rattle.start_gap.specs.Wear.{place_of}
 use Rattle.engine_lines.proofs.OwnSeals.{own_marks}
 use Rattle.wear_session.proofs.Written.{WriteWearCall, made_exit, held_exit, spent_exit, cut_held, cut_marks, kept_seen, lost_seen, sound_fault}
+use Rattle.engine_lines.specs.Writes.{is_own_seal}
+use Rattle.access_log.specs.Traced.{GoesOn, traced_of}
+use Rattle.access_log.proofs.TraceLemmas.{goes_on-between}
+use Rattle.wear_session.specs.State.{WearState}
 use Rattle.wear_session.proofs.world.WearWorld.write.Given.{Over}
 use Rattle.wear_session.proofs.world.WearWorld.write.Goals.{After-steps-steps, then-written, else-written, then-has_own_seal, else-has_own_seal}
 use Rattle.wear_session.proofs.world.WearWorld.write.Goals as goal
@@ -25,6 +29,8 @@ module _ (g : Over) (c : After-steps-steps g) where
         before =
             record {
               keys = g.S.Suite.keys c.self.inside.suite;
+              tags = g.S.Suite.tags c.self.inside.suite;
+              digests = g.S.Suite.digests c.self.inside.suite;
               every = c.self.inside.every;
               board = memory_of c.self.inside.board;
               ledger = ledger_of c.self.inside.ledger;
@@ -58,33 +64,29 @@ module _ (g : Over) (c : After-steps-steps g) where
         was_written = c.write-done.ensures.written;
       }
 
+  -- the log goes on by that call
+  logged : GoesOn c.args.log.now c.args.self.now.board c.write-done.new.log (memory_of c.write-done.new.board)
+  logged =
+      goes_on-between c.args.log.now c.write-done.new.log c.args.self.now.board (memory_of c.self.inside.board) (memory_of c.write-done.new.board)
+      (memory_of c.write-done.new.board) (ap (λ (w : WearState). traced_of w.board) c.self.view_is) refl c.write-done.ensures.logged
+
 pub invariant_of-self-in-Ok-Not : goal.invariant_of-self-in-Ok-Not
 invariant_of-self-in-Ok-Not g c =
     (made_exit (call g ((goal.at.invariant_of-self-in-Ok-Not g c).After-steps-steps))
     (inl (let h = c.in-Ok-Not.is in search rules))).0
 
-pub returns-in-Ok-Not : goal.returns-in-Ok-Not
-returns-in-Ok-Not g c =
-    record {
-      answered =
-          (made_exit (call g ((goal.at.returns-in-Ok-Not g c).After-steps-steps)) (inl (let h = c.in-Ok-Not.is in search rules))).1;
-      err = tt;
-      wanting = tt;
-    }
+pub returns-in-Ok-Not-clause-answered : goal.returns-in-Ok-Not-clause-answered
+returns-in-Ok-Not-clause-answered g c =
+    (made_exit (call g ((goal.at.returns-in-Ok-Not-clause-answered g c).After-steps-steps)) (inl (let h = c.in-Ok-Not.is in search rules))).1
 
 pub invariant_of-self-in-Ok-Made : goal.invariant_of-self-in-Ok-Made
 invariant_of-self-in-Ok-Made g c =
     (made_exit (call g ((goal.at.invariant_of-self-in-Ok-Made g c).After-steps-steps))
     (inr (let h = c.in-Ok-Made.is in search rules))).0
 
-pub returns-in-Ok-Made : goal.returns-in-Ok-Made
-returns-in-Ok-Made g c =
-    record {
-      answered =
-          (made_exit (call g ((goal.at.returns-in-Ok-Made g c).After-steps-steps)) (inr (let h = c.in-Ok-Made.is in search rules))).1;
-      err = tt;
-      wanting = tt;
-    }
+pub returns-in-Ok-Made-clause-answered : goal.returns-in-Ok-Made-clause-answered
+returns-in-Ok-Made-clause-answered g c =
+    (made_exit (call g ((goal.at.returns-in-Ok-Made-clause-answered g c).After-steps-steps)) (inr (let h = c.in-Ok-Made.is in search rules))).1
 
 pub invariant_of-self-in-Ok-Held : goal.invariant_of-self-in-Ok-Held
 invariant_of-self-in-Ok-Held g c =
@@ -174,3 +176,20 @@ returns-after-has_own_seal-clause-answered g c =
           ] in
           rw w.result-is (lost_seen its c.in-Err.written is none)
     ]
+
+-- ---- the log
+
+pub returns-in-Ok-Not-clause-logged : goal.returns-in-Ok-Not-clause-logged
+returns-in-Ok-Not-clause-logged g c = logged g ((goal.at.returns-in-Ok-Not-clause-logged g c).After-steps-steps)
+
+pub returns-in-Ok-Made-clause-logged : goal.returns-in-Ok-Made-clause-logged
+returns-in-Ok-Made-clause-logged g c = logged g ((goal.at.returns-in-Ok-Made-clause-logged g c).After-steps-steps)
+
+pub returns-in-Ok-Held-clause-logged : goal.returns-in-Ok-Held-clause-logged
+returns-in-Ok-Held-clause-logged g c = logged g ((goal.at.returns-in-Ok-Held-clause-logged g c).After-steps-steps)
+
+pub returns-in-Spent-clause-logged : goal.returns-in-Spent-clause-logged
+returns-in-Spent-clause-logged g c = logged g ((goal.at.returns-in-Spent-clause-logged g c).After-steps-steps)
+
+pub returns-after-has_own_seal-clause-logged : goal.returns-after-has_own_seal-clause-logged
+returns-after-has_own_seal-clause-logged g c = logged g ((goal.at.returns-after-has_own_seal-clause-logged g c).After-steps-steps)

@@ -1,6 +1,6 @@
 -- What becomes of the lines, over the watched board.
 use Rattle.std.proofs.Common.{rules}
-use Rattle.txn_session.proofs.calls.commit_watched.Goals as goal
+use Rattle.txn_session.proofs.calls.commit_logged.Goals as goal
 
 pub returns-clause-logged : goal.returns-clause-logged
 returns-clause-logged g c = λ trusted lines had. search (rules, c.commit-answer.ensures.logged (search rules) lines (search rules))

@@ -1,0 +1,61 @@
+-- Replies that are told with what their commands took of the board and the suite.
+use Rattle.std.specs.Prelude.{◌≡◌, ◌⊎◌, ◌-◌, ◌++◌, ℕ, Bool, true, false, List, [], map, Option, Some, None}
+use Rattle.access_log.specs.declared.access.Access.{Access}
+use Rattle.plain_model.specs.declared.Stop.{Stop}
+use Rattle.plain_model.specs.declared.Stop.TheVariants.{Memory, WriteFault}
+use Rattle.plain_model.specs.Texts.{as_line}
+use Rattle.trace_text.specs.Conversations.{Protocol}
+use Rattle.pmem_cli.specs.Logged.{log_text}
+use Rattle.pmem_cli.specs.Printed.{Output, Prints, PrintsFront}
+
+-- a reply, the command's accesses of the board in their order, and the tags and digests that were made
+pub record Told (X : Type 0) : Type 0 where
+  pub said : X
+  pub accesses : List Access
+  pub tags : ℕ
+  pub digests : ℕ
+
+-- The accesses are the command's, as a log of it tells them, and the tags and digests are those that were counted.
+pub record IsToldOf {S X : Type 0} (logs : S → List ℕ → Option (List Access) → Option (List Access) → S → Type 0) (work : S → ℕ × ℕ)
+    (old : S) (line : List ℕ) (told : Told X) (new : S) : Type 0 where
+  pub accessed : logs old line (Some []) (Some told.accesses) new
+  pub tags : told.tags ≡ (work new).0 - (work old).0
+  pub digests : told.digests ≡ (work new).1 - (work old).1
+
+-- What answers lines, with what each command took told before its reply. Memory may be wanted for the log too, of a
+-- command whose log may be lost.
+abbrev pub told_protocol : {S X : Type 0} → Protocol S X → (S → List ℕ → Option (List Access) → Option (List Access) → S → Type 0) → (S → ℕ × ℕ)
+    → Protocol S (Told X)
+told_protocol {S} {X} protocol logs work =
+    record {
+      sort_of = protocol.sort_of;
+      answers = λ old line told new. protocol.answers old line told.said new × IsToldOf logs work old line told new;
+      shows = λ old line told. protocol.shows old line told.said × ((new : S) × IsToldOf logs work old line told new);
+      text_of = λ told. log_text told.accesses told.tags told.digests ++ protocol.text_of told.said;
+      wants_memory = λ old line. protocol.wants_memory old line ⊎ ((new : S) × logs old line (Some []) None new);
+      runs = protocol.runs;
+    }
+
+-- how replies are told, and what is said by them
+pub record Voice (S X : Type 0) : Type 1 where
+  pub Reply : Type 0
+  pub protocol : Protocol S Reply
+  pub said_by : List Reply → List X
+
+-- each by itself; or, where the log is told, with what its command took before it
+abbrev pub voice : {S X : Type 0} → Protocol S X → (S → List ℕ → Option (List Access) → Option (List Access) → S → Type 0) → (S → ℕ × ℕ) → Bool → Voice S X
+voice {S} {X} protocol logs work false = record { Reply = X; protocol = protocol; said_by = λ said. said }
+voice {S} {X} protocol logs work true =
+    record {
+      Reply = Told X;
+      protocol = told_protocol protocol logs work;
+      said_by = map (λ (told : Told X). told.said);
+    }
+
+-- A line was told with its log before it, or the sink failed at that; where the log was lost, nothing was.
+abbrev pub TellsLine : Option Stop → Option (List Access) → ℕ → ℕ → List ℕ → Output → Output → Type 0
+TellsLine None (Some accesses) tags digests text from to = Prints from to (log_text accesses tags digests ++ as_line text)
+TellsLine (Some WriteFault) (Some accesses) tags digests text from to =
+    PrintsFront from to (log_text accesses tags digests ++ as_line text)
+TellsLine (Some Memory) None tags digests text from to = to ≡ from
+TellsLine stop log tags digests text from to = ⊥

@@ -1,0 +1,22 @@
+-- What a command leaves in a log of accesses of the board.
+use Rattle.std.specs.Prelude.{◌≡◌, List, Option, Some, Result, Ok}
+use Rattle.pmem_base.specs.declared.commands.Kind.{Kind}
+use Rattle.access_log.specs.declared.access.Access.{Access}
+use Rattle.access_log.specs.Traced.{GoesOn}
+use Rattle.txn_session.specs.declared.commands.TxnCommand.{TxnCommand}
+use Rattle.txn_session.specs.declared.commands.TxnCommand.TheVariants as Do
+use Rattle.txn_session.specs.State.{TxnState}
+
+-- The log goes on from the board before the command to the board after it: through all calls of the engine, in
+-- their order. A command that makes none leaves it as it was.
+abbrev pub IsTxnLogged : TxnCommand → Option (List Access) → TxnState → Option (List Access) → TxnState → Type 0
+IsTxnLogged Do.Commit log_old old log_new new = GoesOn log_old old.board log_new new.board
+IsTxnLogged (Do.Read a) log_old old log_new new = GoesOn log_old old.board log_new new.board
+IsTxnLogged Do.On log_old old log_new new = GoesOn log_old old.board log_new new.board
+IsTxnLogged command log_old old log_new new = log_new ≡ log_old
+
+-- so it is of the command that a line is read as; one without a command leaves the log as it was
+abbrev pub IsTxnLogOf :
+    Result (Option TxnCommand) Kind → Option (List Access) → TxnState → Option (List Access) → TxnState → Type 0
+IsTxnLogOf (Ok (Some command)) log_old old log_new new = IsTxnLogged command log_old old log_new new
+IsTxnLogOf reading log_old old log_new new = log_new ≡ log_old
