@@ -357,6 +357,7 @@ def way_of(through: Through = None) -> Way:
         return Library(library)
     if program:
         return Program(program)
-    what = {"program": "the program isn't there", "library": "the library isn't there"}.get(through or "", "neither the program nor the library is there")
+    what = {"program": "the program isn't there", "library": "the library isn't there"}.get(
+        through or "", "neither the program nor the library is there")
     raise NotFound(f"{what}: set PMEM_PROGRAM to the program pmem, put it on the PATH, or set PMEM_LIBRARY to the folder of libpmem.so; in a "
                    "checkout ./pmem proves and builds the one, and tools/library the other")

@@ -10,6 +10,8 @@
         print(traced.command.number, [step.text for step in traced.steps])
     for cut in session.cuts():
         print(cut)
+    for row in explorer.compare_designs(["examples/database.trace"], ["run", "tree"], sets=[1, 4]):
+        print(row["design"], row["sets"], row["write_steps"], row["recovery_tags_mean"])
 
 What is wrong (a file, a line of the trace, no program) is an `ExploreError`, whose text says it in one line. The program is
 that which `program=` names, or the variable PMEM_PROGRAM, or else the repository's own, where it is built.
@@ -19,6 +21,6 @@ from .program import Reply
 from .settings import Settings
 from .trace import Command, Trace
 from .traced import Step, Traced
-from .tracing import Explored, open_trace
+from .tracing import Explored, compare_designs, open_trace
 
-__all__ = ["Command", "ExploreError", "Explored", "Reply", "Settings", "Step", "Trace", "Traced", "open_trace"]
+__all__ = ["Command", "ExploreError", "Explored", "Reply", "Settings", "Step", "Trace", "Traced", "compare_designs", "open_trace"]

@@ -1,10 +1,11 @@
-"""What the program's log (`run --log`) tells of a trace: which device lines each command read and wrote, each latch, and
-the tags and digests made. docs/FORMATS.md has its lines."""
+"""What the program's log (`--log`) tells of a trace: which device lines each command read and wrote, each latch, and the
+tags and digests made. docs/FORMATS.md has its lines."""
+from collections import deque
 from dataclasses import dataclass
 from typing import Dict, Iterator, List, Optional, Tuple
 
 from .errors import ExploreError
-from .layout import Layout, Place
+from .layout import Place, layout_of
 from .program import Recording
 from .traced import ARMS, EMPTIES, LATCH, SETS, WRITE, Step, Traced, Work
 
@@ -57,7 +58,7 @@ class Teller:
     def __init__(self, recording: Recording, with_work: bool) -> None:
         self.recording = recording
         self.with_work = with_work
-        self.layout = Layout(recording.settings)
+        self.layout = layout_of(recording.settings)
         self.places: Dict[int, Place] = {}
 
     def traced(self, data: bytes) -> List[Traced]:
@@ -115,3 +116,12 @@ def told_steps(recording: Recording, with_work: bool) -> Optional[List[Traced]]:
     """All commands that were answered, with their steps, by one run with `--log`; None where the program hasn't that."""
     data = recording.program.logged(recording.script, recording.settings)
     return None if data is None else Teller(recording, with_work).traced(data)
+
+
+def told_last(recording: Recording) -> Optional[int]:
+    """The steps of the last command that was answered, by one run with `--log`; None where the program hasn't that."""
+    data = recording.program.logged(recording.script, recording.settings)
+    if data is None:
+        return None
+    (log,) = deque(logs_of(recording, data), 1)
+    return sum(word != LOOK for word, _ in log.accesses)

@@ -17,6 +17,7 @@ from pathlib import Path
 from typing import Any, Callable, Deque, Dict, Iterable, Iterator, List, Optional, Sequence, Tuple, Type, TypeVar
 
 from .errors import WRONG_WORDS, ExploreError, reason_of
+from .logged import LoggedProgram
 from .program import Output, Program, Question, Recording, Run
 from .remote import PROGRAM
 from .together import Progress, Together
@@ -122,9 +123,9 @@ class Cluster:
 
     def asked(self, what: Callable[[], Item]) -> Item:
         """What the cluster answers. One that is gone, or whose workers are, is told so."""
-        lost: Tuple[Type[BaseException], ...] = (OSError, asyncio.TimeoutError, TimeoutError, asyncio.CancelledError,
-                                 concurrent.futures.CancelledError, concurrent.futures.TimeoutError,
-                                 self.distributed.comm.CommClosedError)
+        lost: Tuple[Type[BaseException], ...] = (
+            OSError, asyncio.TimeoutError, TimeoutError, asyncio.CancelledError, concurrent.futures.CancelledError,
+            concurrent.futures.TimeoutError, self.distributed.comm.CommClosedError)
         try:
             return what()
         except self.distributed.KilledWorker as error:
@@ -193,7 +194,8 @@ class ClusterTogether(Together):
 
     def runs(self, tasks: Sequence[Run], what: str) -> Iterator[Output]:
         named = [(self.cluster.named(run.script), asdict(run.settings)) for run in tasks]
-        batches = ({"program": f"./{PROGRAM}", "runs": some} for some in pieces(named, self.batch_size(len(tasks), LEAST_RUNS)))
+        common: Dict[str, Any] = {"program": f"./{PROGRAM}", "logged": isinstance(self.program, LoggedProgram)}
+        batches = ({**common, "runs": some} for some in pieces(named, self.batch_size(len(tasks), LEAST_RUNS)))
         progress, done = Progress(what, len(tasks)), 0
         try:
             for outputs in self.cluster.results(batches):
@@ -208,7 +210,8 @@ class ClusterTogether(Together):
 
     def answers(self, recording: Recording, questions: Iterable[Question], total: int,
                 what: str) -> Iterator[Tuple[Question, bytes]]:
-        common = {"program": f"./{PROGRAM}", "settings": asdict(recording.settings), "name": recording.trace.name,
+        common = {"program": f"./{PROGRAM}", "logged": isinstance(self.program, LoggedProgram),
+                  "settings": asdict(recording.settings), "name": recording.trace.name,
                   "trace": self.cluster.named(recording.trace.data), "output": self.cluster.named(recording.output),
                   "status": recording.status, "from_start": self.from_start}
         asked: Deque[Question] = deque()

@@ -6,15 +6,17 @@ import re
 import sys
 from typing import Any, Callable, Dict, List, NoReturn, Optional, Sequence, Tuple
 
-from . import convert, cuts, draw, importing, outcomes, settings, shell, steps, sweep
+from . import (charts, compare, convert, costs, cuts, draw, endurance, export, importing, outcomes, ranges, settings, shell, steps,
+               sweep)
 from .cluster import Cluster, ClusterTogether
 from .errors import CHECK_FAILED, DONE, FAILURE, INTERRUPTED, WRONG_WORDS, ExploreError, reason_of
 from .finding import default_program, found_program
 from .fork_server import remove_temporary
+from .logged import LoggedProgram, LoggedRecording
 from .machines import MACHINE_NAMES, MACHINES
 from .orders import Orders, orders_text
 from .output import check_writable, put, write_file
-from .processes import INTERRUPTS, end_all
+from .processes import INTERRUPTS, TOLD, end_all
 from .program import Program, Recording
 from .settings import Settings
 from .symbols import Names, symbols_of
@@ -42,8 +44,8 @@ not at all."""
 STEPS_HELP = """\
 Prints each command with its reply (behind >) and under it each persist step that it took:
 a latch of the registers and what it does, or the device line written and what it holds. They
-are those that the program tells itself, with --log. With --as wear, txn or tree, which don't
-tell their steps: what a cut after each step of a command leaves."""
+are those that the program tells itself, with --log. A program from before that is cut at each
+step instead."""
 
 CUTS_HELP = """\
 For each persist step of the trace: the trace is cut before it, power comes on again, and
@@ -66,11 +68,34 @@ prints a row of each. Writes are those that a drain or a fence has put.
   recovery         what `on` answers after power goes off at the trace's end
 All but the recovery are means over the trace."""
 
+COMPARE_HELP = """\
+Runs one workload, the writes, reads and power cycles of a trace for `pmem run`, on several designs: in each one's own
+commands, all over a memory of as many lines, each write of a whole line just when the trace makes sure of it. What one of the
+memories hasn't is left out of all, and told before anything runs. It adds up what the program's log tells: persist steps,
+line writes and reads by part of the device, latches, tags, digests; and what follows from it: pads, hits and misses of the
+metadata cache. Recovery is looked at after cuts that are spread over the workload. --levels, --sets, --ways, --loss and
+--every take several numbers each. With --cost FILE, times and energy too. docs/COSTS.md has all of it."""
+
+ENDURANCE_HELP = """\
+Counts how often each line of the device is written by a workload on several designs, as `explore compare` makes it: by part of
+the device, as a histogram, the hottest lines by name; and tells how long the hottest line of each part lasts where the workload
+comes again and again. start-gap levels the lines of `wear` slowly: --repeat runs the workload several times over."""
+
+EXPORT_HELP = """\
+Writes the accesses that a trace makes to the device, each read and write of a device line, as a trace for a simulator of a
+memory's timing: dramsim3 (address, READ or WRITE, cycle), ramulator (address, R or W: its DRAM mode) or ramulator2 (LD or ST,
+address). Device line d is at the address 64 d, with --base further up. Latches and what is computed on the chip are no
+accesses; standard error says how many are left out. docs/TIMING.md says how such a simulator is run."""
+
 DRAW_HELP = """\
 Draws the persist steps of a trace: a lane for each part of the device with a mark for each
 step, cuts, recoveries, tampering and what was refused. Of a file that `explore sweep --json`
 wrote it draws the curves instead, or with --trade-off a point for each setting: what recovery
-costs against what a write does. The name's ending, .svg, .png or .pdf, says which kind of picture. Needs matplotlib (Debian: python3-matplotlib; else: pip install matplotlib)."""
+costs against what a write does. Of what `explore compare --json` wrote: a panel for each measure,
+with --trade-off a point for each design, with --moments recovery against the moment of the cut. Of
+`explore endurance --json`: how many lines have so many writes. Of `explore cuts --json`: recovery
+against the moment of the cut. The name's ending, .svg, .png or .pdf, says which kind of picture.
+Needs matplotlib (Debian: python3-matplotlib; else: pip install matplotlib)."""
 
 LACKEY_HELP = """\
 Makes a trace of a real program's memory accesses:
@@ -265,6 +290,40 @@ def add_settings(parser: argparse.ArgumentParser, several: bool) -> None:
                        help="of wear: a move at each Nth write (default 100)")
 
 
+def add_designs(parser: argparse.ArgumentParser) -> None:
+    """The traces, the designs and their numbers."""
+    parser.add_argument("trace", metavar="TRACE", nargs="+", help="traces for pmem run; - is standard input")
+    add_output(parser)
+    parser.add_argument("--designs", type=design_names, default=list(MACHINE_NAMES), metavar="run,wear,..",
+                        help="some of run, wear, txn and tree (default: all)")
+    parser.add_argument("--fold", action="store_true",
+                        help="a line that the smallest memory hasn't is the one with its remainder, not left out")
+    formats = parser.add_mutually_exclusive_group()
+    formats.add_argument("--csv", action="store_true", help="CSV in place of text")
+    formats.add_argument("--json", action="store_true", help="JSON in place of text, which `explore draw` takes")
+    formats.add_argument("--latex", action="store_true", help="a table for LaTeX in place of text")
+    group = parser.add_argument_group("options of pmem, several numbers with commas between")
+    default = Settings()
+    for name, values, what in (("levels", settings.LEVELS, "levels of tree nodes of run, and so the lines of memory, 64 * 4^LEVELS; "
+                                "tree has two more, for as many lines"),
+                               ("sets", settings.SETS, "sets of each bank of the metadata cache"),
+                               ("ways", settings.WAYS, "ways of each set; tree has none"),
+                               ("loss", settings.LOSSES, "the stop-loss number; tree has none"),
+                               ("every", settings.EVERY, "of wear: a move at each so manieth write")):
+        group.add_argument(f"--{name}", type=numbers_in(values), metavar="1,2,..", default=[getattr(default, name)],
+                           help=f"{what}: {words_for(values)} (default {getattr(default, name)})")
+    group.add_argument("--suite", choices=settings.SUITES, default=default.suite, help="the ciphers (default aes)")
+
+
+def design_names(text: str) -> List[str]:
+    """Reads names of machines with commas between."""
+    names = list(dict.fromkeys(word.strip() for word in text.split(",")))
+    wrong = [name for name in names if name not in MACHINE_NAMES]
+    if wrong:
+        raise argparse.ArgumentTypeError(f"{wrong[0]!r} is not one of {', '.join(MACHINE_NAMES)}")
+    return names
+
+
 def add_command(commands: Any, name: str, what: str, description: str,
                 run: Callable[[argparse.Namespace], Optional[int]]) -> argparse.ArgumentParser:
     """A command of `explore`."""
@@ -346,7 +405,7 @@ def make_parser() -> Parser:
     add_output(each)
     add_lines(each)
     each.add_argument("--reads", action="store_true",
-                      help="also each device line that is read, and how many tags and digests are made (of run alone)")
+                      help="also each device line that is read, and how many tags and digests are made")
     each.add_argument("--whole", action="store_true", help="don't shorten long hex")
     each.add_argument("--json", action="store_true", help="JSON in place of text")
     add_settings(each, several=False)
@@ -361,11 +420,16 @@ def make_parser() -> Parser:
     each.add_argument("--named-lines", action="store_true",
                       help="read all data lines that the trace names at each cut (default: so with --as, or where the trace "
                            "tampers; else those that wait, that the command seals, and that were so before)")
-    each.add_argument("--distinct", action="store_true", help="each outcome once, with the first cut that leads to it")
+    shapes = each.add_mutually_exclusive_group()
+    shapes.add_argument("--distinct", action="store_true", help="each outcome once, with the first cut that leads to it")
+    shapes.add_argument("--ranges", action="store_true",
+                        help="one row for cuts in a row that leave the same, with the step from which on they do")
     add_check(each)
     each.add_argument("--check-rows", type=count_from(0), default=cuts.ROWS_CHECKED, metavar="N",
                       help=f"compare so many rows with runs from the trace's start (default {cuts.ROWS_CHECKED})")
-    each.add_argument("--json", action="store_true", help="JSON in place of text")
+    formats = each.add_mutually_exclusive_group()
+    formats.add_argument("--json", action="store_true", help="JSON in place of text")
+    formats.add_argument("--markdown", action="store_true", help="of --ranges: the table alone, for a page in Markdown")
     add_settings(each, several=False)
     add_program(each)
     add_cluster(each)
@@ -379,15 +443,47 @@ def make_parser() -> Parser:
     add_settings(each, several=True)
     add_program(each)
     add_cluster(each)
+    each = add_command(commands, "compare", "one workload on several designs: counts, time, energy, recovery", COMPARE_HELP, run_compare)
+    add_designs(each)
+    each.add_argument("--cost", metavar="FILE",
+                      help=f"figures of time and energy: a file in TOML, or one of {', '.join(costs.bundled())}")
+    each.add_argument("--cuts", type=count_from(0), default=compare.CUTS, metavar="N",
+                      help=f"look at the recovery after so many cuts, spread evenly; 0: after each step (default {compare.CUTS})")
+    add_program(each)
+    add_cluster(each)
+    each = add_command(commands, "endurance", "how often each device line is written, and how long it lasts", ENDURANCE_HELP,
+                       run_endurance)
+    add_designs(each)
+    each.add_argument("--repeat", type=count_from(1), default=1, metavar="N", help="the workload N times over (default 1)")
+    each.add_argument("--rate", type=count_from(1), default=endurance.RATE, metavar="N",
+                      help=f"line writes of the workload a second (default {endurance.RATE:,})")
+    each.add_argument("--limit", type=count_from(1), metavar="N",
+                      help=f"how many writes a line takes (default that of --cost, else {endurance.LIMIT:,})")
+    each.add_argument("--cost", metavar="FILE", help="a file of figures, or the name of one, for --limit")
+    each.add_argument("--top", type=count_from(0), default=endurance.TOP, metavar="N",
+                      help=f"name the N hottest lines (default {endurance.TOP})")
+    add_program(each)
+    add_cluster(each)
+    each = add_command(commands, "export", "a trace's accesses for a simulator of a memory's timing", EXPORT_HELP, run_export)
+    add_trace(each)
+    add_output(each)
+    each.add_argument("--to", choices=list(export.FORMATS), required=True, metavar="SIMULATOR", help=", ".join(export.FORMATS))
+    each.add_argument("--base", type=address, default=0, metavar="ADDRESS", help="the address of device line 0 (default 0)")
+    each.add_argument("--gap", type=count_from(0), default=0, metavar="N",
+                      help="of dramsim3: an access each N cycles at most (default 0: each as soon as it is taken)")
+    add_settings(each, several=False)
+    add_program(each)
     each = add_command(commands, "draw", "a picture of a trace, or of a sweep", DRAW_HELP, run_draw)
-    add_trace(each, "a trace, or what `explore sweep --json` wrote; - is standard input")
+    add_trace(each, "a trace, or what `explore sweep --json`, `compare --json`, `endurance --json` or `cuts --json` wrote; - is "
+              "standard input")
     each.add_argument("-o", "--output", metavar="FILE", required=True, help="the picture: a name in .svg, .png or .pdf")
     add_lines(each)
     each.add_argument("--title", metavar="TEXT", help="the picture's title (default: the trace's name)")
     each.add_argument("--along", choices=sweep.NUMBERS,
                       help="of a sweep: the number that goes along the curves (default: the one with most values)")
     each.add_argument("--trade-off", action="store_true",
-                      help="of a sweep: the trials of recovery against the steps of a write, a point for each setting")
+                      help="of a sweep or a comparison: what recovery takes against what a write takes, a point for each setting")
+    each.add_argument("--moments", action="store_true", help="of a comparison: recovery against the moment of the cut")
     add_settings(each, several=False)
     add_program(each)
     add_import(commands)
@@ -411,12 +507,14 @@ def settings_of(words: argparse.Namespace) -> Settings:
     return chosen
 
 
-def together_of(words: argparse.Namespace) -> Together:
-    """The program that the words name, and how many runs of it go side by side, or on which cluster."""
+def together_of(words: argparse.Namespace, with_log: bool = False) -> Together:
+    """The program that the words name, and how many runs of it go side by side, or on which cluster; `with_log`: it tells
+    its log in all runs."""
     path = found_program(words.program or default_program())
+    program = LoggedProgram(path) if with_log else Program(path)
     if getattr(words, "cluster", None):
-        return ClusterTogether(Program(path), words.jobs, words.from_start, Cluster(words.cluster, path))
-    return Together(Program(path), words.jobs, words.from_start)
+        return ClusterTogether(program, words.jobs, words.from_start, Cluster(words.cluster, path))
+    return Together(program, words.jobs, words.from_start)
 
 
 def recording_of(words: argparse.Namespace, together: Together) -> Recording:
@@ -439,6 +537,10 @@ def run_cuts(words: argparse.Namespace) -> int:
     for name in ("failing", "junit", "elf"):
         if getattr(words, name) and not words.check:
             raise ExploreError(f"--{name} goes with --check", WRONG_WORDS)
+    if words.markdown and not words.ranges:
+        raise ExploreError("--markdown goes with --ranges", WRONG_WORDS)
+    if words.ranges and (words.twice or words.orders):
+        raise ExploreError(f"--ranges goes without {'--twice' if words.twice else '--orders'}", WRONG_WORDS)
     together = together_of(words)
     recording = recording_of(words, together)
     names = Names(recording.trace, symbols_of(words.elf, words.elf_at))
@@ -451,7 +553,11 @@ def run_cuts(words: argparse.Namespace) -> int:
     tried = orders.find(found.add) if orders else []
     if words.check:
         found.check(words.check, names, together.jobs)
-    if words.json:
+    if words.ranges:
+        rows = ranges.ranges_of(every, recording, found.verdict_of if words.check else None)
+        text = ranges.ranges_json(rows) if words.json else \
+            ranges.ranges_text(rows, recording.settings.machine.recovery, words.markdown)
+    elif words.json:
         text = outcomes.outcomes_json(found) if words.distinct else cuts.cuts_json(every, found.verdict_record_of)
     else:
         text = outcomes.outcomes_text(found) if words.distinct else \
@@ -493,28 +599,79 @@ def run_sweep(words: argparse.Namespace) -> None:
         put(sweep.sweep_json(costs, trace) if words.json else sweep.sweep_text(costs), words.output)
 
 
+def designs_of(words: argparse.Namespace) -> List[Tuple[int, Settings]]:
+    """The designs that the words choose."""
+    values: Dict[str, Sequence[int]] = {name: list(dict.fromkeys(getattr(words, name))) for name in compare.NUMBERS}
+    return compare.designs_of(words.designs, Settings(suite=words.suite), values)
+
+
+def run_compare(words: argparse.Namespace) -> None:
+    """`explore compare`."""
+    check_writable(words.output)
+    figures = costs.read_costs(words.cost) if words.cost else None
+    comparison = compare.Comparison(designs_of(words), together_of(words, True), words.fold, words.cuts)
+    found = compare.compare([read_trace(name) for name in words.trace], comparison, figures)
+    put(found.csv() if words.csv else found.json() if words.json else found.latex() if words.latex else found.text(), words.output)
+
+
+def run_endurance(words: argparse.Namespace) -> None:
+    """`explore endurance`."""
+    check_writable(words.output)
+    limit = words.limit or (int(costs.read_costs(words.cost).endurance) if words.cost else endurance.LIMIT)
+    comparison = compare.Comparison(designs_of(words), together_of(words, True), words.fold, 0)
+    worn, notes = endurance.Endurance(comparison, words.repeat).find([read_trace(name) for name in words.trace])
+    found = endurance.Lifetimes(worn, notes, words.rate, limit, words.top)
+    put(found.csv() if words.csv else found.json() if words.json else found.latex() if words.latex else found.text(), words.output)
+
+
+def run_export(words: argparse.Namespace) -> None:
+    """`explore export`."""
+    check_writable(words.output)
+    program = together_of(words, True).program
+    assert isinstance(program, LoggedProgram)
+    recording = LoggedRecording(program, settings_of(words), read_trace(words.trace))
+    text = export.exported(recording, words.to, words.base, words.gap)
+    sys.stderr.write(f"explore: {export.told(recording)}\n")
+    put(text, words.output)
+
+
 def run_draw(words: argparse.Namespace) -> None:
     """`explore draw`."""
     kind = draw.picture_kind(words.output)
     check_writable(words.output)
-    draw.load_matplotlib()
+    with INTERRUPTS.at_once():
+        draw.load_matplotlib()
     data = read_bytes(words.trace)
-    found = sweep.points_of(json_value(data))
+    value = json_value(data)
+    found = sweep.points_of(value)
+    with INTERRUPTS.at_once():
+        drawn = None if found else charts.picture_of(value, words.title or "", kind, words.trade_off, words.moments)
+    if drawn is not None:
+        if words.along:
+            raise ExploreError("--along is for a sweep's JSON alone", WRONG_WORDS)
+        write_file(words.output, drawn)
+        return
+    if words.moments:
+        raise ExploreError("--moments is for a comparison's JSON alone", WRONG_WORDS)
     if found is not None:
         name, records = found
         title = words.title or os.path.basename(name)
-        write_file(words.output, draw.trade_off(records, title, kind) if words.trade_off else
-                   draw.curves(records, title, words.along, kind))
+        with INTERRUPTS.at_once():
+            drawn = draw.trade_off(records, title, kind) if words.trade_off else draw.curves(records, title, words.along, kind)
+        write_file(words.output, drawn)
         return
-    if data.lstrip().startswith(b"{"):
-        raise ExploreError(f"{shown_name(words.trace)} is neither a trace nor what explore sweep --json wrote")
+    if data.lstrip().startswith((b"{", b"[")):
+        raise ExploreError(f"{shown_name(words.trace)} is neither a trace nor what explore sweep --json, compare --json, endurance "
+                           "--json or cuts --json wrote")
     if words.along or words.trade_off:
-        raise ExploreError(f"--{'along' if words.along else 'trade-off'} is for a sweep's JSON alone", WRONG_WORDS)
+        raise ExploreError(f"--{'along' if words.along else 'trade-off'} is for a JSON that was written alone", WRONG_WORDS)
     together = together_of(words)
     recording = Recording(together.program, settings_of(words), trace_of(words.trace, data))
     traced = steps.trace_steps(recording, together, words.lines)
     title = words.title or f"{os.path.basename(recording.trace.name)} ({recording.settings.text()})"
-    write_file(words.output, draw.timeline(traced, recording.settings, title, kind))
+    with INTERRUPTS.at_once():
+        drawn = draw.timeline(traced, recording.settings, title, kind)
+    write_file(words.output, drawn)
 
 
 def run_shell(words: argparse.Namespace) -> int:
@@ -524,7 +681,7 @@ def run_shell(words: argparse.Namespace) -> int:
 
 def json_value(data: bytes) -> Any:
     """The value of a JSON text, or None."""
-    if not data.lstrip().startswith(b"{"):
+    if not data.lstrip().startswith((b"{", b"[")):
         return None
     try:
         return json.loads(data)
@@ -582,7 +739,7 @@ def ended(words: argparse.Namespace) -> int:
     except KeyboardInterrupt:
         INTERRUPTS.ignore()
         end_all()
-        sys.stderr.write("explore: interrupted\n")
+        sys.stderr.write(TOLD.decode())
         return INTERRUPTED
     except BrokenPipeError:
         os.dup2(os.open(os.devnull, os.O_WRONLY), sys.stdout.fileno())

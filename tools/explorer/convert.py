@@ -9,7 +9,7 @@ import os
 import re
 from collections import Counter
 from dataclasses import dataclass, field
-from typing import Callable, Dict, List, Sequence, Tuple
+from typing import Callable, Dict, List, Optional, Sequence, Tuple
 
 from .errors import WRONG_WORDS, ExploreError
 from .machines import MACHINES
@@ -40,13 +40,25 @@ def levels_for(machine_name: str, levels: int) -> int:
     return wanted
 
 
+@dataclass(frozen=True)
+class Unit:
+    """A part of a workload: a `read`, a `write` (what a drain or a fence makes sure of, of so many lines), `off` or `on`; and
+    which commands it is in a machine's language."""
+
+    kind: str
+    commands: range
+    lines: int
+
+
 @dataclass
 class Converted:
-    """A workload in a machine's language, and what became of the trace's commands that aren't in it as they were."""
+    """A workload in a machine's language, and what became of the trace's commands that aren't in it as they were. Its units
+    are those of whole lines alone."""
 
     machine_name: str
     data_lines: int
     commands: List[bytes] = field(default_factory=list)
+    units: List[Unit] = field(default_factory=list)
     left_out: Dict[str, int] = field(default_factory=dict)
     outside: Dict[int, int] = field(default_factory=dict)
     whole: int = 0
@@ -80,18 +92,22 @@ def wrong(command: Command, why: str) -> ExploreError:
 
 
 class Converter:
-    """Goes along a trace, with what waits at its ports and what is in memory."""
+    """Goes along a trace, with what waits at its ports and what is in memory. With `whole_of` each machine, `run` too, writes
+    whole lines, just when they are made sure of, and the memory has so many lines; `folded`: a line past them is the one
+    with its remainder."""
 
-    def __init__(self, machine_name: str, levels: int) -> None:
+    def __init__(self, machine_name: str, levels: int, whole_of: Optional[int] = None, folded: bool = False) -> None:
         self.machine = MACHINES[machine_name]
-        self.made = Converted(machine_name, self.machine.data_lines(levels))
+        self.made = Converted(machine_name, self.machine.data_lines(levels) if whole_of is None else whole_of)
+        self.as_they_are = self.machine.has_ports and whole_of is None
+        self.folded = folded
         self.memory: Dict[int, bytes] = {}
         self.queues: List[List[Waiting]] = [[] for _ in range(PORTS)]
         self.left_out: "Counter[str]" = Counter()
         self.outside: "Counter[int]" = Counter()
         self.has_power = True
         self.written: Callable[[List[Tuple[int, bytes]]], List[bytes]] = \
-            self.transactions if machine_name == "txn" else self.single_writes
+            {"txn": self.transactions, "run": self.posts}.get(machine_name, self.single_writes)
 
     def convert(self, commands: Sequence[Command]) -> Converted:
         """The workload of these commands."""
@@ -99,7 +115,7 @@ class Converter:
             if len(command.words) != WORDS.get(command.word):
                 raise wrong(command, "is no command of pmem run")
             self.add(command)
-        self.made.never_written = sum(map(len, self.queues)) if not self.machine.has_ports else 0
+        self.made.never_written += sum(map(len, self.queues)) if not self.as_they_are else 0
         self.made.left_out, self.made.outside = dict(self.left_out), dict(self.outside)
         return self.made
 
@@ -116,6 +132,8 @@ class Converter:
             self.sure(command, self.number(command, words[1], PORTS))
         else:
             line = self.number(command, words[2], LARGEST)
+            if self.folded:
+                line %= self.made.data_lines
             if line >= self.made.data_lines:
                 self.outside[line] += 1
             elif command.word == "read":
@@ -132,9 +150,9 @@ class Converter:
 
     def power(self, word: str) -> None:
         """Power goes off, and what waits is lost, or comes on."""
-        self.made.commands.append(word.encode())
+        self.put(word, [word.encode()], 0)
         if word == "off":
-            self.made.never_written += 0 if self.machine.has_ports else sum(map(len, self.queues))
+            self.made.never_written += 0 if self.as_they_are else sum(map(len, self.queues))
             self.queues = [[] for _ in range(PORTS)]
         self.has_power = word == "on"
 
@@ -152,16 +170,16 @@ class Converter:
             self.left_out[f"{command.word} to a full queue"] += 1
             return
         self.queues[port].append((line, start, data, command.text))
-        if self.machine.has_ports:
+        if self.as_they_are:
             self.made.commands.append(command.text)
 
     def read(self, command: Command, port: int, line: int) -> None:
         """A read of memory."""
-        if self.machine.has_ports:
+        if self.as_they_are:
             self.made.commands.append(command.text)
             return
         self.made.read_past_queue += any(write[0] == line for write in self.queues[port])
-        self.made.commands.append(self.machine.read(line))
+        self.put("read", [self.machine.read(line)], 1)
 
     def sure(self, command: Command, port: int) -> None:
         """The oldest write of a port, or all of them, are in memory now."""
@@ -169,7 +187,7 @@ class Converter:
         count = len(queue) if command.word == "fence" else min(1, len(queue))
         writes = queue[:count]
         del queue[:count]
-        if self.machine.has_ports:
+        if self.as_they_are:
             self.made.commands.append(command.text)
             return
         lines = []
@@ -178,7 +196,19 @@ class Converter:
             self.memory[line] = old[:start] + data + old[start + len(data):]
             self.made.whole += len(data) < LINE_BYTES
             lines.append((line, self.memory[line]))
-        self.made.commands += self.written(lines)
+        if lines:
+            self.put("write", self.written(lines), len(lines))
+
+    def put(self, kind: str, commands: List[bytes], lines: int) -> None:
+        """Adds a unit."""
+        first = len(self.made.commands)
+        self.made.commands += commands
+        self.made.units.append(Unit(kind, range(first, len(self.made.commands)), lines))
+
+    def posts(self, lines: List[Tuple[int, bytes]]) -> List[bytes]:
+        """Writes that are posted and made sure of at once."""
+        return [*(b"post 0 %d %s" % (line, data.hex().encode()) for line, data in lines),
+                b"drain 0" if len(lines) == 1 else b"fence 0"]
 
     def single_writes(self, lines: List[Tuple[int, bytes]]) -> List[bytes]:
         """Writes one after the other."""
@@ -201,9 +231,11 @@ class Converter:
         return commands
 
 
-def converted(commands: Sequence[Command], machine_name: str, levels: int) -> Converted:
-    """The workload of a trace of `run` in the language of a machine that has so many levels."""
-    return Converter(machine_name, levels).convert(commands)
+def converted(commands: Sequence[Command], machine_name: str, levels: int, whole_of: Optional[int] = None,
+              folded: bool = False) -> Converted:
+    """The workload of a trace of `run` in the language of a machine that has so many levels; `whole_of` and `folded` are those
+    of `Converter`."""
+    return Converter(machine_name, levels, whole_of, folded).convert(commands)
 
 
 def converted_text(trace: Trace, made: Converted) -> str:

@@ -1,6 +1,7 @@
 """What a cut at each persist step of a trace leaves, and what recovery takes after it."""
 import itertools
 from dataclasses import dataclass, field, replace
+from functools import cached_property
 from typing import Any, Callable, Dict, FrozenSet, Iterator, List, Optional, Sequence, Tuple
 
 from .errors import ExploreError
@@ -30,7 +31,7 @@ class Recovery:
     answer: str
     names: Tuple[str, ...] = ("trials", "digests", "steps")
 
-    @property
+    @cached_property
     def numbers(self) -> Optional[Tuple[int, ...]]:
         """The numbers, where it goes through."""
         words = self.answer.split(" ")
@@ -98,13 +99,15 @@ class Cut:
 @dataclass(frozen=True)
 class Moment:
     """A moment to be asked about: before a command (`kind` is `before`), a cut in it, or power off after the trace.
-    `steps` counts those of the whole trace."""
+    `steps` counts those of the whole trace. `since`: the command before which the last such moment was, where no command that
+    isn't asked about took steps in between."""
 
     kind: str
     index: int
     number: int = 0
     steps: int = 0
     recovery_steps: Optional[int] = None
+    since: Optional[int] = None
 
 
 class CutFinder:
@@ -114,6 +117,8 @@ class CutFinder:
     def __init__(self, recording: Recording, together: Together, every_line: bool, named_lines: bool = False) -> None:
         self.recording = recording
         self.observe: Optional[Callable[[Cut, Readings], None]] = None
+        self.texts: Dict[bytes, str] = {}
+        self.before: Readings = []
         self.plain_before: Readings = []
         self.together = together
         self.machine = recording.settings.machine
@@ -159,8 +164,13 @@ class CutFinder:
         return text_of([self.machine.read(line, port) for line in lines])
 
     def lines_at(self, moment: Moment) -> Sequence[int]:
-        """The lines that are read at a moment."""
-        return self.lines if self.in_play is None else self.in_play.at(moment.index)
+        """The lines that are read at a moment. Where cuts are observed all are read before a command, or those that can have
+        changed since the last time."""
+        if self.in_play is None:
+            return self.lines
+        if moment.kind != "before" or self.observe is None:
+            return self.in_play.at(moment.index)
+        return self.lines if moment.since is None else self.in_play.between(moment.since, moment.index)
 
     def script(self, moment: Moment) -> List[bytes]:
         """The commands that lead to a moment, without the reads."""
@@ -174,30 +184,32 @@ class CutFinder:
         return [*cut, b"cut %d" % moment.recovery_steps, b"on", b"on"]
 
     def question(self, moment: Moment) -> Question:
-        """The question that tells what a moment leaves. Where cuts are observed all lines are read before a command."""
-        script = tuple(self.script(moment))
-        if moment.kind == "before":
-            reads = self.before_reads if self.in_play is None or self.observe is not None else \
-                self.reads_of(self.in_play.at(moment.index), self.before_port)
+        """The question that tells what a moment leaves."""
+        lines, is_before = self.lines_at(moment), moment.kind == "before"
+        if lines is self.lines:
+            reads = self.before_reads if is_before else self.reads
         else:
-            reads = self.reads if self.in_play is None else self.reads_of(self.in_play.at(moment.index))
-        return Question(moment.index, script, reads)
+            reads = self.reads_of(lines, self.before_port if is_before else 0)
+        return Question(moment.index, tuple(self.script(moment)), reads)
 
     def moments(self, indexes: Sequence[int], with_end: bool) -> List[Moment]:
         """Each cut of these commands, with the moment before its command in front."""
         moments = []
-        steps = 0
+        steps, since = 0, None  # type: int, Optional[int]
         chosen = set(indexes)
         for index, reply in enumerate(self.recording.replies):
             total = self.totals.of(index)
             if index in chosen:
-                moments.append(Moment("before", index))
+                moments.append(Moment("before", index, since=since))
                 cuts = total + 1 if reply.is_cut else total
                 moments += [Moment("cut", index, number, steps + number) for number in range(cuts)]
+                since = index
+            elif total:
+                since = None
             steps += total
         if with_end:
             count = len(self.recording.replies)
-            moments += [Moment("before", count), Moment("end", count, 0, steps)]
+            moments += [Moment("before", count, since=since), Moment("end", count, 0, steps)]
         return moments
 
     def answers(self, moments: Sequence[Moment], what: str) -> Iterator[Tuple[Moment, bytes]]:
@@ -216,7 +228,9 @@ class CutFinder:
                 done += 1
             if moment.kind == "before":
                 before = readings_in(data, len(self.before_script))[1]
-                self.plain_before = list(map(reading_of, before)) if self.observe is not None else []
+                self.texts.clear()
+                if self.observe is not None:
+                    self.note(self.lines_at(moment), before)
             else:
                 yield self.cut(moment, data, before, waiting)
 
@@ -232,13 +246,24 @@ class CutFinder:
         lost = waiting.all() if command is None else waiting.lost(command, first)
         recovery = Recovery(replies[-1].answer, self.machine.recovery)
         lines = self.lines_at(moment)
-        old = [before[self.places[line]] for line in lines] if len(before) > len(lines) else before
-        others, unread = self.others(lines, old, after)
+        if self.observe is not None and lines is not self.lines:
+            before = [self.before[self.places[line]] for line in lines]
+        others, unread = self.others(lines, before, after)
         cut = Cut(moment.index, moment.number, moment.steps, command, replies[-2].answer, recovery, others, tuple(lost),
                   unread, moment.recovery_steps)
         if self.observe is not None:
             self.observe(cut, self.whole(lines, after))
         return cut
+
+    def note(self, lines: Sequence[int], before: Readings) -> None:
+        """Notes what lines read as before a command; `off` after an exhibit, which ends the run."""
+        before = [*before, *(OFF for _ in range(len(lines) - len(before)))]
+        if lines is self.lines:
+            self.before, self.plain_before = before, list(map(reading_of, before))
+            return
+        for line, reading in zip(lines, before):
+            place = self.places[line]
+            self.before[place], self.plain_before[place] = reading, reading_of(reading)
 
     def whole(self, lines: Sequence[int], after: Readings) -> Readings:
         """What all lines read as, those that weren't read as before."""
@@ -261,8 +286,12 @@ class CutFinder:
             elif old not in (new, OFF):
                 was, is_now = reading_of(old), reading_of(new)
                 if was != is_now:
-                    others.append(Other(lines[place], was.decode(), is_now.decode()))
+                    others.append(Other(lines[place], self.text(was), self.text(is_now)))
         return tuple(others), self.lines_unread(lines, unread)
+
+    def text(self, reading: bytes) -> str:
+        """A reading as text, the same one for all cuts of a command that have it: a long trace has many."""
+        return self.texts.setdefault(reading, reading.decode())
 
     def lines_unread(self, lines: Sequence[int], unread: Sequence[int]) -> Tuple[int, ...]:
         """All lines that can't be read, where those that were read are some of them."""
@@ -328,6 +357,10 @@ class InPlay:
     def at(self, index: int) -> Tuple[int, ...]:
         """Those before and in a command."""
         return self.lines[index]
+
+    def between(self, first: int, last: int) -> List[int]:
+        """Those of some commands in a row."""
+        return sorted({line for lines in self.lines[first:last + 1] for line in lines})
 
 
 def spread(cuts: Sequence[Cut], count: int) -> List[Cut]:

@@ -1,11 +1,12 @@
 """Pictures of a trace's persist steps, and of a sweep's curves. Only this needs matplotlib."""
 import io
+import itertools
 import sys
 from dataclasses import dataclass
 from typing import Any, Dict, List, Optional, Sequence, Tuple
 
 from .errors import WRONG_WORDS, ExploreError
-from .layout import CHIP, COUNTERS, DATA, NODES, PARTS, SHADOWS, TAGS, Layout, Place
+from .layout import CHIP, COUNTERS, DATA, NODES, SHADOWS, TAGS, AnyLayout, Place, layout_of
 from .program import first_word
 from .settings import Settings
 from .sweep import NUMBERS
@@ -33,7 +34,7 @@ LATCHES: Dict[str, Tuple[str, str, str]] = {
     "": ("D", BLACK, "latch of the registers"),
 }
 
-# Of a machine that doesn't show its device: what a cut just before a step does to the command's write.
+# Where the device lines aren't told: what a cut just before a step does to the command's write.
 FATES: Dict[str, Tuple[str, str, str, str]] = {
     LOST: ("o", VERMILION, "write lost", "a cut just before this step loses the write"),
     KEPT: ("s", BLUE, "write kept", "a cut just before this step keeps the write"),
@@ -42,6 +43,7 @@ FATES: Dict[str, Tuple[str, str, str, str]] = {
 ATTACKER = "attacker"
 
 MOST_ROWS = 8
+MOST_LINES = 80
 WIDE, DENSE = (1.0, 0.5), (0.3, 0.25)
 UNIT = 0.15
 NARROWEST, WIDEST = 8.5, 16.0
@@ -147,7 +149,7 @@ def is_tampering(entry: Traced) -> bool:
     return entry.command.word in TAMPERING_WORDS and entry.reply.answer == "ok"
 
 
-def tampered_place(entry: Traced, layout: Layout) -> Optional[Place]:
+def tampered_place(entry: Traced, layout: AnyLayout) -> Optional[Place]:
     """The device line that a tamper command changes."""
     words = entry.command.words
     if not is_tampering(entry):
@@ -160,12 +162,12 @@ def short_place(place: Place) -> str:
     """A device line's label within its lane."""
     words = place.name.split(" ")
     if place.part == TAGS:
-        return f"of {words[-3]}-{words[-1]}"
+        return f"of {words[-3]}-{words[-1]}" if "to" in words else f"of {words[-1]}"
     if place.part == COUNTERS:
         return f"page {words[-1]}"
     if place.part == SHADOWS:
-        return f"{'counters' if words[-2] == 'counter' else 'nodes'} {words[1]}"
-    return words[-1]
+        return f"slot {words[-1]}" if words[0] == "slot" else f"{'counters' if words[-2] == 'counter' else 'nodes'} {words[1]}"
+    return place.name if words[0] == "body" else words[-1]
 
 
 class Lanes:
@@ -173,21 +175,22 @@ class Lanes:
 
     def __init__(self) -> None:
         self.rows: Dict[int, float] = {}
+        self.lines: List[float] = []
         self.fates: Dict[str, float] = {}
         self.labels: List[Tuple[float, str]] = []
         self.bounds: List[Tuple[str, float, float]] = []
         self.bottom = 0.0
         self.chip = 0.0
 
-    def add_device(self, places: Sequence[Place]) -> None:
+    def add_device(self, parts: Sequence[str], places: Sequence[Place]) -> None:
         """The lanes of the chip and of the parts of the device."""
         self.chip = self.add_lane(CHIP, [])
-        for part in PARTS:
+        for part in parts:
             self.add_lane(part, sorted({place.line: place for place in places if place.part == part}.values(),
                                        key=lambda place: place.line))
 
     def add_fates(self, has_attacker: bool) -> None:
-        """The lanes of a machine that doesn't show its device: one for each thing that a cut before a step does."""
+        """The lanes where device lines aren't told: one for each thing that a cut before a step does."""
         for fate, (_, _, name, _) in FATES.items():
             self.fates[fate] = self.add_lane(name, [])
         if has_attacker:
@@ -202,6 +205,8 @@ class Lanes:
         for number, place in enumerate(places):
             height = top - 0.7 - number * pitch
             self.rows[place.line] = height
+            if count <= MOST_LINES:
+                self.lines.append(height)
             if number % every == 0:
                 self.labels.append((height, short_place(place)))
         self.bottom = top - 0.4 - count * pitch
@@ -224,7 +229,7 @@ def verdict(entry: Traced) -> Tuple[str, str]:
         return ("kept", BLUE) if word == "kept" else (word, VERMILION)
     if "refused" in words:
         place = words[words.index("refused") + 1:]
-        return "refused " + (place[0] if place[0] == "root" else " ".join(place[:2])), VERMILION
+        return "refused " + (place[0] if place[0] in ("root", "shadow") else " ".join(place[:2])), VERMILION
     if words[0] == "spent" or words[0] in ("full", "range", "none"):
         return words[0], VERMILION
     if words[0] in ("off", "empty", "idle", "clean", "already"):
@@ -244,7 +249,7 @@ def draw_lanes(axes: Any, lanes: Lanes, end: float, name_offset: float) -> None:
         axes.axhspan(bottom, top, color=PALE if number % 2 == 0 else "white", zorder=0, linewidth=0)
         axes.text(-name_offset, (top + bottom) / 2, part, transform=axes.get_yaxis_transform(),
                   ha="left", va="center", fontsize=9, fontweight="bold")
-    for height in lanes.rows.values():
+    for height in lanes.lines:
         axes.plot([0, end], [height, height], color=GREY, linewidth=0.5, zorder=1)
     axes.set_yticks([height for height, _ in lanes.labels])
     axes.set_yticklabels([label for _, label in lanes.labels], fontsize=7.5)
@@ -304,7 +309,7 @@ def draw_marks(axes: Any, spans: Sequence[Span], lanes: Lanes, size: float) -> L
 
 
 def draw_fates(axes: Any, spans: Sequence[Span], lanes: Lanes, size: float) -> List[str]:
-    """A mark for each persist step of a machine that doesn't show its device; answers which kinds there are."""
+    """A mark for each persist step whose device line isn't told; answers which kinds there are."""
     drawn = []
     for fate, (marker, colour, _, _) in FATES.items():
         points = [(span.step_at(number), lanes.fates[fate]) for span in spans
@@ -316,7 +321,7 @@ def draw_fates(axes: Any, spans: Sequence[Span], lanes: Lanes, size: float) -> L
     return drawn
 
 
-def draw_tampering(axes: Any, spans: Sequence[Span], lanes: Lanes, layout: Optional[Layout], size: float) -> bool:
+def draw_tampering(axes: Any, spans: Sequence[Span], lanes: Lanes, layout: Optional[AnyLayout], size: float) -> bool:
     """A cross where the attacker changes a device line."""
     points = []
     for span in spans:
@@ -366,12 +371,21 @@ def command_label(entry: Traced) -> str:
     return " ".join(words[:2] if words[0] in ("poke", "write", "put") else words)
 
 
+def stride_for(count: int, most: int) -> int:
+    """How many steps there are to a number along the bottom: the least round one by which these are not too many."""
+    stride, more = 1, (2, 2.5, 2)
+    for number in itertools.count():
+        if count <= most * stride:
+            break
+        stride = int(stride * more[number % 3])
+    return stride
+
+
 def draw_axis(axes: Any, spans: Sequence[Span], width: float) -> None:
     """The numbers of the steps along the bottom."""
     places = [(step.number, span.step_at(number)) for span in spans for number, step in enumerate(span.traced.steps)]
     most = max(4, int(width * 2.5))
-    stride = next(stride for stride in (1, 2, 5, 10, 20, 50, 100, 200, 500, 1000, 10 ** 9)
-                  if len(places) / stride <= most)
+    stride = stride_for(len(places), most)
     ticks = [(number, place) for number, place in places if stride == 1 or number % stride == 0]
     axes.set_xticks([place for _, place in ticks])
     axes.set_xticklabels([str(number) for number, _ in ticks], fontsize=7.5)
@@ -409,7 +423,7 @@ def legend_handles(drawn: Sequence[str], tampered: bool) -> List[Any]:
     return handles
 
 
-def changed_places(spans: Sequence[Span], layout: Layout) -> List[Place]:
+def changed_places(spans: Sequence[Span], layout: AnyLayout) -> List[Place]:
     """The device lines that the steps or the attacker change."""
     places = [step.place for span in spans for step in span.traced.steps if step.place is not None]
     tampered = [tampered_place(span.traced, layout) for span in spans]
@@ -421,10 +435,10 @@ def timeline(traced: Sequence[Traced], settings: Settings, title: str, kind: str
     pyplot = load_matplotlib()
     spans = spans_of(traced)
     end = spans[-1].end if spans else 1.0
-    layout = Layout(settings) if settings.machine.has_counts else None
+    layout = None if any(entry.fates for entry in traced) else layout_of(settings)
     lanes = Lanes()
     if layout is not None:
-        lanes.add_device(changed_places(spans, layout))
+        lanes.add_device(layout.parts, changed_places(spans, layout))
     else:
         lanes.add_fates(any(is_tampering(entry) for entry in traced))
     width = min(WIDEST, max(NARROWEST, LEFT + RIGHT + UNIT * end))

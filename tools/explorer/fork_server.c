@@ -5,7 +5,8 @@
      L  the program gets the bytes;
      F  a fork of the program gets the bytes and then the end of its input, and this one waits until the fork has ended.
    The program answers what it got before it reads again, so its output stands in order. To it are added, each on a line
-   that begins with the byte 1: H before the first read, F before a fork, E and the fork's wait status after it. */
+   that begins with the byte 1: H before the first read, F before a fork, E and the fork's wait status after it. They are
+   written together, as late as that order and the next wait for input allow: each write may wake the one who reads. */
 #define _GNU_SOURCE
 #include <dlfcn.h>
 #include <errno.h>
@@ -28,24 +29,36 @@ static size_t have, at, left; /* bytes of the input that were read and taken, an
 static char *script;          /* in a fork: its bytes, how many, and how many were taken */
 static size_t length, taken;
 static int is_fork, has_begun;
+static char told[128];        /* what is added to the output and isn't written yet */
+static size_t telling;
 
-static void put(const char *text)
+static void flush(void)
 {
-    size_t size = strlen(text);
-    while (size) {
-        ssize_t count = write(1, text, size);
+    const char *text = told;
+    while (telling) {
+        ssize_t count = write(1, text, telling);
         if (count < 0 && errno == EINTR)
             continue;
         if (count <= 0)
             _exit(BROKEN);
         text += count;
-        size -= (size_t)count;
+        telling -= (size_t)count;
     }
+}
+
+static void put(const char *text)
+{
+    size_t size = strlen(text);
+    if (size > sizeof told - telling)
+        flush();
+    memcpy(told + telling, text, size);
+    telling += size;
 }
 
 static int fill(void)
 {
     ssize_t count;
+    flush();
     do
         count = read_from(0, input, sizeof input);
     while (count < 0 && errno == EINTR);
@@ -89,10 +102,11 @@ static void read_script(size_t size)
 /* True in the fork. */
 static int forked(size_t size)
 {
-    char told[40];
+    char ended[40];
     int status = 0;
     read_script(size);
     put("\1F\n");
+    flush();
     pid_t child = fork();
     if (child < 0)
         _exit(BROKEN);
@@ -107,8 +121,8 @@ static int forked(size_t size)
         if (errno != EINTR)
             _exit(BROKEN);
     free(script);
-    snprintf(told, sizeof told, "\1E%d\n", status);
-    put(told);
+    snprintf(ended, sizeof ended, "\1E%d\n", status);
+    put(ended);
     return 0;
 }
 
@@ -149,6 +163,7 @@ ssize_t read(int file, void *to, size_t room)
     }
     if (at == have && !fill())
         return 0;
+    flush();
     count = given(to, room, input + at, have - at < left ? have - at : left);
     at += (size_t)count;
     left -= (size_t)count;

@@ -284,6 +284,14 @@ class Maker:
         return commands
 
 
+def within_text(rules: Rules) -> str:
+    """The addresses that are looked at, where not all are."""
+    if rules.within is None:
+        return ""
+    low, high = rules.within
+    return f" within {low:#x}-{high:#x} (an address that doesn't begin with 0x is decimal)"
+
+
 def is_taken(access: Access, rules: Rules) -> bool:
     """Whether an access is part of the memory that is looked at. Fences and instructions always are."""
     if access.kind in (FENCE, INSTRUCTION) or rules.within is None:
@@ -380,7 +388,7 @@ def import_trace(name: str, kind: str, rules: Rules) -> str:
             raise ExploreError(f"cannot read {name}: {reason_of(error)}") from error
     if not commands:
         raise ExploreError(f"{shown_name(name)} has no store or load to import"
-                           + (" within these addresses" if rules.within else ""))
+                           + within_text(rules))
     notes: List[str] = []
     if rules.machine_name != "run":
         made = converted(commands_of("\n".join(commands).encode()), rules.machine_name, rules.levels)
@@ -435,7 +443,7 @@ def hottest(name: str, kind: str, rules: Rules, count: int) -> str:
     total = stores + loads
     if not total:
         raise ExploreError(f"{shown_name(name)} has no store or load"
-                           + (" within these addresses" if rules.within else ""))
+                           + within_text(rules))
     rows = [[f"{TOP_BYTES * page:#x}-{TOP_BYTES * (page + 1) - 1:#x}", str(stores[page]), str(loads[page])]
             for page, _ in sorted(total.items(), key=lambda item: (-item[1], item[0]))[:count]]
     return table_text([["addresses", "stores", "loads"]], rows, left=(0,))

@@ -1,6 +1,7 @@
-"""The names of the device's lines, from the layout that docs/MACHINE.md lists."""
+"""The names of the device's lines, from the layouts that docs/MACHINE.md and docs/TREE.md list."""
+from bisect import bisect_right
 from dataclasses import dataclass
-from typing import List
+from typing import Dict, List, Sequence, Tuple, Union
 
 from .machines import LINES_OF_PAGE
 from .settings import Settings
@@ -12,6 +13,8 @@ COUNTERS = "counter blocks"
 NODES = "tree nodes"
 SHADOWS = "shadow tables"
 PARTS = (DATA, TAGS, COUNTERS, NODES, SHADOWS)
+
+Named = Dict[str, Tuple[int, int]]
 
 
 @dataclass(frozen=True)
@@ -29,9 +32,13 @@ class Place:
 
 
 class Layout:
-    """Where each part of the device lies."""
+    """Where each part of the device of `run`, `wear` and `txn` lies."""
+
+    parts = PARTS
 
     def __init__(self, settings: Settings) -> None:
+        self.machine_name = settings.machine_name
+        self.own_lines = settings.data_lines
         self.levels = settings.levels
         self.pages = 1 << 2 * self.levels
         self.data_lines = LINES_OF_PAGE * self.pages
@@ -47,7 +54,7 @@ class Layout:
     def place(self, line: int) -> Place:
         """What device line `line` is."""
         if line < self.first_tag:
-            return Place(line, DATA, f"data line {line}")
+            return Place(line, DATA, self.data_name(line))
         if line < self.first_meta:
             first = 4 * (line - self.first_tag)
             return Place(line, TAGS, f"tag line of {first} to {first + 3}")
@@ -60,6 +67,15 @@ class Layout:
             number = line - self.first_counter_shadow
             return Place(line, SHADOWS, f"line {number} of the shadow table of counter blocks")
         return Place(line, SHADOWS, f"line {line - self.first_node_shadow} of the shadow table of tree nodes")
+
+    def data_name(self, line: int) -> str:
+        """What a data line is: of `wear` a place or the record (docs/WEAR.md), of `txn` a line, the header or a body of the
+        log (docs/TXN.md)."""
+        if self.machine_name == "wear":
+            return "the record" if line > self.own_lines else f"place {line}"
+        if self.machine_name == "txn" and line >= self.own_lines:
+            return "the header" if line == self.own_lines else f"body {line - self.own_lines - 1}"
+        return f"data line {line}"
 
     def tag_line(self, data_line: int) -> int:
         """The device line that has the tag of a data line."""
@@ -83,3 +99,67 @@ class Layout:
     def shadow_lines(self) -> List[int]:
         """The device lines of both shadow tables."""
         return list(range(self.first_counter_shadow, self.size))
+
+    def named(self) -> Named:
+        """The first device line of each part, and how many lines have a number in it."""
+        return {"data": (0, self.data_lines), "counter": (self.first_meta + self.nodes, self.pages),
+                "node": (self.first_meta, self.nodes),
+                "shadow counters": (self.first_counter_shadow, self.first_node_shadow - self.first_counter_shadow),
+                "shadow nodes": (self.first_node_shadow, self.size - self.first_node_shadow)}
+
+
+class TreeLayout:
+    """Where each part of the device of `tree` lies. Its counters are those of its nodes."""
+
+    parts = (DATA, TAGS, NODES, SHADOWS)
+
+    def __init__(self, settings: Settings) -> None:
+        self.data_lines = settings.data_lines
+        self.first_node = 2 * self.data_lines
+        self.nodes = (self.data_lines - 1) // 3
+        self.first_slot = self.first_node + self.nodes
+        self.slots = 1 + settings.levels * settings.sets
+        self.size = self.first_slot + self.slots
+
+    def place(self, line: int) -> Place:
+        """What device line `line` is."""
+        if line < self.data_lines:
+            return Place(line, DATA, f"data line {line}")
+        if line < self.first_node:
+            return Place(line, TAGS, f"tag line of {line - self.data_lines}")
+        if line < self.first_slot:
+            return Place(line, NODES, f"node {line - self.first_node}")
+        return Place(line, SHADOWS, f"slot line {line - self.first_slot}")
+
+    def tag_line(self, data_line: int) -> int:
+        """The device line that has the tag of a data line."""
+        return self.data_lines + data_line
+
+    def named(self) -> Named:
+        """The first device line of each part, and how many lines have a number in it."""
+        return {"data": (0, self.data_lines), "node": (self.first_node, self.nodes), "slot": (self.first_slot, self.slots)}
+
+
+AnyLayout = Union[Layout, TreeLayout]
+
+
+class Parts:
+    """Which part of the device a line belongs to, as its number among `PARTS`, where no name is asked for."""
+
+    def __init__(self, layout: AnyLayout) -> None:
+        edges: Sequence[Tuple[int, str]] = (
+            ((layout.data_lines, TAGS), (layout.first_node, NODES), (layout.first_slot, SHADOWS))
+            if isinstance(layout, TreeLayout) else
+            ((layout.first_tag, TAGS), (layout.first_meta, NODES), (layout.first_meta + layout.nodes, COUNTERS),
+             (layout.first_counter_shadow, SHADOWS)))
+        self.first = [first for first, _ in edges]
+        self.parts = [0, *(PARTS.index(part) for _, part in edges)]
+
+    def of(self, line: int) -> int:
+        """The part of a line."""
+        return self.parts[bisect_right(self.first, line)]
+
+
+def layout_of(settings: Settings) -> AnyLayout:
+    """The layout of the device that a machine with these settings has."""
+    return TreeLayout(settings) if settings.machine_name == "tree" else Layout(settings)

@@ -8,6 +8,7 @@ import tempfile
 from typing import Any, Iterable, List, Optional, Sequence
 
 from .errors import ExploreError, reason_of
+from .processes import INTERRUPTS
 
 
 # What LaTeX would take for something else.
@@ -18,6 +19,7 @@ LATEX = {"\\": r"\textbackslash{}", "~": r"\textasciitilde{}", "^": r"\textascii
 def write_file(name: str, data: bytes) -> None:
     """Writes a file under a name beside it first, so that it is never there by half. What is no plain file, such as
     a terminal, is written as it stands."""
+    INTERRUPTS.check()
     check_writable(name)
     part = ""
     try:
@@ -70,6 +72,7 @@ def check_writable(name: Optional[str]) -> None:
 
 def put(text: str, name: Optional[str]) -> None:
     """Writes text to a file, or to standard output where none is named."""
+    INTERRUPTS.check()
     if name is None:
         sys.stdout.write(text)
         sys.stdout.flush()
@@ -100,6 +103,15 @@ def latex_text(heads: Sequence[str], rows: Sequence[Sequence[str]], left: Sequen
     columns = "".join("l" if column in left else "r" for column in range(len(heads)))
     return (f"\\begin{{tabular}}{{{columns}}}\n\\hline\n{line(heads)}\\hline\n" + "".join(map(line, rows))
             + "\\hline\n\\end{tabular}\n")
+
+
+def markdown_text(heads: Sequence[str], rows: Sequence[Sequence[str]], left: Sequence[int] = ()) -> str:
+    """A table for a page in Markdown; the columns in `left` begin at the left."""
+    def line(row: Sequence[str]) -> str:
+        return "| " + " | ".join(cell.replace("|", "\\|") for cell in row) + " |\n"
+
+    return line(heads) + "|" + "".join("---|" if column in left else "---:|" for column in range(len(heads))) + "\n" \
+        + "".join(map(line, rows))
 
 
 def table_text(heads: Sequence[Sequence[str]], rows: Sequence[Sequence[str]], left: Sequence[int]) -> str:

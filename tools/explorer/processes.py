@@ -4,10 +4,15 @@ import selectors
 import signal
 import subprocess
 import sys
+import time
 from collections import deque
+from contextlib import contextmanager
 from types import FrameType
-from typing import Deque, Dict, List, Optional, Protocol, Sequence, Set, Tuple
+from typing import Deque, Dict, Iterator, List, Optional, Protocol, Sequence, Set, Tuple
 
+from .errors import INTERRUPTED
+
+TOLD = b"explore: interrupted\n"
 PIPE_BYTES = 1 << 20
 SIGNALS = (signal.SIGINT, signal.SIGTERM, signal.SIGHUP)
 SET_PIPE_SIZE = 1031  # Linux's F_SETPIPE_SZ
@@ -20,6 +25,7 @@ class Interrupts:
     def __init__(self) -> None:
         self.seen = False
         self.held = 0
+        self.is_last = False
         self.woken: Optional[int] = None
 
     def listen(self) -> None:
@@ -40,8 +46,21 @@ class Interrupts:
     def handle(self, _number: int, _frame: Optional[FrameType]) -> None:
         """The handler of the signals."""
         self.seen = True
+        if self.is_last and not RUNNING:
+            os.write(2, TOLD)
+            os._exit(INTERRUPTED)
         if not self.held:
             raise KeyboardInterrupt
+
+    @contextmanager
+    def at_once(self) -> Iterator[None]:
+        """Within it one ends the command where it stands: no process of it runs then, and amid the callbacks of a library an
+        exception could be lost."""
+        self.is_last = True
+        try:
+            yield
+        finally:
+            self.is_last = False
 
     def check(self) -> None:
         """Raises one that came while they were held, or that was raised where Python drops it."""
@@ -77,6 +96,7 @@ class Interrupts:
             self.check()
 
 
+RUNNING: Set["subprocess.Popen[bytes]"] = set()
 INTERRUPTS = Interrupts()
 
 
@@ -88,9 +108,12 @@ def new_selector() -> selectors.BaseSelector:
     return selector
 
 
-def serve(selector: selectors.BaseSelector, timeout: Optional[float] = None) -> None:
-    """Waits until a process tells something or takes something, and serves it."""
+def serve(selector: selectors.BaseSelector, timeout: Optional[float] = None, rest: float = 0) -> None:
+    """Waits until a process tells something or takes something, and serves it; so many seconds pass first, in which none
+    needs it."""
     INTERRUPTS.check()
+    if rest:
+        time.sleep(rest)
     for key, events in selector.select(timeout):
         channel: Optional["Channel"] = key.data
         if channel is None:
@@ -101,9 +124,6 @@ def serve(selector: selectors.BaseSelector, timeout: Optional[float] = None) -> 
             data = channel.read()
             if data is not None:
                 channel.owner.told(channel, data)
-
-
-RUNNING: Set["subprocess.Popen[bytes]"] = set()
 
 
 def start(command: Sequence[str], environment: Optional[Dict[str, str]] = None,

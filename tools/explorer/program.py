@@ -7,7 +7,7 @@ from typing import Dict, List, Optional, Sequence, Tuple
 from .errors import INTERRUPTED, WRONG_WORDS, ExploreError, reason_of
 from .processes import start, talk
 from .settings import Settings
-from .stops import KINDS
+from .stops import line_text
 from .trace import Trace, shown_line
 
 MARKS = ("seal", "begin")
@@ -15,6 +15,7 @@ EXHIBITS = ("clash", "forged", "twin")
 WITHOUT_STEPS = ("off", "range", "empty", "idle", "clean", "already", "closed")
 
 STATUS_EXHIBIT = 6
+MOST_LINES = 1_000_000
 REFUSED = (2, b"stop words\n")
 
 
@@ -154,7 +155,7 @@ class Program:
 
     def __init__(self, path: str) -> None:
         self.path = path
-        self.has_log: Optional[bool] = None
+        self.has_log: Dict[str, bool] = {}
 
     def start(self, settings: Settings, environment: Optional[Dict[str, str]] = None,
               *more: str) -> "subprocess.Popen[bytes]":
@@ -179,12 +180,13 @@ class Program:
         return output
 
     def logged(self, script: bytes, settings: Settings) -> Optional[bytes]:
-        """What the program prints on this trace with the log of each command; None where it refuses that option, as older
-        programs do."""
-        if self.has_log is None or self.has_log:
+        """What the program prints on this trace with the log of each command; None where it refuses that option of this
+        machine, as older programs do."""
+        name = settings.machine_name
+        if self.has_log.get(name, True):
             output = Output(*talk(self.start(settings, None, "--log"), script))
-            self.has_log = (output.status, output.data) != REFUSED
-            if self.has_log:
+            self.has_log[name] = (output.status, output.data) != REFUSED
+            if self.has_log[name]:
                 self.check(output, settings)
                 return output.data
         return None
@@ -215,6 +217,8 @@ class Program:
 class Recording:
     """A trace with the program's replies to it, which can be run again up to any command and then asked."""
 
+    plain_ok = b"ok\n"
+
     def __init__(self, program: Program, settings: Settings, trace: Trace, known: Optional[Output] = None) -> None:
         self.program = program
         self.settings = settings
@@ -230,12 +234,14 @@ class Recording:
 
     def first_run(self) -> Output:
         """The run of the trace as it stands."""
+        if self.trace.line_count > MOST_LINES:
+            raise ExploreError(f"{self.trace.name} has {self.trace.line_count} lines, and a trace at most {MOST_LINES:,}")
         try:
             return self.program.run(self.trace.data, self.settings)
         except StopLine as stop:
-            text = shown_line(self.trace.line(stop.number))
-            kind = KINDS.get(stop.kind, f"fault of kind {stop.kind}")
-            raise ExploreError(f"{self.trace.name}, line {stop.number}: {kind}: {text}") from stop
+            line = self.trace.line(stop.number)
+            told = line_text(stop.kind, line.decode("ascii", "replace"), shown_line(line))
+            raise ExploreError(f"{self.trace.name}, line {stop.number}: {told}") from stop
 
     def check_replies(self, output: Output) -> None:
         """That there is a reply to each command, up to the exhibit where there is one."""

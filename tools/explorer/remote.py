@@ -9,6 +9,7 @@ import time
 from typing import Any, Dict, List
 
 from .errors import ExploreError
+from .logged import LoggedProgram, LoggedRecording
 from .processes import end_all
 from .program import Output, Program, Question, Recording, Run
 from .settings import Settings
@@ -21,18 +22,25 @@ SECONDS_BETWEEN_LOOKS = 1.0
 Batch = Dict[str, Any]
 
 
+def program_of(batch: Batch) -> Program:
+    """The program that was put beside this package, asked for its log where the batch says so."""
+    return (LoggedProgram if batch["logged"] else Program)(batch["program"])
+
+
 def runs(batch: Batch) -> List[Any]:
     """The outputs of runs: each its data and its status, which the one who asked judges."""
     scripts = {name: read(name) for name, _ in batch["runs"]}
     tasks = [Run(scripts[name], Settings(**fields)) for name, fields in batch["runs"]]
-    return [(output.data, output.status) for output in in_order_from_start(Program(batch["program"]), tasks, 1)]
+    return [(output.data, output.status) for output in in_order_from_start(program_of(batch), tasks, 1)]
 
 
 def answers(batch: Batch) -> List[Any]:
     """The answers to questions about a trace, whose output is known."""
-    program, settings = Program(batch["program"]), Settings(**batch["settings"])
+    program, settings = program_of(batch), Settings(**batch["settings"])
     trace = trace_of(batch["name"], read(batch["trace"]))
-    recording = Recording(program, settings, trace, Output(read(batch["output"]), batch["status"]))
+    known = Output(read(batch["output"]), batch["status"])
+    recording = LoggedRecording(program, settings, trace, known) if isinstance(program, LoggedProgram) else \
+        Recording(program, settings, trace, known)
     questions = [Question(*fields) for fields in batch["questions"]]
     together = Together(program, 1, batch["from_start"])
     return [data for _, data in together.answers(recording, questions, len(questions), "")]

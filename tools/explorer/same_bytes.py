@@ -4,12 +4,11 @@ from dataclasses import dataclass, replace
 from typing import Dict, Iterator, List, Sequence, Set, Tuple
 
 from .errors import ExploreError
-from .program import Question, Recording, Run, text_of
+from .program import MOST_LINES, Question, Recording, Run, text_of
 from .together import Together
 from .trace import TAMPERING_WORDS
 from .traced import Step, Traced
 
-MOST_LINES = 1_000_000
 MOST_SHOWN, LEAST_SHOWN = 200_000, 10_000
 SHOWN_BYTES = len("raw ") + 128 + len("\n")
 

@@ -5,13 +5,13 @@ import sys
 from typing import Callable, Dict, Iterable, List, Optional, Tuple
 
 from .errors import DONE, FAILURE, ExploreError
-from .layout import Layout
+from .layout import layout_of
 from .output import write_file
 from .processes import INTERRUPTS, end_all
 from .program import Recording, StopLine, text_of
 from .settings import Settings
 from .steps import trace_steps
-from .stops import KINDS, hint_for
+from .stops import line_text
 from .together import Together
 from .trace import commands_of, read_bytes, short_text, shown_line, trace_of
 from .traced import Traced
@@ -28,7 +28,7 @@ A line is a command of the machine (docs/FORMATS.md, WEAR.md, TXN.md, SHADOW.md)
   steps on|off      whether each command's persist steps are looked for (on)
   help, quit        this; end the session (Ctrl-D does so too)
 A LINE is a device line's number, or: data A, tag A (of data line A), counter PAGE, node X, shadow counters N,
-shadow nodes N. A line that is wrong is told, and changes nothing."""
+shadow nodes N; of tree: data A, tag A, node X, slot N. A line that is wrong is told, and changes nothing."""
 
 
 class Session:
@@ -37,7 +37,7 @@ class Session:
     def __init__(self, together: Together, settings: Settings, say: Callable[[str], None]) -> None:
         self.together = together
         self.settings = settings
-        self.layout = Layout(settings)
+        self.layout = layout_of(settings)
         self.say = say
         self.lines: Tuple[bytes, ...] = ()
         self.before: List[Tuple[bytes, ...]] = []
@@ -68,9 +68,8 @@ class Session:
         try:
             self.together.program.run(trace.data, self.settings)
         except StopLine as stop:
-            text = trace.line(stop.number)
-            hint = hint_for(stop.kind, text.decode("ascii", "replace"))
-            raise ExploreError(f"{KINDS.get(stop.kind, stop.kind)}: {shown_line(text)}{'; ' if hint else ''}{hint}") from stop
+            line = trace.line(stop.number)
+            raise ExploreError(line_text(stop.kind, line.decode("ascii", "replace"), shown_line(line))) from stop
         recording = Recording(self.together.program, self.settings, trace)
         if recording.ends_in_exhibit and len(recording.replies) < len(recording.commands):
             raise ExploreError("the run ended with the exhibit, which shows a break; `undo` takes its command back")
@@ -177,8 +176,9 @@ class Session:
 
     def set_break(self, words: List[str]) -> None:
         """Sets a break, takes them all away, or lists them."""
-        if not self.settings.machine.has_counts:
-            raise ExploreError(f"pmem {self.settings.machine_name} doesn't show its device, so there are no breaks")
+        program = self.together.program
+        if not self.settings.machine.has_counts and program.logged(b"", self.settings) is None:
+            raise ExploreError(f"{program.path} has no option --log of {self.settings.machine_name}, so there are no breaks")
         if words == ["off"]:
             self.breaks.clear()
         elif words:
@@ -192,18 +192,15 @@ class Session:
     def line_named(self, words: List[str]) -> int:
         """The device line of these words."""
         layout = self.layout
-        starts = {("data",): (0, layout.data_lines), ("tag",): (None, layout.data_lines),
-                  ("counter",): (layout.first_meta + layout.nodes, layout.pages), ("node",): (layout.first_meta, layout.nodes),
-                  ("shadow", "counters"): (layout.first_counter_shadow, layout.first_node_shadow - layout.first_counter_shadow),
-                  ("shadow", "nodes"): (layout.first_node_shadow, layout.size - layout.first_node_shadow), (): (0, layout.size)}
-        kind = tuple(words[:-1])
-        if kind not in starts or not words:
+        kinds = {**layout.named(), "tag": (0, layout.data_lines), "": (0, layout.size)}
+        kind = " ".join(words[:-1])
+        if kind not in kinds or not words:
             raise ExploreError(f"no such line: {' '.join(words)}; `help` has their names")
         number = number_in(words[-1:])
-        start, count = starts[kind]
+        start, count = kinds[kind]
         if number >= count:
             raise ExploreError(f"no such line: {' '.join(words)}; the last is {count - 1}")
-        return layout.tag_line(number) if start is None else start + number
+        return layout.tag_line(number) if kind == "tag" else start + number
 
     def show(self, words: List[str]) -> None:
         """Shows a device line."""

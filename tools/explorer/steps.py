@@ -1,11 +1,12 @@
-"""Each persist step of a trace, as the program's log tells it. Of an older program, which has no log, the steps are found by
-cutting the trace at each one and comparing the device with `peek`."""
+"""Each persist step of a trace, as the program's log tells it. Of an older program, which has no log, the steps of `run` are
+found by cutting the trace at each one and comparing the device with `peek`, and those of the other machines are told by
+what a cut after each leaves."""
 import sys
 from collections import deque
-from dataclasses import dataclass
+from dataclasses import dataclass, replace
 from typing import Any, Dict, Iterable, Iterator, List, Optional, Sequence, Tuple
 
-from .accesses import told_steps
+from .accesses import told_last, told_steps
 from .errors import WRONG_WORDS, ExploreError
 from .layout import Layout, Place
 from .machines import LINES_OF_PAGE
@@ -19,6 +20,7 @@ from .traced import LATCH, UNSEEN, UNTOLD, WRITE, Fate, Step, Traced, Work
 LINES_AT_ONCE = 500_000
 TRIED_AT_ONCE = 8
 MOST_TURNED = 500
+
 
 @dataclass(frozen=True)
 class State:
@@ -112,11 +114,12 @@ class Totals:
         return self.before_exhibit.get(index, self.recording.steps(index) or 0)
 
     def count(self, indexes: Sequence[int]) -> None:
-        """Counts the steps of a command among these that ends the run with an exhibit: the least cut that it isn't cut
-        by."""
+        """Counts the steps of a command among these that ends the run with an exhibit: those that the log tells, or with a
+        program without one the least cut that it isn't cut by."""
         for index in indexes:
             if self.recording.steps(index) is None:
-                self.before_exhibit[index] = self.steps_before_exhibit(index)
+                told = told_last(self.recording)
+                self.before_exhibit[index] = self.steps_before_exhibit(index) if told is None else told
 
     def steps_before_exhibit(self, index: int) -> int:
         """The steps of a command before its exhibit."""
@@ -319,34 +322,40 @@ def trace_steps(recording: Recording, together: Together, lines: Optional[range]
                 with_work: bool = False) -> List[Traced]:
     """The commands on these lines of the trace with their replies and steps, and where it is asked for with their work."""
     indexes = stepping_indexes(recording, lines)
-    if not recording.settings.machine.has_counts:
-        if with_work:
-            raise ExploreError(f"pmem {recording.settings.machine_name} doesn't tell what its commands read", WRONG_WORDS)
-        traced = fates_traced(recording, together, indexes)
-    else:
+    shows_device = recording.settings.machine.has_counts
+    if shows_device:
         check_layout(recording)
-        told = told_steps(recording, with_work)
-        if told is not None:
-            traced = SameBytes(recording, together, told, set(indexes)).told()
-        else:
-            tell_no_log(recording, together, with_work)
-            traced = StepFinder(recording, together).find(indexes)
+    told = told_steps(recording, with_work)
+    if told is None:
+        tell_no_log(recording, together, with_work)
+        traced = StepFinder(recording, together).find(indexes) if shows_device else fates_traced(recording, together, indexes)
+    elif shows_device:
+        traced = SameBytes(recording, together, told, set(indexes)).told()
+    else:
+        traced = [with_unknown_bytes(each) for each in told]
     return [each for each in traced if lines is None or each.command.number in lines]
 
 
 def tell_no_log(recording: Recording, together: Together, with_work: bool) -> None:
-    """Tells, once, that the program has no log."""
+    """Tells, once, that the program has no log of this machine."""
+    name = recording.settings.machine_name
     if with_work:
-        raise ExploreError(f"{recording.program.path} doesn't tell what its commands read: it has no option --log")
+        raise ExploreError(f"{recording.program.path} doesn't tell what its commands read: its {name} has no option --log")
     if not together.is_log_missed:
         together.is_log_missed = True
-        sys.stderr.write(f"explore: {recording.program.path} has no option --log, so each step is found by a cut, and what a "
-                         "latch does isn't told\n")
+        why = "each step is found by a cut, and what a latch does isn't told" if recording.settings.machine.has_counts else \
+            "which device line a step writes isn't told"
+        sys.stderr.write(f"explore: {recording.program.path} has no option --log of {name}, so {why}\n")
+
+
+def with_unknown_bytes(traced: Traced) -> Traced:
+    """A command of a machine that doesn't show its device, so that it isn't told whether a line had its bytes already."""
+    return replace(traced, steps=tuple(step if step.place is None else replace(step, again=None) for step in traced.steps))
 
 
 def fates_traced(recording: Recording, together: Together, indexes: Sequence[int]) -> List[Traced]:
-    """The same of a machine that doesn't show its device: what a cut after each step of a command answers, and the
-    recovery after it."""
+    """The same of a machine that doesn't show its device, by a program without a log of it: what a cut after each step of a
+    command answers, and the recovery after it."""
     totals = Totals(recording, together)
     totals.count(indexes)
     moments = [(index, number) for index in indexes
@@ -401,7 +410,7 @@ def steps_text(traced: Sequence[Traced], whole: bool) -> str:
     taken = sum(len(entry.steps) for entry in traced)
     lines.append(f"{len(traced)} commands, {taken} persist steps" + work_text(traced))
     if any(entry.fates for entry in traced):
-        lines.append("which device line a step writes can't be told: this machine shows neither its device nor its counts")
+        lines.append("which device line a step writes isn't told: this program has no --log of its machine")
     return "\n".join(lines) + "\n"
 
 

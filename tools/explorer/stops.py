@@ -29,3 +29,10 @@ KINDS = {kind: text for kind, text in MEANINGS.items() if re.fullmatch("[1-6]", 
 def hint_for(kind: str, line: str) -> str:
     """What else is told of a line at fault, or nothing."""
     return next((text for of, part, text in HINTS if of == kind and part in line), "")
+
+
+def line_text(kind: str, line: str, shown: str) -> str:
+    """What is told of a line at fault: what is wrong, the line as it is shown, a hint."""
+    hint = hint_for(kind, line)
+    machines = " or ".join(f"--as {name}" for name in re.findall("of (run|wear|txn|tree)", hint)) if kind == "1" else ""
+    return f"{KINDS.get(kind, f'fault of kind {kind}')}: {shown}{'; ' if hint else ''}{hint}{f' ({machines})' if machines else ''}"

@@ -3,9 +3,13 @@ import itertools
 from dataclasses import dataclass, replace
 from typing import Any, Dict, List, Optional, Sequence, Tuple
 
+from .accesses import LINE, LOOK
 from .cuts import Recovery
+from .errors import ExploreError
+from .layout import COUNTERS, NODES, PARTS, Parts, layout_of
+from .logged import Entry, entries_of
 from .output import csv_text, json_text, latex_text, table_text
-from .program import Counts, Output, Recording, Reply, Run, counts_of, first_word, replies_of, text_of
+from .program import MOST_LINES, Counts, Output, Recording, Reply, Run, counts_of, first_word, replies_of, text_of
 from .settings import Settings
 from .together import Together
 from .trace import Command, Trace
@@ -16,6 +20,7 @@ FIELDS = ("levels", "sets", "ways", "loss", "writes", "reads", "out_of_range", "
           "write_amplification", "metadata_reads_per_write", "digests_per_write", "metadata_reads_per_read",
           "digests_per_read", "recovery", "recovery_trials", "recovery_digests", "recovery_steps", "end")
 MORE_FIELDS = ("machine", "commands")
+METADATA = frozenset((PARTS.index(COUNTERS), PARTS.index(NODES)))
 LATEX_NAMES = {"levels": "levels", "sets": "sets", "ways": "ways", "loss": "stop-loss", "writes": "writes",
                "steps_per_write": "steps/write", "write_amplification": "lines/write",
                "metadata_reads_per_write": "meta reads/write", "digests_per_write": "digests/write",
@@ -49,12 +54,12 @@ class Cost:
     recovery: Optional[Recovery]
     end: str
     commands: int
+    has_counts: bool = True
 
     def record(self) -> Dict[str, Any]:
         """The numbers by name, in the order of `FIELDS` and `MORE_FIELDS`. What a machine hasn't, or doesn't show, is
         None."""
         writes, reads = self.writes, self.reads
-        has_counts = self.settings.machine.has_counts
         recovery = {}
         if self.recovery is not None and self.recovery.numbers is not None:
             recovery = dict(zip(self.recovery.names, self.recovery.numbers))
@@ -62,7 +67,7 @@ class Cost:
         values: List[Any] = [
             *(geometry.get(name) for name in NUMBERS), writes.done, reads.done, self.out_of_range,
             rounded(writes.mean(writes.steps)),
-            *(rounded(value) if has_counts else None for value in (
+            *(rounded(value) if self.has_counts else None for value in (
                 writes.mean(self.line_writes), writes.mean(writes.metadata_reads), writes.mean(writes.digests),
                 reads.mean(reads.metadata_reads), reads.mean(reads.digests))),
             self.recovery.answer if self.recovery else None,
@@ -122,19 +127,32 @@ def cost_of(settings: Settings, commands: Sequence[Command], replies: Sequence[R
     return Cost(settings, writes, reads, line_writes, 0, None, "", len(commands))
 
 
-def cost_by_replies(settings: Settings, commands: Sequence[Command], replies: Sequence[Reply]) -> Cost:
-    """The costs of a run of a machine that doesn't show its counts: those of a transaction are of all its lines."""
-    writes, reads, waiting = Tally(), Tally(), Waiting()
-    for command, reply in zip(commands, replies):
+def cost_by_replies(settings: Settings, commands: Sequence[Command], replies: Sequence[Reply],
+                    log: Optional[Sequence[Entry]] = None) -> Cost:
+    """The costs of a run of a machine that doesn't show its counts, with those that its log tells, where it has one: those of
+    a transaction are of all its lines."""
+    writes, reads, waiting, line_writes = Tally(), Tally(), Waiting(), 0
+    parts = Parts(layout_of(settings))
+    for number, (command, reply) in enumerate(zip(commands, replies)):
         word = first_word(reply.answer)
+        tally: Optional[Tally] = None
         if command.word in settings.machine.writes and word in ("ok", "held"):
             writes.done += len(waiting.all()) if command.word == "commit" else 1
-            writes.steps += reply.steps or 0
+            tally = writes
         elif command.word == "read" and word == "line":
             reads.done += 1
-            reads.steps += reply.steps or 0
+            tally = reads
+        if tally is not None:
+            tally.steps += reply.steps or 0
+        if log is not None:
+            accesses = log[number].accesses
+            if tally is not None:
+                tally.digests += log[number].digests
+                tally.metadata_reads += sum(word == LOOK and parts.of(line) in METADATA for word, line in accesses)
+            if command.word != "on" and not reply.is_cut:
+                line_writes += sum(word == LINE for word, _ in accesses)
         waiting.go_on(command, reply)
-    return Cost(settings, writes, reads, 0, 0, None, "", len(commands))
+    return Cost(settings, writes, reads, line_writes, 0, None, "", len(commands), log is not None)
 
 
 def script_of(settings: Settings, commands: Sequence[Command]) -> List[bytes]:
@@ -145,16 +163,17 @@ def script_of(settings: Settings, commands: Sequence[Command]) -> List[bytes]:
     return [*script, b"off", b"on"]
 
 
-def cost_in(output: Output, settings: Settings, commands: Sequence[Command]) -> Cost:
-    """What a trace costs, as the output of its script tells."""
-    replies = replies_of(output.lines)
+def cost_in(output: Output, settings: Settings, commands: Sequence[Command], logged_by: Optional[str] = None) -> Cost:
+    """What a trace costs, as the output of its script tells; `logged_by`: the program that told its log in it."""
+    log = entries_of(output.data, logged_by) if logged_by is not None else None
+    replies = replies_of(output.lines) if log is None else [entry.reply for entry in log]
     count = len(script_of(settings, commands)) - 2
     if settings.machine.has_counts:
         answered = replies[1:count:2]
         cost = cost_of(settings, commands, answered, [counts_of(reply.answer) for reply in replies[:count:2]])
     else:
         answered = replies[:count]
-        cost = cost_by_replies(settings, commands, answered)
+        cost = cost_by_replies(settings, commands, answered, log)
     out_of_range = sum(reply.answer == "range" for reply in answered)
     recovery = Recovery(replies[-1].answer, settings.machine.recovery) if len(replies) == count + 2 else None
     end = first_word(replies[-1].answer) if replies and replies[-1].is_exhibit else "end"
@@ -172,8 +191,15 @@ def trace_sweep(trace: Trace, settings: Sequence[Settings], together: Together) 
     for each in settings:
         each.check()
     commands = Recording(together.program, settings[0], trace).commands
+    count = len(script_of(settings[0], commands))
+    if count > MOST_LINES:
+        raise ExploreError(f"{trace.name} has {len(commands)} commands: with what a sweep asks besides that is {count} lines, and "
+                           f"a trace has at most {MOST_LINES:,}")
     runs = [Run(text_of(script_of(each, commands)), each) for each in settings]
-    return [cost_in(output, each, commands) for output, each in zip(together.runs(runs, "settings"), settings)]
+    logged_by: Optional[str] = None
+    if not settings[0].machine.has_counts and together.program.logged(b"", settings[0]) is not None:
+        together, logged_by = together.with_log(), together.program.path
+    return [cost_in(output, each, commands, logged_by) for output, each in zip(together.runs(runs, "settings"), settings)]
 
 
 def cell(value: Any) -> str:

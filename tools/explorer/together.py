@@ -1,4 +1,5 @@
 """Runs of the program side by side on all processors, with progress where standard error is a terminal."""
+import copy
 import os
 import selectors
 import subprocess
@@ -9,6 +10,7 @@ from typing import Callable, Deque, Dict, Generic, Iterable, Iterator, List, Opt
 
 from . import fork_server
 from .errors import ExploreError
+from .logged import LoggedProgram
 from .processes import Channel, new_selector, serve
 from .program import Output, Program, Question, Recording, Run
 
@@ -16,8 +18,9 @@ Task = TypeVar("Task")
 
 CLEAR = "\r\x1b[K"
 BETWEEN_TOLD = 0.1
-AT_ONCE = 8
+AT_ONCE = 32
 WINDOW = 256
+LONGEST_REST = 0.05
 SECONDS_TO_ANSWER = 10.0
 COMMANDS_TRIED = 3
 LONG = 1_000_000
@@ -88,6 +91,10 @@ class Worker(Generic[Task]):
         """What its process told: nothing (`b""`) at its end."""
         raise NotImplementedError
 
+    def rest(self) -> float:
+        """The seconds in which it has enough to do."""
+        return 0.0
+
     def close(self) -> None:
         """Ends its process."""
 
@@ -133,6 +140,13 @@ class Forked(Worker[Question]):
         self.waiting: Deque[Tuple[int, bytes]] = deque()
         self.received = bytearray()
         self.has_begun = False
+        self.begun, self.answered = time.monotonic(), 0
+
+    def rest(self) -> float:
+        """About the time that half of its questions take, where it has many: each look at it would be for one of them."""
+        if not self.answered or 2 * self.load < self.room:
+            return 0.0
+        return min(LONGEST_REST, (time.monotonic() - self.begun) / self.answered * self.load / 2)
 
     def give(self, number: int, task: Question) -> None:
         recording, frames = self.recording, b""
@@ -154,6 +168,7 @@ class Forked(Worker[Question]):
         while self.waiting and self.take(*self.waiting[0]):
             self.waiting.popleft()
             self.load -= 1
+            self.answered += 1
         if not data:
             status = channel.finish()
             raise NotForked(f"{self.recording.program.path} ended with status {status} while it was asked")
@@ -209,7 +224,7 @@ def in_order(selector: selectors.BaseSelector, tasks: Iterable[Task], workers: S
             if is_over and taken == given:
                 return
             if taken < given and taken not in done:
-                serve(selector)
+                serve(selector, rest=min(worker.rest() for worker in workers))
     finally:
         progress.end()
         for worker in workers:
@@ -235,6 +250,12 @@ class Together:
         self.library: Optional[str] = None
         self.is_told = from_start
         self.is_log_missed = False
+
+    def with_log(self) -> "Together":
+        """The same, of the program that tells its log in all runs."""
+        other = copy.copy(self)
+        other.program = LoggedProgram(self.program.path)
+        return other
 
     def runs(self, tasks: Sequence[Run], what: str) -> Iterator[Output]:
         """The outputs of runs, in their order."""
@@ -291,4 +312,4 @@ def trial(recording: Recording, library: str) -> str:
             worker.close()
     if not done:
         return f"{recording.program.path} isn't asked so within {SECONDS_TO_ANSWER:.0f} s"
-    return "" if done[0] == Output(b"ok\n", 0) else f"{recording.program.path} doesn't answer a fork of it"
+    return "" if done[0] == Output(recording.plain_ok, 0) else f"{recording.program.path} doesn't answer a fork of it"

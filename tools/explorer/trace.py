@@ -49,7 +49,8 @@ class Trace:
 
 def words_of(line: bytes) -> List[bytes]:
     """The words of a line: spaces and tabs alone stand between them."""
-    return [word for word in line.replace(b"\t", b" ").split(b" ") if word]
+    words = (line.replace(b"\t", b" ") if b"\t" in line else line).split(b" ")
+    return [word for word in words if word] if b"" in words else words
 
 
 def shown_line(line: bytes) -> str:

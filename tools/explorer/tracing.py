@@ -1,9 +1,12 @@
 """A trace with all that can be asked of it, for notebooks and scripts."""
 import os
-from typing import Any, List, Optional, Sequence, Tuple, Union
+from typing import Any, Dict, List, Optional, Sequence, Tuple, Union
 
-from . import cuts, sweep
+from . import compare, cuts, sweep
+from .costs import read_costs
 from .finding import default_program, found_program
+from .logged import LoggedProgram
+from .machines import MACHINE_NAMES
 from .program import Program, Recording, Reply
 from .settings import Settings
 from .steps import trace_steps
@@ -53,3 +56,20 @@ def open_trace(trace: Union[str, "os.PathLike[str]", bytes], program: Optional[s
     together = Together(Program(found_program(program or default_program())), jobs)
     read = trace_of("the trace", trace) if isinstance(trace, bytes) else read_trace(os.fspath(trace))
     return Explored(read, Settings(**settings), together)
+
+
+def compare_designs(traces: Sequence[Union[str, "os.PathLike[str]", bytes]], designs: Sequence[str] = tuple(MACHINE_NAMES),
+                    cost: Optional[str] = None, program: Optional[str] = None, jobs: Optional[int] = None, fold: bool = False,
+                    recoveries: int = compare.CUTS, suite: str = "aes", **numbers: Sequence[int]) -> List[Dict[str, Any]]:
+    """What workloads take on several designs, as `explore compare` finds it: a row for each trace and each design, and those of
+    the means where there are several traces. `numbers` are lists: `levels`, `sets`, `ways`, `loss`, `every`; `cost` a file of
+    figures; `recoveries` after how many cuts recovery is looked at."""
+    base = Settings(suite=suite)
+    wrong = sorted(set(numbers) - set(compare.NUMBERS))
+    if wrong:
+        raise TypeError(f"there is no number {wrong[0]}: {', '.join(compare.NUMBERS)}")
+    values = {name: list(numbers.get(name, [getattr(base, name)])) for name in compare.NUMBERS}
+    together = Together(LoggedProgram(found_program(program or default_program())), jobs)
+    comparison = compare.Comparison(compare.designs_of(designs, base, values), together, fold, recoveries)
+    read = [trace_of("the trace", trace) if isinstance(trace, bytes) else read_trace(os.fspath(trace)) for trace in traces]
+    return compare.compare(read, comparison, read_costs(cost) if cost else None).every

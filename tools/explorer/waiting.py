@@ -19,25 +19,18 @@ class Waiting:
 
     def all(self) -> List[Write]:
         """All writes that wait."""
-        return [write for port in range(PORTS) for write in self.queues[port]]
+        return [write for queue in self.queues.values() for write in queue]
 
     def lost(self, command: Command, reply: Reply) -> List[Write]:
         """The writes that are lost where a command is answered so, by a cut in it or by `off`."""
-        after = self.copy()
         words = reply.answer.split(" ")
         if words[0] == "cut" and command.word in ("drain", "fence"):
-            queue = after.queues[port_of(command)]
-            done = int(words[2]) if command.word == "fence" else 0
-            del queue[:done + (words[1] == "kept")]
-        elif words[:2] == ["cut", "kept"]:
-            after.empty()
-        elif words[:2] == ["cut", "lost"] and command.word == "write":
-            after.queues[0].append(write_of(command))
-        return after.all()
-
-    def copy(self) -> "Waiting":
-        """The same queues."""
-        return Waiting({port: list(queue) for port, queue in self.queues.items()})
+            own, done = port_of(command), int(words[2]) if command.word == "fence" else 0
+            done += words[1] == "kept"
+            return [write for port, queue in self.queues.items() for write in (queue[done:] if port == own else queue)]
+        if words[:2] == ["cut", "kept"]:
+            return []
+        return self.all() + ([write_of(command)] if words[:2] == ["cut", "lost"] and command.word == "write" else [])
 
     def empty(self) -> None:
         """Nothing waits any more."""

@@ -70,6 +70,10 @@ class ExploreTest(unittest.TestCase):
         os.chmod(path, 0o755)
         return path
 
+    def need_logs(self) -> None:
+        """Skips a test where the program tells no log of the machines beside `run`."""
+        need_log("wear", "txn", "tree")
+
     def older_program(self) -> str:
         """The program as it was before it had `--log`."""
         path = self.file("older", f"""#!/bin/sh
@@ -102,6 +106,21 @@ exec '{os.path.abspath(program_path())}' "$@"
         self.assertNotIn("Traceback", result.stderr)
         for text in texts:
             self.assertIn(text, result.stderr)
+
+
+@lru_cache(maxsize=None)
+def has_log(machine: str) -> bool:
+    """Whether the program that the tests ask tells the log of a machine."""
+    ran = subprocess.run([program_path(), machine, "--log"], stdin=subprocess.DEVNULL, stdout=subprocess.PIPE, stderr=subprocess.DEVNULL,
+                         check=False)
+    return ran.returncode == 0
+
+
+def need_log(*machines: str) -> None:
+    """Skips a test where the program doesn't tell the log of these machines."""
+    missing = [machine for machine in machines if not has_log(machine)]
+    if missing:
+        raise unittest.SkipTest(f"the program has no --log of {', '.join(missing)}")
 
 
 def lesson_words(folder: Path) -> List[str]:

@@ -11,7 +11,7 @@ import unittest
 from pathlib import Path
 from typing import List, Optional
 
-from .helpers import EXAMPLES, EXPLORE, ExploreTest, program_path
+from .helpers import EXAMPLES, EXPLORE, ONES, ExploreTest, program_path
 
 SWEEP = ("--sets", "1,2,4,8", "--loss", "1,2,4,16")
 
@@ -120,6 +120,8 @@ class ClusterTest(ExploreTest):
         self.assert_same("cuts", trace, "--json", "--twice")
         self.assert_same("sweep", trace, "--json", *SWEEP)
         self.assert_same("cuts", str(EXAMPLES / "txn.trace"), "--as", "txn", "--distinct")
+        small = self.file("small.trace", f"post 0 0 {ONES}\ndrain 0\nread 0 0\npost 0 9 {ONES}\nfence 0\n")
+        self.assert_same("compare", small, "--designs", "run", "--loss", "1,4", "--cuts", "0", "--json")
         result = self.on_cluster("sweep", "/dev/null/none")
         self.assertEqual((result.returncode, result.stdout), (1, ""))
         files = [path for number in range(2) for path in Path(self.path(f"worker{number}")).rglob("pmem-*/pmem")]

@@ -68,9 +68,21 @@ class PictureTest(ExploreTest):
         sweep = self.output("sweep", "-", "--json", "--levels", "1,2", text=text)
         self.assertIn(b"levels 1 (hollow): 2 of 5 commands name a place", self.draw("dropped.svg", text=sweep))
 
-    def test_machines_that_do_not_show_their_device(self) -> None:
+    def test_the_other_machines(self) -> None:
+        self.need_logs()
+        for name, words, labels in (("wear", ("--every", "1"), ("record", "1022")), ("txn", (), ("header", "body 0")),
+                                    ("tree", (), ("slot 0", "of 5"))):
+            drawn = self.draw(f"{name}.svg", "--as", name, *words, text=(EXAMPLES / f"{name}.trace").read_text()).decode()
+            for text in (*labels, "latch that arms the group"):
+                self.assertIn(f"<!-- {text} -->", drawn)
+            self.assertEqual("<!-- counter blocks -->" in drawn, name != "tree")
+
+    def test_the_other_machines_by_a_program_without_a_log(self) -> None:
         for name, words in (("wear", ("--every", "1")), ("txn", ()), ("tree", ())):
-            self.draw(f"{name}.svg", "--as", name, *words, text=(EXAMPLES / f"{name}.trace").read_text())
+            trace, picture = str(EXAMPLES / f"{name}.trace"), self.path(f"{name}.svg")
+            result = self.explore("draw", trace, "-o", picture, "--as", name, *words, "--program", self.older_program())
+            self.assertEqual(result.returncode, 0, result.stderr)
+            self.assertIn("<!-- a cut just before this step keeps the write -->", (self.directory / f"{name}.svg").read_text())
 
     def test_json_that_is_no_sweep(self) -> None:
         for text in ('{"settings": []}', '{"settings": [1]}', "{", '{"settings": [{"levels": 1}]}'):
@@ -90,6 +102,20 @@ class WithoutPicturesTest(ExploreTest):
         result = self.explore("draw", "-", "-o", self.path("a.svg"), text=WRITE, PYTHONPATH=str(self.directory))
         self.assert_fails(result, 1, "matplotlib", "python3-matplotlib", sys.executable)
         self.assertNotIn("a.svg", self.names())
+
+    def test_an_interrupt_amid_a_callback_of_the_package_ends_all(self) -> None:
+        (self.directory / "matplotlib").mkdir()
+        (self.directory / "matplotlib" / "__init__.py").write_text("""
+import os, signal, time
+class Gone:
+    def __del__(self):
+        os.kill(os.getpid(), signal.SIGINT)
+        time.sleep(0.1)
+Gone()
+raise ImportError("not here")
+""")
+        result = self.explore("draw", "-", "-o", self.path("a.svg"), text=WRITE, PYTHONPATH=str(self.directory))
+        self.assertEqual((result.returncode, result.stdout, result.stderr), (130, "", "explore: interrupted\n"))
 
     def test_a_name_that_says_no_kind(self) -> None:
         for name in ("picture", "picture.gif"):

@@ -83,7 +83,7 @@ class LackeyTest(ExploreTest):
         self.assert_fails(self.explore("import", "lackey", "-", text="op,address\n"), 1, "line 1", "lackey")
         self.assert_fails(self.explore("import", "lackey", "-", text="==7== nothing\n"), 1, "no store or load")
         self.assert_fails(self.explore("import", "lackey", "-", text=" S 00601040,0\n"), 1, "line 1", "bytes")
-        self.assert_fails(self.explore("import", "lackey", "-", "--within", "1-2", text=LACKEY), 1, "these addresses")
+        self.assert_fails(self.explore("import", "lackey", "-", "--within", "10-20", text=LACKEY), 1, "within 0xa-0x14 (an address")
 
 
 class FrontTest(ExploreTest):

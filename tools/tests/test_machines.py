@@ -1,81 +1,81 @@
 """`explore --as`: the machines beside `run`, and the tables of the documents that tell what a cut leaves in them."""
+import json
 import re
-from typing import Any, Dict, List, Tuple
+import subprocess
+import sys
+from pathlib import Path
+from typing import List, Tuple
 
-from .helpers import EXAMPLES, ONES, TOOLS, ExploreTest
+from .helpers import EXAMPLES, EXPLORE, ONES, TOOLS, WRITE, ExploreTest
 
 DOCS = TOOLS.parent / "docs"
 ONES_TWOS_THREES = [f"{byte}" * 64 for byte in ("11", "22", "33")]
 
-# The trace of each table, with its words, the line that is cut, and the lines of memory that it tells of.
+# The trace of each table, with its words, the line that is cut, and the lines of memory that it writes.
 WEAR = ("write 3 {0}\nwrite 4 {0}\nwrite 5 {0}\nwrite 0 {1}\n", ("--levels=1", "--sets=1", "--ways=1", "--every=1"), 4, [0])
 TXN = ("begin\nput 0 {0}\nput 64 {1}\ncommit\n", (), 4, [0, 64])
 TREE = ("write 0 {0}\nwrite 4 {1}\n", ("--levels=1", "--sets=1"), 2, [4])
 
 
-def table_of(page: str, heading: str) -> List[List[str]]:
-    """The rows of the first table after a text in a page, without its head."""
-    lines = page[page.index(heading):].splitlines()
-    first = next(number for number, line in enumerate(lines) if line.startswith("| Cut after"))
-    rows = []
-    for line in lines[first + 2:]:
-        if not line.startswith("|"):
-            break
-        rows.append([cell.strip() for cell in line.strip("|").split("|")])
-    return rows
-
-
-def cut_range(cell: str) -> Tuple[int, int]:
-    """The cuts that a row is of: after how many steps, from the first to the last."""
-    match = re.match(r"([0-9]+)(?: to ([0-9]+))?", cell)
-    assert match is not None
-    return int(match.group(1)), int(match.group(2) or match.group(1))
+def tables_in(page: Path) -> List[Tuple[str, str]]:
+    """The commands of a page that print a table in Markdown, each with the table that stands below it."""
+    return re.findall(r"^```\n\$ ((?:(?!```).)*?--markdown)\n```\n\n((?:\|[^\n]*\n)+)", page.read_text(), re.MULTILINE | re.DOTALL)
 
 
 class PagesTest(ExploreTest):
-    """The tables of what a cut leaves are those that `explore cuts` finds."""
+    """The tables of what a cut leaves are those that the commands above them print."""
 
-    def check(self, machine: str, page: str, heading: str, given: Tuple[str, Tuple[str, ...], int, List[int]],
-              columns: Dict[str, int]) -> None:
-        """Each row of a table is what is found for each cut that it names, and all cuts are in it."""
-        trace, words, line, lines = given
-        cuts = self.json("cuts", "-", "--as", machine, *words, "--lines", str(line),
-                         text=trace.format(*ONES_TWOS_THREES))
-        rows = table_of((DOCS / page).read_text(), heading)
-        told = []
-        for row in rows[:-1]:
-            first, last = cut_range(row[0])
-            for number in range(first, last + 1):
-                told.append(number)
-                with self.subTest((page, number)):
-                    self.check_row(row, cuts[number], lines, columns)
-        self.assertEqual(told, list(range(len(cuts))))
-        self.assertIn(f"{len(cuts)} steps" if "steps" in rows[-1][0] else f"ok {len(cuts)}", " ".join(rows[-1]))
+    def test_tables_of_the_pages(self) -> None:
+        self.need_logs()
+        for name in ("WEAR.md", "TXN.md", "SHADOW.md"):
+            ((command, table),) = tables_in(DOCS / name)
+            with self.subTest(name):
+                ran = subprocess.run(["bash", "-c", command.replace("tools/explore", f"{sys.executable} {EXPLORE}")],
+                                     cwd=TOOLS.parent, stdout=subprocess.PIPE, stderr=subprocess.PIPE, universal_newlines=True,
+                                     check=False)
+                self.assertEqual((ran.returncode, ran.stderr), (0, ""))
+                self.assertEqual(ran.stdout, table)
 
-    def check_row(self, row: List[str], cut: Dict[str, Any], lines: List[int], columns: Dict[str, int]) -> None:
-        """A row is what a cut leaves: the answer, whether the lines are written, and what `on` shows."""
-        answer = row[columns["answer"]].strip("`")
-        self.assertEqual(cut["answer"].rsplit(" ", 1)[0], answer.rsplit(" ", 1)[0] if answer[-1] in "0123456789f" else answer)
-        self.assertIn(row[columns["memory"]], ("as it was", "as they were", "written"))
-        written = row[columns["memory"]] == "written"
-        self.assertEqual([other["line"] for other in cut["read_otherwise"]], lines if written else [])
-        shown = row[columns["on"]].strip("`").replace("on ", "")
-        self.assertTrue(cut["recovery"].startswith(f"on {shown}"), (cut["recovery"], shown))
-
-    def test_wear(self) -> None:
-        self.check("wear", "WEAR.md", "### What a cut leaves", WEAR, {"answer": 1, "memory": 2, "on": 3})
-
-    def test_txn(self) -> None:
-        self.check("txn", "TXN.md", "Two lines are committed in 30 steps", TXN, {"answer": 1, "memory": 2, "on": 3})
-
-    def test_tree(self) -> None:
-        self.check("tree", "SHADOW.md", "### What a cut leaves", TREE, {"answer": 1, "on": 2, "memory": 3})
+    def test_no_other_lines_are_changed_where_recovery_is_cut_too(self) -> None:
+        for machine, (trace, words, line, lines) in (("wear", WEAR), ("txn", TXN), ("tree", TREE)):
+            with self.subTest(machine):
+                cuts = self.json("cuts", "-", "--as", machine, *words, "--lines", str(line), "--twice",
+                                 text=trace.format(*ONES_TWOS_THREES))
+                for cut in cuts:
+                    written = lines if cut["answer"].startswith("cut kept") else []
+                    for each in (cut, *cut.get("cuts_of_recovery", [])):
+                        self.assertEqual([other["line"] for other in each["read_otherwise"]], written)
 
 
 class MachinesTest(ExploreTest):
     def example(self, name: str) -> str:
         """The text of an example."""
         return (EXAMPLES / f"{name}.trace").read_text()
+
+    def test_ranges(self) -> None:
+        text = self.example("power_cut")
+        cuts, ranges = self.json("cuts", "-", text=text), self.json("cuts", "-", "--ranges", text=text)
+        told = [(each["trace_line"], number) for each in ranges for number in range(each["first"], each["last"] + 1)]
+        steps = [(cut["trace_line"], int(cut["answer"].rsplit(" ", 1)[-1]) if cut["command"] != "off" else 0) for cut in cuts]
+        self.assertEqual(told, steps)
+        rows = iter(cuts)
+        for each in ranges:
+            for cut in (next(rows) for _ in range(each["first"], each["last"] + 1)):
+                for name in ("read_otherwise", "writes_lost", "unread", "command"):
+                    self.assertEqual(each[name], cut[name])
+                for name in ("trials", "digests", "steps"):
+                    self.assertTrue(each[name][0] <= cut[name] <= each[name][1])
+        self.assertIsNone(next(rows, None))
+        text = self.output("cuts", "-", "--ranges", text=WRITE + "flip 9 0\nfence 0\n")
+        self.assertIn("2  drain 0           4 to 6     latch: arms data line 0, tag line of 0 to 3  cut kept", text)
+        self.assertTrue(text.endswith("8 cuts in 3 ranges that leave the same\n"), text)
+
+    def test_words_of_ranges(self) -> None:
+        self.assert_fails(self.explore("cuts", "-", "--markdown", text=""), 2, "--markdown goes with --ranges")
+        for word, *more in (("--twice",), ("--orders", "9")):
+            self.assert_fails(self.explore("cuts", "-", "--ranges", word, *more, text=""), 2, f"--ranges goes without {word}")
+        for words in (("--ranges", "--distinct"), ("--ranges", "--json", "--markdown")):
+            self.assert_fails(self.explore("cuts", "-", *words, text=""), 2, "not allowed with")
 
     def test_cuts_of_each_example(self) -> None:
         for name, words, names in (("wear", ("--every", "1"), ("start", "gap", "steps")), ("txn", (), ("redone", "steps")),
@@ -105,24 +105,79 @@ class MachinesTest(ExploreTest):
             for second in cut.get("cuts_of_recovery", []):
                 self.assertEqual(second["read_otherwise"], cut["read_otherwise"])
 
-    def test_steps_tell_what_cuts_leave(self) -> None:
-        text = self.output("steps", "-", "--as", "txn", text=TXN[0].format(*ONES_TWOS_THREES))
+    def test_steps_by_a_program_without_a_log_tell_what_cuts_leave(self) -> None:
+        words, text = ("--as", "txn", "--program", self.older_program()), TXN[0].format(*ONES_TWOS_THREES)
+        result = self.explore("steps", "-", *words, text=text)
         self.assertIn("4  commit\n   > ok 30\n     cut after 0 to 11 of its steps: cut lost, then on 0\n"
                       "     cut after 12 to 26 of its steps: cut kept, then on 2\n"
-                      "     cut after 27 to 29 of its steps: cut kept, then on 0\n4 commands, 30 persist steps\n", text)
-        self.assertIn("which device line a step writes can't be told", text)
-        commands = self.json("steps", "-", "--as", "txn", text=TXN[0].format(*ONES_TWOS_THREES))
+                      "     cut after 27 to 29 of its steps: cut kept, then on 0\n4 commands, 30 persist steps\n", result.stdout)
+        self.assertIn("which device line a step writes isn't told", result.stdout)
+        self.assertEqual((result.returncode, result.stderr.count("\n")), (0, 1))
+        self.assertIn("has no option --log of txn, so which device line a step writes isn't told\n", result.stderr)
+        commands = json.loads(self.explore("steps", "-", *words, "--json", text=text).stdout)
         self.assertEqual([step["cut_before"] for step in commands[3]["steps"]], ["lost"] * 12 + ["kept"] * 18)
+
+    def test_steps_by_the_log(self) -> None:
+        self.need_logs()
+        text = self.output("steps", "-", "--as", "txn", text=TXN[0].format(*ONES_TWOS_THREES))
+        self.assertIn("     step 12  latch: arms a group of 2 lines\n     step 13  line 1008: the header\n"
+                      "     step 14  line 1276: tag line of 1008 to 1011\n     step 15  latch: empties the group\n", text)
+        self.assertTrue(text.endswith("4 commands, 30 persist steps\n"))
+        commit = self.json("steps", "-", "--as", "txn", text=TXN[0].format(*ONES_TWOS_THREES))[3]
+        data = [step["name"] for step in commit["steps"] if step["part"] == "data lines"]
+        self.assertEqual(data, ["body 0", "body 1", "the header", "data line 0", "data line 64", "the header"])
+        self.assertEqual({step["same_bytes"] for step in commit["steps"] if step["kind"] == "write"}, {None})
+        *_, write = self.json("steps", "-", "--as", "wear", *WEAR[1], "--reads", text=WEAR[0].format(*ONES_TWOS_THREES))
+        data = [step["name"] for step in write["steps"] if step["part"] == "data lines"]
+        self.assertEqual((data, write["answer"]), (["place 0", "place 251", "the record"], "ok 17"))
+        self.assertEqual([step["group_lines"] for step in write["steps"] if step.get("latch") == "arms"], [2, 2, 3])
+        *_, write = self.json("steps", "-", "--as", "tree", *TREE[1], "--reads", text=TREE[0].format(*ONES_TWOS_THREES))
+        self.assertEqual([step["name"] or step["latch"] for step in write["steps"]],
+                         ["node 1", "arms", "data line 4", "tag line of 4", "slot line 0", "slot line 1", "empties"])
+        self.assertEqual(write["answer"], "ok 7")
+
+    def test_the_log_has_the_steps_of_each_answer(self) -> None:
+        self.need_logs()
+        for name, words in (("wear", ("--every", "1")), ("txn", ()), ("tree", ())):
+            commands = self.json("steps", "-", "--as", name, *words, "--reads", text=self.example(name))
+            self.assertTrue(any(command["reads"] for command in commands))
+            for command in commands:
+                last = command["answer"].rsplit(" ", 1)[-1]
+                told = command["command"] == "on" or command["command"].split(" ")[0] in ("write", "commit")
+                if told and last.isdigit():
+                    self.assertEqual(len(command["steps"]), int(last), command)
 
     def test_sweeps(self) -> None:
         (record,) = self.json("sweep", "-", "--as", "txn", text=TXN[0].format(*ONES_TWOS_THREES))["settings"]
         self.assertEqual((record["writes"], record["steps_per_write"], record["machine"]), (2, 15, "txn"))
-        self.assertEqual((record["write_amplification"], record["recovery"]), (None, "on 0 8"))
+        self.assertEqual(record["recovery"], "on 0 8")
         records = self.json("sweep", "-", "--as", "tree", "--sets", "1,4", text=TREE[0].format(*ONES_TWOS_THREES))["settings"]
         self.assertEqual([record["sets"] for record in records], [1, 4])
         self.assertEqual([record["ways"] for record in records], [None, None])
         text = self.output("sweep", "-", "--as", "wear", "--every", "1", text=WEAR[0].format(*ONES_TWOS_THREES))
         self.assertEqual(len(text.splitlines()), 3)
+
+    def test_sweeps_count_in_the_log(self) -> None:
+        self.need_logs()
+        for machine, (trace, words, _, _) in (("wear", WEAR), ("txn", TXN), ("tree", TREE)):
+            with self.subTest(machine):
+                text = trace.format(*ONES_TWOS_THREES) + "read 5\nread 60\n"
+                (record,) = self.json("sweep", "-", "--as", machine, *words, text=text)["settings"]
+                commands = self.json("steps", "-", "--as", machine, *words, "--reads", text=text)
+                for kind, names in (("write", ("write", "commit")), ("read", ("read",))):
+                    asked = [command for command in commands if command["command"].split(" ")[0] in names
+                             and command["answer"] != "range"]
+                    parts = [read["part"] for command in asked for read in command["reads"]]
+                    done = record[f"{kind}s"]
+                    self.assertEqual(record[f"metadata_reads_per_{kind}"],
+                                     round(sum(part in ("counter blocks", "tree nodes") for part in parts) / done, 3))
+                    self.assertEqual(record[f"digests_per_{kind}"],
+                                     round(sum(command["digests"] for command in asked) / done, 3))
+                lines = sum(step["kind"] == "write" for command in commands for step in command["steps"])
+                self.assertEqual(record["write_amplification"], round(lines / record["writes"], 3))
+        words = ("sweep", "-", "--as", "txn", "--json", "--program", self.older_program())
+        (record,) = json.loads(self.explore(*words, text=TXN[0].format(*ONES_TWOS_THREES)).stdout)["settings"]
+        self.assertEqual((record["writes"], record["steps_per_write"], record["write_amplification"]), (2, 15, None))
 
     def test_options_that_a_machine_has_not(self) -> None:
         for words in (("--as", "tree", "--ways", "4"), ("--as", "tree", "--loss", "1"), ("--every", "5"),
@@ -132,4 +187,9 @@ class MachinesTest(ExploreTest):
         self.assert_fails(self.explore("cuts", "-", "--as", "other", text=""), 2, "--as")
 
     def test_a_trace_of_another_machine(self) -> None:
-        self.assert_fails(self.explore("cuts", "-", "--as", "wear", text="begin\n"), 1, "line 1: no such command: begin")
+        for machine, line, told in (("wear", "begin", "that is a command of txn (--as txn)\n"),
+                                    ("run", f"write 5 {ONES}", "that is a command of wear and of tree (--as wear or --as tree)\n"),
+                                    ("tree", "drain 0", "that is a command of run (--as run)\n")):
+            for command in ("cuts", "steps", "sweep"):
+                result = self.explore(command, "-", "--as", machine, text=f"on\n{line}\n")
+                self.assert_fails(result, 1, f"line 2: no such command: {line.split(' ')[0]}", told)

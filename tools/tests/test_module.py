@@ -49,7 +49,8 @@ class ModuleTest(unittest.TestCase):
         example = [line[4:] for line in (explorer.__doc__ or "").splitlines() if line.startswith("    ")]
         result = subprocess.run([sys.executable, "-c", "\n".join(example)], cwd=ROOT, stdout=subprocess.PIPE,
                                 stderr=subprocess.PIPE, universal_newlines=True, check=False)
-        self.assertEqual((result.returncode, result.stderr), (0, ""))
+        # what the comparison leaves out is told, as on the command line
+        self.assertEqual((result.returncode, result.stderr), (0, "explore: examples/database.trace: left out: 1 stat\n"))
         self.assertIn("drain 0 cut kept 4\n", result.stdout)
 
 
@@ -61,6 +62,19 @@ class TypesTest(unittest.TestCase):
         for words in (folders, scripts()):
             result = subprocess.run(["mypy", "--cache-dir", os.devnull, *words], cwd=ROOT, stdout=subprocess.PIPE,
                                     stderr=subprocess.STDOUT, universal_newlines=True, check=False)
+            self.assertEqual(result.returncode, 0, result.stdout)
+
+    def test_style(self) -> None:
+        """By ruff with the settings of pyproject.toml, or by the two tools whose rules those are."""
+        sources = [*scripts(), *(str(path.relative_to(ROOT)) for folder in ("tools", "lessons", "python")
+                                 for path in sorted((ROOT / folder).rglob("*.py")))]
+        checks = [["ruff", "check", "--no-cache"]] if shutil.which("ruff") else [["pyflakes3"], [
+            "pycodestyle", "--max-line-length=150", "--select=E5,E7,E9,W1,W2,W3,W6,E11,E30", "--ignore=E704"]]
+        if not all(shutil.which(words[0]) for words in checks):
+            self.skipTest("neither ruff nor pyflakes3 and pycodestyle are there")
+        for words in checks:
+            result = subprocess.run([*words, *sources], cwd=ROOT, stdout=subprocess.PIPE, stderr=subprocess.STDOUT,
+                                    universal_newlines=True, check=False)
             self.assertEqual(result.returncode, 0, result.stdout)
 
     def test_scripts_are_found(self) -> None:

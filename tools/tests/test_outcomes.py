@@ -4,7 +4,7 @@ import sys
 import xml.etree.ElementTree
 from pathlib import Path
 
-from .helpers import ONES, WRITE, ExploreTest, program_path
+from .helpers import EXAMPLES, ONES, TWIN, WRITE, ExploreTest, program_path
 
 # A log: entry n at line 64 + n, the number of entries in line 64. The last head is stored before its entry.
 BUG = """op,address,size,data
@@ -50,6 +50,18 @@ class OutcomesTest(ExploreTest):
         self.assertEqual([outcome["first"]["answer"] for outcome in outcomes], ["cut lost 0", "cut kept 4"])
         text = self.output("cuts", "-", "--distinct", text=WRITE)
         self.assertTrue(text.endswith("\n8 cuts, 2 outcomes\n"))
+
+    def test_outcomes_are_those_of_all_lines_read_at_each_cut(self) -> None:
+        """Before a command those lines alone are read that can have changed since the last time."""
+        made = subprocess.run([program_path(), "make", "3", "520"], stdout=subprocess.PIPE, universal_newlines=True, check=True).stdout
+        drains = [number for number, line in enumerate(made.splitlines(), 1) if line.startswith("drain")]
+        lines = ("--lines", f"{drains[-40]}-{drains[-20]}")
+        for words, text in (((), (EXAMPLES / "power_cut.trace").read_text()), (("--suite", "blur", "--loss", "2"), TWIN),
+                            (("--suite", "weak", *lines), made), (("--suite", "weak", "--lines", "505-520"), made),
+                            (("--suite", "weak", "--twice", "--lines", "505-520"), made)):
+            with self.subTest(words):
+                words = ("cuts", "-", "--distinct", "--check-rows", "0", *words)
+                self.assertEqual(self.json(*words, text=text), self.json(*words, "--named-lines", text=text))
 
     def test_outcomes_with_second_cuts(self) -> None:
         outcomes = self.json("cuts", "-", "--distinct", "--twice", "--lines", "2", text=WRITE)

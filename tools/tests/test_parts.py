@@ -11,7 +11,7 @@ from .helpers import ONES
 
 from explorer import draw, finding, output
 from explorer.errors import ExploreError
-from explorer.layout import Layout
+from explorer.layout import Layout, layout_of
 from explorer.program import Output, Reply, replies_of
 from explorer.settings import Settings
 from explorer.together import Progress, Worker, in_order, time_text
@@ -37,6 +37,22 @@ class LayoutTest(unittest.TestCase):
         layout = Layout(Settings(levels=1, sets=64, ways=8))
         self.assertEqual(layout.first_node_shadow - layout.first_counter_shadow, 32)
         self.assertEqual(layout.size - layout.first_node_shadow, 32)
+
+    def test_the_other_machines(self) -> None:
+        for machine, names in (
+                ("wear", {1022: "place 1022", 1023: "the record", 1024: "tag line of 0 to 3"}),
+                ("txn", {1007: "data line 1007", 1008: "the header", 1009: "body 0", 1023: "body 14", 1280: "node 0"}),
+                ("tree", {63: "data line 63", 64: "tag line of 0", 127: "tag line of 63", 128: "node 0", 148: "node 20",
+                          149: "slot line 0", 157: "slot line 8"})):
+            layout = layout_of(Settings(machine_name=machine))
+            self.assertEqual({line: layout.place(line).name for line in names}, names)
+        self.assertEqual(layout.size, 158)
+
+
+class AxisTest(unittest.TestCase):
+    def test_numbers_along_the_bottom(self) -> None:
+        for count, stride in ((0, 1), (40, 1), (41, 2), (81, 5), (200, 5), (40_000, 1000), (40_001, 2000), (231_000, 10_000)):
+            self.assertEqual(draw.stride_for(count, 40), stride)
 
 
 class TraceTest(unittest.TestCase):

@@ -405,7 +405,8 @@ class ChildTest(ExploreTest):
         for error, text, body in (
             (pmem.ProgramFailed, "isn't one of pmem", "print('stat 01 2 3 4 5')"), (pmem.ProgramFailed, "isn't one of pmem", "print('hello')"),
             (pmem.ProgramFailed, "isn't one of pmem", "print('seal 0 0.1 xx')\nprint('stat 1 2 3 4 5')"),
-            (pmem.ProgramFailed, "ended with status 3", stat + "import sys\nsys.exit(3)"), (pmem.NoMemory, "no memory", stat + "print('stop memory')"),
+            (pmem.ProgramFailed, "ended with status 3", stat + "import sys\nsys.exit(3)"),
+            (pmem.NoMemory, "no memory", stat + "print('stop memory')"),
             (pmem.TooManyLines, "1,000,000", stat + "print('stop lines')"), (pmem.BadWords, "run", "print('stop words')"),
             (pmem.LineFault, "hex digits", "print('stop line 1 5')"), (pmem.ProgramFailed, "stop it", "print('stop it all')"),
         ):
@@ -482,7 +483,8 @@ class TextTest(unittest.TestCase):
                             sessions.raise_not_done(answer)
                         self.assertIsNot(type(raised.exception), pmem.NotDone)
                         self.assertEqual((str(raised.exception), raised.exception.marks), (text, (mark,)))
-                    for wrong in (text + " ", " " + text, text + " 0", text.replace("18446744073709551615", "01"), text.replace("0a", "0A"), "nonsense"):
+                    for wrong in (text + " ", " " + text, text + " 0", text.replace("18446744073709551615", "01"),
+                                  text.replace("0a", "0A"), "nonsense"):
                         if wrong != text:
                             with self.assertRaises(pmem.ProgramFailed):
                                 pmem.read_answer(session, command, wrong)
@@ -546,8 +548,8 @@ class TextTest(unittest.TestCase):
         output = pmem.answer("run", (EXAMPLES / "power_cut.trace").read_bytes() + b"read 0 <b>&\n", "program")
         with pmem.Controller(through="program") as controller:
             controller.post(0, 0, ONES)
-            shown = {"cut kept 4": output, "drain": output.trace, "1111": controller, "counter blocks": controller.device(), "ok 7": controller.drain(0),
-                     "seal 0 0.1": controller.marks[0]}
+            shown = {"cut kept 4": output, "drain": output.trace, "1111": controller, "counter blocks": controller.device(),
+                     "ok 7": controller.drain(0), "seal 0 0.1": controller.marks[0]}
         for text, page in ((text, thing._repr_html_()) for text, thing in shown.items()):
             self.assertIn(text, page)
             self.assertNotIn("<b>", page)
@@ -598,8 +600,8 @@ class SourcesTest(unittest.TestCase):
         mypy = "/usr/bin/mypy" if os.access("/usr/bin/mypy", os.X_OK) else shutil.which("mypy")
         if not mypy:
             self.skipTest("mypy isn't there")
-        ended = subprocess.run([mypy, "--cache-dir", os.devnull], cwd=PACKAGE, stdout=subprocess.PIPE, stderr=subprocess.STDOUT, universal_newlines=True,
-                               check=False)
+        ended = subprocess.run([mypy, "--cache-dir", os.devnull], cwd=PACKAGE, stdout=subprocess.PIPE,
+                               stderr=subprocess.STDOUT, universal_newlines=True, check=False)
         self.assertEqual(ended.returncode, 0, ended.stdout)
 
     def test_docstrings(self) -> None:

@@ -98,9 +98,26 @@ class PipesTest(ExploreTest):
                 answers = [line[6:] for line in told if line.startswith("    > ")]
                 wanted = (EXAMPLES / f"{name}.out").read_text().splitlines()
                 self.assertEqual(answers, [short_text(line) for line in wanted])
-        self.assertTrue(any("a cut after 0" in line for line in self.session(f"write 0 {ONES}\n", "--as", "tree")))
-        result = self.explore("shell", "--as", "tree", text="break 1\nshow 1\n")
-        self.assertEqual(result.stderr.count("doesn't show its device"), 2)
+        result = self.explore("shell", "--as", "tree", text="show 1\n")
+        self.assertEqual(result.stderr.count("doesn't show its device"), 1)
+
+    def test_the_other_machines_by_a_program_without_a_log(self) -> None:
+        result = self.explore("shell", "--as", "tree", "--program", self.older_program(), text=f"write 0 {ONES}\nbreak 1\n")
+        self.assertIn("a cut after 0", result.stdout)
+        self.assertIn("has no option --log of tree, so there are no breaks\n", result.stderr)
+
+    def test_breaks_of_the_other_machines(self) -> None:
+        self.need_logs()
+        told = self.session(f"break slot 0\nwrite 5 {ONES}\ncut here\nbreak data 4\n", "--as", "tree")
+        self.assertIn("a break at line 149: slot line 0", told)
+        self.assertIn("      step 4  line 149: slot line 0   <- break: `cut here` cuts power before it", told)
+        self.assertIn("    > cut kept 3", told)
+        result = self.explore("shell", "--as", "tree", text="break counter 1\nbreak slot 9\n")
+        self.assertIn("no such line: counter 1; `help` has their names\n", result.stderr)
+        self.assertIn("no such line: slot 9; the last is 8\n", result.stderr)
+        told = self.session(f"break data 1008\nbegin\nput 0 {ONES}\ncommit\n", "--as", "txn")
+        self.assertIn("a break at line 1008: the header", told)
+        self.assertEqual(sum("<- break" in line for line in told), 1)
 
     def test_a_trace_to_begin_with(self) -> None:
         self.assertEqual(self.session("list\n", self.file("a.trace", "stat\n"))[-1], "1  stat")

@@ -1,5 +1,6 @@
 """`explore steps`: each persist step with the line that it writes."""
 import json
+import os
 import subprocess
 import sys
 from typing import Any, Dict, List, Optional, Sequence
@@ -9,7 +10,7 @@ from .helpers import EXAMPLES, EXPLORE, FORGED, ONES, TOOLS, TWIN, TWO_WRITES, W
 TWO_PAGES = f"post 0 324 {'f0' * 64}\npost 1 372 {'eb' * 64}\ndrain 1\ndrain 0\n"
 SAME_BYTES = TWO_PAGES + "read 0 0\nread 0 256\nread 0 512\nread 0 768\n"
 COUNTS = ("reads", "writes", "latches", "tags", "digests")
-NO_LOG = "has no option --log, so each step is found by a cut, and what a latch does isn't told\n"
+NO_LOG = "has no option --log of run, so each step is found by a cut, and what a latch does isn't told\n"
 
 
 def lines_of(command: Dict[str, Any]) -> List[Optional[int]]:
@@ -225,10 +226,9 @@ class LogTest(ExploreTest):
         self.assertEqual([each["steps_before"] for each in read["reads"]], [7, 7])
 
     def test_reads_that_are_not_told(self) -> None:
-        result = self.explore("steps", "-", "--reads", "--as", "txn", text="begin\n")
-        self.assert_fails(result, 2, "pmem txn doesn't tell what its commands read")
-        result = self.explore("steps", "-", "--reads", "--program", self.older_program(), text=WRITE)
-        self.assert_fails(result, 1, "older doesn't tell what its commands read: it has no option --log")
+        for name, text in (("run", WRITE), ("txn", "begin\n")):
+            result = self.explore("steps", "-", "--reads", "--as", name, "--program", self.older_program(), text=text)
+            self.assert_fails(result, 1, f"older doesn't tell what its commands read: its {name} has no option --log")
 
     def test_an_older_program(self) -> None:
         result = self.explore("steps", "-", "--program", self.older_program(), text=TWO_WRITES)
@@ -244,6 +244,26 @@ class LogTest(ExploreTest):
         (*_, command) = json.loads(result.stdout)
         self.assertEqual([step["kind"] for step in command["steps"]], ["write", "write", "unseen"])
         self.assertEqual(lines_of(command), [0, 1024, None])
+
+    def test_steps_before_an_exhibit_are_counted_by_the_log(self) -> None:
+        """One run tells them; by cuts there are as many as steps, and more."""
+        text = WRITE + "flip 100 0\nflip 100 8\nread 0 100\n"
+        words = ("--suite", "weak", "--sets", "1", "--ways", "1", "--from-start", "--check-rows", "0", "--lines", "5")
+        cuts = self.json("cuts", "-", *words, text=text)
+        self.assertEqual([cut["answer"] for cut in cuts], ["cut 0"])
+        kept = self.path("runs")
+        program = self.script("counting", f"""
+import os, sys
+with open({kept!r}, "a") as file:
+    file.write(" ".join(sys.argv[1:]) + "\\n")
+os.execv({os.path.abspath(program_path())!r}, [{program_path()!r}, *sys.argv[1:]])
+""")
+        found = self.json("cuts", "-", *words, "--program", program, text=text)
+        self.assertEqual(found, cuts)
+        with open(kept, encoding="ascii") as file:
+            runs = file.read().splitlines()
+        # The trace, its log, and the two questions about the one cut.
+        self.assertEqual([" --log" in run for run in runs], [False, True, False, False])
 
     def test_a_log_that_does_not_fit_the_replies(self) -> None:
         for old, new, told in (("ok 7", "ok 8", "doesn't answer the same with --log"), ("work.*", "", "with --log"),

@@ -11,7 +11,7 @@ from typing import Callable
 
 from .helpers import EXPLORE, ONES, WRITE, ExploreTest, program_path
 
-COMMANDS = ("steps", "cuts", "sweep", "draw", "import lackey", "import csv")
+COMMANDS = ("steps", "cuts", "sweep", "compare", "endurance", "export", "draw", "import lackey", "import csv")
 
 SLOW_PROGRAM = """
 import os, sys, time
@@ -83,6 +83,15 @@ class FilesTest(ExploreTest):
         Path(trace).write_bytes(bytes(range(11, 256)))
         result = self.explore("steps", trace)
         self.assert_fails(result, 1, "line 1: no such command")
+
+    def test_traces_that_are_too_long_are_told_before_they_are_run(self) -> None:
+        trace, script = self.file("long.trace", "stat\n" * 1_000_001), ["--program", "/nowhere"]
+        for command in ("steps", "cuts", "sweep"):
+            result = self.explore(command, trace, *script)
+            self.assert_fails(result, 1, "has 1000001 lines, and a trace at most 1,000,000")
+        trace = self.file("half.trace", "stat\n" * 500_000)
+        result = self.explore("sweep", trace)
+        self.assert_fails(result, 1, "has 500000 commands: with what a sweep asks besides that is 1000003 lines")
         self.assertTrue(result.stderr.rstrip("\n").isprintable())
 
     def test_output_file_is_replaced_whole(self) -> None:
@@ -180,6 +189,26 @@ class InterruptsTest(ExploreTest):
             finally:
                 process.kill()
             self.assertIn((process.returncode, err), ((130, "explore: interrupted\n"), (0, "")), (number, words))
+
+    def test_an_interrupt_amid_the_imports_ends_all(self) -> None:
+        """Where an exception would be dropped, as by the callbacks of imports."""
+        text = f"""
+import os, runpy, signal, sys, time
+class Gone:
+    def __del__(self):
+        os.kill(os.getpid(), signal.SIGINT)
+        time.sleep(0.1)
+class Finder:
+    def find_spec(self, name, path, target=None):
+        if name == "explorer.steps":
+            Gone()
+sys.meta_path.insert(0, Finder())
+sys.argv = ["explore", "--help"]
+runpy.run_path({str(EXPLORE)!r}, run_name="__main__")
+"""
+        found = subprocess.run([sys.executable, "-c", text], stdout=subprocess.PIPE, stderr=subprocess.PIPE,
+                               universal_newlines=True, check=False)
+        self.assertEqual((found.returncode, found.stdout, found.stderr), (130, "", "explore: interrupted\n"))
 
     def test_an_interrupt_just_before_a_wait_ends_it(self) -> None:
         text = """

@@ -1,0 +1,26 @@
+"""How many bytes a design has on the chip, by its geometry: lines, positions and registers. Bits of state (dirty, order,
+masks), keys and the ciphers' own circuits aren't in it. docs/COSTS.md has the sums."""
+from typing import Dict
+
+from .settings import Settings
+from .waiting import PORTS
+
+LINE, POSITION, DIGEST, COUNTER = 64, 4, 16, 8
+QUEUE, TRANSACTION, PAGES_OPEN = 16, 15, 4
+CHIP_PARTS = ("cache", "shadow", "registers", "waiting")
+
+
+def chip_bytes(settings: Settings) -> Dict[str, int]:
+    """The bytes of the metadata cache, of the copy of the shadow, of the registers, and of what waits to be written."""
+    levels, entry = settings.levels, LINE + POSITION
+    if settings.machine_name == "tree":
+        slots = 1 + levels * settings.sets
+        height = 1
+        while 4 ** height < slots:
+            height += 1
+        return {"cache": slots * (4 * COUNTER + POSITION), "shadow": (4 ** (height + 1) - 1) // 3 * LINE,
+                "registers": DIGEST + (levels + 3) * entry, "waiting": 0}
+    slots = settings.sets * settings.ways
+    waiting = {"run": PORTS * QUEUE * entry, "wear": 2 * POSITION, "txn": TRANSACTION * entry}
+    return {"cache": (levels + 1) * slots * entry, "shadow": ((slots + 15) // 16 + (levels * slots + 15) // 16) * LINE,
+            "registers": DIGEST + 3 * entry + PAGES_OPEN * (entry + COUNTER) + 1, "waiting": waiting[settings.machine_name]}

@@ -1,0 +1,391 @@
+"""One workload on several designs: what each of them takes for it, and what its recovery takes after a cut."""
+import itertools
+import statistics
+import sys
+from collections import Counter
+from dataclasses import dataclass, field
+from typing import Any, Dict, Iterator, List, Mapping, Optional, Sequence, Tuple
+
+from .accounts import COUNTS, PART_WORDS, Account, Accountant, added
+from .chip import CHIP_PARTS, chip_bytes
+from .convert import Converted, converted, levels_for
+from .costs import Costs, Spent
+from .errors import WRONG_WORDS, ExploreError
+from .logged import LoggedProgram, LoggedRecording, entries_of
+from .output import csv_text, json_text, latex_text, table_text
+from .program import Question, Run, first_word, text_of
+from .settings import Settings
+from .together import Together
+from .trace import Trace, trace_of
+
+CUTS = 200
+COLUMNS = 6
+NUMBERS = ("levels", "sets", "ways", "loss", "every")
+RECOVERY = ("tags", "digests", "steps", "line_reads", "line_writes")
+RECOVERY_TEXTS = {"tags": "tags (trials)", "digests": "digests", "steps": "persist steps", "line_reads": "line reads",
+                  "line_writes": "line writes"}
+DONE = ("ok", "line", "on", "off", "already", "stat")
+END = (b"off", b"on")
+
+Row = Dict[str, Any]
+
+
+@dataclass(frozen=True)
+class Recovered:
+    """A recovery after a cut: how many steps the trace had taken, what `on` answered, and what it took."""
+
+    steps: int
+    answer: str
+    account: Account
+
+    @property
+    def is_done(self) -> bool:
+        """Whether it went through."""
+        return first_word(self.answer) == "on"
+
+
+@dataclass
+class Found:
+    """What a workload took on a design."""
+
+    settings: Settings
+    levels: int
+    made: Converted
+    units: List[Tuple[str, int, Account]] = field(default_factory=list)
+    total: Account = field(default_factory=Account)
+    recoveries: List[Recovered] = field(default_factory=list)
+    cuts: int = 0
+    odd: Dict[str, int] = field(default_factory=dict)
+
+    def of(self, kind: str) -> List[Account]:
+        """What each unit of a kind took."""
+        return [account for each, _, account in self.units if each == kind]
+
+    def count_of_units(self, kind: str) -> int:
+        """How many lines the workload reads or writes."""
+        return sum(unit.lines for unit in self.made.units if unit.kind == kind)
+
+    def count(self, kind: str) -> int:
+        """How many lines were read or written."""
+        return sum(lines for each, lines, _ in self.units if each == kind)
+
+
+def designs_of(names: Sequence[str], base: Settings, values: Mapping[str, Sequence[int]]) -> List[Tuple[int, Settings]]:
+    """Each design with each combination of the numbers that it has, once, and the levels by which `run` has its memory."""
+    found: Dict[Settings, int] = {}
+    for name, numbers in itertools.product(names, itertools.product(*(values[number] for number in NUMBERS))):
+        levels, chosen = numbers[0], dict(zip(NUMBERS, numbers))
+        settings = Settings(machine_name=name)
+        options = {option: getattr(base, option) for option in ("suite", "key", "tag_key", "major") if option in settings.machine.options}
+        options.update((number, value) for number, value in chosen.items() if number in settings.machine.options)
+        found.setdefault(settings.changed(**{**options, "levels": levels_for(name, levels)}), levels)
+    return [(levels, settings) for settings, levels in found.items()]
+
+
+class Comparison:
+    """Workloads on designs. `cuts`: how many moments, spread evenly, the recovery is looked at (0: after each step)."""
+
+    def __init__(self, designs: Sequence[Tuple[int, Settings]], together: Together, folded: bool, cuts: int) -> None:
+        assert isinstance(together.program, LoggedProgram)
+        self.designs = designs
+        self.together = together
+        self.program = together.program
+        self.folded = folded
+        self.cuts = cuts
+        self.lines = min(settings.data_lines for _, settings in designs)
+
+    def workloads(self, trace: Trace) -> List[Found]:
+        """The workload of a trace in each design's language."""
+        return [Found(settings, levels, converted(trace.commands, settings.machine_name, settings.levels, self.lines, self.folded))
+                for levels, settings in self.designs]
+
+    def notes(self, trace: Trace, workloads: Sequence[Found]) -> List[str]:
+        """What of the trace isn't in the workload, or not as it was."""
+        made = workloads[0].made
+        least = next(found for found in workloads if found.settings.data_lines == self.lines)
+        name = f"{least.settings.machine_name} with {least.settings.levels} levels"
+        told = []
+        if self.folded:
+            told.append(f"each line is the one with its remainder modulo {self.lines}, the lines of {name}")
+        for note in made.notes:
+            if not note.startswith("left out, as run") and not note.startswith(f"left out, as {made.machine_name} "):
+                told.append(note)
+        if made.outside:
+            told.insert(0, f"left out of all, as {name} has the lines 0 to {self.lines - 1} alone: writes and reads of others: "
+                           f"{sum(made.outside.values())}, of so many lines: {len(made.outside)}")
+        split = max(found.made.split for found in workloads)
+        if split and not made.split:
+            told.append(f"fences of more than 15 lines, which are several transactions of txn each: {split}")
+        return [f"{trace.name}: {note}" for note in told]
+
+    def run(self, traces: Sequence[Trace], workloads: Sequence[Sequence[Found]]) -> None:
+        """Runs all workloads, and looks at the recoveries."""
+        every = [(trace, found) for trace, some in zip(traces, workloads) for found in some]
+        runs = [Run(text_of([*found.made.commands, *END]), found.settings) for _, found in every]
+        for (trace, found), run, output in zip(every, runs, self.together.runs(runs, "designs")):
+            recording = LoggedRecording(self.program, found.settings, trace_of(trace.name, run.script), output)
+            self.account(found, recording)
+            found.recoveries += self.recoveries(found, recording)
+
+    def account(self, found: Found, recording: LoggedRecording) -> None:
+        """Adds up what the units took. The power cycle at the end is none of them."""
+        accountant = Accountant(found.settings)
+        accounts = [accountant.account(command.word, entry) for command, entry in zip(recording.commands, recording.entries)]
+        if recording.ends_in_exhibit or len(accounts) != len(recording.commands):
+            raise ExploreError(f"{recording.trace.name}: on {found.settings.machine_name} the workload ends with an exhibit: "
+                               f"{recording.replies[-1].answer[:60]}")
+        found.units = [(unit.kind, unit.lines, added([accounts[place] for place in unit.commands])) for unit in found.made.units]
+        found.total = added([account for _, _, account in found.units])
+        odd = Counter(first_word(reply.answer) for reply in recording.replies)
+        found.odd = {word: count for word, count in odd.items() if word not in DONE}
+        found.recoveries.append(Recovered(found.total.steps, recording.replies[-1].answer, accounts[-1]))
+
+    def recoveries(self, found: Found, recording: LoggedRecording) -> Iterator[Recovered]:
+        """The recoveries after cuts, spread over the steps of the workload."""
+        moments: List[Tuple[int, int, int]] = []
+        steps = 0
+        for index in range(len(recording.commands) - len(END)):
+            count = recording.steps(index) or 0
+            moments += [(index, number, steps + number) for number in range(count)]
+            steps += count
+        found.cuts = len(moments) + 1
+        some = spread(moments, self.cuts - 1) if self.cuts else moments
+        questions = [Question(index, (b"cut %d" % number, recording.commands[index].text, b"on")) for index, number, _ in some]
+        accountant = Accountant(found.settings)
+        what = f"recoveries of {found.settings.machine_name}"
+        for (index, number, before), (_, data) in zip(some, self.together.answers(recording, questions, len(questions), what)):
+            entries = entries_of(data, self.program.path)
+            if len(entries) < 3 or not entries[1].reply.is_cut:
+                raise ExploreError(f"{recording.trace.name}: {recording.commands[index].short} of {found.settings.machine_name} isn't "
+                                   f"cut after {number} steps")
+            yield Recovered(before, entries[2].reply.answer, accountant.account("on", entries[2]))
+
+
+def spread(moments: Sequence[Tuple[int, int, int]], count: int) -> List[Tuple[int, int, int]]:
+    """So many of these, spread evenly."""
+    if count >= len(moments):
+        return list(moments)
+    return [moments[place * len(moments) // count] for place in range(max(0, count))]
+
+
+def summary(values: Sequence[float]) -> Dict[str, Optional[float]]:
+    """The mean, the median, the 99th percentile (the least value that so many aren't above) and the greatest."""
+    if not values:
+        return {"mean": None, "median": None, "p99": None, "greatest": None}
+    ordered = sorted(values)
+    return {"mean": statistics.fmean(ordered), "median": statistics.median(ordered),
+            "p99": ordered[-(-99 * len(ordered) // 100) - 1], "greatest": ordered[-1]}
+
+
+def rounded(value: Any) -> Any:
+    """A number to three places."""
+    return round(value, 3) if isinstance(value, float) else value
+
+
+def row_of(found: Found, trace_name: str, costs: Optional[Costs]) -> Row:
+    """What a workload took on a design, by name. What a design hasn't, or what there is no figure of, is None."""
+    settings = found.settings
+    row: Row = {"trace": trace_name, "design": settings.machine_name}
+    row.update((name, getattr(settings, name) if name in settings.machine.options else None) for name in NUMBERS)
+    row.update({"memory_lines": settings.data_lines, "writes": found.count("write"), "reads": found.count("read"),
+                "fences": len(found.of("write")), "power_cycles": len(found.of("on"))})
+    row.update((f"total_{name}", number) for name, number in found.total.numbers().items())
+    for kind in ("write", "read"):
+        numbers, count = added(found.of(kind)).numbers(), found.count(kind)
+        row.update((f"{kind}_{name}", numbers[name] / count if count else None) for name in COUNTS)
+    row.update((f"chip_{name}", number) for name, number in chip_bytes(settings).items())
+    row["chip_bytes"] = sum(chip_bytes(settings).values())
+    done = [each for each in found.recoveries if each.is_done]
+    row.update({"recoveries": len(found.recoveries), "recoveries_of": found.cuts,
+                "recoveries_refused": len(found.recoveries) - len(done)})
+    for name in RECOVERY:
+        numbers_of = summary([each.account.numbers()[name] for each in done])
+        row.update({f"recovery_{name}_mean": numbers_of["mean"], f"recovery_{name}_greatest": numbers_of["greatest"]})
+    if costs is not None:
+        row.update(times_of(found, done, costs))
+    return {name: rounded(value) for name, value in row.items()}
+
+
+def times_of(found: Found, done: Sequence[Recovered], costs: Costs) -> Row:
+    """The times of each fence, of each read and of each recovery, their energy, and what takes most of the time."""
+    row: Row = {}
+    for kind, lines, all_spent in (
+            ("fence", found.count("write"), [costs.spent(account) for account in found.of("write")]),
+            ("read", found.count("read"), [costs.spent(account) for account in found.of("read")]),
+            ("recovery", len(done), [costs.spent(each.account, True) for each in done])):
+        row.update((f"{kind}_ns_{name}", value) for name, value in summary([spent.ns for spent in all_spent]).items())
+        total = together_spent(all_spent)
+        row[f"{'write' if kind == 'fence' else kind}_nj"] = total.nj / lines if lines else None
+        row[f"{kind}_dominant"] = total.dominant if all_spent else None
+        row[f"{kind}_shares"] = [rounded(share / total.ns) if total.ns else 0.0 for share in total.shares] if all_spent else None
+        if kind == "fence":
+            row["write_ns"] = total.ns / lines if lines else None
+    everything = together_spent([costs.spent(account, kind == "on") for kind, _, account in found.units])
+    row.update({"total_ns": everything.ns, "total_nj": everything.nj})
+    return row
+
+
+def together_spent(all_spent: Sequence[Spent]) -> Spent:
+    """What several took, one after the other."""
+    shares = tuple(map(sum, zip(*(spent.shares for spent in all_spent)))) if all_spent else (0.0,)
+    return Spent(sum(spent.ns for spent in all_spent), sum(spent.nj for spent in all_spent), shares)
+
+
+def mean_rows(rows_of_traces: Sequence[Sequence[Row]]) -> List[Row]:
+    """The means over the traces, each of which counts as much as any other; of the greatest the greatest."""
+    means = []
+    for rows in zip(*rows_of_traces):
+        mean: Row = {}
+        for name, first in rows[0].items():
+            values = [row[name] for row in rows if row[name] is not None]
+            if name in ("trace", *NUMBERS, "design") or not all(isinstance(value, (int, float)) for value in values):
+                mean[name] = first if all(value == first for value in values) else None
+            elif name.endswith("_greatest"):
+                mean[name] = max(values, default=None)
+            else:
+                mean[name] = rounded(statistics.fmean(values)) if values else None
+        means.append({**mean, "trace": f"mean of {len(rows)} traces"})
+    return means
+
+
+# The lines of the table: a heading, or a name and what it is called.
+SECTIONS: Tuple[Tuple[str, Tuple[Tuple[str, str], ...]], ...] = (
+    ("design", (("levels", "levels"), ("sets", "sets"), ("ways", "ways"), ("loss", "stop-loss number"),
+                ("every", "writes between moves"), ("memory_lines", "lines of memory"))),
+    ("workload", (("writes", "lines written"), ("fences", "drains and fences of them"), ("reads", "lines read"))),
+    ("a line written", (("write_steps", "persist steps"), ("write_line_writes", "line writes"),
+                        *((f"write_writes_{word}", f"  {word}") for word in PART_WORDS),
+                        ("write_latches", "latches"), ("write_line_reads", "line reads"),
+                        *((f"write_reads_{word}", f"  {word}") for word in PART_WORDS),
+                        ("write_pads", "pads"), ("write_tags", "tags"), ("write_digests", "digests"),
+                        ("write_hits", "cache hits"), ("write_misses", "cache misses"))),
+    ("a line read", (("read_steps", "persist steps"), ("read_line_reads", "line reads"),
+                     *((f"read_reads_{word}", f"  {word}") for word in PART_WORDS),
+                     ("read_pads", "pads"), ("read_tags", "tags"), ("read_digests", "digests"),
+                     ("read_hits", "cache hits"), ("read_misses", "cache misses"))),
+    *((f"a recovery, {of}", tuple((f"recovery_{name}_{of}", RECOVERY_TEXTS[name]) for name in RECOVERY))
+      for of in ("mean", "greatest")),
+    ("bytes on the chip", (("chip_bytes", "all"), *((f"chip_{name}", f"  {what}") for name, what in zip(
+        CHIP_PARTS, ("metadata cache", "copy of the shadow", "registers", "what waits"))))),
+    ("ns of a drain or fence", (("fence_ns_mean", "mean"), ("fence_ns_median", "median"), ("fence_ns_p99", "99th percentile"),
+                                ("fence_ns_greatest", "greatest"), ("fence_dominant", "most of it"),
+                                ("write_ns", "a line written"), ("write_nj", "nJ a line written"))),
+    ("ns of a read", (("read_ns_mean", "mean"), ("read_ns_median", "median"), ("read_ns_p99", "99th percentile"),
+                      ("read_ns_greatest", "greatest"), ("read_dominant", "most of it"), ("read_nj", "nJ"))),
+    ("ns of a recovery", (("recovery_ns_mean", "mean"), ("recovery_ns_median", "median"), ("recovery_ns_p99", "99th percentile"),
+                          ("recovery_ns_greatest", "greatest"), ("recovery_dominant", "most of it"), ("recovery_nj", "nJ"))),
+)
+
+
+def cell(value: Any) -> str:
+    """A number of the table."""
+    if value is None:
+        return "-"
+    if isinstance(value, float):
+        return f"{value:,.0f}" if value >= 1000 else f"{value:.2f}"
+    return f"{value:,}" if isinstance(value, int) else str(value)
+
+
+def lines_of(rows: Sequence[Row]) -> List[List[str]]:
+    """The lines of the table over these designs: those that are of any of them, headings among them. Of the parts those that
+    are 0 for all are left out."""
+    lines: List[List[str]] = []
+    for heading, names in SECTIONS:
+        some = [[f"  {text}", *(cell(row.get(name)) for row in rows)] for name, text in names
+                if any(row.get(name) is not None for row in rows) and (text[0] != " " or any(row.get(name) for row in rows))]
+        if some and heading == "design":
+            lines += some
+        elif some:
+            lines += [[heading, *("" for _ in rows)], *some]
+    return lines
+
+
+def table_of(rows: Sequence[Row]) -> str:
+    """The table for people, some designs beside each other at a time."""
+    texts = []
+    for first in range(0, len(rows), COLUMNS):
+        some = rows[first:first + COLUMNS]
+        texts.append(table_text([["design", *(row["design"] for row in some)]], lines_of(some), left=(0,)))
+    return "\n".join(texts)
+
+
+@dataclass(frozen=True)
+class Compared:
+    """What was found: the rows of each trace, their means where there are several, and what is to be told."""
+
+    rows: List[List[Row]]
+    means: List[Row]
+    heads: List[str]
+    notes: List[str]
+    moments: List[List[List[Any]]]
+
+    @property
+    def every(self) -> List[Row]:
+        """All rows."""
+        return [*(row for rows in self.rows for row in rows), *self.means]
+
+    def text(self) -> str:
+        """It for people."""
+        parts = [f"{head}\n" for head in self.heads]
+        tables = [*self.rows, *([self.means] if self.means else [])]
+        for rows in tables:
+            title = f"{rows[0]['trace']}\n" if len(tables) > 1 else ""
+            parts.append(("\n" if parts else "") + title + table_of(rows))
+        return "".join(parts) + "\n" + "".join(f"{note}\n" for note in self.notes)
+
+    def latex(self) -> str:
+        """The last table, of the means where there are several traces, for LaTeX; heads and notes are comments."""
+        rows = self.means or self.rows[-1]
+        table = latex_text(["", *(row["design"] for row in rows)], [
+            [line[0].strip() if line[0][:4] != " " * 4 else f"of them {line[0].strip()}", *line[1:]] for line in lines_of(rows)], left=(0,))
+        return table + "".join(f"% {note}\n" for note in [*self.heads, *self.notes])
+
+    def csv(self) -> str:
+        """All rows as CSV."""
+        names = [name for name in self.every[0] if not name.endswith("_shares")]
+        return csv_text(names, [[row[name] for name in names] for row in self.every])
+
+    def json(self) -> str:
+        """All of it as JSON, which `explore draw` takes."""
+        return json_text({"compare": [rows[0]["trace"] for rows in self.rows], "heads": self.heads, "notes": self.notes,
+                          "designs": self.every, "recoveries": self.moments})
+
+
+def compare(traces: Sequence[Trace], comparison: Comparison, costs: Optional[Costs]) -> Compared:
+    """Compares designs on traces. What isn't in a workload is told on standard error before anything runs."""
+    workloads = [comparison.workloads(trace) for trace in traces]
+    notes = [note for trace, some in zip(traces, workloads) for note in comparison.notes(trace, some)]
+    for note in notes:
+        sys.stderr.write(f"explore: {note}\n")
+    for trace, some in zip(traces, workloads):
+        if not some[0].made.units:
+            raise ExploreError(f"{trace.name} has no write, read or power cycle that all these designs can do", WRONG_WORDS)
+    comparison.run(traces, workloads)
+    rows = [[row_of(found, trace.name, costs) for found in some] for trace, some in zip(traces, workloads)]
+    notes += [note for trace, some in zip(traces, workloads) for found in some for note in notes_of(trace, found)]
+    notes += cuts_note([found for some in workloads for found in some])
+    moments = [[[each.steps, *(each.account.numbers()[name] for name in RECOVERY),
+                 *([rounded(costs.spent(each.account, True).ns)] if costs else [])]
+                for each in sorted(found.recoveries, key=lambda each: each.steps) if each.is_done] for some in workloads for found in some]
+    return Compared(rows, mean_rows(rows) if len(rows) > 1 else [], costs.heads() if costs else [], notes, moments)
+
+
+def notes_of(trace: Trace, found: Found) -> List[str]:
+    """What a reader should know of a design's run."""
+    name = ", ".join([found.settings.machine_name, *(f"{number} {getattr(found.settings, number)}" for number in NUMBERS
+                                                     if number in found.settings.machine.options)])
+    notes = [f"{trace.name}, {name}: {count} answers {word}" for word, count in sorted(found.odd.items())]
+    refused = sum(not each.is_done for each in found.recoveries)
+    if refused:
+        notes.append(f"{trace.name}, {name}: {refused} of {len(found.recoveries)} recoveries are refused, and in no mean")
+    return notes
+
+
+def cuts_note(every: Sequence[Found]) -> List[str]:
+    """Where the recoveries aren't looked at after every step."""
+    some = sorted(found.cuts for found in every if len(found.recoveries) < found.cuts)
+    if not some:
+        return []
+    of = f"{some[0]:,}" if some[0] == some[-1] else f"{some[0]:,} to {some[-1]:,}"
+    return [f"recoveries: after {max(len(found.recoveries) for found in every)} cuts of each design, spread evenly, of {of}; "
+            "the greatest are the greatest of these"]
