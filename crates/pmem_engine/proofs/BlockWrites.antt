@@ -1,6 +1,5 @@
 -- Dirty blocks are written to their places, and another stop-loss number is latched.
 pub mod WrittenBlocks
-pub mod MarkedBlocks
 pub mod FlushOutcomes
 pub mod DirtyCounts
 pub mod OldestFirst

@@ -2,7 +2,7 @@
 pub mod CallChains
 pub mod StillParts
 pub mod ToldLines
-pub mod ShadowLines
+pub mod UnwrittenLines
 pub mod ErrorAnswers
 pub mod ExactWork
 pub mod MetaLines

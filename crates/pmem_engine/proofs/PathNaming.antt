@@ -1,4 +1,3 @@
 -- A page's path is named in the shadow tables.
 pub mod PathNames
-pub mod ShadowNames
 pub mod NamingOutcomes

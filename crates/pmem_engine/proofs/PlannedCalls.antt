@@ -13,3 +13,7 @@ pub mod ReadPlans
 pub mod LossPlans
 pub mod FinishPlans
 pub mod PostedPlans
+pub mod TreeBlocks
+pub mod KeptLines
+pub mod TurnLines
+pub mod BlockOrder

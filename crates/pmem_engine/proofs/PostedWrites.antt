@@ -6,8 +6,6 @@ pub mod WriteFinishes
 pub mod WriteSteps
 pub mod WriteBegins
 pub mod WriteWorks
-pub mod WriteRefusals
-pub mod WriteCuts
 pub mod WriteExits
 pub mod StoppedWrites
 pub mod WriteSeals

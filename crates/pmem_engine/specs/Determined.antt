@@ -8,7 +8,7 @@ use Rattle.pmem_base.specs.declared.lines.Line.{Line}
 use Rattle.pmem_base.specs.declared.commands.Posted.{Posted}
 use Rattle.suite.specs.Setup.{Setup}
 use Rattle.pmem_engine.specs.Engine.{EngineState}
-use Rattle.pmem_engine.specs.Calls.{whole_write}
+use Rattle.pmem_engine.specs.CallFacts.{whole_write}
 use Rattle.pmem_engine.specs.Plans.{Chip, read_plan, turn_plan, flush_plan, set_loss_plan}
 use Rattle.pmem_engine.specs.WritePlans.{write_plan}
 

@@ -8,9 +8,9 @@ use Rattle.suite.specs.Setup.{Setup}
 use Rattle.plain_model.specs.State.{Memory}
 use Rattle.plain_model.specs.Bounds.{seal_count}
 use Rattle.plain_model.specs.Asked.{reseal_mark}
-use Rattle.pmem_engine.specs.Parts.{Parts, regs_of, AreTrusted, HoldsSeal, meta_line_in}
+use Rattle.pmem_engine.specs.Parts.{Parts, regs_of, AreTrusted, HoldsSeal}
 use Rattle.pmem_engine.specs.Outcomes.{going, is_sealed_by, OneLossEffect, TakesSteps}
-use Rattle.pmem_engine.specs.Calls.{IsMemory, moment_in, KeepsShadow, AreUnderMinorZero, IsWork, reseal_work, KeepsMetaLines}
+use Rattle.pmem_engine.specs.CallFacts.{IsMemory, moment_in, AreUnderMinorZero, IsWork, reseal_work, KeepsMetaLines}
 use Rattle.pmem_engine.specs.Resealing.{register_in}
 
 -- the register is the page's still, with these places not done
@@ -40,7 +40,6 @@ pub record HasResealedFirst (setup : Setup) (n number : ℕ) (old new : Parts) :
   pub work : IsWork (reseal_work number) old new
   pub meta_lines : KeepsMetaLines setup.shape old.device.lines new.device.lines
   pub minors : AreUnderMinorZero made
-  pub shadow : KeepsShadow setup.shape old new
   pub done : OneLossEffect setup going made old new
   pub marks :
       AreTrusted setup old → (memory : Memory) → IsMemory setup memory old
@@ -53,9 +52,6 @@ pub record HasResealedFirst (setup : Setup) (n number : ℕ) (old new : Parts) :
   pub others :
       (page : ℕ) → register_of (regs_of old).progress.items page ≡ None
       → register_of (regs_of new).progress.items page ≡ None
-  pub metadata :
-      (regs_of old).group.items ≡ [] → (x : ℕ) → x < layout.meta_lines setup.shape
-      → meta_line_in setup.shape new x ≡ meta_line_in setup.shape old x
   pub steps : TakesSteps (4 * number) old.device new.device
   pub engine : new.engine ≡ old.engine
   pub truth : new.ledger.truth ≡ old.ledger.truth

@@ -3,7 +3,7 @@ use Rattle.std.specs.Prelude.{ℕ, ◌≡◌, ◌≢◌, ◌<◌, ◌≤◌, ◌
 use Rattle.pmem_base.specs.declared.faults.Cut.{Cut}
 use Rattle.pmem_base.specs.declared.registers.Regs.{Regs}
 use Rattle.pmem_base.specs.Registers.{without_group}
-use Rattle.pmem_base.specs.Layout.{meta_lines, shadow_lines, shadow_line}
+use Rattle.pmem_base.specs.Layout.{meta_lines}
 use Rattle.bonsai_tree.specs.Positions.{level_of}
 use Rattle.board.specs.Counts.{RisesBy}
 use Rattle.board.specs.Device.{Device}
@@ -13,12 +13,10 @@ use Rattle.meta_cache.specs.Banks.{is_cached, is_cached_dirty}
 use Rattle.meta_cache.specs.State.{CacheState}
 use Rattle.meta_path.specs.Blocks.{bank_dirty_count}
 use Rattle.meta_path.specs.Storing.{IsCleaned}
-use Rattle.meta_path.specs.Work.{told_line}
 use Rattle.suite.specs.Setup.{Setup}
 use Rattle.pmem_engine.specs.Engine.{EngineState}
 use Rattle.pmem_engine.specs.Parts.{parts_of}
 use Rattle.pmem_engine.specs.Outcomes.{going, OneLossEffect}
-use Rattle.pmem_engine.specs.Calls.{KeepsButMarks, HasWrittenCleaned, HasWrittenInOrder}
 
 -- the engine's cache
 abbrev pub cache_of : EngineState → CacheState
@@ -65,13 +63,6 @@ pub record HasWrittenBlocks (count : ℕ) (old new : EngineState) (before after 
   pub latches : after.latches ≡ before.latches
   pub writes : RisesBy count before.writes after.writes
   pub none : count ≡ 0 → new.cache ≡ old.cache
-  pub marks : KeepsButMarks old.shape old.cache new.cache
-  pub lines : HasWrittenCleaned old.shape old.cache new.cache before after
-  pub in_order : HasWrittenInOrder old.shape old.cache new.cache before after
-  -- no shadow line is written
-  pub shadow :
-      (n : ℕ) → n < shadow_lines old.shape
-      → told_line after.lines (shadow_line old.shape n) ≡ told_line before.lines (shadow_line old.shape n)
   pub done :
       (setup : Setup) (ledger : LedgerState) (tags digests : ℕ) → setup.shape ≡ old.shape
       → OneLossEffect setup going [] (parts_of old before ledger tags digests) (parts_of new after ledger tags digests)

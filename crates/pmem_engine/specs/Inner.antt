@@ -1,5 +1,5 @@
 -- What the parts of the engine's calls do: a path is fetched, a line is unsealed, a path is named.
-use Rattle.std.specs.Prelude.{ℕ, ◌≡◌, ◌<◌, false, not, ◌||◌, [], length, Some, option_map, IsOk, Result, Ok, Err, ⊤}
+use Rattle.std.specs.Prelude.{ℕ, ◌≡◌, false, not, ◌||◌, [], length, Some, option_map, IsOk, Result, Ok, Err, ⊤}
 use Rattle.pmem_base.specs.declared.faults.Cut.{Cut}
 use Rattle.pmem_base.specs.declared.lines.Line.{Line}
 use Rattle.pmem_base.specs.declared.lines.Ctr.{Ctr}
@@ -10,7 +10,6 @@ use Rattle.pmem_base.specs.Layout.{page_of}
 use Rattle.pmem_base.specs.Marks.{last_seal}
 use Rattle.bonsai_tree.specs.Positions.{counter_position}
 use Rattle.board.specs.Counts.{RisesBy}
-use Rattle.board.specs.Device.{Device}
 use Rattle.board.specs.Steps.{Tells}
 use Rattle.split_counters.specs.declared.Block.{Block}
 use Rattle.split_counters.specs.Blocks.{unpacked}
@@ -26,19 +25,11 @@ use Rattle.pmem_engine.specs.declared.fault.Fault.{Fault}
 use Rattle.pmem_engine.specs.declared.fault.LineFault.{LineFault}
 use Rattle.pmem_engine.specs.declared.fault.LineFault.TheVariants as AtLine
 use Rattle.pmem_engine.specs.declared.reading.Unsealed.{Unsealed}
-use Rattle.pmem_engine.specs.Parts.{Parts, regs_of, AreTrusted, AreSound, HoldsSeal, meta_line_in}
+use Rattle.pmem_engine.specs.Parts.{Parts, regs_of, AreTrusted, AreSound, HoldsSeal}
 use Rattle.pmem_engine.specs.Outcomes.{of_path, of_line, of_cut, Outcome, shown, outcome_of, is_going, OneLossEffect, TakesSteps}
 use Rattle.pmem_engine.specs.Faults.{IsMetaRefused, IsClashShown, IsTagRefused, IsForgedShown}
 use Rattle.pmem_engine.specs.Engine.{EngineState}
-use Rattle.pmem_engine.specs.Calls.{IsPathNamedInMirror, IsDownAnswer, IsUnrefused, TakesWithin, TakesWithinOfLive, KeepsShadow, IsMetaUncached, IsPastFetch, fetch_state, IsWork, naming_work, KeepsMetaLines, IsAnswerOfRead, IsReadWork, HasNamedSome, AnswersRead, IsReadOfCached, HasFetchedSome}
-
--- the board's lines, registers and counts are as they were
-pub record StandsStill (old new : Device) : Type 0 where
-  pub lines : new.lines ≡ old.lines
-  pub regs : new.regs ≡ old.regs
-  pub reads : new.reads ≡ old.reads
-  pub writes : new.writes ≡ old.writes
-  pub latches : new.latches ≡ old.latches
+use Rattle.pmem_engine.specs.CallFacts.{IsPathNamedInMirror, IsDownAnswer, IsUnrefused, TakesWithin, TakesWithinOfLive, IsPastFetch, fetch_state, IsWork, naming_work, KeepsMetaLines, IsAnswerOfRead, IsReadWork, AnswersRead}
 
 -- the engine once a call has ended so: it is down where the call was cut or shown
 abbrev pub ended_by : EngineState → Outcome → EngineState
@@ -65,30 +56,15 @@ pub record HasFetched (setup : Setup) (page : ℕ) (old new : Parts) (answer : R
   pub unrefused : AreSound setup old → IsUnrefused (of_path answer)
   pub path_cached : IsOk answer → IsPathCached setup.shape new.engine.cache page
   pub path_fetched : IsPastFetch old new (of_path answer) → IsPathCached setup.shape new.engine.cache page
-  pub meta_uncached : IsMetaUncached setup.shape page old (of_path answer)
-  pub shadow : KeepsShadow setup.shape old new
   pub work :
       IsOk answer
       → IsFetchedTo setup.shape setup.formulas old.ledger.truth page (path_length setup.shape)
       (fetch_state setup.shape old) (fetch_state setup.shape new)
-  pub fetched : HasFetchedSome setup.shape page old new (of_path answer)
   pub mirror : new.engine.mirror ≡ old.engine.mirror
   pub down : new.engine.down ≡ old.engine.down
   pub regs : regs_of new ≡ regs_of old
   pub tags : new.tags ≡ old.tags
   pub same_ledger : (outcome_of (of_path answer) ≡ shown → ⊥) → new.ledger ≡ old.ledger
-  -- where the path is cached already, nothing is read, digested or written
-  pub still_cached :
-      IsPathCached setup.shape old.engine.cache page
-      → IsOk answer × StandsStill old.device new.device × (new.digests ≡ old.digests)
-  pub still_named :
-      IsPathCached setup.shape old.engine.cache page → IsPathNamedInMirror setup.shape old.engine page
-      → IsPathNamedInMirror setup.shape new.engine page
-  -- the counter block's own line isn't written
-  pub block_kept :
-      (regs_of old).group.items ≡ []
-      → meta_line_in setup.shape new (counter_position setup.shape page)
-      ≡ meta_line_in setup.shape old (counter_position setup.shape page)
   pub latches : new.device.latches ≡ old.device.latches
   pub steps_of_path : TakesWithin (outcome_of (of_path answer)) (path_length setup.shape) old new
   pub steps_of_dirty :
@@ -144,32 +120,20 @@ pub record UpReadOutcome (setup : Setup) (a : ℕ) (old new : Parts) (answer : R
   pub answered : AreTrusted setup old → AnswersRead setup a old new answer
   pub unrefused : AreSound setup old → IsUnrefused answer
   pub not_down : IsDownAnswer answer → ⊥
-  pub path_cached : IsOk answer → IsPathCached setup.shape new.engine.cache (page_of a)
   pub path_fetched : IsPastFetch old new answer → IsPathCached setup.shape new.engine.cache (page_of a)
   pub possible : IsAnswerOfRead answer
-  pub meta_uncached : IsMetaUncached setup.shape (page_of a) old answer
-  pub shadow : KeepsShadow setup.shape old new
   pub work : IsOk answer → IsReadWork setup.shape a old new
-  pub fetched : HasFetchedSome setup.shape (page_of a) old new answer
   pub mirror : new.engine.mirror ≡ old.engine.mirror
   pub down : new.engine.down ≡ old.engine.down
-  pub of_cached :
-      IsPathCached setup.shape old.engine.cache (page_of a) → IsReadOfCached setup a old new answer
   pub steps_of_path : TakesWithinOfLive (outcome_of answer) (path_length setup.shape) old new
   pub steps_of_dirty :
       TakesWithinOfLive (outcome_of answer) (dirty_count setup.shape old.engine.cache) old new
 
 -- ---- a path named
 
--- the names were written to the device too, all of them
-pub record HasNamedAll (g : Shape) (page : ℕ) (old new : Parts) : Type 0 where
-  pub some : HasNamedSome g page old new
-  pub all : some.written ≡ some.named
-
 pub record HasNamedPath (setup : Setup) (page : ℕ) (old new : Parts) (answer : Result Unit Cut) : Type 0 where
   pub done : OneLossEffect setup (outcome_of (of_cut answer)) [] old new
   pub path_named : IsOk answer → IsPathNamedInMirror setup.shape new.engine page
-  pub names : HasNamedSome setup.shape page old new
   pub work :
       IsOk answer
       → IsWork
@@ -177,7 +141,6 @@ pub record HasNamedPath (setup : Setup) (page : ℕ) (old new : Parts) (answer :
       (length (naming_writes setup.shape old.engine.cache page old.engine.mirror (path_length setup.shape))))
       old new
   pub meta_lines : IsOk answer → KeepsMetaLines setup.shape old.device.lines new.device.lines
-  pub all_named : IsOk answer → HasNamedAll setup.shape page old new
   pub cache : new.engine.cache ≡ old.engine.cache
   pub down : new.engine.down ≡ old.engine.down
   pub regs : regs_of new ≡ regs_of old
@@ -185,8 +148,4 @@ pub record HasNamedPath (setup : Setup) (page : ℕ) (old new : Parts) (answer :
   pub tags : new.tags ≡ old.tags
   pub digests : new.digests ≡ old.digests
   pub reads : new.device.reads ≡ old.device.reads
-  pub metadata :
-      (regs_of old).group.items ≡ [] → (x : ℕ) → x < layout.meta_lines setup.shape
-      → meta_line_in setup.shape new x ≡ meta_line_in setup.shape old x
   pub steps : TakesWithin (outcome_of (of_cut answer)) (path_length setup.shape) old new
-  pub still_named : IsPathNamedInMirror setup.shape old.engine page → IsOk answer × StandsStill old.device new.device

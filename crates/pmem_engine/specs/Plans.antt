@@ -37,6 +37,7 @@ use Rattle.pmem_engine.specs.declared.reading.Unsealed.{Unsealed}
 use Rattle.pmem_engine.specs.declared.resealing.HeldLine.{HeldLine}
 use Rattle.pmem_engine.specs.declared.resealing.NextSeal.{NextSeal}
 use Rattle.pmem_engine.specs.Engine.{EngineState}
+use Rattle.pmem_engine.specs.Parts.{Parts}
 use Rattle.pmem_engine.specs.Outcomes.{outcome_of_fault, fault_of_cut, fault_of_line, fault_of_path}
 use Rattle.pmem_engine.specs.Inner.{ended_by, cached_block}
 use Rattle.pmem_engine.specs.DirtyOrder.{dirty_order}
@@ -56,6 +57,10 @@ pub record Chip : Type 0 where
 abbrev pub chip_of : EngineState → LedgerState → ℕ → ℕ → Chip
 chip_of engine ledger tags digests =
     record { engine = engine; ledger = ledger; tags = tags; digests = digests }
+
+-- of a call's parts
+abbrev pub chip_in : Parts → Chip
+chip_in parts = chip_of parts.engine parts.ledger parts.tags parts.digests
 
 -- the same at a moment of a call
 module _ {S A : Type 0} (suite : SuiteOf S) (audit : AuditOf A) where

@@ -22,10 +22,10 @@ use Rattle.pmem_engine.specs.declared.fault.LineFault.{LineFault}
 use Rattle.pmem_engine.specs.declared.fault.LineFault.TheVariants as AtLine
 use Rattle.pmem_engine.specs.declared.resealing.HeldLine.{HeldLine}
 use Rattle.pmem_engine.specs.declared.resealing.NextSeal.{NextSeal}
-use Rattle.pmem_engine.specs.Parts.{Parts, regs_of, AreTrusted, AreSound, HoldsSeal, meta_line_in}
+use Rattle.pmem_engine.specs.Parts.{Parts, regs_of, AreTrusted, AreSound, HoldsSeal}
 use Rattle.pmem_engine.specs.Outcomes.{of_line, shown, outcome_of, is_sealed_by, OneLossEffect, TakesSteps, TakesFewer}
 use Rattle.pmem_engine.specs.Faults.{IsTagRefused, IsForgedShown}
-use Rattle.pmem_engine.specs.Calls.{IsMemory, IsUnrefused, KeepsShadow, IsTurnWork, AreUnderMinorZero, KeepsMetaLines, moment_in}
+use Rattle.pmem_engine.specs.CallFacts.{IsMemory, IsUnrefused, IsTurnWork, AreUnderMinorZero, KeepsMetaLines, moment_in}
 use Rattle.pmem_engine.specs.Committing.{entries_of, HasLineDone, HasCommitted, IsCutArmed}
 
 -- ---- a held line
@@ -131,11 +131,7 @@ pub record HasResealed (setup : Setup) (n : ℕ) (old new : Parts) (answer : Res
   pub work : IsOk answer → IsTurnWork old new
   pub meta_lines : IsOk answer → KeepsMetaLines setup.shape old.device.lines new.device.lines
   pub minors : AreUnderMinorZero made
-  pub shadow : KeepsShadow setup.shape old new
   pub engine : new.engine ≡ old.engine
   pub truth : (outcome_of (of_line answer) ≡ shown → ⊥) → new.ledger.truth ≡ old.ledger.truth
   pub root : (regs_of new).root ≡ (regs_of old).root
   pub digests : new.digests ≡ old.digests
-  pub metadata :
-      (regs_of old).group.items ≡ [] → (x : ℕ) → x < layout.meta_lines setup.shape
-      → meta_line_in setup.shape new x ≡ meta_line_in setup.shape old x

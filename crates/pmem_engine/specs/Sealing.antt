@@ -1,6 +1,5 @@
 -- What a commit with a page's new path makes: a seal of a line under its next counter, and a page's begin.
-use Rattle.std.specs.Prelude.{ℕ, ◌≡◌, ◌≢◌, ◌≤◌, ◌+◌, ◌%◌, ◌==◌, ◌⊎◌, Bool, true, false, List, [], ◌∷◌, ◌++◌, length, if◌then◌else◌, Some, IfOk, IsOk, IsErr, Result, Ok, Err}
-use Rattle.std.specs.List.{list_any}
+use Rattle.std.specs.Prelude.{ℕ, ◌≡◌, ◌+◌, ◌%◌, ◌==◌, ◌⊎◌, Bool, true, List, [], ◌∷◌, ◌++◌, length, if◌then◌else◌, Some, IfOk, IsOk, Result, Ok, Err}
 use Rattle.pmem_base.specs.declared.faults.Cut.{Cut}
 use Rattle.pmem_base.specs.declared.lines.Line.{Line}
 use Rattle.pmem_base.specs.declared.lines.Ctr.{Ctr}
@@ -17,12 +16,10 @@ use Rattle.suite.specs.Formulas.{Formulas}
 use Rattle.suite.specs.Setup.{Setup}
 use Rattle.split_counters.specs.declared.Block.{Block}
 use Rattle.split_counters.specs.Blocks.{packed, minor_of, with_minor, next_block}
-use Rattle.bonsai_tree.specs.Positions.{counter_position}
 use Rattle.board.specs.Device.{Device}
 use Rattle.board.specs.Steps.{WasCut}
 use Rattle.meta_cache.specs.Banks.{IsBanksOf}
 use Rattle.meta_path.specs.Blocks.{IsPathCached}
-use Rattle.meta_path.specs.Naming.{path_number}
 use Rattle.meta_path.specs.Storing.{IsPathOf, KeepsSlots}
 use Rattle.seal_ledger.specs.Ledger.{LedgerState, IsSealValue}
 use Rattle.page_reencrypt.specs.Registers.{registers_with_done, begun}
@@ -33,9 +30,9 @@ use Rattle.pmem_engine.specs.declared.fault.Fault.TheVariants as Fail
 use Rattle.pmem_engine.specs.declared.resealing.NextSeal.{NextSeal}
 use Rattle.pmem_engine.specs.Engine.{EngineState}
 use Rattle.pmem_engine.specs.Steps.{block_entry}
-use Rattle.pmem_engine.specs.Parts.{Parts, regs_of, AreTrusted, meta_line_in}
+use Rattle.pmem_engine.specs.Parts.{Parts, regs_of, AreTrusted}
 use Rattle.pmem_engine.specs.Outcomes.{of_cut, outcome_of, is_sealed_by, OneLossEffect, TakesSteps, TakesFewer}
-use Rattle.pmem_engine.specs.Calls.{IsPathNamedInMirror, IsBlockTrue, is_persisting, KeepsShadow, IsWork, begin_work, seal_work, KeepsButPath, KeepsOtherMeta}
+use Rattle.pmem_engine.specs.CallFacts.{IsPathNamedInMirror, IsBlockTrue, IsWork, begin_work, seal_work, KeepsButPath, KeepsOtherMeta}
 use Rattle.pmem_engine.specs.Inner.{cached_block}
 use Rattle.pmem_engine.specs.Committing.{entries_of, HasCommitted, IsCutArmed}
 
@@ -156,11 +153,6 @@ raised_block g engine a =
     let block = cached_block g engine (page_of a) in
     with_minor block (index_in_page a) (minor_of block (index_in_page a) + 1)
 
--- the path's blocks keep their slots
-abbrev pub KeepsNumbers : Shape → ℕ → EngineState → EngineState → Type 0
-KeepsNumbers g page old new =
-    (j : ℕ) → j ≤ g.levels → path_number g new.cache page j ≡ path_number g old.cache page j
-
 -- the steps of a seal: five where its page's counter block is written too
 abbrev pub seal_steps : ℕ → Ctr → ℕ
 seal_steps loss ctr = if ctr.minor % loss == 0 then 5 else 4
@@ -187,20 +179,12 @@ pub record HasSealedNext (setup : Setup) (at : ℕ) (plain : Line) (old new : Pa
       ≡ (if is_sealed_by made a then Some plain else plain_line setup.formulas old.ledger.marks a)
   pub path_cached : IsOk answer → IsPathCached setup.shape new.engine.cache (page_of at)
   pub path_named : IsOk answer → IsPathNamedInMirror setup.shape new.engine (page_of at)
-  pub shadow : KeepsShadow setup.shape old new
-  pub numbers : KeepsNumbers setup.shape (page_of at) old.engine new.engine
   pub down : new.engine.down ≡ old.engine.down
   pub steps :
       TakesSealSteps (seal_steps (regs_of old).loss (next_counter_of setup.shape old.engine at)) old new answer
   pub work : IfOk answer (λ ctr. IsWork (seal_work setup.shape (regs_of old).loss ctr) old new)
   pub cache : KeepsButPath setup.shape (page_of at) old.engine.cache new.engine.cache
-  -- a cut leaves the group armed where the mark was made
-  pub armed : IsErr answer → (made ≡ []) ⊎ ((regs_of new).group.items ≢ [])
   pub meta_lines : IsOk answer → KeepsOtherMeta setup.shape (page_of at) old.device.lines new.device.lines
-  pub block_kept :
-      (regs_of old).group.items ≡ [] → list_any (is_persisting (regs_of old).loss at) made ≡ false
-      → meta_line_in setup.shape new (counter_position setup.shape (page_of at))
-      ≡ meta_line_in setup.shape old (counter_position setup.shape (page_of at))
   pub block_written :
       AreTrusted setup old → IsOk answer
       → ((next_counter_of setup.shape old.engine at).minor % (regs_of old).loss == 0) ≡ true
@@ -235,13 +219,6 @@ pub record HasBegunPage (setup : Setup) (page : ℕ) (old new : Parts) (answer :
   pub done : OneLossEffect setup (outcome_of answer) made old new
   pub marks : HasBeginMarks page made answer
   pub opened : IsOk answer → IsPageOpened setup page old new
-  -- the counter block's line, where the page wasn't begun
-  pub block_kept :
-      made ≡ []
-      → meta_line_in setup.shape new (counter_position setup.shape page)
-      ≡ meta_line_in setup.shape old (counter_position setup.shape page)
-  pub shadow : KeepsShadow setup.shape old new
-  pub numbers : KeepsNumbers setup.shape page old.engine new.engine
   pub down : new.engine.down ≡ old.engine.down
   pub steps : TakesBeginSteps old new answer
   pub work : IsOk answer → IsWork (begin_work setup.shape 1) old new

@@ -1,8 +1,6 @@
 -- Parts of a write: its overflow, its plain line, the page that is finished before, and its begin.
 use Rattle.std.specs.Prelude.{ℕ, ◌≡◌, ◌<◌, ◌≤◌, ◌+◌, ◌∷◌, ◌-◌, ◌*◌, ◌^◌, ◌==◌, ◌⊎◌, Bool, true, false, nat_lt, nat_le, List, [], ◌++◌, length, map, Option, Some, None, position, IfOk, IfSome, IsOk, IsTrue, Result, Ok, Err, ⊤, if◌then◌else◌, ◌≢◌, ◌%◌}
-use Rattle.std.specs.List.{list_any}
 use Rattle.pmem_base.specs.declared.lines.Ctr.{Ctr}
-use Rattle.bonsai_tree.specs.Positions.{counter_position}
 use Rattle.pmem_base.specs.declared.lines.Line.{Line}
 use Rattle.pmem_base.specs.declared.commands.Posted.{Posted}
 use Rattle.pmem_base.specs.declared.registers.Progress.{Progress}
@@ -25,10 +23,10 @@ use Rattle.pmem_engine.specs.declared.fault.Fault.{Fault}
 use Rattle.pmem_engine.specs.declared.fault.Fault.TheVariants as Fail
 use Rattle.pmem_engine.specs.declared.fault.LineFault.{LineFault}
 use Rattle.pmem_engine.specs.declared.fault.LineFault.TheVariants as AtLine
-use Rattle.pmem_engine.specs.Parts.{Parts, regs_of, AreTrusted, AreSound, HoldsSeal, meta_line_in}
+use Rattle.pmem_engine.specs.Parts.{Parts, regs_of, AreTrusted, AreSound, HoldsSeal}
 use Rattle.pmem_engine.specs.Outcomes.{of_line, shown, outcome_of, is_sealed_by, OneLossEffect, TakesSteps, TakesAtMost, TakesFewer, is_seal_of}
 use Rattle.pmem_engine.specs.Faults.{IsTagRefused, IsForgedShown}
-use Rattle.pmem_engine.specs.Calls.{IsMemory, IsDownAnswer, IsUnrefused, IsLeftAlone, moment_in, AreMarksOfWrite, memory_after, AnswersWrite, TakesSpent, IsPathNamedInMirror, TakesOfWrite, is_persisting, IsBlockTrue, KeepsShadow, IsMetaUncached, IsPastFetch, HasNamedSome, AreUnderMinorZero, AreInWriteOrder, IsWork, unseal_work, reseal_work, unsealed_count, KeepsMetaLines, IsWriteWork, IsRefusedAsFetched, IsCutOfWrite}
+use Rattle.pmem_engine.specs.CallFacts.{IsMemory, IsDownAnswer, IsUnrefused, IsLeftAlone, moment_in, AreMarksOfWrite, memory_after, AnswersWrite, TakesSpent, IsPathNamedInMirror, TakesOfWrite, IsBlockTrue, IsPastFetch, AreUnderMinorZero, AreInWriteOrder, IsWork, unseal_work, reseal_work, unsealed_count, KeepsMetaLines, IsWriteWork}
 use Rattle.pmem_engine.specs.Resealing.{register_in}
 use Rattle.pmem_engine.specs.Sealing.{HasBegunPage}
 
@@ -126,7 +124,6 @@ pub record HasFinishedPage (setup : Setup) (n : ℕ) (old new : Parts) (answer :
   pub seals : IsOk answer → seal_count made ≡ length made
   pub work : IsOk answer → IsWork (reseal_work (length made)) old new
   pub meta_lines : IsOk answer → KeepsMetaLines setup.shape old.device.lines new.device.lines
-  pub shadow : KeepsShadow setup.shape old new
   pub few_steps : TakesAtMost (4 * length (not_done (register_in old n))) old.device new.device
   pub done : OneLossEffect setup (outcome_of (of_line answer)) made old new
   pub marks :
@@ -153,9 +150,6 @@ pub record HasFinishedPage (setup : Setup) (n : ℕ) (old new : Parts) (answer :
   pub truth : (outcome_of (of_line answer) ≡ shown → ⊥) → new.ledger.truth ≡ old.ledger.truth
   pub root : (regs_of new).root ≡ (regs_of old).root
   pub digests : new.digests ≡ old.digests
-  pub metadata :
-      (regs_of old).group.items ≡ [] → (x : ℕ) → x < layout.meta_lines setup.shape
-      → meta_line_in setup.shape new x ≡ meta_line_in setup.shape old x
 
 -- the place found, or the oldest where four registers are in use
 abbrev pub register_found : Option ℕ → ℕ → Option ℕ
@@ -207,16 +201,8 @@ pub record UpWriteOutcome (setup : Setup) (write : Posted) (old new : Parts) (an
   pub sealed_before :
       AreTrusted setup old → (a : ℕ) → a < layout.data_lines setup.shape
       → IsTrue (is_sealed_by made a) → (a ≢ write.at) ⊎ (write.len < 64) → HoldsSeal setup.shape old a
-  pub path_cached : IsOk answer → IsPathCached setup.shape new.engine.cache (page_of write.at)
   pub path_named : IsOk answer → IsPathNamedInMirror setup.shape new.engine (page_of write.at)
   pub path_fetched : IsPastFetch old new answer → IsPathCached setup.shape new.engine.cache (page_of write.at)
-  pub meta_uncached : IsMetaUncached setup.shape (page_of write.at) old answer
-  pub names : HasNamedSome setup.shape (page_of write.at) old new
-  pub refused : IsRefusedAsFetched setup.shape (page_of write.at) old new answer
-  pub cut : IsCutOfWrite setup write made old new answer
-  pub own_armed :
-      AreTrusted setup old → (memory : Memory) → IsMemory setup memory old → answer ≡ Err Fail.Cut
-      → IsTrue (is_sealed_by made write.at) → (regs_of new).group.items ≢ []
   pub order : AreInWriteOrder write.at made
   pub own_sealed : IsOk answer → IsTrue (is_sealed_by made write.at)
   pub few_steps : TakesAtMost (2 * path_length setup.shape + 264) old.device new.device
@@ -230,15 +216,6 @@ pub record UpWriteOutcome (setup : Setup) (write : Posted) (old new : Parts) (an
       AreTrusted setup old → (memory : Memory) → IsMemory setup memory old
       → marks_of_write setup.formulas (moment_in setup memory old) write ≡ None
       → TakesSpent setup.shape (outcome_of answer) old new
-  pub steps_of_named :
-      IsPathCached setup.shape old.engine.cache (page_of write.at)
-      → IsPathNamedInMirror setup.shape old.engine (page_of write.at) → length made ≡ 1
-      → IfOk answer (λ ctr.
-      TakesSteps (if ctr.minor % (regs_of old).loss == 0 then 5 else 4) old.device new.device)
-  pub block_kept :
-      (regs_of old).group.items ≡ [] → list_any (is_persisting (regs_of old).loss write.at) made ≡ false
-      → meta_line_in setup.shape new (counter_position setup.shape (page_of write.at))
-      ≡ meta_line_in setup.shape old (counter_position setup.shape (page_of write.at))
   pub block_written :
       AreTrusted setup old → IfOk answer (λ ctr. ctr.minor % (regs_of old).loss ≡ 0
       → IsBlockTrue setup new (page_of write.at))

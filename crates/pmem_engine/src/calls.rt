@@ -14,7 +14,8 @@ ghost use Rattle.pmem_engine.specs.Plans.{chip_at, read_plan, turn_plan, flush_p
 ghost use Rattle.pmem_engine.specs.WritePlans.{write_plan};
 ghost use Rattle.pmem_engine.specs.Outcomes.{of_cut, outcome_of, is_going};
 ghost use Rattle.pmem_engine.specs.Inner.{ended_by};
-ghost use Rattle.pmem_engine.specs.Calls.{IsReady, IsUsable, whole_write, HasReadLine, HasWrittenLine, HasTurned, HasFlushed, HasSetLoss};
+ghost use Rattle.pmem_engine.specs.CallFacts.{IsReady, IsUsable, whole_write};
+ghost use Rattle.pmem_engine.specs.Calls.{HasReadLine, HasWrittenLine, HasTurned, HasFlushed, HasSetLoss};
 
 use crate::engine::Engine;
 use crate::fault::{Fault, line_answer};

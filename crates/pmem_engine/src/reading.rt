@@ -14,7 +14,7 @@ ghost use Rattle.call_plan.specs.Following.{Follows};
 ghost use Rattle.pmem_engine.specs.Plans.{chip_at, fetch_path_plan, read_line_plan, unseal_plan};
 ghost use Rattle.pmem_engine.specs.Invariants.{IsTrusted};
 ghost use Rattle.pmem_engine.specs.Parts.{parts_at, setup_at};
-ghost use Rattle.pmem_engine.specs.Calls.{IsUsable};
+ghost use Rattle.pmem_engine.specs.CallFacts.{IsUsable};
 ghost use Rattle.pmem_engine.specs.Inner.{cached_block, HasFetched, HasUnsealed, UpReadOutcome};
 
 use crate::engine::Engine;

@@ -8,7 +8,7 @@ ghost use Rattle.seal_ledger.specs.Notes.{HasRoom};
 ghost use Rattle.page_reencrypt.specs.Registers.{registers_with_done};
 ghost use Rattle.pmem_engine.specs.Committing.{next_seal_of, entries_of, HasLineDone};
 ghost use Rattle.pmem_engine.specs.Parts.{parts_at, setup_at};
-ghost use Rattle.pmem_engine.specs.Calls.{IsUsable};
+ghost use Rattle.pmem_engine.specs.CallFacts.{IsUsable};
 ghost use Rattle.call_plan.specs.Plans.{ended};
 ghost use Rattle.call_plan.specs.Following.{Follows};
 ghost use Rattle.pmem_engine.specs.Plans.{chip_at, commit_plan, reseal_plan};

@@ -15,7 +15,7 @@ ghost use Rattle.call_plan.specs.Following.{Follows};
 ghost use Rattle.pmem_engine.specs.Parts.{parts_at, setup_at};
 ghost use Rattle.pmem_engine.specs.Plans.{chip_of, chip_at, ended_with};
 ghost use Rattle.pmem_engine.specs.SealPlans.{with_path, with_true_path, commit_seal_plan, commit_begin_plan, seal_next_plan, begin_page_plan};
-ghost use Rattle.pmem_engine.specs.Calls.{IsUsable, IsPathNamedInMirror};
+ghost use Rattle.pmem_engine.specs.CallFacts.{IsUsable, IsPathNamedInMirror};
 ghost use Rattle.pmem_engine.specs.Inner.{cached_block};
 ghost use Rattle.pmem_engine.specs.Sealing.{next_counter_of, raised_block, HasSealedNext, HasBegunPage, HasStoredPath, seal_group, begin_group, HasSealCommitted, IsSealCut, HasBeginCommitted, IsBeginCut};
 

@@ -13,7 +13,7 @@ ghost use Rattle.call_plan.specs.Following.{Follows};
 ghost use Rattle.pmem_engine.specs.Plans.{chip_at, ended_with};
 ghost use Rattle.pmem_engine.specs.SealPlans.{begin_for_plan};
 ghost use Rattle.pmem_engine.specs.WritePlans.{plain_plan, finish_page_plan, finish_for_plan, write_posted_plan};
-ghost use Rattle.pmem_engine.specs.Calls.{IsUsable, IsPathNamedInMirror};
+ghost use Rattle.pmem_engine.specs.CallFacts.{IsUsable, IsPathNamedInMirror};
 ghost use Rattle.pmem_engine.specs.Inner.{cached_block};
 ghost use Rattle.pmem_engine.specs.Writing.{overflow_of, HasMadePlain, register_to_finish, HasFinishedPage, HasFinishedFor, HasBegunFor, UpWriteOutcome};
 

@@ -9,6 +9,7 @@ pub mod EndLaws
 pub mod NamedLaws
 pub mod PartLaws
 pub mod WritePlans
+pub mod Reading
 pub mod NamedPlans
 pub mod NodePlans
 pub mod TrialPlans
@@ -23,9 +24,17 @@ pub mod AnswerLaws
 pub mod FrontLaws
 pub mod WorkLaws
 pub mod ReadLaws
+pub mod MakingEnds
+pub mod TrialEnds
+pub mod BlockEnds
+pub mod NodeEnds
+pub mod RootEnds
+pub mod WriteEnds
+pub mod MendEnds
 pub mod RecoverLaws
 pub mod FormatSteps
 pub mod FormatPlans
+pub mod UncutRuns
 pub mod FormattedLaws
 pub mod LatchLaws
 pub mod ResultLaws

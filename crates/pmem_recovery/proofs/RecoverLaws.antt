@@ -21,13 +21,14 @@ use Rattle.pmem_engine.specs.Outcomes.{TakesAtMost}
 use Rattle.pmem_recovery.specs.declared.faults.RecFault.{RecFault}
 use Rattle.pmem_recovery.specs.declared.faults.RecFault.TheVariants.{Memory, Cut, NoCounter, Root, Twin}
 use Rattle.pmem_recovery.specs.Trials.{IsTwinOfLastSeal}
-use Rattle.pmem_recovery.specs.Written.{IsRecovered, differing}
-use Rattle.pmem_recovery.specs.Parts.{IfLinesTold, KeepsDevice, IsUncut, StopsBy, SuiteState, SuiteWork, SuiteWorkAtMost, HasRoot, IsFaultShown, IsRefusal, IsStageStopped, StoppedWork, IsAllWork}
-use Rattle.pmem_recovery.specs.Writing.{IfBothLinesTold}
+use Rattle.pmem_recovery.specs.Written.{differing}
+use Rattle.pmem_recovery.specs.Parts.{IfLinesTold, KeepsDevice, IsUncut, StopsBy, SuiteState, SuiteWork, IsFaultShown, IsRefusal, StoppedWork}
 use Rattle.pmem_recovery.specs.Mending.{IsPartlyMended, most_reads, most_writes, HasMadeWrites, IsStoppedShort}
 use Rattle.pmem_recovery.specs.Recovered.{RegsAfter, PowerAfter, HasOnlyRedone, IsUnchanged, most_recovery_steps, StepsAfter, CountsAtMost, IsTwinValid, IsNoCounterUnmendable, IsMendedAs, PlanAfter, HasRecovered, IsUncounted}
 use Rattle.call_plan.specs.Following.{Follows}
-use Rattle.pmem_recovery.specs.Plans.{counts_of, recover_plan}
+use Rattle.pmem_recovery.specs.Plans.{SuiteCounts, counts_of, recover_plan}
+use Rattle.pmem_recovery.proofs.MakingEnds.{after_work}
+use Rattle.pmem_recovery.proofs.MendEnds.{IsMended, IsLeftBy}
 use Rattle.pmem_recovery.specs.Fronts.{IsFrontWritten}
 use Rattle.pmem_recovery.proofs.PartLaws.{IsUncut-then, IsCutOff-after}
 use Rattle.pmem_recovery.proofs.FrontLaws.{front_partly, front_without, fixed_recovered, fixed_without}
@@ -66,8 +67,7 @@ pub record IsRecoveryRun (setup : Setup) (old mid new : Device) : Type 0 where
   pub written : HasMadeWrites setup mid.regs mid new
   pub few_reads :
       IfLinesTold mid.lines
-      (λ lines. length lines ≡ layout.device_lines setup.shape
-      → RisesAtMost (named_reads setup.shape (shadow_of setup.shape lines)) mid.reads new.reads)
+      (λ lines. RisesAtMost (named_reads setup.shape (shadow_of setup.shape lines)) mid.reads new.reads)
 
 module _ (setup : Setup) (ledger : LedgerState) (old mid new : Device) (run : IsRecoveryRun setup old mid new) where
   pub new_regs : new.regs ≡ without_group old.regs
@@ -125,7 +125,7 @@ module _ (setup : Setup) (ledger : LedgerState) (old mid new : Device) (run : Is
   its_few_reads lines told =
       let at = its_mid lines told in
       subst (λ n. RisesAtMost (named_reads setup.shape (shadow_of setup.shape (redone old.regs.group.items lines))) n new.reads) run.finished.reads
-      (run.few_reads (redone old.regs.group.items lines) at.0 at.1)
+      (run.few_reads (redone old.regs.group.items lines) at.0)
 
   pub its_lines : (lines now : List Line) → old.lines ≡ Some lines → new.lines ≡ Some now → AreItsLines lines now
   its_lines lines now told after =
@@ -229,8 +229,18 @@ module _ (setup : Setup) (ledger : LedgerState) (old mid new : Device) (run : Is
   plan_after suite_old suite_new Memory shown it = absurd shown
   plan_after suite_old suite_new fault shown it = it
 
-  pub recovered_fault : (suite_old suite_new : SuiteState) (fault : RecFault) → Follows (recover_plan setup old.regs (counts_of suite_old)) old new (Err (counts_of suite_new, fault)) → IfLinesTold mid.lines (λ lines. length lines ≡ layout.device_lines setup.shape → IsReadUntil setup.shape (shadow_of setup.shape lines) mid.regs fault mid.reads new.reads) → IsStageStopped setup.formulas fault (λ lines. length lines ≡ layout.device_lines setup.shape → IsRefusal setup lines mid.regs fault) mid new → IsStoppedShort setup.shape fault mid new → IfLinesTold mid.lines (λ lines. length lines ≡ layout.device_lines setup.shape → StoppedWork setup.shape lines mid.regs fault suite_old suite_new) → SuiteWorkAtMost (64 * mid.regs.loss * layout.slots setup.shape) (4 * setup.shape.levels * layout.slots setup.shape + 1) suite_old suite_new → HasRecovered setup ledger old new suite_old suite_new (Err fault)
-  recovered_fault suite_old suite_new fault plan reads s short stopped work =
+  -- the counts, from those of the plan's end
+  suite_work : (trials digests : ℕ) (suite_old suite_new : SuiteState) → suite_new.keys ≡ suite_old.keys → suite_new.pads ≡ suite_old.pads
+      → counts_of suite_new ≡ after_work trials digests (counts_of suite_old) → SuiteWork trials digests suite_old suite_new
+  suite_work trials digests suite_old suite_new keys pads counted =
+      record { keys = keys; pads = pads; tags = ap (λ (c : SuiteCounts). c.tags) counted; digests = ap (λ (c : SuiteCounts). c.digests) counted }
+
+  pub recovered_fault : (suite_old suite_new : SuiteState) (fault : RecFault) → suite_new.keys ≡ suite_old.keys → suite_new.pads ≡ suite_old.pads
+      → Follows (recover_plan setup old.regs (counts_of suite_old)) old new (Err (counts_of suite_new, fault))
+      → IsLeftBy setup mid.regs mid new (counts_of suite_old) (counts_of suite_new, fault) → HasRecovered setup ledger old new suite_old suite_new (Err fault)
+  recovered_fault suite_old suite_new fault keys pads plan left =
+      let s = left.stops in
+      let worked = suite_work s.trials s.digests suite_old suite_new keys pads s.counted in
       record {
         size = run.written.size ∙ run.finished.size;
         told = its_told;
@@ -240,28 +250,28 @@ module _ (setup : Setup) (ledger : LedgerState) (old mid new : Device) (run : Is
             let at = its_mid lines told in
             read_until_without setup.shape (shadow_of setup.shape (redone old.regs.group.items lines)) old.regs mid.regs fault old.reads new.reads run.finished.regs
             (subst (λ n. IsReadUntil setup.shape (shadow_of setup.shape (redone old.regs.group.items lines)) mid.regs fault n new.reads) run.finished.reads
-            (reads (redone old.regs.group.items lines) at.0 at.1));
+            ((s.over (redone old.regs.group.items lines) at.0).reads mid.reads new.reads left.its_reads));
         regs = regs_after fault s.shown;
         valid = its_valid;
-        power = power_after fault s.device;
-        unchanged = unchanged_after fault s.shown short;
+        power = power_after fault left.device;
+        unchanged = unchanged_after fault s.shown left.short;
         writes = its_writes;
         latches = its_latches;
-        steps = steps_after fault short;
-        keys = work.worked.keys;
-        pads = work.worked.pads;
+        steps = steps_after fault left.short;
+        keys = keys;
+        pads = pads;
         trials = tt;
         digests = tt;
         uncounted = uncounted_after suite_old suite_new fault s.shown;
         work = λ lines told.
             let at = its_mid lines told in
             stopped_without setup.shape (redone old.regs.group.items lines) old.regs mid.regs fault suite_old suite_new run.finished.regs
-            (stopped (redone old.regs.group.items lines) at.0 at.1);
+            (record { trials = s.trials; digests = s.digests; so_far = (s.over (redone old.regs.group.items lines) at.0).work; worked = worked });
         few_work = tt;
         few_trials =
             subst (λ n. CountsAtMost (64 * n * layout.slots setup.shape) suite_old.tags suite_new.tags) mid_emptied.same_loss
-            (record { calls = work.trials; few = work.few_trials; counted = work.worked.tags });
-        few_digests = record { calls = work.digests; few = work.few_digests; counted = work.worked.digests };
+            (record { calls = s.trials; few = s.few_trials; counted = worked.tags });
+        few_digests = record { calls = s.digests; few = s.few_digests; counted = worked.digests };
         anchored = its_anchored;
         engine = tt;
         trusted = λ a. tt;
@@ -269,7 +279,7 @@ module _ (setup : Setup) (ledger : LedgerState) (old mid new : Device) (run : Is
         plan = plan_after suite_old suite_new fault s.shown plan;
         lines = λ lines told now after.
             let m = its_lines lines now told after in
-            let refused = s.reason (redone old.regs.group.items lines) m.mid_told m.long in
+            let refused = (s.over (redone old.regs.group.items lines) m.mid_told).refusal in
             let as_asked = IsRefusal-without setup (redone old.regs.group.items lines) old.regs mid.regs fault run.finished.regs refused in
             record {
               from_durable = λ d. mended_after now fault (true_refusal setup (redone old.regs.group.items lines) mid.regs ledger fault run.shape (mid_mendable lines d) refused) (its_durable lines now m d);
@@ -287,9 +297,12 @@ module _ (setup : Setup) (ledger : LedgerState) (old mid new : Device) (run : Is
 
   -- ---- a new engine
 
-  pub recovered_ok : (suite_old suite_new : SuiteState) (work : Work) → Follows (recover_plan setup old.regs (counts_of suite_old)) old new (Ok (counts_of suite_new, (new_engine setup.shape, work))) → IfLinesTold mid.lines (λ lines. length lines ≡ layout.device_lines setup.shape → RisesBy (all_reads setup.shape (shadow_of setup.shape lines) mid.regs) mid.reads new.reads) → IsUncut mid new → IfBothLinesTold mid new (λ lines now. length lines ≡ layout.device_lines setup.shape → IsRecovered setup lines mid.regs now × HasRoot setup lines mid.regs) → IfLinesTold mid.lines (λ lines. length lines ≡ layout.device_lines setup.shape → IsAllWork setup.shape lines mid.regs work.trials work.digests) → SuiteWork work.trials work.digests suite_old suite_new → work.trials ≤ 64 * mid.regs.loss * layout.slots setup.shape → work.digests ≤ 4 * setup.shape.levels * layout.slots setup.shape + 1 → HasRecovered setup ledger old new suite_old suite_new (Ok (new_engine setup.shape, work))
-  recovered_ok suite_old suite_new work plan reads goes recovered all_work worked few_trials few_digests =
-      let few : work.trials ≤ 64 * old.regs.loss * layout.slots setup.shape = subst (λ n. work.trials ≤ 64 * n * layout.slots setup.shape) mid_emptied.same_loss few_trials in
+  pub recovered_ok : (suite_old suite_new : SuiteState) (work : Work) → suite_new.keys ≡ suite_old.keys → suite_new.pads ≡ suite_old.pads
+      → Follows (recover_plan setup old.regs (counts_of suite_old)) old new (Ok (counts_of suite_new, (new_engine setup.shape, work)))
+      → IsMended setup mid.regs mid new (counts_of suite_old) (counts_of suite_new) work → HasRecovered setup ledger old new suite_old suite_new (Ok (new_engine setup.shape, work))
+  recovered_ok suite_old suite_new work keys pads plan mended =
+      let worked = suite_work work.trials work.digests suite_old suite_new keys pads mended.counted in
+      let few : work.trials ≤ 64 * old.regs.loss * layout.slots setup.shape = subst (λ n. work.trials ≤ 64 * n * layout.slots setup.shape) mid_emptied.same_loss mended.few_trials in
       record {
         size = run.written.size ∙ run.finished.size;
         told = its_told;
@@ -299,26 +312,26 @@ module _ (setup : Setup) (ledger : LedgerState) (old mid new : Device) (run : Is
             let at = its_mid lines told in
             all_reads_without setup.shape (shadow_of setup.shape (redone old.regs.group.items lines)) old.regs mid.regs old.reads new.reads run.finished.regs
             (subst (λ n. RisesBy (all_reads setup.shape (shadow_of setup.shape (redone old.regs.group.items lines)) mid.regs) n new.reads) run.finished.reads
-            (reads (redone old.regs.group.items lines) at.0 at.1));
+            (mended.all_read (redone old.regs.group.items lines) at.0));
         regs = new_regs;
         valid = its_valid;
-        power = IsUncut-then old mid new goes_before goes;
+        power = IsUncut-then old mid new goes_before mended.goes;
         unchanged = tt;
         writes = its_writes;
         latches = its_latches;
         steps = its_steps_in_all;
-        keys = worked.keys;
-        pads = worked.pads;
+        keys = keys;
+        pads = pads;
         trials = worked.tags;
         digests = worked.digests;
         uncounted = tt;
         work = λ lines told.
             let at = its_mid lines told in
             all_without setup.shape (redone old.regs.group.items lines) old.regs mid.regs work.trials work.digests run.finished.regs
-            (all_work (redone old.regs.group.items lines) at.0 at.1);
-        few_work = record { trials = few; digests = few_digests };
+            (mended.all_work (redone old.regs.group.items lines) at.0);
+        few_work = record { trials = few; digests = mended.few_digests };
         few_trials = record { calls = work.trials; few = few; counted = worked.tags };
-        few_digests = record { calls = work.digests; few = few_digests; counted = worked.digests };
+        few_digests = record { calls = work.digests; few = mended.few_digests; counted = worked.digests };
         anchored = its_anchored;
         engine = refl;
         trusted = λ a. IsTrusted-fresh setup new.regs ledger (its_anchored a) emptied.no_group;
@@ -326,7 +339,7 @@ module _ (setup : Setup) (ledger : LedgerState) (old mid new : Device) (run : Is
         plan = plan;
         lines = λ lines told now after.
             let m = its_lines lines now told after in
-            let r = recovered (redone old.regs.group.items lines) m.mid_told now after m.long in
+            let r = mended.recovered (redone old.regs.group.items lines) m.mid_told now after m.long in
             let zero = IsShadowZero-recovered setup (redone old.regs.group.items lines) mid.regs now r.0 in
             record {
               from_durable = λ d.

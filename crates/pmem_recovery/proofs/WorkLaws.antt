@@ -1,7 +1,6 @@
 -- Laws of how much a recovery tries: line by line, page by page, and where it stops.
-use Rattle.std.proofs.Common.{ℕ, zero, suc, ◌≡◌, ◌<◌, ◌≤◌, ◌+◌, ◌-◌, ◌*◌, ◌/◌, true, false, cond, List, length, Option, Some, None, Result, Ok, Err, refl, ap, sym, subst, ◌∙◌, inl, inr, add-one, arith}
+use Rattle.std.proofs.Common.{ℕ, zero, suc, ◌≡◌, ◌<◌, ◌≤◌, ◌+◌, ◌-◌, ◌*◌, true, false, cond, List, length, Option, Some, None, refl, ap, sym, ◌∙◌, inr, add-one, arith}
 use Rattle.std.specs.Prelude.{slice_index, is_some}
-use Rattle.std.specs.Result.{IfErr}
 use Rattle.std.proofs.lemmas.Bool.{false≢true}
 use Rattle.pmem_base.specs.declared.lines.Line.{Line}
 use Rattle.pmem_base.specs.declared.registers.Progress.{Progress}
@@ -14,14 +13,12 @@ use Rattle.bonsai_tree.specs.Positions.{counter_position}
 use Rattle.page_reencrypt.specs.Registers.{register_held}
 use Rattle.split_counters.specs.declared.Block.{Block}
 use Rattle.stop_loss.specs.Windows.{window_minors}
-use Rattle.suite.specs.Formulas.{Formulas}
-use Rattle.suite.specs.Setup.{Setup}
 use Rattle.pmem_engine.specs.Invariants.{is_named}
 use Rattle.pmem_recovery.specs.declared.faults.RecFault.{RecFault}
 use Rattle.pmem_recovery.specs.declared.faults.RecFault.TheVariants.{Memory, Cut, NoCounter, Root, Twin}
 use Rattle.pmem_recovery.specs.Trials.{stored_block, candidates, candidates_of, trials_of, trials_below}
-use Rattle.pmem_recovery.specs.Parts.{SuiteState, SuiteWork, IsUndecided, IsLineRefusal, IsRootFault, IsCompared, line_tries, IsTriedUntil, TriesUntil, root_digests, all_digests, IsWorkBefore, StoppedWork, IsAllWork}
-use Rattle.pmem_recovery.proofs.PartLaws.{SuiteWork-none, SuiteWork-then, SuiteWork-digests}
+use Rattle.pmem_recovery.specs.Parts.{SuiteState, IsTriedUntil, TriesUntil, IsWorkBefore, StoppedWork, IsAllWork}
+use Rattle.pmem_recovery.proofs.PartLaws.{SuiteWork-none}
 
 -- ---- one line
 
@@ -52,13 +49,6 @@ trials_of-unnamed g lines regs a none = ap (λ b. cond b (length (candidates_of 
 pub trials_below-none : (g : Shape) (lines : List Line) (regs : Regs) → trials_below g lines regs 0 ≡ 0
 unfolding trials_below
 trials_below-none g lines regs = refl
-
--- at the first counter block, from so many pages
-pub trials_below-start : (g : Shape) (lines : List Line) (regs : Regs) (count : ℕ) → count ≡ layout.pages g → 0 ≡ trials_below g lines regs (64 * ((count - 1) / 3 - layout.level_start g.levels))
-trials_below-start g lines regs count e =
-    let start : (count - 1) / 3 ≡ layout.level_start g.levels = ap (λ n. (n - 1) / 3) e in
-    let none : 0 ≡ 64 * ((count - 1) / 3 - layout.level_start g.levels) = omega (arith, start) in
-    sym (trials_below-none g lines regs) ∙ ap (trials_below g lines regs) none
 
 pub trials_below-next : (g : Shape) (lines : List Line) (regs : Regs) (a : ℕ) → trials_below g lines regs (a + 1) ≡ trials_below g lines regs a + trials_of g lines regs a
 unfolding trials_below
@@ -91,51 +81,6 @@ trials_below-without g lines regs (suc a) = ap (λ n. n + trials_of g lines regs
 
 -- ---- where the trials stop
 
-pub tries_undecided : (f : Formulas) (at major : ℕ) (cipher : Line) (tag matching : List ℕ) (fault : RecFault) (n m : ℕ) (old new : SuiteState) → IsUndecided f at major cipher tag matching fault → n ≡ m → SuiteWork n 0 old new → SuiteWork (line_tries fault m) 0 old new
-tries_undecided f at major cipher tag matching Memory n m old new u e w = absurd u
-tries_undecided f at major cipher tag matching Cut n m old new u e w = absurd u
-tries_undecided f at major cipher tag matching (NoCounter a) n m old new u e w = subst (λ k. SuiteWork k 0 old new) e w
-tries_undecided f at major cipher tag matching (Root kept found) n m old new u e w = absurd u
-tries_undecided f at major cipher tag matching (Twin a x low high c t) n m old new u e w = subst (λ k. SuiteWork k 0 old new) e w
-
-pub tries_line : (setup : Setup) (lines : List Line) (regs : Regs) (at : ℕ) (fault : RecFault) (old new : SuiteState) → is_named setup.shape lines (counter_position setup.shape (page_of at)) ≡ true → IsLineRefusal setup lines regs at fault → SuiteWork (line_tries fault (length (candidates_of setup.shape lines regs at))) 0 old new → TriesUntil setup.shape lines regs at (at + 1) fault old new
-tries_line setup lines regs at Memory old new named r w = absurd r
-tries_line setup lines regs at Cut old new named r w = record { count = 0; so_many = (at, omega arith, omega arith, omega arith); worked = w }
-tries_line setup lines regs at (NoCounter a) old new named r w =
-    let here = trials_of-named setup.shape lines regs at named in
-    let next = trials_below-next setup.shape lines regs at in
-    record {
-      count = length (candidates_of setup.shape lines regs at);
-      so_many = subst (λ b. length (candidates_of setup.shape lines regs at) + trials_below setup.shape lines regs at ≡ trials_below setup.shape lines regs (b + 1)) (sym r.0) (omega (arith, here, next));
-      worked = w;
-    }
-tries_line setup lines regs at (Root kept found) old new named r w = absurd r
-tries_line setup lines regs at (Twin a major low high cipher tag) old new named r w =
-    let here = trials_of-named setup.shape lines regs at named in
-    let next = trials_below-next setup.shape lines regs at in
-    record {
-      count = length (candidates_of setup.shape lines regs at);
-      so_many = subst (λ b. length (candidates_of setup.shape lines regs at) + trials_below setup.shape lines regs at ≡ trials_below setup.shape lines regs (b + 1)) (sym r.0) (omega (arith, here, next));
-      worked = w;
-    }
-
--- after trials that found their minors
-tried_after : (g : Shape) (lines : List Line) (regs : Regs) (fault : RecFault) (n m from next to end : ℕ) → n + trials_below g lines regs from ≡ trials_below g lines regs next → from ≤ next → to ≤ end → IsTriedUntil g lines regs next to fault m → IsTriedUntil g lines regs from end fault (n + m)
-tried_after g lines regs Memory n m from next to end e low high t = absurd t
-tried_after g lines regs Cut n m from next to end e low high (at, after, before, count) =
-    (at, omega (arith, low, after), omega (arith, high, before), omega (arith, e, count))
-tried_after g lines regs (NoCounter at) n m from next to end e low high t = omega (arith, e, t)
-tried_after g lines regs (Root kept found) n m from next to end e low high t = absurd t
-tried_after g lines regs (Twin at major less more cipher tag) n m from next to end e low high t = omega (arith, e, t)
-
-pub tries_after : (g : Shape) (lines : List Line) (regs : Regs) (fault : RecFault) (n from next to end : ℕ) (old mid new : SuiteState) → n + trials_below g lines regs from ≡ trials_below g lines regs next → from ≤ next → to ≤ end → SuiteWork n 0 old mid → TriesUntil g lines regs next to fault mid new → TriesUntil g lines regs from end fault old new
-tries_after g lines regs fault n from next to end old mid new e low high a t =
-    record {
-      count = n + t.count;
-      so_many = tried_after g lines regs fault n t.count from next to end e low high t.so_many;
-      worked = SuiteWork-then n 0 t.count 0 old mid new a t.worked;
-    }
-
 -- a cut before any trial
 pub tries_none : (g : Shape) (lines : List Line) (regs : Regs) (from end : ℕ) (suite : SuiteState) → from ≤ end → TriesUntil g lines regs from end Cut suite suite
 tries_none g lines regs from end suite low = record { count = 0; so_many = (from, omega arith, low, omega arith); worked = SuiteWork-none suite }
@@ -157,35 +102,6 @@ stopped_trials g lines regs fault old new t =
     go (NoCounter at) h = (omega (arith, h, none), refl)
     go (Root kept found) h = absurd h
     go (Twin at major low high cipher tag) h = (omega (arith, h, none), refl)
-
--- a cut after all trials
-pub stopped_cut : (g : Shape) (lines : List Line) (regs : Regs) (trials digests : ℕ) (old new : SuiteState) → trials ≡ trials_below g lines regs (layout.data_lines g) → digests ≤ all_digests g lines → SuiteWork trials digests old new → StoppedWork g lines regs Cut old new
-stopped_cut g lines regs trials digests old new e few w =
-    record {
-      trials = trials;
-      digests = digests;
-      so_far = record { lines_tried = layout.data_lines g; within = omega arith; its_trials = e; few_digests = few; in_order = inl refl };
-      worked = w;
-    }
-
--- a wrong root, or a cut as the top line is read
-pub stopped_root : (g : Shape) (lines : List Line) (regs : Regs) (fault : RecFault) (trials digests : ℕ) (old mid new : SuiteState) → IsRootFault fault → trials ≡ trials_below g lines regs (layout.data_lines g) → digests + 1 ≡ all_digests g lines → SuiteWork trials digests old mid → SuiteWork 0 (root_digests fault) mid new → StoppedWork g lines regs fault old new
-stopped_root g lines regs Memory trials digests old mid new kind e d a b = absurd kind
-stopped_root g lines regs Cut trials digests old mid new kind e d a b =
-    stopped_cut g lines regs trials (digests + 0) old new e (omega (arith, d)) (SuiteWork-digests trials digests 0 old mid new a b)
-stopped_root g lines regs (NoCounter at) trials digests old mid new kind e d a b = absurd kind
-stopped_root g lines regs (Root kept found) trials digests old mid new kind e d a b =
-    record { trials = trials; digests = digests + 1; so_far = (e, d); worked = SuiteWork-digests trials digests 1 old mid new a b }
-stopped_root g lines regs (Twin at major low high cipher tag) trials digests old mid new kind e d a b = absurd kind
-
--- a comparison that fails is of one digest
-pub root_refused : (answer : Result Unit RecFault) (old new : SuiteState) (kept found : List ℕ) → IsCompared kept found answer → SuiteWork 0 1 old new → IfErr answer (λ fault. SuiteWork 0 (root_digests fault) old new)
-root_refused (Ok done) old new kept found c w = tt
-root_refused (Err Memory) old new kept found c w = absurd c
-root_refused (Err Cut) old new kept found c w = absurd c
-root_refused (Err (NoCounter at)) old new kept found c w = absurd c
-root_refused (Err (Root k f)) old new kept found c w = w
-root_refused (Err (Twin at major low high cipher tag)) old new kept found c w = absurd c
 
 -- the armed group plays no part
 pub stopped_without : (g : Shape) (lines : List Line) (old new : Regs) (fault : RecFault) (suite_old suite_new : SuiteState) → new ≡ without_group old → StoppedWork g lines new fault suite_old suite_new → StoppedWork g lines old fault suite_old suite_new

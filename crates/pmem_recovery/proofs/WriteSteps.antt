@@ -129,6 +129,9 @@ HasWrittenTo-more g made i d at line false old mid new inside on_tree here its_l
     none : (n : ℕ) → n ≡ n + 0
     none n = omega arith
 
+pub HasZeroedTo-none : (g : Shape) (shadow : List Line) (old : Device) → HasZeroedTo g shadow 0 old old
+HasZeroedTo-none g shadow old = search rules
+
 pub HasZeroedTo-cut : (g : Shape) (shadow : List Line) (n : ℕ) (old mid new : Device) → HasZeroedTo g shadow n old mid → WasCut mid new → HasZeroedTo g shadow n old new
 HasZeroedTo-cut g shadow n old mid new z c =
     let k = count_nonzero (take n shadow) in

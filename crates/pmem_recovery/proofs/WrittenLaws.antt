@@ -11,7 +11,6 @@ use Rattle.pmem_base.specs.declared.registers.Regs.{Regs}
 use Rattle.pmem_base.specs.Shape.{Shape, IsShape}
 use Rattle.pmem_base.specs.Layout as layout
 use Rattle.pmem_base.specs.Lines.{line_of, line_at, zero_line, same_bytes}
-use Rattle.pmem_base.specs.Layout.{level_start}
 use Rattle.pmem_base.proofs.ByteLaws.{same_bytes-refl, same_bytes-true}
 use Rattle.pmem_base.proofs.ListLaws.{All-append_left, All-append_right, length-filter_range_more}
 use Rattle.bonsai_tree.proofs.Levels.{level_start-le}

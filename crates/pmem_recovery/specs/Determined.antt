@@ -22,8 +22,8 @@ RecoverIsDetermined = (setup : Setup) (counts : SuiteCounts) (old : BoardMemory)
 abbrev pub FormatIsDetermined : Type 0
 FormatIsDetermined =
     (setup : Setup) (lines : List Line) (old a b : Device) (ledger other : LedgerState) (engine last : EngineState)
-    → old.lines ≡ Some lines → old.live ≡ true → AreBelowEnd a → AreBelowEnd b → HasFormatted setup ledger old a engine
-    → HasFormatted setup other old b last → (engine ≡ last) × (ledger ≡ other) × (a ≡ b)
+    → old.lines ≡ Some lines → old.live ≡ true → HasFormatted setup ledger old a engine → HasFormatted setup other old b last
+    → (engine ≡ last) × (ledger ≡ other) × (a ≡ b)
 
 -- an answer that isn't a cut or want of memory
 abbrev pub IsGoneThrough : Answer → Type 0

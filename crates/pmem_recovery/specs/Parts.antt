@@ -95,14 +95,6 @@ pub record SuiteRise (pads tags digests : ℕ) (old new : SuiteState) : Type 0 w
   pub its_tags : new.tags ≡ risen_times tags old.tags
   pub its_digests : new.digests ≡ risen_times digests old.digests
 
--- so many at most
-pub record SuiteWorkAtMost (n m : ℕ) (old new : SuiteState) : Type 0 where
-  pub trials : ℕ
-  pub digests : ℕ
-  pub few_trials : trials ≤ n
-  pub few_digests : digests ≤ m
-  pub worked : SuiteWork trials digests old new
-
 -- ---- what the trials of a line find
 
 -- the one minor found, or why there is none
@@ -140,17 +132,6 @@ abbrev pub IsCompared : List ℕ → List ℕ → Result Unit RecFault → Type 
 IsCompared kept found (Ok done) = found ≡ kept
 IsCompared kept found (Err (Root k f)) = (k ≡ kept) × (f ≡ found) × (found ≢ kept)
 IsCompared kept found (Err fault) = ⊥
-
--- the same of the digest of a top line, unless power is cut
-abbrev pub IsRootAnswer : Formulas → Line → List ℕ → Result Unit RecFault → Type 0
-IsRootAnswer f top kept (Err Cut) = ⊤
-IsRootAnswer f top kept answer = IsCompared kept (f.digest_of 0 top) answer
-
--- the root is wrong, or power is cut
-abbrev pub IsRootFault : RecFault → Type 0
-IsRootFault Cut = ⊤
-IsRootFault (Root kept found) = ⊤
-IsRootFault fault = ⊥
 
 -- one more line is made, for position x
 pub record AddsLine (x : ℕ) (old new : List Made) : Type 0 where
@@ -214,11 +195,6 @@ IsRefusal setup lines regs (Twin at major low high cipher tag) =
 
 -- ---- how much is tried before it stops
 
--- the trials of a line that has so many candidates: none where power is cut
-abbrev pub line_tries : RecFault → ℕ → ℕ
-line_tries Cut n = 0
-line_tries fault n = n
-
 -- so many trials of the lines from one on and below another: up to and with the line that hasn't one minor, or to
 -- where power is cut
 abbrev pub IsTriedUntil : Shape → List Line → Regs → ℕ → ℕ → RecFault → ℕ → Type 0
@@ -236,11 +212,6 @@ pub record TriesUntil (g : Shape) (lines : List Line) (regs : Regs) (from end : 
   pub count : ℕ
   pub so_many : IsTriedUntil g lines regs from end fault count
   pub worked : SuiteWork count 0 old new
-
--- the digests of comparing the root: none where power is cut
-abbrev pub root_digests : RecFault → ℕ
-root_digests Cut = 0
-root_digests fault = 1
 
 -- all digests of a recovery: four for each named node, and the top line's
 abbrev pub all_digests : Shape → List Line → ℕ
@@ -284,10 +255,3 @@ abbrev pub IsFaultShown : Formulas → RecFault → Type 0
 IsFaultShown f Memory = ⊥
 IsFaultShown f (Twin at major low high cipher tag) = IsExhibit f (Exhibit.Twin at major low high cipher tag)
 IsFaultShown f fault = ⊤
-
--- a stage stops
-pub record IsStageStopped (f : Formulas) (fault : RecFault) (why : List Line → Type 0)
-    (old new : Device) : Type 0 where
-  pub device : StopsBy fault old new
-  pub shown : IsFaultShown f fault
-  pub reason : IfLinesTold old.lines why

@@ -3,7 +3,6 @@
 use Rattle.std.specs.Prelude.{ℕ, ◌+◌, ◌-◌, ◌*◌, Bool, List, [], ◌∷◌, ◌++◌, length, slice_index, filter, Option, Some, None, Result, Ok, Err, if◌then◌else◌}
 use Rattle.std.specs.List.{range_with_len}
 use Rattle.pmem_base.specs.declared.faults.Cut.{Cut}
-use Rattle.pmem_base.specs.declared.geometry.Geo.{Geo}
 use Rattle.pmem_base.specs.declared.lines.Line.{Line}
 use Rattle.pmem_base.specs.declared.registers.Progress.{Progress}
 use Rattle.pmem_base.specs.declared.registers.Regs.{Regs}
@@ -32,7 +31,7 @@ use Rattle.pmem_recovery.specs.declared.faults.RecFault.{RecFault}
 use Rattle.pmem_recovery.specs.declared.faults.RecFault.TheVariants as Fault
 use Rattle.pmem_recovery.specs.Named.{names}
 use Rattle.pmem_recovery.specs.Upward.{line_made, is_other}
-use Rattle.pmem_recovery.specs.Parts.{SuiteState, setup_of, decided_of}
+use Rattle.pmem_recovery.specs.Parts.{SuiteState, decided_of}
 
 -- ---- the state beside the board
 

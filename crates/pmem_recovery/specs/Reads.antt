@@ -13,7 +13,7 @@ use Rattle.bonsai_tree.specs.Positions.{counter_position}
 use Rattle.page_reencrypt.specs.Registers.{register_held}
 use Rattle.pmem_recovery.specs.declared.entries.Made.{Made}
 use Rattle.pmem_recovery.specs.declared.faults.RecFault.{RecFault}
-use Rattle.pmem_recovery.specs.declared.faults.RecFault.TheVariants.{Cut, NoCounter, Root, Twin}
+use Rattle.pmem_recovery.specs.declared.faults.RecFault.TheVariants.{NoCounter, Root, Twin}
 use Rattle.pmem_recovery.specs.Named.{names, count_named}
 use Rattle.pmem_recovery.specs.Upward.{line_made}
 
@@ -66,24 +66,12 @@ named_reads g shadow =
     + 5 * count_named g shadow 0 (level_start g.levels)
     + 1
 
--- the reads of comparing the root, unless power is cut
-abbrev pub IsRootRead : RecFault → ℕ → ℕ → ℕ → Type 0
-IsRootRead Cut n before after = ⊤
-IsRootRead fault n before after = RisesBy n before after
-
 -- the reads of the trials up to and with line a, whose page is named: the named blocks of the pages before and their
 -- lines, its page's block, and the lines of its page
 abbrev pub reads_to : Shape → List Line → Regs → ℕ → ℕ
 reads_to g shadow regs a =
     sum_named g shadow (block_reads g regs) (level_start g.levels) (counter_position g (page_of a))
     + 1 + page_reads regs.progress.items (page_of a) (index_in_page a + 1)
-
--- where the trials stop at a line, of which something holds, so many are read; nothing is said of a cut
-abbrev pub IsReadToStop : (ℕ → Type 0) → (ℕ → ℕ) → RecFault → ℕ → ℕ → Type 0
-IsReadToStop P count Cut before after = ⊤
-IsReadToStop P count (NoCounter a) before after = P a × RisesBy (count a) before after
-IsReadToStop P count (Twin a major low high cipher tag) before after = P a × RisesBy (count a) before after
-IsReadToStop P count fault before after = ⊥
 
 -- the reads of a recovery that stops: up to and with the first line that hasn't one minor, or all of them
 abbrev pub IsReadUntil : Shape → List Line → Regs → RecFault → ℕ → ℕ → Type 0

@@ -7,8 +7,7 @@ pub fn recover_is_determined()
     ensures { RecoverIsDetermined }
 {}
 
-/// A law: two formats of one device, which has power and tells its lines, leave the same engine, ledger and device, as
-/// long as its counts stand below their last number.
+/// A law: two formats of one device, which has power and tells its lines, leave the same engine, ledger and device.
 pub fn format_is_determined()
     ensures { FormatIsDetermined }
 {}

@@ -1,16 +1,9 @@
 //! The named nodes, from the lowest level up, and the root.
-ghost use Rattle.std.specs.Prelude.{ℕ, suc, ◌≡◌, ◌+◌, ◌*◌, ◌<◌, ◌≤◌, ◌++◌, [], ◌∷◌, List, All, IsTrue, IfOk, OnOk, OnErr, IfErr, length, vec_len, vec_capacity, ◌↔◌};
-ghost use Rattle.pmem_base.specs.declared.registers.Regs.{Regs};
+ghost use Rattle.std.specs.Prelude.{suc, ◌≡◌, ◌+◌, ◌*◌, ◌<◌, ◌≤◌, IfOk, OnOk, length, vec_capacity};
 ghost use Rattle.pmem_base.specs.Geo.{shape_of};
 ghost use Rattle.pmem_base.specs.Layout.{meta_lines, device_lines, shadow_lines, level_start};
-ghost use Rattle.shadow_tables.specs.Entries.{shadow_of};
-ghost use Rattle.bonsai_tree.specs.Nodes.{node_over};
 ghost use Rattle.pmem_recovery.specs.Named.{count_named};
-ghost use Rattle.pmem_recovery.specs.Upward.{made_or_stored, node_made, AreMadeTo};
-ghost use Rattle.board.specs.Counts.{RisesBy};
-ghost use Rattle.commit_regs.specs.Groups.{RisesAtMost};
-ghost use Rattle.pmem_recovery.specs.Reads.{sum_named, unmade_reads, children_reads, node_reads, IsRootRead};
-ghost use Rattle.pmem_recovery.specs.Parts.{IfLinesTold, KeepsDevice, IsUncut, IsCutOff, SuiteWork, SuiteWorkAtMost, IsCompared, IsRootAnswer, IsRootFault, root_digests, StopsBy, AddsLine, setup_with, suite_at};
+ghost use Rattle.pmem_recovery.specs.Parts.{IsCompared, setup_with};
 ghost use Rattle.call_plan.specs.Plans.{ended};
 ghost use Rattle.call_plan.specs.Following.{Follows};
 ghost use Rattle.pmem_recovery.specs.Plans.{recovery_parts, counts_at, made_plan, children_plan, fixed_node_plan, fixed_level_plan, nodes_plan, root_plan};
@@ -35,25 +28,9 @@ pub(crate) fn fix_nodes<B: Board, S: Suite>(
     requires size { (B.device board.old).size ≡ device_lines (shape_of geo.now) }
     requires shadow { length shadow.now ≡ shadow_lines (shape_of geo.now) }
     requires room { length made.old.items + count_named (shape_of geo.now) shadow.now 0 (level_start (shape_of geo.now).levels) ≤ vec_capacity made.old }
-    ensures read { KeepsDevice (B.device board.old) (B.device board.new) }
-    ensures reads { RisesAtMost (5 * count_named (shape_of geo.now) shadow.now 0 (level_start (shape_of geo.now).levels)) (B.device board.old).reads (B.device board.new).reads }
-    ensures exact_reads { OnOk result (IfLinesTold (B.device board.old).lines (λ lines. (regs : Regs) → shadow.now ≡ shadow_of (shape_of geo.now) lines
-        → AreMadeTo (setup_with S.Suite geo.now suite.old) lines regs (shape_of geo.now).levels (meta_lines (shape_of geo.now)) made.old.items
-        → RisesBy (sum_named (shape_of geo.now) shadow.now (node_reads (shape_of geo.now) shadow.now) 0 (level_start (shape_of geo.now).levels)) (B.device board.old).reads (B.device board.new).reads)) }
-    ensures goes { OnOk result (IsUncut (B.device board.old) (B.device board.new)) }
-    ensures cut { OnErr result (IsCutOff (B.device board.old) (B.device board.new)) }
-    ensures worked { IfOk result (λ digests. SuiteWork 0 digests (suite_at S.Suite suite.old)
-        (suite_at S.Suite suite.new)) }
-    ensures at_most { SuiteWorkAtMost 0 (4 * count_named (shape_of geo.now) shadow.now 0 (level_start (shape_of geo.now).levels)) (suite_at S.Suite suite.old)
-        (suite_at S.Suite suite.new) }
     ensures digests { IfOk result (λ digests. digests ≡ 4 * count_named (shape_of geo.now) shadow.now 0 (level_start (shape_of geo.now).levels)) }
-    ensures counted { OnOk result (length made.new.items
-        ≡ length made.old.items + count_named (shape_of geo.now) shadow.now 0 (level_start (shape_of geo.now).levels)) }
-    ensures on_tree { OnOk result (All (λ entry. entry.at < meta_lines (shape_of geo.now)) made.old.items
-        → All (λ entry. entry.at < meta_lines (shape_of geo.now)) made.new.items) }
-    ensures told { OnOk result (IfLinesTold (B.device board.old).lines (λ lines. (regs : Regs) → shadow.now ≡ shadow_of (shape_of geo.now) lines
-        → AreMadeTo (setup_with S.Suite geo.now suite.old) lines regs (shape_of geo.now).levels (meta_lines (shape_of geo.now)) made.old.items
-        → AreMadeTo (setup_with S.Suite geo.now suite.old) lines regs 0 1 made.new.items)) }
+    ensures keys { S.keys suite.new ≡ S.keys suite.old }
+    ensures pads { S.pads suite.new ≡ S.pads suite.old }
     ensures plan { Follows (nodes_plan (setup_with S.Suite geo.now suite.old) shadow.now (recovery_parts made.old.items (counts_at S.Suite suite.old)))
         (B.device board.old) (B.device board.new) (ended result (recovery_parts made.new.items (counts_at S.Suite suite.new))) }
 {
@@ -78,26 +55,12 @@ fn fix_level<B: Board, S: Suite>(
     requires shadow { length shadow.now ≡ shadow_lines (shape_of geo.now) }
     requires level { level < (shape_of geo.now).levels }
     requires room { length made.old.items + count_named (shape_of geo.now) shadow.now (level_start level) (level_start (suc level)) ≤ vec_capacity made.old }
-    ensures read { KeepsDevice (B.device board.old) (B.device board.new) }
-    ensures reads { RisesAtMost (5 * count_named (shape_of geo.now) shadow.now (level_start level) (level_start (suc level))) (B.device board.old).reads (B.device board.new).reads }
-    ensures exact_reads { OnOk result (IfLinesTold (B.device board.old).lines (λ lines. (regs : Regs) → shadow.now ≡ shadow_of (shape_of geo.now) lines
-        → AreMadeTo (setup_with S.Suite geo.now suite.old) lines regs level (level_start level) made.old.items
-        → RisesBy (sum_named (shape_of geo.now) shadow.now (node_reads (shape_of geo.now) shadow.now) (level_start level) (level_start (suc level))) (B.device board.old).reads (B.device board.new).reads)) }
-    ensures goes { OnOk result (IsUncut (B.device board.old) (B.device board.new)) }
-    ensures cut { OnErr result (IsCutOff (B.device board.old) (B.device board.new)) }
-    ensures worked { IfOk result (λ digests. SuiteWork 0 digests (suite_at S.Suite suite.old)
-        (suite_at S.Suite suite.new)) }
-    ensures at_most { SuiteWorkAtMost 0 (4 * count_named (shape_of geo.now) shadow.now (level_start level) (level_start (suc level))) (suite_at S.Suite suite.old)
-        (suite_at S.Suite suite.new) }
     ensures digests { IfOk result (λ digests. digests ≡ 4 * count_named (shape_of geo.now) shadow.now (level_start level) (level_start (suc level))) }
     ensures counted { OnOk result (length made.new.items
         ≡ length made.old.items + count_named (shape_of geo.now) shadow.now (level_start level) (level_start (suc level))) }
-    ensures on_tree { OnOk result (All (λ entry. entry.at < meta_lines (shape_of geo.now)) made.old.items
-        → All (λ entry. entry.at < meta_lines (shape_of geo.now)) made.new.items) }
     ensures capacity { vec_capacity made.new ≡ vec_capacity made.old }
-    ensures told { OnOk result (IfLinesTold (B.device board.old).lines (λ lines. (regs : Regs) → shadow.now ≡ shadow_of (shape_of geo.now) lines
-        → AreMadeTo (setup_with S.Suite geo.now suite.old) lines regs level (level_start level) made.old.items
-        → AreMadeTo (setup_with S.Suite geo.now suite.old) lines regs level (level_start (suc level)) made.new.items)) }
+    ensures keys { S.keys suite.new ≡ S.keys suite.old }
+    ensures pads { S.pads suite.new ≡ S.pads suite.old }
     ensures plan { Follows (fixed_level_plan (setup_with S.Suite geo.now suite.old) shadow.now level (recovery_parts made.old.items (counts_at S.Suite suite.old)))
         (B.device board.old) (B.device board.new) (ended result (recovery_parts made.new.items (counts_at S.Suite suite.new))) }
 {
@@ -133,19 +96,10 @@ fn fix_node<B: Board, S: Suite>(
     requires size { (B.device board.old).size ≡ device_lines (shape_of geo.now) }
     requires node { x < level_start (shape_of geo.now).levels }
     requires room { length made.old.items < vec_capacity made.old }
-    ensures read { KeepsDevice (B.device board.old) (B.device board.new) }
-    ensures reads { RisesAtMost (5) (B.device board.old).reads (B.device board.new).reads }
-    ensures exact_reads { OnOk result (RisesBy (1 + children_reads made.old.items x 4) (B.device board.old).reads (B.device board.new).reads) }
-    ensures goes { OnOk result (IsUncut (B.device board.old) (B.device board.new)) }
-    ensures cut { OnErr result (IsCutOff (B.device board.old) (B.device board.new)) }
-    ensures worked { OnOk result (SuiteWork 0 4 (suite_at S.Suite suite.old)
-        (suite_at S.Suite suite.new)) }
-    ensures at_most { SuiteWorkAtMost 0 4 (suite_at S.Suite suite.old)
-        (suite_at S.Suite suite.new) }
-    ensures made { OnOk result (AddsLine x made.old.items made.new.items) }
+    ensures longer { OnOk result (length made.new.items ≡ length made.old.items + 1) }
     ensures capacity { vec_capacity made.new ≡ vec_capacity made.old }
-    ensures told { OnOk result (IfLinesTold (B.device board.old).lines (λ lines.
-        made.new.items ≡ made.old.items ++ node_made (setup_with S.Suite geo.now suite.old) lines made.old.items x ∷ [])) }
+    ensures keys { S.keys suite.new ≡ S.keys suite.old }
+    ensures pads { S.pads suite.new ≡ S.pads suite.old }
     ensures plan { Follows (fixed_node_plan (setup_with S.Suite geo.now suite.old) x (recovery_parts made.old.items (counts_at S.Suite suite.old)))
         (B.device board.old) (B.device board.new) (ended result (recovery_parts made.new.items (counts_at S.Suite suite.new))) }
 {
@@ -170,17 +124,8 @@ fn node_line<B: Board, S: Suite>(
 ) -> Result<Line, Cut>
     requires size { (B.device board.old).size ≡ device_lines (shape_of geo.now) }
     requires node { x < level_start (shape_of geo.now).levels }
-    ensures read { KeepsDevice (B.device board.old) (B.device board.new) }
-    ensures reads { RisesAtMost (4) (B.device board.old).reads (B.device board.new).reads }
-    ensures exact_reads { OnOk result (RisesBy (children_reads made.now x 4) (B.device board.old).reads (B.device board.new).reads) }
-    ensures goes { OnOk result (IsUncut (B.device board.old) (B.device board.new)) }
-    ensures cut { OnErr result (IsCutOff (B.device board.old) (B.device board.new)) }
-    ensures worked { OnOk result (SuiteWork 0 4 (suite_at S.Suite suite.old)
-        (suite_at S.Suite suite.new)) }
-    ensures at_most { SuiteWorkAtMost 0 4 (suite_at S.Suite suite.old)
-        (suite_at S.Suite suite.new) }
-    ensures told { IfOk result (λ line. IfLinesTold (B.device board.old).lines (λ lines.
-        line ≡ node_over (S.formulas_of (S.keys suite.old)) x (made_or_stored (shape_of geo.now) lines made.now))) }
+    ensures keys { S.keys suite.new ≡ S.keys suite.old }
+    ensures pads { S.pads suite.new ≡ S.pads suite.old }
     ensures plan { Follows (children_plan (setup_with S.Suite geo.now suite.old) made.now x (counts_at S.Suite suite.old))
         (B.device board.old) (B.device board.new) (ended result (counts_at S.Suite suite.new)) }
 {
@@ -197,12 +142,6 @@ fn node_line<B: Board, S: Suite>(
 fn made_or_read<B: Board>(board: &mut B, geo: &Geo, x: u32, made: &[Made]) -> Result<Line, Cut>
     requires size { (B.device board.old).size ≡ device_lines (shape_of geo.now) }
     requires position { x < meta_lines (shape_of geo.now) }
-    ensures read { KeepsDevice (B.device board.old) (B.device board.new) }
-    ensures reads { RisesAtMost (1) (B.device board.old).reads (B.device board.new).reads }
-    ensures exact_reads { OnOk result (RisesBy (unmade_reads made.now x) (B.device board.old).reads (B.device board.new).reads) }
-    ensures goes { OnOk result (IsUncut (B.device board.old) (B.device board.new)) }
-    ensures cut { OnErr result (IsCutOff (B.device board.old) (B.device board.new)) }
-    ensures told { IfOk result (λ line. IfLinesTold (B.device board.old).lines (λ lines. line ≡ made_or_stored (shape_of geo.now) lines made.now x)) }
     ensures plan { Follows (made_plan (shape_of geo.now) made.now x) (B.device board.old) (B.device board.new) result }
 {
     match line_made(made, x) {
@@ -224,21 +163,8 @@ pub(crate) fn check_root<B: Board, S: Suite>(
     made: &[Made],
 ) -> Result<(), RecFault>
     requires size { (B.device board.old).size ≡ device_lines (shape_of geo.now) }
-    ensures read { KeepsDevice (B.device board.old) (B.device board.new) }
-    ensures reads { RisesAtMost (1) (B.device board.old).reads (B.device board.new).reads }
-    ensures exact_reads { OnOk result (RisesBy (unmade_reads made.now 0) (B.device board.old).reads (B.device board.new).reads) }
-    ensures stopped_reads { IfErr result (λ fault. IsRootRead fault (unmade_reads made.now 0) (B.device board.old).reads (B.device board.new).reads) }
-    ensures goes { OnOk result (IsUncut (B.device board.old) (B.device board.new)) }
-    ensures kind { IfErr result IsRootFault }
-    ensures stops { IfErr result (λ fault. StopsBy fault (B.device board.old) (B.device board.new)) }
-    ensures worked { OnOk result (SuiteWork 0 1 (suite_at S.Suite suite.old)
-        (suite_at S.Suite suite.new)) }
-    ensures at_most { SuiteWorkAtMost 0 1 (suite_at S.Suite suite.old)
-        (suite_at S.Suite suite.new) }
-    ensures refused { IfErr result (λ fault. SuiteWork 0 (root_digests fault) (suite_at S.Suite suite.old)
-        (suite_at S.Suite suite.new)) }
-    ensures told { IfLinesTold (B.device board.old).lines (λ lines.
-        IsRootAnswer (S.formulas_of (S.keys suite.old)) (made_or_stored (shape_of geo.now) lines made.now 0) regs.now.root result) }
+    ensures keys { S.keys suite.new ≡ S.keys suite.old }
+    ensures pads { S.pads suite.new ≡ S.pads suite.old }
     ensures plan { Follows (root_plan (setup_with S.Suite geo.now suite.old) regs.now.root made.now (counts_at S.Suite suite.old))
         (B.device board.old) (B.device board.new) (ended result (counts_at S.Suite suite.new)) }
 {

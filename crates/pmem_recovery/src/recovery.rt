@@ -1,17 +1,10 @@
 //! Recovery after a cut.
-ghost use Rattle.std.specs.Prelude.{◌≡◌, ◌<◌, ◌≤◌, ◌+◌, ◌*◌, [], All, IsTrue, IfOk, IfErr, OnOk, OnErr, length, vec_capacity};
+ghost use Rattle.std.specs.Prelude.{◌≡◌, ◌<◌, ◌≤◌, ◌+◌, ◌*◌, [], IsTrue, IfOk, OnOk, length, vec_capacity};
 ghost use Rattle.pmem_base.specs.Geo.{shape_of};
 ghost use Rattle.pmem_base.specs.Shape.{is_loss};
-ghost use Rattle.pmem_base.specs.Layout.{slots, meta_lines, shadow_lines, device_lines};
+ghost use Rattle.pmem_base.specs.Layout.{slots, shadow_lines, device_lines};
 ghost use Rattle.pmem_base.specs.Registers.{IsValidRegs};
-ghost use Rattle.shadow_tables.specs.Entries.{shadow_of};
-ghost use Rattle.board.specs.Counts.{RisesBy};
-ghost use Rattle.commit_regs.specs.Groups.{RisesAtMost};
-ghost use Rattle.pmem_recovery.specs.Reads.{all_reads, named_reads, IsReadUntil};
-ghost use Rattle.pmem_recovery.specs.Parts.{IfLinesTold, KeepsDevice, IsUncut, IsCutOff, StopsBy, SuiteWork, SuiteWorkAtMost, HasRoot, IsRefusal, IsStageStopped, IsAllWork, StoppedWork, setup_with, suite_at};
-ghost use Rattle.pmem_recovery.specs.Writing.{IfBothLinesTold};
-ghost use Rattle.pmem_recovery.specs.Written.{IsRecovered};
-ghost use Rattle.pmem_recovery.specs.Mending.{most_reads, HasMadeAll, HasMadeWrites, IsStoppedShort};
+ghost use Rattle.pmem_recovery.specs.Parts.{setup_with, suite_at};
 ghost use Rattle.pmem_recovery.specs.Recovered.{HasRecovered};
 ghost use Rattle.call_plan.specs.Plans.{ended};
 ghost use Rattle.call_plan.specs.Following.{Follows};
@@ -97,31 +90,8 @@ fn mend<B: Board, S: Suite>(
     requires made { room.old.made.items ≡ [] }
     requires shadow_room { shadow_lines (shape_of geo.now) ≤ vec_capacity room.old.shadow }
     requires made_room { ((shape_of geo.now).levels + 1) * slots (shape_of geo.now) ≤ vec_capacity room.old.made }
-    ensures written { HasMadeWrites (setup_with S.Suite geo.now suite.old) (B.device board.old).regs (B.device board.old) (B.device board.new) }
-    ensures few_reads { IfLinesTold (B.device board.old).lines (λ lines. length lines ≡ device_lines (shape_of geo.now)
-        → RisesAtMost (named_reads (shape_of geo.now) (shadow_of (shape_of geo.now) lines)) (B.device board.old).reads (B.device board.new).reads) }
-    ensures exact_reads { OnOk result (IfLinesTold (B.device board.old).lines (λ lines. length lines ≡ device_lines (shape_of geo.now)
-        → RisesBy (all_reads (shape_of geo.now) (shadow_of (shape_of geo.now) lines) (B.device board.old).regs) (B.device board.old).reads (B.device board.new).reads)) }
-    ensures stopped_reads { IfErr result (λ fault. IfLinesTold (B.device board.old).lines (λ lines. length lines ≡ device_lines (shape_of geo.now)
-        → IsReadUntil (shape_of geo.now) (shadow_of (shape_of geo.now) lines) (B.device board.old).regs fault (B.device board.old).reads (B.device board.new).reads)) }
-    ensures goes { OnOk result (IsUncut (B.device board.old) (B.device board.new)) }
-    ensures worked { IfOk result (λ work. SuiteWork work.trials work.digests (suite_at S.Suite suite.old)
-        (suite_at S.Suite suite.new)) }
-    ensures at_most { SuiteWorkAtMost (64 * (B.device board.old).regs.loss * slots (shape_of geo.now)) (4 * (shape_of geo.now).levels * slots (shape_of geo.now) + 1) (suite_at S.Suite suite.old)
-        (suite_at S.Suite suite.new) }
-    ensures few_trials { IfOk result (λ work. work.trials ≤ 64 * (B.device board.old).regs.loss * slots (shape_of geo.now)) }
-    ensures few_digests { IfOk result (λ work. work.digests ≤ 4 * (shape_of geo.now).levels * slots (shape_of geo.now) + 1) }
-    ensures recovered { OnOk result (IfBothLinesTold (B.device board.old) (B.device board.new) (λ lines now. length lines ≡ device_lines (shape_of geo.now)
-        → IsRecovered (setup_with S.Suite geo.now suite.old) lines (B.device board.old).regs now
-        × HasRoot (setup_with S.Suite geo.now suite.old) lines (B.device board.old).regs)) }
-    ensures all_work { IfOk result (λ work. IfLinesTold (B.device board.old).lines (λ lines. length lines ≡ device_lines (shape_of geo.now)
-        → IsAllWork (shape_of geo.now) lines (B.device board.old).regs work.trials work.digests)) }
-    ensures stopped_work { IfErr result (λ fault. IfLinesTold (B.device board.old).lines (λ lines. length lines ≡ device_lines (shape_of geo.now)
-        → StoppedWork (shape_of geo.now) lines (B.device board.old).regs fault (suite_at S.Suite suite.old)
-        (suite_at S.Suite suite.new))) }
-    ensures stopped { IfErr result (λ fault. IsStageStopped (S.formulas_of (S.keys suite.old)) fault (λ lines. length lines ≡ device_lines (shape_of geo.now)
-        → IsRefusal (setup_with S.Suite geo.now suite.old) lines (B.device board.old).regs fault) (B.device board.old) (B.device board.new)) }
-    ensures short { IfErr result (λ fault. IsStoppedShort (shape_of geo.now) fault (B.device board.old) (B.device board.new)) }
+    ensures keys { S.keys suite.new ≡ S.keys suite.old }
+    ensures pads { S.pads suite.new ≡ S.pads suite.old }
     ensures plan { Follows (mend_plan (setup_with S.Suite geo.now suite.old) (B.device board.old).regs (counts_at S.Suite suite.old))
         (B.device board.old) (B.device board.new) (ended result (counts_at S.Suite suite.new)) }
 {
@@ -146,33 +116,8 @@ fn make_lines<B: Board, S: Suite>(
     requires made { room.old.made.items ≡ [] }
     requires shadow_room { shadow_lines (shape_of geo.now) ≤ vec_capacity room.old.shadow }
     requires made_room { ((shape_of geo.now).levels + 1) * slots (shape_of geo.now) ≤ vec_capacity room.old.made }
-    ensures read { KeepsDevice (B.device board.old) (B.device board.new) }
-    ensures reads { RisesAtMost (most_reads (shape_of geo.now)) (B.device board.old).reads (B.device board.new).reads }
-    ensures few_reads { IfLinesTold (B.device board.old).lines (λ lines. length lines ≡ device_lines (shape_of geo.now)
-        → RisesAtMost (named_reads (shape_of geo.now) (shadow_of (shape_of geo.now) lines)) (B.device board.old).reads (B.device board.new).reads) }
-    ensures exact_reads { OnOk result (IfLinesTold (B.device board.old).lines (λ lines. length lines ≡ device_lines (shape_of geo.now)
-        → RisesBy (all_reads (shape_of geo.now) (shadow_of (shape_of geo.now) lines) regs.now) (B.device board.old).reads (B.device board.new).reads)) }
-    ensures stopped_reads { IfErr result (λ fault. IfLinesTold (B.device board.old).lines (λ lines. length lines ≡ device_lines (shape_of geo.now)
-        → IsReadUntil (shape_of geo.now) (shadow_of (shape_of geo.now) lines) regs.now fault (B.device board.old).reads (B.device board.new).reads)) }
-    ensures goes { OnOk result (IsUncut (B.device board.old) (B.device board.new)) }
-    ensures worked { IfOk result (λ work. SuiteWork work.trials work.digests (suite_at S.Suite suite.old)
-        (suite_at S.Suite suite.new)) }
-    ensures at_most { SuiteWorkAtMost (64 * regs.now.loss * slots (shape_of geo.now)) (4 * (shape_of geo.now).levels * slots (shape_of geo.now) + 1) (suite_at S.Suite suite.old)
-        (suite_at S.Suite suite.new) }
-    ensures few_trials { IfOk result (λ work. work.trials ≤ 64 * regs.now.loss * slots (shape_of geo.now)) }
-    ensures few_digests { IfOk result (λ work. work.digests ≤ 4 * (shape_of geo.now).levels * slots (shape_of geo.now) + 1) }
-    ensures shadow { OnOk result (length room.new.shadow.items ≡ shadow_lines (shape_of geo.now)) }
-    ensures few_made { OnOk result (length room.new.made.items ≤ ((shape_of geo.now).levels + 1) * slots (shape_of geo.now)) }
-    ensures on_tree { OnOk result (All (λ entry. entry.at < meta_lines (shape_of geo.now)) room.new.made.items) }
-    ensures told { OnOk result (IfLinesTold (B.device board.old).lines (λ lines. length lines ≡ device_lines (shape_of geo.now)
-        → HasMadeAll (setup_with S.Suite geo.now suite.old) lines regs.now room.new.shadow.items room.new.made.items)) }
-    ensures all_work { IfOk result (λ work. IfLinesTold (B.device board.old).lines (λ lines. length lines ≡ device_lines (shape_of geo.now)
-        → IsAllWork (shape_of geo.now) lines regs.now work.trials work.digests)) }
-    ensures stopped_work { IfErr result (λ fault. IfLinesTold (B.device board.old).lines (λ lines. length lines ≡ device_lines (shape_of geo.now)
-        → StoppedWork (shape_of geo.now) lines regs.now fault (suite_at S.Suite suite.old)
-        (suite_at S.Suite suite.new))) }
-    ensures stopped { IfErr result (λ fault. IsStageStopped (S.formulas_of (S.keys suite.old)) fault (λ lines. length lines ≡ device_lines (shape_of geo.now)
-        → IsRefusal (setup_with S.Suite geo.now suite.old) lines regs.now fault) (B.device board.old) (B.device board.new)) }
+    ensures keys { S.keys suite.new ≡ S.keys suite.old }
+    ensures pads { S.pads suite.new ≡ S.pads suite.old }
     ensures plan { Follows (making_plan (setup_with S.Suite geo.now suite.old) regs.now (counts_at S.Suite suite.old))
         (B.device board.old) (B.device board.new) (made_end result room.new.shadow.items room.new.made.items (counts_at S.Suite suite.new)) }
 {
@@ -191,14 +136,7 @@ fn read_shadow<B: Board>(board: &mut B, geo: &Geo, shadow: &mut Vec<Line>) -> Re
     requires size { (B.device board.old).size ≡ device_lines (shape_of geo.now) }
     requires empty { shadow.old.items ≡ [] }
     requires room { shadow_lines (shape_of geo.now) ≤ vec_capacity shadow.old }
-    ensures read { KeepsDevice (B.device board.old) (B.device board.new) }
-    ensures reads { RisesAtMost (shadow_lines (shape_of geo.now)) (B.device board.old).reads (B.device board.new).reads }
-    ensures exact_reads { OnOk result (RisesBy (shadow_lines (shape_of geo.now)) (B.device board.old).reads (B.device board.new).reads) }
-    ensures goes { OnOk result (IsUncut (B.device board.old) (B.device board.new)) }
-    ensures cut { OnErr result (IsCutOff (B.device board.old) (B.device board.new)) }
     ensures long { OnOk result (length shadow.new.items ≡ shadow_lines (shape_of geo.now)) }
-    ensures told { OnOk result (IfLinesTold (B.device board.old).lines (λ lines. length lines ≡ device_lines (shape_of geo.now)
-        → shadow.new.items ≡ shadow_of (shape_of geo.now) lines)) }
     ensures plan { Follows (shadow_plan (shape_of geo.now)) (B.device board.old) (B.device board.new) (ended result shadow.new.items) }
 {
     'lines: for n in 0..geo.shadows() {

@@ -1,11 +1,8 @@
 //! The writes of recovery: the lines made, and then zero shadow lines.
-ghost use Rattle.std.specs.Prelude.{◌≡◌, ◌<◌, All, OnOk, OnErr, length};
+ghost use Rattle.std.specs.Prelude.{◌≡◌, ◌<◌, All, length};
 ghost use Rattle.pmem_base.specs.Geo.{shape_of};
 ghost use Rattle.pmem_base.specs.Layout.{meta_lines, shadow_lines, device_lines};
-ghost use Rattle.board.specs.Steps.{WasCut};
-ghost use Rattle.pmem_recovery.specs.Parts.{IsUncut, IsCutOff};
 ghost use Rattle.call_plan.specs.Following.{Follows};
-ghost use Rattle.pmem_recovery.specs.Writing.{HasWrittenTo, HasWrittenSome, HasZeroedTo, HasZeroedSome, HasWrittenIf};
 ghost use Rattle.pmem_recovery.specs.Plans.{changed_plan, entries_plan, clear_plan};
 
 use crate::entries::{Made, is_other};
@@ -16,10 +13,6 @@ use pmem_base::{Cut, Geo, Line};
 pub(crate) fn write_made<B: Board>(board: &mut B, geo: &Geo, made: &[Made]) -> Result<(), Cut>
     requires size { (B.device board.old).size ≡ device_lines (shape_of geo.now) }
     requires on_tree { All (λ entry. entry.at < meta_lines (shape_of geo.now)) made.now }
-    ensures ok { OnOk result (HasWrittenTo (shape_of geo.now) made.now (length made.now) (B.device board.old) (B.device board.new)) }
-    ensures goes { OnOk result (IsUncut (B.device board.old) (B.device board.new)) }
-    ensures some { OnErr result (HasWrittenSome (shape_of geo.now) made.now (B.device board.old) (B.device board.new)) }
-    ensures cut { OnErr result (IsCutOff (B.device board.old) (B.device board.new)) }
     ensures plan { Follows (entries_plan (shape_of geo.now) made.now) (B.device board.old) (B.device board.new) result }
 {
     'entries: for entry in made {
@@ -32,10 +25,6 @@ pub(crate) fn write_made<B: Board>(board: &mut B, geo: &Geo, made: &[Made]) -> R
 pub(crate) fn clear_shadow<B: Board>(board: &mut B, geo: &Geo, shadow: &[Line]) -> Result<(), Cut>
     requires size { (B.device board.old).size ≡ device_lines (shape_of geo.now) }
     requires shadow { length shadow.now ≡ shadow_lines (shape_of geo.now) }
-    ensures ok { OnOk result (HasZeroedTo (shape_of geo.now) shadow.now (shadow_lines (shape_of geo.now)) (B.device board.old) (B.device board.new)) }
-    ensures goes { OnOk result (IsUncut (B.device board.old) (B.device board.new)) }
-    ensures some { OnErr result (HasZeroedSome (shape_of geo.now) shadow.now (B.device board.old) (B.device board.new)) }
-    ensures cut { OnErr result (IsCutOff (B.device board.old) (B.device board.new)) }
     ensures plan { Follows (clear_plan (shape_of geo.now) shadow.now) (B.device board.old) (B.device board.new) result }
 {
     let zero = Line::default();
@@ -49,8 +38,6 @@ pub(crate) fn clear_shadow<B: Board>(board: &mut B, geo: &Geo, shadow: &[Line]) 
 /// Writes a line where it is another one than the device's.
 fn write_changed<B: Board>(board: &mut B, at: u32, line: &Line, changed: bool) -> Result<(), Cut>
     requires { at < (B.device board.old).size }
-    ensures ok { OnOk result (HasWrittenIf changed (B.device board.old) at line.now (B.device board.new)) }
-    ensures cut { OnErr result (WasCut (B.device board.old) (B.device board.new)) }
     ensures plan { Follows (changed_plan at line.now changed) (B.device board.old) (B.device board.new) result }
 {
     if changed {

@@ -1,12 +1,11 @@
 -- That a step leaves nothing open: of two replies and worlds after it, that its clause allows from one world for one
--- command, both are the same.
+-- command, both are the same. And so are two new worlds.
 use Rattle.std.specs.Prelude.{◌≡◌, false}
 use Rattle.pmem_base.specs.declared.commands.Command.{Command}
-use Rattle.pmem_base.specs.declared.commands.Command.TheVariants as Do
 use Rattle.suite.specs.Setup.{Setup}
-use Rattle.plain_model.specs.State.{PlainState, Reply}
+use Rattle.plain_model.specs.State.{Reply}
 use Rattle.pmem_replay.specs.World.{WorldState, IsWorld}
-use Rattle.pmem_replay.specs.Stepped.{HasStepped}
+use Rattle.pmem_replay.specs.Stepped.{HasStepped, IsNewWorld}
 
 -- the world's own parts
 pub record AreSameParts (a b : WorldState) : Type 0 where
@@ -16,23 +15,27 @@ pub record AreSameParts (a b : WorldState) : Type 0 where
   pub tags : a.tags ≡ b.tags
   pub digests : a.digests ≡ b.digests
 
--- All of the world but how many marks there is room for. Where an exhibit ended the run, the state of the plain
--- machine tells nothing any more.
-pub record AreSameWorlds (a b : WorldState) : Type 0 where
+-- All of the world that a reply depends on: all but the keys, of which the suite's formulas stand in the setup, and how
+-- many marks there is room for. Where an exhibit ended the run, the state of the plain machine tells nothing any more.
+pub record AreAlike (a b : WorldState) : Type 0 where
   pub shape : a.shape ≡ b.shape
-  pub keys : a.keys ≡ b.keys
   pub start : a.start ≡ b.start
   pub shown : a.shown ≡ b.shown
   pub state : a.shown ≡ false → a.state ≡ b.state
   pub parts : AreSameParts a b
 
--- `on` with power off, which recovers the device
-abbrev pub IsRecovery : PlainState → Command → Type 0
-IsRecovery state Do.On = state.power ≡ false
-IsRecovery state command = ⊥
+-- all of the world but how many marks there is room for
+pub record AreSameWorlds (a b : WorldState) : Type 0 where
+  pub keys : a.keys ≡ b.keys
+  pub alike : AreAlike a b
 
-abbrev pub StepsButRecoveryAreDetermined : Type 0
-StepsButRecoveryAreDetermined =
+abbrev pub StepIsDetermined : Type 0
+StepIsDetermined =
     (setup : Setup) (old a b : WorldState) (command : Command) (reply other : Reply) → IsWorld setup old
-    → (IsRecovery old.state command → ⊥) → HasStepped setup old command reply a → HasStepped setup old command other b
-    → (reply ≡ other) × AreSameWorlds a b
+    → HasStepped setup old command reply a → HasStepped setup old command other b → (reply ≡ other) × AreSameWorlds a b
+
+-- two new worlds of one geometry, whose suites have the same keys and counts
+abbrev pub NewWorldIsDetermined : Type 0
+NewWorldIsDetermined =
+    (setup : Setup) (a b : WorldState) → IsNewWorld setup a → IsNewWorld setup b → a.keys ≡ b.keys → a.tags ≡ b.tags
+    → a.digests ≡ b.digests → AreSameWorlds a b

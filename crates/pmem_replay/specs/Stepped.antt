@@ -11,13 +11,14 @@ use Rattle.pmem_base.specs.declared.answers.Exhibit.{Exhibit}
 use Rattle.pmem_base.specs.declared.answers.Exhibit.TheVariants as Show
 use Rattle.pmem_base.specs.declared.answers.Place.{Place}
 use Rattle.pmem_base.specs.declared.answers.Stat.{Stat}
-use Rattle.pmem_base.specs.Counts.{HasRisen}
+use Rattle.pmem_base.specs.Counts.{HasRisen, risen_times}
+use Rattle.pmem_base.specs.Shape.{Shape}
 use Rattle.pmem_base.specs.Layout as layout
 use Rattle.pmem_base.specs.Lines.{line_at, tag_slot}
 use Rattle.pmem_base.specs.Marks.{last_seal}
 use Rattle.pmem_base.specs.Ranges.{IsAnswer}
 use Rattle.pmem_base.specs.WaitingWrites.{queue_of, writes_to, put_writes}
-use Rattle.board.specs.Memory.{BoardMemory, with_line_at, with_lines, flipped_line, restored_lines}
+use Rattle.board.specs.Memory.{BoardMemory, device_of, new_memory, with_line_at, with_lines, flipped_line, restored_lines}
 use Rattle.call_plan.specs.Runs.{IsOutcome}
 use Rattle.suite.specs.Setup.{Setup}
 use Rattle.seal_ledger.specs.Ledger.{LedgerState}
@@ -42,11 +43,13 @@ use Rattle.pmem_recovery.specs.declared.faults.RecFault.TheVariants as Stop
 use Rattle.pmem_recovery.specs.Trials.{first_undecided, tried_minors}
 use Rattle.pmem_recovery.specs.Fixed.{found_root}
 use Rattle.pmem_recovery.specs.Parts.{SuiteState}
+use Rattle.pmem_recovery.specs.Plans.{counts_of, recover_plan}
+use Rattle.pmem_recovery.specs.Formatting.{HasFormatted}
 use Rattle.pmem_recovery.specs.Recovered.{HasRecovered}
 use Rattle.pmem_replay.specs.World.{WorldState, AreExact, IsWorld, view_in, lines_in}
 use Rattle.watched_board.specs.declared.taken.Taken.{Taken}
 use Rattle.pmem_replay.specs.declared.world.Reply as replies
-use Rattle.watched_board.specs.Watching.{none_taken, steps_in, device_during, FollowsOn}
+use Rattle.watched_board.specs.Watching.{none_taken, steps_in, device_during}
 use Rattle.pmem_replay.specs.During.{parts_in}
 use Rattle.pmem_replay.specs.Planned.{CallPlan, plan_of_read, plan_of_write, plan_of_turn, plan_of_flush, plan_of_loss}
 use Rattle.pmem_replay.specs.Called.{IsFaultAnswered}
@@ -129,14 +132,15 @@ abbrev pub IsLossAnswer : LedgerState → LedgerState → ℕ → Result ℕ Fau
 IsLossAnswer before after steps (Ok taken) answer = answer ≡ Say.LossSet steps
 IsLossAnswer before after steps (Err fault) answer = IsFaultAnswered after.exhibit None fault steps answer
 
-abbrev pub IsOnAnswer : Result (EngineState × Work) RecFault → Answer → Type 0
-IsOnAnswer (Ok done) (Say.Recovered trials digests steps) = (trials ≡ done.1.trials) × (digests ≡ done.1.digests)
-IsOnAnswer (Err Stop.Cut) (Say.Cut steps) = ⊤
-IsOnAnswer (Err (Stop.NoCounter at)) (Say.NoCounter a steps) = a ≡ at
-IsOnAnswer (Err (Stop.Root kept found)) (Say.WrongRoot k f steps) = (k ≡ kept) × (f ≡ found)
-IsOnAnswer (Err (Stop.Twin at major low high cipher tag)) (Say.Shown exhibit) =
-    exhibit ≡ Show.Twin at major low high cipher tag
-IsOnAnswer outcome answer = ⊥
+-- what recovery answered, as the world answers it after so many steps
+abbrev pub IsOnAnswer : ℕ → Result (EngineState × Work) RecFault → Answer → Type 0
+IsOnAnswer steps (Ok done) answer = answer ≡ Say.Recovered done.1.trials done.1.digests steps
+IsOnAnswer steps (Err Stop.Cut) answer = answer ≡ Say.Cut steps
+IsOnAnswer steps (Err (Stop.NoCounter at)) answer = answer ≡ Say.NoCounter at steps
+IsOnAnswer steps (Err (Stop.Root kept found)) answer = answer ≡ Say.WrongRoot kept found steps
+IsOnAnswer steps (Err (Stop.Twin at major low high cipher tag)) answer =
+    answer ≡ Say.Shown (Show.Twin at major low high cipher tag)
+IsOnAnswer steps (Err Stop.Memory) answer = ⊥
 
 -- ---- drains and fences
 
@@ -187,13 +191,12 @@ board_after_on (Ok done) left = left
 board_after_on (Err Stop.Cut) left = left
 board_after_on (Err fault) left = record left { powered = false }
 
--- recovery, over the board with power on, which follows on by what recovery took of it
+-- Recovery, over the board with power on, had its memory: the board followed its plan, and whatever is answered took no
+-- step past the fuse.
 pub record HasPoweredOn (setup : Setup) (old new : WorldState) (answer : Answer) : Type 0 where
   pub left : BoardMemory
   pub taken : Taken
-  pub follows_on : FollowsOn (record (old.board) { powered = true }) left taken
-  pub steps : is_shown answer ≡ false → steps_of answer ≡ steps_in taken
-  pub outcome : Result (EngineState × Work) RecFault
+  pub result : Result (EngineState × Work) RecFault
   pub suite_old : SuiteState
   pub suite_new : SuiteState
   pub keys : suite_old.keys ≡ old.keys
@@ -201,12 +204,16 @@ pub record HasPoweredOn (setup : Setup) (old new : WorldState) (answer : Answer)
   pub tags_new : suite_new.tags ≡ new.tags
   pub digests_old : suite_old.digests ≡ old.digests
   pub digests_new : suite_new.digests ≡ new.digests
+  pub outcome :
+      IsOutcome (recover_plan setup old.board.regs (counts_of suite_old)) (record (old.board) { powered = true }) left taken result
+      (counts_of suite_new)
   pub recovered :
       HasRecovered setup old.ledger (device_during (record (old.board) { powered = true }) none_taken)
-      (device_during left taken) suite_old suite_new outcome
-  pub answered : IsOnAnswer outcome answer
-  pub engine : new.engine ≡ engine_given outcome
-  pub board : new.board ≡ board_after_on outcome left
+      (device_during left taken) suite_old suite_new result
+  pub answered : IsOnAnswer (steps_in taken) result answer
+  pub steps : is_shown answer ≡ false → steps_of answer ≡ steps_in taken
+  pub engine : new.engine ≡ engine_given result
+  pub board : new.board ≡ board_after_on result left
   pub ledger : new.ledger ≡ old.ledger
   pub capacity : new.capacity ≡ old.capacity
   pub cut : is_cut answer ≡ true → HasRisen old.board.cuts new.board.cuts
@@ -351,8 +358,8 @@ CanWantMemory state command = ⊥
 
 -- ---- the first world
 
--- a formatted world: the start of the plain machine, with the marks of formatting and nothing cached; `stat`
--- counts from here on
+-- a world whose device, of zeros before, was formatted: the start of the plain machine, with the marks of formatting and
+-- nothing cached; `stat` counts from here on
 pub record IsNewWorld (setup : Setup) (world : WorldState) : Type 0 where
   pub its_shape : world.shape ≡ setup.shape
   pub state : world.state ≡ start_state setup.shape
@@ -361,3 +368,12 @@ pub record IsNewWorld (setup : Setup) (world : WorldState) : Type 0 where
   pub holds : IsWorld setup world
   pub engine : world.engine ≡ Some (new_engine setup.shape)
   pub start : world.start ≡ counts_in world
+  pub formatted :
+      HasFormatted setup world.ledger (device_of (new_memory (layout.device_lines setup.shape))) (device_of world.board)
+      (new_engine setup.shape)
+
+-- the tags and digests that were made before the world, and then a tag for each data line and a digest for each metadata
+-- line
+pub record HasFormatWork (g : Shape) (tags_before digests_before : ℕ) (world : WorldState) : Type 0 where
+  pub tags : world.tags ≡ risen_times (layout.data_lines g) tags_before
+  pub digests : world.digests ≡ risen_times (layout.meta_lines g) digests_before

@@ -1,11 +1,11 @@
 //! Calls of the engine and of recovery, over a board whose fuse and snapshot are watched.
-ghost use Rattle.std.specs.Prelude.{◌≡◌, ◌<◌, ◌≤◌, ℕ, true, false, [], ◌∷◌, None, Some, length, drop, Option, option_map, Result, IsTrue, IsNone, IsSome, IfOk, IfSome, IsOk, All, ⊤, if◌then◌else◌};
+ghost use Rattle.std.specs.Prelude.{◌≡◌, ◌<◌, ◌≤◌, ℕ, true, false, [], ◌∷◌, None, Some, length, drop, Option, option_map, Result, IsTrue, IsNone, IsSome, IfOk, IfSome, IsOk, OnOk, All, ⊤, if◌then◌else◌};
 ghost use Rattle.pmem_base.specs.declared.commands.Posted.{Posted};
 ghost use Rattle.pmem_base.specs.Lines.{IsLine};
 ghost use Rattle.pmem_base.specs.Geo.{shape_of};
 ghost use Rattle.pmem_base.specs.Ranges.{IsPosted};
 ghost use Rattle.pmem_base.specs.Shape.{Shape, is_loss};
-ghost use Rattle.pmem_base.specs.Layout.{data_lines, device_lines};
+ghost use Rattle.pmem_base.specs.Layout.{data_lines, device_lines, meta_lines};
 ghost use Rattle.pmem_base.specs.Registers.{IsValidRegs};
 ghost use Rattle.pmem_base.specs.WaitingWrites.{no_writes};
 ghost use Rattle.board.specs.Memory.{device_of};
@@ -18,7 +18,7 @@ ghost use Rattle.pmem_engine.specs.declared.fault.Fault.{Fault};
 ghost use Rattle.pmem_engine.specs.Parts.{Parts, parts_of, setup_at};
 ghost use Rattle.pmem_engine.specs.Outcomes.{outcome_of, is_sealed_by};
 ghost use Rattle.pmem_engine.specs.Calls.{IsUsable};
-ghost use Rattle.pmem_recovery.specs.Parts.{suite_state};
+ghost use Rattle.pmem_recovery.specs.Parts.{SuiteRise, suite_at, suite_state};
 ghost use Rattle.watched_board.specs.Watching.{IsWatched, device_during, none_taken};
 ghost use Rattle.access_log.specs.Traced.{GoesOn};
 ghost use Rattle.pmem_replay.specs.During.{WasFormatted, IsTakenApart, WasRecovered};
@@ -326,6 +326,8 @@ pub(crate) fn format<S: Suite>(
     ensures none { (memory_of board.new).snapshot ≡ None }
     ensures each_line { All IsLine (memory_of board.new).lines }
     ensures keys { S.keys suite.new ≡ S.keys suite.old }
+    ensures work { OnOk result (SuiteRise (data_lines (shape_of geo.now)) (data_lines (shape_of geo.now)) (meta_lines (shape_of geo.now)) (suite_at S.Suite suite.old)
+        (suite_at S.Suite suite.new)) }
 {
     let made = format_kept::<Brand, S>(alloc, geo, board, suite, ledger, engine);
     let Made { board: _, answer } = made;
@@ -354,6 +356,8 @@ fn format_kept<'a, K: Start, S: Suite>(
     ensures none { (memory_of result.board.now).snapshot ≡ None }
     ensures each_line { All IsLine (memory_of result.board.now).lines }
     ensures keys { S.keys suite.new ≡ S.keys suite.old }
+    ensures work { OnOk result.answer (SuiteRise (data_lines (shape_of geo.now)) (data_lines (shape_of geo.now)) (meta_lines (shape_of geo.now)) (suite_at S.Suite suite.old)
+        (suite_at S.Suite suite.new)) }
 {
     let mut kept = Kept::<K>::new(board);
     let answer = pmem_recovery::format(alloc, geo, &mut kept, suite, ledger);

@@ -1,8 +1,14 @@
-//! That the contract of a step leaves nothing open.
-ghost use Rattle.pmem_replay.specs.Determined.{StepsButRecoveryAreDetermined};
+//! That the contracts of a step and of a new world leave nothing open.
+ghost use Rattle.pmem_replay.specs.Determined.{StepIsDetermined, NewWorldIsDetermined};
 
-/// A law: from one world, a command that recovers no device has one reply and leaves one world. Two outcomes that
-/// the clause of `World::step` allows are the same, but for how many marks there is room for.
-pub fn steps_but_recovery_are_determined()
-    ensures { StepsButRecoveryAreDetermined }
+/// A law: from one world, a command has one reply and leaves one world. Two outcomes that the clause of `World::step`
+/// allows, neither of which is want of memory, are the same but for how many marks there is room for.
+pub fn step_is_determined()
+    ensures { StepIsDetermined }
+{}
+
+/// A law: two new worlds of one geometry, whose suites have the same keys and counts, are the same but for how many
+/// marks there is room for.
+pub fn new_world_is_determined()
+    ensures { NewWorldIsDetermined }
 {}

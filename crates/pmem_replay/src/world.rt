@@ -2,7 +2,7 @@
 ghost use Rattle.std.specs.Prelude.{◌≡◌, IfOk, false};
 ghost use Rattle.pmem_base.specs.Geo.{shape_of};
 ghost use Rattle.board.specs.MemBoard.{memory_of};
-ghost use Rattle.pmem_replay.specs.Stepped.{IsNewWorld};
+ghost use Rattle.pmem_replay.specs.Stepped.{HasFormatWork, IsNewWorld};
 
 use crate::calls;
 use crate::dirtied::Dirtied;
@@ -91,6 +91,7 @@ impl<S: Counted + Drop> World<S> {
     pub fn new(alloc: Global, geo: Geo, suite: S) -> Result<World<S>, MemFault>
         ensures new { IfOk result (λ world. IsNewWorld (record { shape = shape_of geo; formulas = S.formulas_of (S.keys suite) }) world) }
         ensures keys { IfOk result (λ world. world.keys ≡ S.keys suite) }
+        ensures work { IfOk result (λ world. HasFormatWork (shape_of geo) (S.tags suite) (S.digests suite) world) }
     {
         geo.layout_is_one_to_one();
         let mut suite = suite;

@@ -5,7 +5,7 @@ use Rattle.std.specs.Prelude.{option_map, is_some, IfOk}
 use Rattle.std.proofs.lemmas.Bool.{true≢false}
 use Rattle.pmem_base.specs.declared.faults.Cut.{Cut}
 use Rattle.pmem_base.specs.Shape.{Shape}
-use Rattle.pmem_base.specs.Layout.{device_lines, meta_lines, shadow_lines, shadow_line}
+use Rattle.pmem_base.specs.Layout.{device_lines, meta_lines}
 use Rattle.bonsai_tree.specs.Positions.{level_of}
 use Rattle.board.proofs.CountLemmas.{RisesBy-once, HasRisen-once}
 use Rattle.board.specs.Device.{Device, IsDevice}
@@ -16,18 +16,22 @@ use Rattle.meta_cache.specs.Banks.{set_index, is_cached, is_cached_dirty}
 use Rattle.meta_cache.specs.State.{CacheState, IsCacheOf, oldest_dirty}
 use Rattle.meta_cache.proofs.DirtyLemmas.{oldest_cached, cache_clean}
 use Rattle.meta_path.specs.Blocks.{AreInTheirBanks}
-use Rattle.meta_path.specs.Work.{told_line}
 use Rattle.meta_path.specs.Storing.{IsCleaned, IsOneWrittenBack}
 use Rattle.meta_path.proofs.PathFacts.{its_bank_of}
 use Rattle.meta_path.proofs.WriteLemmas.{dirty_at, dirty_on_tree}
 use Rattle.pmem_engine.specs.Engine.{EngineState}
 use Rattle.pmem_engine.specs.Parts.{Parts, parts_of}
 use Rattle.pmem_engine.specs.Outcomes.{of_cut, fault_of_cut, going, cut_short, outcome_of, OneLossEffect, TakesSteps}
-use Rattle.pmem_engine.specs.Calls.{AnswersFlush, IsFlushWork, HasFlushed}
+use Rattle.pmem_engine.specs.CallFacts.{AnswersFlush, IsFlushWork}
+use Rattle.pmem_engine.specs.declared.fault.Fault.TheVariants as Fail
+use Rattle.pmem_engine.specs.Calls.{HasFlushed}
+use Rattle.call_plan.specs.Plans.{ended}
+use Rattle.call_plan.specs.Following.{Follows}
+use Rattle.pmem_engine.specs.Plans.{oldest_block_plan, flush_plan}
+use Rattle.pmem_engine.proofs.PlannedCalls.CalledEngines.{called_down, called_end}
 use Rattle.pmem_engine.specs.Flushed.{cache_of, HasWrittenBack, HasWrittenOldest}
 use Rattle.pmem_engine.proofs.CallEnds.ErrorAnswers.{ok_faulted, cut_not_down}
 use Rattle.pmem_engine.proofs.CheckedReads.ReadEnds.{ended_parts, ended_going, done_ended, answers_down}
-use Rattle.pmem_engine.proofs.CallEnds.ShadowLines.{told_set_other, meta_apart}
 use Rattle.pmem_engine.proofs.BlockWrites.WrittenBlocks.{written_back, clean_after, cached_after}
 
 same_engine : (old new : EngineState) → cache_of new ≡ cache_of old → new.mirror ≡ old.mirror → new.down ≡ old.down → new ≡ old
@@ -143,11 +147,6 @@ module _ (setup : Setup) (old new : EngineState) (before after : Device) (ledger
     no_steps_of before after it.1.writes it.1.latches,
   )
 
-  flush_lines : (answer : Result (Option ℕ) Cut) → HasWrittenOldest old new before after answer
-      → (n : ℕ) → n < shadow_lines setup.shape
-      → told_line after.lines (shadow_line setup.shape n) ≡ told_line before.lines (shadow_line setup.shape n)
-  flush_lines answer it n within = search (rules, told_set_other, meta_apart)
-
   flush_regs : (answer : Result (Option ℕ) Cut) → HasWrittenOldest old new before after answer → after.regs ≡ before.regs
   flush_regs (Ok None) it = ap (λ (d : Device). d.regs) it.1
   flush_regs (Ok (Some x)) it = it.cleaned.board.regs
@@ -169,16 +168,16 @@ module _ (setup : Setup) (old new : EngineState) (before after : Device) (ledger
 
   pub flushed : (answer : Result (Option ℕ) Cut) → old.down ≡ false → after.reads ≡ before.reads → new.mirror ≡ old.mirror
       → IfOk answer (λ found. found ≡ option_map (λ block. block.1) (oldest_dirty old.cache))
-      → HasWrittenOldest old new before after answer
+      → Follows (oldest_block_plan old) before after (ended answer new) → HasWrittenOldest old new before after answer
       → HasFlushed setup start (ended_parts finish (outcome_of (of_cut answer))) (of_cut answer)
-  flushed answer was reads mirror oldest it =
+  flushed answer was reads mirror oldest planned it =
       record {
+        plan = called_end (λ (old : EngineState). old) (λ old new. new) fault_of_cut old (oldest_block_plan old) was (λ t. refl) answer new planned;
         down = answers_down (of_cut answer) start finish was (flush_down answer it) (cut_not_down answer);
         done = λ up. done_ended setup (outcome_of (of_cut answer)) [] start finish (flush_done answer it);
         answered = λ up. flush_answer answer it;
         oldest = λ up. ok_faulted fault_of_cut answer _ oldest;
         mirror = mirror;
-        shadow = record { mirror = mirror; lines = flush_lines answer it };
         regs = flush_regs answer it;
         work = λ up. flush_work answer it;
         same_ledger = refl;
@@ -187,3 +186,11 @@ module _ (setup : Setup) (old new : EngineState) (before after : Device) (ledger
         digests = refl;
         cached = flush_cached answer it;
       }
+
+-- ---- the engine is down
+
+down_plan : (engine : EngineState) (d : Device) → engine.down ≡ true → Follows (flush_plan engine) d d (Err (engine, Fail.Down))
+down_plan engine d down = called_down (λ (old : EngineState). old) (λ old new. new) fault_of_cut engine (oldest_block_plan engine) d down
+
+pub flush_down_still : (setup : Setup) (parts : Parts) → parts.engine.down ≡ true → HasFlushed setup parts parts (Err Fail.Down)
+flush_down_still setup parts down = search (rules, true≢false, down_plan)

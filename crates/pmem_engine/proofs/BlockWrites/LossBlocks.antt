@@ -1,28 +1,21 @@
 -- A new stop-loss number: the dirty counter blocks are written first where it is smaller, and the latch comes last.
-use Rattle.std.proofs.Common.{rules, ℕ, ◌≡◌, ◌<◌, ◌+◌, false, [], ◌∷◌, sym, ap, subst, ◌∙◌, arith}
+use Rattle.std.proofs.Common.{rules, ℕ, ◌≡◌, ◌+◌, false, [], sym, ap, subst, ◌∙◌, arith}
 use Rattle.pmem_base.specs.Shape.{Shape}
-use Rattle.pmem_base.specs.Layout.{device_lines, meta_lines, meta_line, shadow_line}
+use Rattle.pmem_base.specs.Layout.{device_lines, meta_line}
 use Rattle.board.proofs.CountLemmas.{RisesBy-then, RisesBy-once}
 use Rattle.board.specs.Device.{Device, IsDevice}
 use Rattle.board.specs.Steps.{HasWritten}
 use Rattle.meta_cache.specs.Banks.{set_index, is_cached}
 use Rattle.meta_cache.specs.Sets.{with_mark}
-use Rattle.meta_cache.specs.State.{CacheState, ChangesSet, bank_of, slots_of}
+use Rattle.meta_cache.specs.State.{CacheState, ChangesSet, slots_of}
 use Rattle.meta_path.specs.Blocks.{line_in, bank_dirty_count}
 use Rattle.meta_path.specs.Storing.{IsCleaned}
-use Rattle.meta_path.specs.Work.{told_line}
 use Rattle.pmem_engine.specs.Engine.{EngineState}
 use Rattle.pmem_engine.specs.Parts.{parts_of}
 use Rattle.pmem_engine.specs.Outcomes.{going}
-use Rattle.pmem_engine.specs.DirtyOrder.{dirty_order}
-use Rattle.pmem_engine.specs.Calls.{KeepsButMarks, HasWrittenCleaned}
 use Rattle.pmem_engine.specs.Flushed.{HasWrittenBack, HasWrittenBlocks}
-use Rattle.pmem_engine.proofs.CallEnds.ToldLines.{whole_lines}
-use Rattle.pmem_engine.proofs.BlockWrites.MarkedBlocks.{marks_none, cleaned_none, marks_more, cleaned_more}
-use Rattle.pmem_engine.proofs.BlockWrites.OldestFirst.{in_order_none, in_order_more}
 use Rattle.pmem_engine.proofs.CheckedReads.FetchCalls.{of_states}
 use Rattle.pmem_engine.proofs.CallEnds.CallChains.{done_chained}
-use Rattle.pmem_engine.proofs.CallEnds.ShadowLines.{told_set_other, meta_apart}
 use Rattle.pmem_engine.proofs.BlockWrites.FlushOutcomes.{nothing_done}
 use Rattle.pmem_engine.proofs.BlockWrites.WrittenBlocks.{written_back, cached_after}
 
@@ -37,16 +30,15 @@ cleaned_block g old new bank x before after same changes board = search (rules, 
 
 -- no block was written yet
 pub blocks_none : (engine : EngineState) (device : Device) → HasWrittenBlocks 0 engine engine device device
-blocks_none engine device = search (rules, marks_none, cleaned_none, in_order_none, nothing_done)
+blocks_none engine device = search (rules, nothing_done)
 
 -- one block more
 pub blocks_more : (count x : ℕ) (old mid new : EngineState) (before middle after : Device)
     → before.size ≡ device_lines old.shape → IsDevice middle → HasWrittenBlocks count old mid before middle
     → HasWrittenBack mid.shape.levels x mid new middle after
     → bank_dirty_count mid.shape new.cache mid.shape.levels + 1 ≡ bank_dirty_count mid.shape mid.cache mid.shape.levels
-    → dirty_order (bank_of mid.cache mid.shape.levels) ≡ x ∷ dirty_order (bank_of new.cache mid.shape.levels)
     → HasWrittenBlocks (count + 1) old new before after
-blocks_more count x old mid new before middle after its_size whole first it fewer next =
+blocks_more count x old mid new before middle after its_size whole first it fewer =
     record {
       shape = it.cleaned.cache.shape ∙ first.shape;
       mirror = it.mirror ∙ first.mirror;
@@ -67,28 +59,6 @@ blocks_more count x old mid new before middle after its_size whole first it fewe
       writes =
           RisesBy-then count 1 before.writes middle.writes after.writes first.writes (RisesBy-once it.cleaned.board.writes);
       none = λ zero. absurd (omega (arith, zero));
-      marks =
-          subst (λ (g : Shape). KeepsButMarks g old.cache new.cache) first.shape
-          (marks_more x old.cache mid new before middle after it marks_so_far);
-      lines =
-          subst (λ (g : Shape). HasWrittenCleaned g old.cache new.cache before after) first.shape
-          (cleaned_more x old.cache mid new before middle after it marks_so_far
-          (subst (λ (g : Shape). HasWrittenCleaned g old.cache mid.cache before middle) (sym first.shape) first.lines)
-          (λ lines told.
-          (whole_lines middle.size middle.lines lines whole told).count
-          ∙ first.size ∙ its_size ∙ ap device_lines (sym first.shape)));
-      in_order =
-          in_order_more old.shape x old.cache mid.cache new.cache before middle after first.in_order
-          (subst (λ (g : Shape). dirty_order (bank_of mid.cache g.levels) ≡ x ∷ dirty_order (bank_of new.cache g.levels))
-          first.shape next)
-          (RisesBy-once it.cleaned.board.writes);
-      shadow =
-          λ n within.
-          ap (λ told. told_line told (shadow_line old.shape n)) it.cleaned.board.lines
-          ∙ told_set_other middle.lines (meta_line mid.shape x) (line_in mid.shape mid.cache mid.shape.levels x) (shadow_line old.shape n)
-          (λ same. meta_apart old.shape n x (subst (λ (g : Shape). x < meta_lines g) first.shape it.on_tree)
-          (same ∙ ap (λ (g : Shape). meta_line g x) first.shape))
-          ∙ first.shadow n within;
       done =
           λ setup ledger tags digests same.
           done_chained setup going [] [] (parts_of old before ledger tags digests) (parts_of mid middle ledger tags digests)
@@ -96,6 +66,3 @@ blocks_more count x old mid new before middle after its_size whole first it fewe
           (written_back setup mid.shape.levels x mid new middle after ledger tags digests (first.shape ∙ sym same)
           (first.size ∙ its_size ∙ ap device_lines (sym same)) whole it);
     }
-  where
-    marks_so_far : KeepsButMarks mid.shape old.cache mid.cache
-    marks_so_far = subst (λ (g : Shape). KeepsButMarks g old.cache mid.cache) (sym first.shape) first.marks

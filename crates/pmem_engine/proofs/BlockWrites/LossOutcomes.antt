@@ -15,12 +15,11 @@ use Rattle.bonsai_tree.specs.Positions.{level_of, counter_position}
 use Rattle.bonsai_tree.proofs.Levels.{counter_position-lt}
 use Rattle.bonsai_tree.proofs.PathPositions.{path_of-block, path_of-level}
 use Rattle.board.specs.Device.{Device}
-use Rattle.board.specs.Steps.{Tells, HasLatched}
+use Rattle.board.specs.Steps.{HasLatched}
 use Rattle.commit_regs.specs.Groups.{redone_told}
 use Rattle.seal_ledger.specs.Ledger.{LedgerState}
 use Rattle.meta_cache.specs.Banks.{is_cached, is_cached_dirty}
-use Rattle.meta_path.specs.Blocks.{line_in, bank_dirty_count}
-use Rattle.meta_path.specs.Work.{told_line}
+use Rattle.meta_path.specs.Blocks.{bank_dirty_count}
 use Rattle.stop_loss.proofs.Windows.{is_loss_cases}
 use Rattle.suite.specs.Setup.{Setup}
 use Rattle.pmem_engine.specs.declared.fault.Fault.TheVariants as Fail
@@ -29,8 +28,13 @@ use Rattle.pmem_engine.specs.Invariants.{IsSound, IsCounterStored, stored_meta}
 use Rattle.pmem_engine.specs.Steps.{HasLossSet}
 use Rattle.pmem_engine.specs.Recached.{IsTrueOrDirty}
 use Rattle.pmem_engine.specs.Parts.{Parts, parts_of, AreTrusted, AreSound, HoldsCounters, HoldsMeta, lines_redone}
-use Rattle.pmem_engine.specs.Outcomes.{of_cut, going, cut_short, outcome_of, KeepsPlaces, KeepsMeta, CallEffect, TakesSteps}
-use Rattle.pmem_engine.specs.Calls.{KeepsShadow, AnswersLoss, KeepsButMarks, HasWrittenCleaned, HasWrittenInOrder, HasSetLoss}
+use Rattle.pmem_engine.specs.Outcomes.{of_cut, going, cut_short, outcome_of, KeepsPlaces, KeepsMeta, CallEffect, TakesSteps, fault_of_cut}
+use Rattle.pmem_engine.specs.CallFacts.{AnswersLoss}
+use Rattle.pmem_engine.specs.Calls.{HasSetLoss}
+use Rattle.call_plan.specs.Plans.{ended}
+use Rattle.call_plan.specs.Following.{Follows}
+use Rattle.pmem_engine.specs.Plans.{latch_loss_plan, set_loss_plan}
+use Rattle.pmem_engine.proofs.PlannedCalls.CalledEngines.{called_down, called_end}
 use Rattle.pmem_engine.specs.Flushed.{HasWrittenBlocks, HasMadeWay, HasChangedLoss, with_loss, IsBankClean}
 use Rattle.pmem_engine.proofs.CallEnds.ErrorAnswers.{cut_not_down}
 use Rattle.pmem_engine.proofs.CallEnds.ToldLines.{told_surely}
@@ -39,12 +43,9 @@ use Rattle.pmem_engine.proofs.Laws.MendableLaws.{IsMendable-no_group}
 use Rattle.pmem_engine.proofs.Laws.CacheLaws.{IsTrueOrDirty-sound}
 use Rattle.pmem_engine.proofs.Laws.LossLaws.{IsTrusted-loss_set, IsSound-loss_set, IsCounterStored-loss_raised}
 use Rattle.pmem_engine.proofs.CallEnds.CallChains.{gone_chained}
-use Rattle.pmem_engine.proofs.CallEnds.ShadowLines.{shadow_still}
 use Rattle.pmem_engine.proofs.CheckedReads.ReadEnds.{ended_parts, gone_ended, answers_down}
 use Rattle.pmem_engine.proofs.BlockWrites.FlushOutcomes.{nothing_done, cut_still, no_steps_of}
 use Rattle.pmem_engine.proofs.BlockWrites.LossSteps.{same_steps, other_steps, latched_steps, cut_steps}
-use Rattle.pmem_engine.proofs.BlockWrites.MarkedBlocks.{marks_none, cleaned_none}
-use Rattle.pmem_engine.proofs.BlockWrites.OldestFirst.{in_order_none, in_order_still}
 
 -- ---- numbers
 
@@ -278,53 +279,6 @@ module _ (setup : Setup) (n : ℕ) (old new : EngineState) (before after : Devic
       it.1.way.written.none (it.1.way.greater (let other = it.0 in omega (arith, least, other)))
   loss_greater (Err cut) it least = it.1.written.none (it.1.greater (let other = it.0 in omega (arith, least, other)))
 
-  blocks_shadow : (count : ℕ) (mid : Device) → HasWrittenBlocks count old new before mid → after.lines ≡ mid.lines
-      → KeepsShadow setup.shape call_start call_finish
-  blocks_shadow count mid written same =
-      record {
-        mirror = written.mirror;
-        lines =
-            λ k within.
-            ap (λ told. told_line told (layout.shadow_line setup.shape k)) same
-            ∙ subst
-            (λ (g : Shape). k < layout.shadow_lines g
-            → told_line mid.lines (layout.shadow_line g k) ≡ told_line before.lines (layout.shadow_line g k))
-            its_shape (λ below. written.shadow k below) within;
-      }
-
-  loss_shadow : (answer : Result ℕ Cut) → HasChangedLoss n old new before after answer
-      → KeepsShadow setup.shape call_start call_finish
-  loss_shadow answer it = search (rules, shadow_still, blocks_shadow)
-
-  -- marks alone change, and what they say was written stands in its place
-  loss_marks : (answer : Result ℕ Cut) → HasChangedLoss n old new before after answer
-      → KeepsButMarks setup.shape old.cache new.cache
-  loss_marks answer it = search (rules, marks_none)
-
-  blocks_lines : (count : ℕ) (mid : Device) → HasWrittenBlocks count old new before mid → after.lines ≡ mid.lines
-      → HasWrittenCleaned setup.shape old.cache new.cache before after
-  blocks_lines count mid written same = moved (subst (λ (g : Shape). HasWrittenCleaned g old.cache new.cache before mid) its_shape written.lines)
-    where
-      moved : HasWrittenCleaned setup.shape old.cache new.cache before mid
-          → HasWrittenCleaned setup.shape old.cache new.cache before after
-      moved it =
-          record {
-            written =
-                λ x dirty clean.
-                subst
-                (λ told. Tells told (layout.meta_line setup.shape x) (line_in setup.shape old.cache setup.shape.levels x))
-                (sym same) (it.written x dirty clean);
-            others = λ at none. ap (λ told. told_line told at) same ∙ it.others at none;
-          }
-
-  loss_lines : (answer : Result ℕ Cut) → HasChangedLoss n old new before after answer
-      → HasWrittenCleaned setup.shape old.cache new.cache before after
-  loss_lines answer it = search (rules, cleaned_none, blocks_lines)
-
-  loss_in_order : (answer : Result ℕ Cut) → HasChangedLoss n old new before after answer
-      → HasWrittenInOrder setup.shape old.cache new.cache before after
-  loss_in_order answer it = search (rules, in_order_none, in_order_still)
-
   loss_regs : (answer : Result ℕ Cut) → HasChangedLoss n old new before after answer
       → record after.regs { loss = n } ≡ record before.regs { loss = n }
   loss_regs (Ok steps) (inl it) = ap (λ (d : Device). record d.regs { loss = n }) it.3
@@ -334,21 +288,19 @@ module _ (setup : Setup) (n : ℕ) (old new : EngineState) (before after : Devic
       ∙ ap (λ items. record before.regs { group = record { items = items }; loss = n }) (sym no_group)
   loss_regs (Err cut) it = ap (λ (regs : Regs). record regs { loss = n }) (it.1.cut.regs ∙ it.1.written.regs)
 
-  pub loss_set : (answer : Result ℕ Cut) → old.down ≡ false → HasChangedLoss n old new before after answer
+  pub loss_set : (answer : Result ℕ Cut) → old.down ≡ false → Follows (latch_loss_plan n before.regs old) before after (ended answer new)
+      → HasChangedLoss n old new before after answer
       → HasSetLoss setup n call_start (ended_parts call_finish (outcome_of (of_cut answer))) (of_cut answer)
-  loss_set answer was it =
+  loss_set answer was planned it =
       record {
+        plan = called_end (λ (old : EngineState). old) (λ old new. new) fault_of_cut old (latch_loss_plan n before.regs old) was (λ t. refl) answer new planned;
         down = answers_down (of_cut answer) call_start call_finish was (loss_down answer it) (cut_not_down answer);
         gone = λ up. gone_ended setup (outcome_of (of_cut answer)) [] call_start call_finish (loss_gone answer it);
         answered = λ up. loss_answer answer it;
         counters = λ up trusted page within meta held. loss_counters answer it trusted page within meta held;
         smaller = λ less ok. loss_smaller answer it less ok;
         greater = λ least. loss_greater answer it least;
-        marks = loss_marks answer it;
-        lines = loss_lines answer it;
-        in_order = loss_in_order answer it;
         regs = loss_regs answer it;
-        shadow = record { mirror = (loss_shadow answer it).mirror; lines = (loss_shadow answer it).lines };
         same_ledger = refl;
         same_reads = loss_reads answer it;
         tags = refl;
@@ -358,5 +310,8 @@ module _ (setup : Setup) (n : ℕ) (old new : EngineState) (before after : Devic
 
 -- ---- the engine is down
 
+down_plan : (n : ℕ) (engine : EngineState) (d : Device) → engine.down ≡ true → Follows (set_loss_plan n d.regs engine) d d (Err (engine, Fail.Down))
+down_plan n engine d down = called_down (λ (old : EngineState). old) (λ old new. new) fault_of_cut engine (latch_loss_plan n d.regs engine) d down
+
 pub set_down : (setup : Setup) (n : ℕ) (parts : Parts) → parts.engine.down ≡ true → HasSetLoss setup n parts parts (Err Fail.Down)
-set_down setup n parts down = search (rules, true≢false, shadow_still, marks_none, cleaned_none, in_order_none)
+set_down setup n parts down = search (rules, true≢false, down_plan)

@@ -7,7 +7,7 @@ use Rattle.board.specs.Counts.{RisesBy, RisesOnce}
 use Rattle.board.specs.Device.{Device}
 use Rattle.pmem_engine.specs.Parts.{Parts}
 use Rattle.pmem_engine.specs.Outcomes.{TakesSteps, TakesFewer}
-use Rattle.pmem_engine.specs.Calls.{AreStepsOfLoss, IsCutInLoss}
+use Rattle.pmem_engine.specs.CallFacts.{AreStepsOfLoss, IsCutInLoss}
 
 -- the present number
 pub same_steps : (dirty old_loss n steps : ℕ) → n ≡ old_loss → steps ≡ 0 → AreStepsOfLoss dirty old_loss n steps

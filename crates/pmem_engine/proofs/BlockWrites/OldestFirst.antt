@@ -6,12 +6,9 @@ use Rattle.std.specs.List.{filter_map, cons_option}
 use Rattle.std.specs.Option.{option_or}
 use Rattle.std.proofs.lemmas.Bool.{cases_eq, cond-true, cond-false, eq-eqb, ne_eqb}
 use Rattle.std.proofs.lemmas.Grind.{reverse_onto}
-use Rattle.std.proofs.lemmas.List.{append_assoc, length-append}
 use Rattle.std.proofs.lemmas.List.Folds.{find-append}
 use Rattle.std.proofs.lemmas.Option.{unwrap_or-slice_get, none-some}
 use Rattle.pmem_base.specs.Shape.{Shape}
-use Rattle.board.specs.Counts.{RisesBy}
-use Rattle.board.specs.Device.{Device}
 use Rattle.meta_cache.specs.declared.slot.Slot.{Slot}
 use Rattle.meta_cache.specs.Banks.{Banks, set_of, set_index}
 use Rattle.meta_cache.specs.Sets.{slot_marked, with_mark, oldest_dirty_in, ArePositionsApart}
@@ -19,7 +16,6 @@ use Rattle.meta_cache.specs.State.{CacheState, bank_of, oldest_dirty_of, IsCache
 use Rattle.meta_cache.proofs.SetLemmas.{blank}
 use Rattle.meta_path.specs.Blocks.{slots_at}
 use Rattle.pmem_engine.specs.DirtyOrder.{dirty_positions, dirty_order}
-use Rattle.pmem_engine.specs.Calls.{HasWrittenInOrder}
 
 -- ---- the first of an order
 
@@ -242,42 +238,3 @@ order_cleaned g old new bank x low was now changes oldest =
         whole
         ∙ ap (λ order. x ∷ order)
         (sym (order_rest g x 0 (bank_of old.banks bank) (bank_of new.banks bank) ys cleaned whole))
-
--- ---- so many blocks
-
-pub in_order_none : (g : Shape) (banks : Banks) (device : Device) → HasWrittenInOrder g banks banks device device
-in_order_none g banks device =
-    record { written = []; order = refl; writes = record { never_falls = omega arith; exact = λ below. omega arith } }
-
--- one block more
-pub in_order_more : (g : Shape) (x : ℕ) (old mid new : Banks) (before middle after : Device)
-    → HasWrittenInOrder g old mid before middle
-    → dirty_order (bank_of mid g.levels) ≡ x ∷ dirty_order (bank_of new g.levels)
-    → RisesBy 1 middle.writes after.writes → HasWrittenInOrder g old new before after
-in_order_more g x old mid new before middle after first next once =
-    record {
-      written = first.written ++ x ∷ [];
-      order =
-          first.order ∙ ap (λ order. first.written ++ order) next
-          ∙ sym (append_assoc first.written (x ∷ []) (dirty_order (bank_of new g.levels)));
-      writes =
-          record {
-            never_falls = omega (arith, first.writes.never_falls, once.never_falls);
-            exact =
-                λ below.
-                let last : after.writes ≡ middle.writes + 1 = once.exact below in
-                let so_far : middle.writes ≡ before.writes + length first.written =
-                first.writes.exact (omega (arith, below, once.never_falls)) in
-                omega (arith, last, so_far, length-append first.written (x ∷ []));
-          };
-    }
-
--- and no line more
-pub in_order_still : (g : Shape) (old new : Banks) (before middle after : Device)
-    → HasWrittenInOrder g old new before middle → after.writes ≡ middle.writes → HasWrittenInOrder g old new before after
-in_order_still g old new before middle after it same =
-    record {
-      written = it.written;
-      order = it.order;
-      writes = subst (λ writes. RisesBy (length it.written) before.writes writes) (sym same) it.writes;
-    }

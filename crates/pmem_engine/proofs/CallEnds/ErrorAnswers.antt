@@ -1,13 +1,12 @@
 -- What a `?` hands on, and what a part's answer says of the engine's.
-use Rattle.std.proofs.Common.{rules, ◌≡◌, Ok, Err, refl, sym, ap}
-use Rattle.std.proofs.lemmas.Bool.{false≢true}
-use Rattle.std.specs.Prelude.{Result, is_ok, IfOk, IsOk, IsErr, IsErrAnd}
+use Rattle.std.proofs.Common.{rules, ◌≡◌, Err}
+use Rattle.std.specs.Prelude.{Result, IfOk, IsOk, IsErrAnd}
 use Rattle.pmem_base.specs.declared.faults.Cut.{Cut}
 use Rattle.meta_path.specs.declared.faults.PathFault.{PathFault}
 use Rattle.pmem_engine.specs.declared.fault.Fault.{Fault}
 use Rattle.pmem_engine.specs.declared.fault.LineFault.{LineFault}
 use Rattle.pmem_engine.specs.Outcomes.{fault_of_path, fault_of_line, faulted, of_cut}
-use Rattle.pmem_engine.specs.Calls.{IsDownAnswer, IsUnrefused}
+use Rattle.pmem_engine.specs.CallFacts.{IsDownAnswer, IsUnrefused}
 
 -- an error of this value
 pub is_err_of : {T E : Type 0} (r : Result T E) (e : E) → IsErrAnd r (λ (x : E). x ≡ e) → r ≡ Err e
@@ -20,10 +19,6 @@ ok_faulted its_fault v1 P it = search rules
 -- .. and the other way round
 pub ok_before : {T E : Type 0} (its_fault : E → Fault) (r : Result T E) → IsOk (faulted its_fault r) → IsOk r
 ok_before its_fault v1 it = search rules
-
-pub err_before : {T E : Type 0} (its_fault : E → Fault) (r : Result T E) {fault : Fault} → faulted its_fault r ≡ Err fault → IsErr r
-err_before its_fault (Ok value) it = absurd (false≢true (ap is_ok (sym it)))
-err_before its_fault (Err error) it = refl
 
 -- no part answers Down
 pub cut_not_down : {T : Type 0} (answer : Result T Cut) → IsDownAnswer (of_cut answer) → ⊥

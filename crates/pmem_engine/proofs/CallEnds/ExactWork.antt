@@ -7,7 +7,7 @@ use Rattle.pmem_base.proofs.CountLemmas.{risen_times-add}
 use Rattle.suite.specs.Setup.{Setup}
 use Rattle.pmem_engine.specs.declared.reading.Unsealed.{Unsealed}
 use Rattle.pmem_engine.specs.Parts.{Parts}
-use Rattle.pmem_engine.specs.Calls.{IsLeftAlone, Work, then_work, IsWork, fetch_work, unseal_work, reseal_work}
+use Rattle.pmem_engine.specs.CallFacts.{IsLeftAlone, Work, then_work, IsWork, fetch_work, unseal_work, reseal_work}
 use Rattle.pmem_engine.specs.Inner.{HasFetched, HasUnsealed}
 
 -- a count that is as it was

@@ -12,10 +12,10 @@ use Rattle.meta_cache.specs.Banks.{Banks}
 use Rattle.meta_path.specs.Work.{told_line}
 use Rattle.meta_path.specs.Naming.{naming_writes}
 use Rattle.pmem_engine.specs.declared.resealing.NextSeal.{NextSeal}
-use Rattle.pmem_engine.specs.Calls.{KeepsMetaLines}
+use Rattle.pmem_engine.specs.CallFacts.{KeepsMetaLines}
 use Rattle.pmem_engine.specs.Committing.{HasCommitted}
 use Rattle.pmem_engine.specs.Sealing.{seal_group, begin_group}
-use Rattle.pmem_engine.proofs.CallEnds.ShadowLines.{told_off, meta_off}
+use Rattle.pmem_engine.proofs.CallEnds.UnwrittenLines.{told_off, meta_off}
 use Rattle.pmem_engine.proofs.PathNaming.PathNames.{meta_kept}
 
 -- a line that a group doesn't write

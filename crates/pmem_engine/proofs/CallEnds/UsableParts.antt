@@ -13,7 +13,7 @@ use Rattle.pmem_engine.specs.declared.fault.Fault.{Fault}
 use Rattle.pmem_engine.specs.Engine.{EngineState}
 use Rattle.pmem_engine.specs.Parts.{Parts}
 use Rattle.pmem_engine.specs.Outcomes.{Outcome, is_going, outcome_of, CallEffect}
-use Rattle.pmem_engine.specs.Calls.{IsReady, IsUsable, IsLeftAlone, AnswersDown}
+use Rattle.pmem_engine.specs.CallFacts.{IsReady, IsUsable, IsLeftAlone, AnswersDown}
 
 -- a line that was sealed still is, whatever marks follow
 pub still_sealed : (marks more : List Mark) (a : ℕ) → IsSome (last_seal marks a) → IsSome (last_seal (marks ++ more) a)

@@ -1,25 +1,21 @@
 -- What a fetch answers, by its end.
-use Rattle.std.proofs.Common.{rules, ℕ, ◌≡◌, ◌<◌, ◌≤◌, ◌+◌, true, false, [], length, Option, Some, None, Ok, Err, refl, sym, ap, ap₂, subst, subst₂, ◌∙◌, arith}
+use Rattle.std.proofs.Common.{rules, ℕ, ◌≡◌, ◌<◌, ◌≤◌, ◌+◌, true, false, Option, Some, None, Ok, Err, refl, sym, ap, subst, subst₂, ◌∙◌, arith}
 use Rattle.std.specs.Prelude.{is_some}
-use Rattle.std.proofs.lemmas.Bool.{true≢false, cond-true}
+use Rattle.std.proofs.lemmas.Bool.{true≢false}
 use Rattle.pmem_base.specs.declared.lines.Line.{Line}
 use Rattle.pmem_base.specs.declared.answers.Exhibit.{Exhibit}
 use Rattle.pmem_base.specs.declared.answers.Exhibit.TheVariants.{Clash}
 use Rattle.pmem_base.specs.Layout as layout
 use Rattle.pmem_base.specs.Lines.{line_at, zero_line}
-use Rattle.pmem_base.specs.Counts.{risen_times}
-use Rattle.bonsai_tree.specs.Positions.{level_of, is_on_path, counter_position}
+use Rattle.bonsai_tree.specs.Positions.{level_of, is_on_path}
 use Rattle.bonsai_tree.proofs.PathPositions.{path_of-at, path_position-on_path}
 use Rattle.board.specs.Device.{Device}
 use Rattle.board.specs.Steps.{Tells}
-use Rattle.commit_regs.specs.Groups.{redone_told}
 use Rattle.seal_ledger.specs.Ledger.{LedgerState}
 use Rattle.seal_ledger.specs.Notes.{first_exhibit}
-use Rattle.shadow_tables.specs.Entries.{slot_entry}
 use Rattle.meta_cache.specs.Banks.{is_cached}
 use Rattle.meta_path.specs.Blocks.{path_at, IsPathCached, AreCachedTrue, dirty_count}
-use Rattle.meta_path.specs.Work.{told_line}
-use Rattle.meta_path.specs.Fetching.{spilled, IsFetchedTo, IsCutAt, IsRefusedAt, IsShownAt}
+use Rattle.meta_path.specs.Fetching.{IsFetchedTo, IsCutAt, IsRefusedAt, IsShownAt}
 use Rattle.meta_path.specs.Keeping.{KeepsBlocks, IsTrueTree, HasFalseDigest, HasClash}
 use Rattle.meta_path.proofs.PathFacts.{path_at-level, path_at-lt}
 use Rattle.meta_path.specs.declared.faults.PathFault.TheVariants as Path
@@ -27,12 +23,12 @@ use Rattle.suite.specs.Setup.{Setup}
 use Rattle.pmem_engine.specs.Engine.{EngineState}
 use Rattle.pmem_engine.specs.declared.fault.Fault.TheVariants as Fail
 use Rattle.pmem_engine.specs.Invariants.{IsSound}
-use Rattle.pmem_engine.specs.Parts.{Parts, parts_of, AreTrusted, AreSound, meta_line_in}
+use Rattle.pmem_engine.specs.Parts.{Parts, parts_of, AreTrusted, AreSound}
 use Rattle.pmem_engine.specs.Faults.{IsFetchedLine, IsClashShown}
-use Rattle.pmem_engine.specs.Calls.{KeepsShadow, IsForgedExhibit, IsPastFetch}
+use Rattle.pmem_engine.specs.CallFacts.{IsForgedExhibit, IsPastFetch}
 use Rattle.pmem_engine.specs.Inner.{HasFetched}
-use Rattle.pmem_engine.proofs.CallEnds.ToldLines.{unarmed, told_gives}
-use Rattle.pmem_engine.proofs.CheckedReads.PathCosts.{none_absent, none_spilled, length_spilled, same_number}
+use Rattle.pmem_engine.proofs.CallEnds.ToldLines.{told_gives}
+use Rattle.pmem_engine.proofs.CheckedReads.PathCosts.{length_spilled}
 use Rattle.pmem_engine.proofs.CheckedReads.FetchEnds.{IsFetchOver, done_going, done_cut, done_shown, few_steps, dirty_steps, fewer_dirty_steps, read_is_true, read_was_there}
 
 -- what a shown clash names
@@ -57,21 +53,12 @@ module _ (setup : Setup) (page : ℕ) (old new : EngineState) (ledger noted : Le
     (shape : new.shape ≡ old.shape) (mirror : new.mirror ≡ old.mirror) (down : new.down ≡ old.down)
     (same_tags : tags_now ≡ tags)
     (over : IsFetchOver before after digests digests_now ledger noted)
-    (keeps : KeepsBlocks setup.shape ledger.truth page old.cache new.cache before after)
-    (shadow : KeepsShadow setup.shape (parts_of old before ledger tags digests) (parts_of new after noted tags_now digests_now))
-    (block_line : told_line after.lines (layout.meta_line setup.shape (counter_position setup.shape page))
-    ≡ told_line before.lines (layout.meta_line setup.shape (counter_position setup.shape page))) where
+    (keeps : KeepsBlocks setup.shape ledger.truth page old.cache new.cache before after) where
   abbrev start : Parts
   start = parts_of old before ledger tags digests
 
   abbrev finish : Parts
   finish = parts_of new after noted tags_now digests_now
-
-  abbrev block : ℕ
-  block = counter_position setup.shape page
-
-  block_kept : before.regs.group.items ≡ [] → meta_line_in setup.shape finish block ≡ meta_line_in setup.shape start block
-  block_kept no_group = search (rules, unarmed)
 
   -- the path was fetched
   pub fetched_ok : IsPathCached setup.shape new.cache page → noted ≡ ledger
@@ -88,54 +75,12 @@ module _ (setup : Setup) (page : ℕ) (old new : EngineState) (ledger noted : Le
         unrefused = λ sound. tt;
         path_cached = λ ok. cached;
         path_fetched = λ past. cached;
-        meta_uncached = tt;
-        shadow = shadow;
         work = λ ok. fetched;
-        fetched =
-            record {
-              levels = setup.shape.levels + 1;
-              fetched =
-                  record {
-                    on_path = omega arith;
-                    cache = fetched.cache;
-                    lines = fetched.work.lines;
-                    writes = fetched.work.writes;
-                    latches = over.latches;
-                    regs = over.regs;
-                  };
-              as_far = λ past. refl;
-              due = λ live. tt;
-            };
         mirror = mirror;
         down = down;
         regs = over.regs;
         tags = same_tags;
         same_ledger = λ unshown. same;
-        still_cached =
-            λ was. (
-              refl,
-              record {
-                lines = fetched.work.lines ∙ ap (λ entries. redone_told entries before.lines) (nothing was) ∙ unarmed [] before.lines refl;
-                regs = over.regs;
-                reads = fetched.work.no_read (none_absent setup.shape old.cache page was (setup.shape.levels + 1) (omega arith));
-                writes = fetched.work.no_write (ap length (nothing was));
-                latches = over.latches;
-              },
-              fetched.digests
-                  ∙ ap (λ n. risen_times n digests) (none_absent setup.shape old.cache page was (setup.shape.levels + 1) (omega arith)),
-            );
-        still_named =
-            λ was named.
-            record {
-              each =
-                  λ j within.
-                  ap₂ (λ shadow n. slot_entry setup.shape shadow j n) mirror
-                  (same_number setup.shape old.cache new.cache j (path_at setup.shape page j) (was.each j within) (cached.each j within)
-                  (fetched.cache.fetched j (omega (arith, within))
-                  ∙ cond-true (is_cached setup.shape old.cache j (path_at setup.shape page j)) _ _ (was.each j within)))
-                  ∙ named.each j within;
-            };
-        block_kept = block_kept;
         latches = over.latches;
         steps_of_path =
             few_steps setup page old new ledger noted before after tags digests tags_now digests_now its_size shape mirror down
@@ -147,9 +92,6 @@ module _ (setup : Setup) (page : ℕ) (old new : EngineState) (ledger noted : Le
               down same_tags over keeps,
         );
       }
-    where
-      nothing : IsPathCached setup.shape old.cache page → spilled setup.shape old.cache page (setup.shape.levels + 1) ≡ []
-      nothing was = none_spilled setup.shape old.cache page was (setup.shape.levels + 1) (omega arith)
 
   -- an error is no answer
   no_answer : {T : Type 0} → false ≡ true → T
@@ -171,34 +113,12 @@ module _ (setup : Setup) (page : ℕ) (old new : EngineState) (ledger noted : Le
         unrefused = λ sound. tt;
         path_cached = λ ok. no_answer ok;
         path_fetched = λ past. absurd past;
-        meta_uncached = tt;
-        shadow = shadow;
         work = λ ok. no_answer ok;
-        fetched =
-            record {
-              levels = it.n;
-              fetched =
-                  record {
-                    on_path = omega (arith, it.on_path);
-                    cache = it.cache;
-                    lines = it.lines;
-                    writes = it.writes;
-                    latches = over.latches;
-                    regs = over.regs;
-                  };
-              as_far = λ past. absurd past;
-              due =
-                  λ live.
-                  record { on_path = omega (arith, it.on_path); absent = it.absent; victim = it.victim live };
-            };
         mirror = mirror;
         down = down;
         regs = over.regs;
         tags = same_tags;
         same_ledger = λ unshown. same;
-        still_cached = λ was. absurd (uncached was);
-        still_named = λ was named. absurd (uncached was);
-        block_kept = block_kept;
         latches = over.latches;
         steps_of_path =
             record {
@@ -276,38 +196,12 @@ module _ (setup : Setup) (page : ℕ) (old new : EngineState) (ledger noted : Le
             (at_line (sound_trusted sound) false_digest.line false_digest.tells).uncached false_digest.tells));
         path_cached = λ ok. no_answer ok;
         path_fetched = λ past. absurd past;
-        meta_uncached = (
-          ap (is_on_path setup.shape page) (it.position ∙ path_of-at setup.shape page it.n it.read.on_path)
-              ∙ path_position-on_path setup.shape page it.n it.read.on_path,
-          subst (λ z. is_cached setup.shape old.cache (level_of z) z ≡ false) (sym it.position)
-              (absent_before it.n it.read.on_path it.read.absent),
-        );
-        shadow = shadow;
         work = λ ok. no_answer ok;
-        fetched =
-            record {
-              levels = it.n;
-              fetched =
-                  record {
-                    on_path = omega (arith, it.read.on_path);
-                    cache = it.read.cache;
-                    lines = it.read.work.lines;
-                    writes = it.read.work.writes;
-                    latches = over.latches;
-                    regs = over.regs;
-                  };
-              as_far =
-                  sym (ap level_of it.position ∙ path_at-level setup.shape page it.n its_page few_levels it.read.on_path);
-              due = λ live. tt;
-            };
         mirror = mirror;
         down = down;
         regs = over.regs;
         tags = same_tags;
         same_ledger = λ unshown. same;
-        still_cached = λ was. absurd (uncached was);
-        still_named = λ was named. absurd (uncached was);
-        block_kept = block_kept;
         latches = over.latches;
         steps_of_path =
             few_steps setup page old new ledger noted before after tags digests tags_now digests_now its_size shape mirror down
@@ -349,32 +243,12 @@ module _ (setup : Setup) (page : ℕ) (old new : EngineState) (ledger noted : Le
         unrefused = never;
         path_cached = λ ok. no_answer ok;
         path_fetched = λ past. absurd (never_past past);
-        meta_uncached = tt;
-        shadow = shadow;
         work = λ ok. no_answer ok;
-        fetched =
-            record {
-              levels = it.n;
-              fetched =
-                  record {
-                    on_path = omega (arith, it.read.on_path);
-                    cache = it.read.cache;
-                    lines = it.read.work.lines;
-                    writes = it.read.work.writes;
-                    latches = over.latches;
-                    regs = over.regs;
-                  };
-              as_far = λ past. absurd (never_past past);
-              due = λ live. tt;
-            };
         mirror = mirror;
         down = down;
         regs = over.regs;
         tags = same_tags;
         same_ledger = λ unshown. absurd (unshown refl);
-        still_cached = λ was. absurd (uncached was);
-        still_named = λ was named. absurd (uncached was);
-        block_kept = block_kept;
         latches = over.latches;
         steps_of_path =
             few_steps setup page old new ledger noted before after tags digests tags_now digests_now its_size shape mirror down

@@ -1,14 +1,11 @@
 -- A read: its path was fetched, and its line unsealed or refused.
 use Rattle.std.proofs.lemmas.Grind.{common_steps}
 use Rattle.std.specs.Prelude.{IsOk}
-use Rattle.std.proofs.Common.{rules, ℕ, ◌≡◌, inl, true, false, [], length, Result, Ok, Err, refl, sym, ap, subst, subst₂, ◌∙◌, arith}
+use Rattle.std.proofs.Common.{rules, ℕ, ◌≡◌, inl, true, false, [], Result, Ok, Err, refl, sym, ap, subst, subst₂, ◌∙◌, arith}
 use Rattle.std.proofs.lemmas.Bool.{true≢false}
 use Rattle.pmem_base.specs.declared.lines.Line.{Line}
 use Rattle.pmem_base.specs.declared.lines.Ctr.{Ctr}
 use Rattle.pmem_base.specs.Layout.{page_of}
-use Rattle.pmem_base.specs.Counts.{risen}
-use Rattle.pmem_base.specs.Shape.{Shape}
-use Rattle.board.specs.Counts.{RisesBy}
 use Rattle.board.specs.Device.{Device}
 use Rattle.meta_path.specs.declared.faults.PathFault.{PathFault}
 use Rattle.meta_path.specs.declared.faults.PathFault.TheVariants as Path
@@ -24,12 +21,11 @@ use Rattle.pmem_engine.specs.declared.reading.Unsealed.{Unsealed}
 use Rattle.pmem_engine.specs.Engine.{EngineState}
 use Rattle.pmem_engine.specs.Parts.{Parts, AreTrusted, AreSound}
 use Rattle.pmem_engine.specs.Outcomes.{fault_of_path, fault_of_line, of_line, Outcome, going, cut_short, shown, outcome_of, OneLossEffect, TakesSteps, TakesAtMost}
-use Rattle.pmem_engine.specs.Calls.{IsDownAnswer, IsUnrefused, TakesWithin, TakesWithinOfLive, IsMetaUncached, fetch_state, path_spilled, fetch_work, unseal_work, IsPathFetched, IsPastFetch, IsAnswerOfRead, IsReadWork, AnswersRead, IsReadOfCached, HasFetchedLevels, IsFetchedAsFar, IsCutWhereDue, HasFetchedSome}
-use Rattle.pmem_engine.specs.Inner.{HasFetched, HasUnsealed, AnswersFetch, UpReadOutcome, IsLastCounter, AnswersUnseal, StandsStill}
+use Rattle.pmem_engine.specs.CallFacts.{IsDownAnswer, IsUnrefused, TakesWithin, TakesWithinOfLive, fetch_state, fetch_work, unseal_work, IsPathFetched, IsPastFetch, IsAnswerOfRead, IsReadWork, AnswersRead}
+use Rattle.pmem_engine.specs.Inner.{HasFetched, HasUnsealed, AnswersFetch, UpReadOutcome, IsLastCounter, AnswersUnseal}
 use Rattle.pmem_engine.proofs.CallEnds.CallChains.{done_chained}
 use Rattle.pmem_engine.proofs.CallEnds.ErrorAnswers.{path_not_down, path_unrefused}
 use Rattle.pmem_engine.proofs.CallEnds.ExactWork.{work_then, fetch_worked, unseal_worked}
-use Rattle.pmem_engine.proofs.CallEnds.ShadowLines.{shadow_chained, shadow_still}
 use Rattle.pmem_engine.proofs.CallEnds.StillParts.{sound_trusted}
 
 -- the plain line of a line unsealed
@@ -100,28 +96,13 @@ module _ (setup : Setup) (a : ℕ) (ctr : Ctr) (old mid new : Parts) (its_shape 
             let now : AreSound setup mid = fetched.done.gone.sound was in
             still_unrefused answer (unsealed.unrefused now (last (sound_trusted setup mid now)));
         not_down = never_down answer;
-        path_cached =
-            λ ok.
-            subst (λ engine. IsPathCached setup.shape engine.cache (page_of a)) (sym unsealed.engine) (fetched.path_cached refl);
         path_fetched =
             λ past.
             subst (λ engine. IsPathCached setup.shape engine.cache (page_of a)) (sym unsealed.engine) (fetched.path_cached refl);
         possible = possible_after answer;
-        meta_uncached = never_meta answer;
-        shadow =
-            shadow_chained setup.shape old mid new fetched.shadow
-            (shadow_still setup.shape mid new unsealed.engine unsealed.lines);
         work = work answer unsealed;
-        fetched =
-            record {
-              levels = path_length setup.shape;
-              fetched = all_fetched;
-              as_far = as_far answer;
-              due = due answer unsealed;
-            };
         mirror = ap (λ engine. engine.mirror) unsealed.engine ∙ fetched.mirror;
         down = ap (λ engine. engine.down) unsealed.engine ∙ fetched.down;
-        of_cached = of_cached;
         steps_of_path = steps (path_length setup.shape) fetched.steps_of_path;
         steps_of_dirty = steps (dirty_count setup.shape old.engine.cache) fetched.steps_of_dirty.0;
       }
@@ -129,26 +110,9 @@ module _ (setup : Setup) (a : ℕ) (ctr : Ctr) (old mid new : Parts) (its_shape 
       possible_after : (reply : Result Unsealed LineFault) → IsAnswerOfRead (plain_answer reply)
       possible_after v0 = search rules
 
-      never_meta : (reply : Result Unsealed LineFault) → IsMetaUncached setup.shape (page_of a) old (plain_answer reply)
-      never_meta v0 = search rules
-
       did_fetch : IsFetchedTo setup.shape setup.formulas old.ledger.truth (page_of a) (path_length setup.shape)
           (fetch_state setup.shape old) (fetch_state setup.shape mid)
       did_fetch = fetched.work refl
-
-      -- the unsealing writes nothing, whatever it answers
-      all_fetched : HasFetchedLevels setup.shape (page_of a) (path_length setup.shape) old new
-      all_fetched =
-          record {
-            on_path = omega arith;
-            cache = subst (λ (e : EngineState). IsPathFetched setup.shape (page_of a) old (record mid { engine = e })) (sym unsealed.engine) did_fetch.cache;
-            lines = unsealed.lines ∙ did_fetch.work.lines;
-            writes =
-                subst (λ n. RisesBy (length (path_spilled setup.shape old (page_of a))) old.device.writes n) (sym unsealed.writes)
-                did_fetch.work.writes;
-            latches = unsealed.latches ∙ did_fetch.work.latches;
-            regs = unsealed.regs ∙ fetched.regs;
-          }
 
       -- the fetch's work, and the reads and the tag of the unsealing
       work : (reply : Result Unsealed LineFault) → HasUnsealed setup a ctr mid new reply → IsOk (plain_answer reply)
@@ -156,31 +120,14 @@ module _ (setup : Setup) (a : ℕ) (ctr : Ctr) (old mid new : Parts) (its_shape 
       work (Err fault) it ok = absurd (true≢false (sym ok))
       work (Ok opened) it ok =
           record {
-            cache = all_fetched.cache;
-            lines = all_fetched.lines;
+            cache =
+                subst (λ (e : EngineState). IsPathFetched setup.shape (page_of a) old (record mid { engine = e })) (sym unsealed.engine)
+                did_fetch.cache;
+            lines = unsealed.lines ∙ did_fetch.work.lines;
             work =
                 work_then (fetch_work setup.shape old (page_of a)) (unseal_work 1) old mid new
                 (fetch_worked setup (page_of a) old mid fetched) (unseal_worked setup a ctr mid new opened it);
           }
-
-      as_far : (reply : Result Unsealed LineFault)
-          → IsFetchedAsFar setup.shape old new (plain_answer reply) (path_length setup.shape)
-      as_far (Ok opened) = λ past. refl
-      as_far (Err AtLine.Cut) = λ past. refl
-      as_far (Err (AtLine.Tag b)) = λ past. refl
-      as_far (Err AtLine.Shown) = λ past. refl
-
-      -- a live board isn't cut at the unsealing's reads
-      due : (reply : Result Unsealed LineFault) → HasUnsealed setup a ctr mid new reply → old.device.live ≡ true
-          → IsCutWhereDue setup.shape (page_of a) (path_length setup.shape) old (plain_answer reply)
-      due (Ok opened) it live = tt
-      due (Err AtLine.Cut) it live = absurd (true≢false (sym (fetched.done.gone.power.1 live) ∙ it.cut_unpowered refl))
-      due (Err (AtLine.Tag b)) it live = tt
-      due (Err AtLine.Shown) it live = tt
-
-      ok_before : (reply : Result Unsealed LineFault) → IsOk (plain_answer reply) → IsOk reply
-      ok_before (Ok opened) ok = ok
-      ok_before (Err fault) ok = ok
 
       unpowered : outcome_of (plain_answer answer) ≡ cut_short → mid.device.live ≡ false
       unpowered it = unsealed.cut_unpowered (cut_answer answer it)
@@ -189,24 +136,6 @@ module _ (setup : Setup) (a : ℕ) (ctr : Ctr) (old mid new : Parts) (its_shape 
       steps n first =
           within_live_before (outcome_of (plain_answer answer)) n old mid new unpowered fetched.done.gone.power.1 first
           unsealed.no_steps
-
-      of_cached : IsPathCached setup.shape old.engine.cache (page_of a) → IsReadOfCached setup a old new (plain_answer answer)
-      of_cached was =
-          let still : StandsStill old.device mid.device = (fetched.still_cached was).1 in
-          record {
-            no_steps =
-                record {
-                  writes = omega (arith, still.writes, unsealed.writes);
-                  latches = omega (arith, still.latches, unsealed.latches);
-                  sum = λ one two. omega (arith, still.writes, still.latches, unsealed.writes, unsealed.latches);
-                };
-            uncut = λ live it. true≢false (sym (fetched.done.gone.power.1 live) ∙ unpowered (ap outcome_of it));
-            no_digests = unsealed.digests ∙ (fetched.still_cached was).2;
-            two_reads =
-                λ ok.
-                subst (λ reads. RisesBy 2 reads new.device.reads) still.reads (unsealed.two_reads (ok_before answer ok));
-            one_tag = λ ok. unsealed.one_tag (ok_before answer ok) ∙ ap risen fetched.tags;
-          }
 
   -- the same of the formulas and the shape as they are afterwards
   pub read_after_fetch : (formulas : Formulas) → formulas ≡ setup.formulas → (answer : Result Unsealed LineFault)
@@ -231,32 +160,10 @@ most_of_within cut_short n old new it =
     }
 most_of_within shown n old new it = it
 
--- another answer's fault was decided as early, and names the same position
+-- another answer's fault was decided as early
 pub past_fault : (T : Type 0) (old new : Parts) (fault : PathFault) → IsPastFetch {T = T} old new (Err (fault_of_path fault))
     → IsPastFetch {T = Unit} old new (Err (fault_of_path fault))
 past_fault T old new v3 it = search rules
-
-pub meta_fault : (T : Type 0) (g : Shape) (page : ℕ) (old : Parts) (fault : PathFault)
-    → IsMetaUncached {T = Unit} g page old (Err (fault_of_path fault)) → IsMetaUncached {T = T} g page old (Err (fault_of_path fault))
-meta_fault T g page old v4 it = search rules
-
--- so far was the path fetched, and a cut came where a write back was due
-pub some_fault : (T : Type 0) (g : Shape) (page : ℕ) (old new : Parts) (fault : PathFault)
-    → HasFetchedSome {T = Unit} g page old new (Err (fault_of_path fault)) → HasFetchedSome {T = T} g page old new (Err (fault_of_path fault))
-some_fault T g page old new fault it =
-    record { levels = it.levels; fetched = it.fetched; as_far = as_far fault it.as_far; due = λ live. due fault (it.due live) }
-  where
-    as_far : (f : PathFault) → IsFetchedAsFar {T = Unit} g old new (Err (fault_of_path f)) it.levels
-        → IsFetchedAsFar {T = T} g old new (Err (fault_of_path f)) it.levels
-    as_far Path.Cut far = far
-    as_far (Path.Meta x) far = far
-    as_far Path.Shown far = far
-
-    due : (f : PathFault) → IsCutWhereDue {T = Unit} g page it.levels old (Err (fault_of_path f))
-        → IsCutWhereDue {T = T} g page it.levels old (Err (fault_of_path f))
-    due Path.Cut was = was
-    due (Path.Meta x) was = tt
-    due Path.Shown was = tt
 
 module _ (setup : Setup) (a : ℕ) (old new : Parts) where
   unfetched_says : (fault : PathFault) → AnswersFetch setup (page_of a) old new (Err fault)
@@ -270,4 +177,4 @@ module _ (setup : Setup) (a : ℕ) (old new : Parts) where
 
   pub read_unfetched : (fault : PathFault) → HasFetched setup (page_of a) old new (Err fault)
       → UpReadOutcome setup a old new (Err (fault_of_path fault))
-  read_unfetched fault it = search (rules, true≢false, most_of_within, past_fault, meta_fault, some_fault, unfetched_says, unfetched_possible, path_unrefused, path_not_down)
+  read_unfetched fault it = search (rules, true≢false, most_of_within, past_fault, unfetched_says, unfetched_possible, path_unrefused, path_not_down)

@@ -1,35 +1,16 @@
--- What it takes to fetch a path, and what a path that is cached already keeps.
-use Rattle.std.proofs.Common.{rules, ℕ, zero, suc, ◌≡◌, ◌≤◌, ◌+◌, ◌++◌, Bool, true, false, List, [], ◌∷◌, length, Option, Some, None, refl, ap, ap₂, arith}
-use Rattle.std.specs.Prelude.{option_map, unwrap_or}
+-- What it takes to fetch a path.
+use Rattle.std.proofs.Common.{ℕ, zero, suc, ◌≡◌, ◌≤◌, Bool, true, false, List, [], ◌∷◌, length, Option, Some, None, refl, ap, arith}
 use Rattle.std.proofs.lemmas.Bool.{cond-true, cond-false}
 use Rattle.std.proofs.lemmas.List.{length-append}
-use Rattle.std.proofs.lemmas.Option.{none-some, same_Some}
 use Rattle.pmem_base.specs.declared.lines.Line.{Line}
 use Rattle.pmem_base.specs.Shape.{Shape}
 use Rattle.pmem_base.specs.Layout as layout
 use Rattle.meta_cache.specs.declared.slot.Slot.{Slot}
-use Rattle.meta_cache.specs.Banks.{Banks, is_cached, slot_number}
-use Rattle.meta_cache.specs.Sets.{touched, victim_of}
-use Rattle.meta_cache.proofs.WayLemmas.{KeepsWays-touched}
-use Rattle.meta_path.specs.Blocks.{path_at, slots_at, number_in, IsPathCached}
+use Rattle.meta_cache.specs.Banks.{Banks, is_cached}
+use Rattle.meta_cache.specs.Sets.{victim_of}
+use Rattle.meta_path.specs.Blocks.{path_at, slots_at}
 use Rattle.meta_path.specs.Levels.{victim_write, room_write, level_write}
-use Rattle.meta_path.specs.Fetching.{absent_count, spilled}
-
--- ---- a path that is cached already
-
-pub none_absent : (g : Shape) (banks : Banks) (page : ℕ) → IsPathCached g banks page → (n : ℕ) → n ≤ g.levels + 1
-    → absent_count g banks page n ≡ 0
-none_absent g banks page cached zero within = refl
-none_absent g banks page cached (suc n) within =
-    ap₂ (λ a b. a + b) (none_absent g banks page cached n (omega (arith, within)))
-    (cond-true (is_cached g banks n (path_at g page n)) 0 1 (cached.each n (omega (arith, within))))
-
-pub none_spilled : (g : Shape) (banks : Banks) (page : ℕ) → IsPathCached g banks page → (n : ℕ) → n ≤ g.levels + 1
-    → spilled g banks page n ≡ []
-none_spilled g banks page cached zero within = refl
-none_spilled g banks page cached (suc n) within =
-    ap₂ (λ xs ys. xs ++ ys) (none_spilled g banks page cached n (omega (arith, within)))
-    (cond-true (is_cached g banks n (path_at g page n)) [] _ (cached.each n (omega (arith, within))))
+use Rattle.meta_path.specs.Fetching.{spilled}
 
 -- each level makes one write at most
 pub length_spilled : (g : Shape) (banks : Banks) (page n : ℕ) → length (spilled g banks page n) ≤ n
@@ -74,14 +55,3 @@ length_spilled g banks page (suc n) =
         let few : length (room_write g (slots_at g banks bank x)) ≤ 1 =
         one_victim g (victim_of g.ways (slots_at g banks bank x)) in
         omega (arith, same, few)
-
--- a slot's number goes by its way
-number_of_way : (g : Shape) (set : ℕ) (before after : Option Slot)
-    → option_map (λ slot. slot.way) after ≡ option_map (λ slot. slot.way) before
-    → unwrap_or (option_map (slot_number g set) after) 0 ≡ unwrap_or (option_map (slot_number g set) before) 0
-number_of_way g set before after same = search (rules, none-some, same_Some)
-
--- a cached block's slot keeps its number while it is used
-pub same_number : (g : Shape) (old new : Banks) (bank x : ℕ) → is_cached g old bank x ≡ true → is_cached g new bank x ≡ true
-    → slots_at g new bank x ≡ touched (slots_at g old bank x) x → number_in g new bank x ≡ number_in g old bank x
-same_number g old new bank x cached still used = search (rules, KeepsWays-touched, number_of_way)

@@ -1,15 +1,21 @@
 -- A call that ended: its engine is down where it was cut or shown.
-use Rattle.std.proofs.Common.{rules, ℕ, ◌≡◌, Bool, false, ◌||◌, List, [], Result, refl, sym, ap, subst, ◌∙◌}
+use Rattle.std.proofs.Common.{rules, ℕ, ◌≡◌, Bool, false, ◌||◌, List, [], Result, refl, sym, ap, subst, ◌∙◌, true, Err}
 use Rattle.pmem_base.specs.declared.lines.Line.{Line}
 use Rattle.pmem_base.specs.declared.answers.Mark.{Mark}
 use Rattle.pmem_base.specs.Shape.{Shape}
-use Rattle.pmem_base.specs.Layout.{page_of}
 use Rattle.suite.specs.Setup.{Setup}
+use Rattle.std.proofs.lemmas.Bool.{true≢false}
 use Rattle.pmem_engine.specs.declared.fault.Fault.{Fault}
 use Rattle.pmem_engine.specs.Engine.{EngineState}
-use Rattle.pmem_engine.specs.Parts.{Parts, parts_of}
+use Rattle.pmem_engine.specs.Parts.{Parts, parts_of, regs_of}
 use Rattle.pmem_engine.specs.Outcomes.{Outcome, going, cut_short, shown, outcome_of, LeavesTrusted, LeavesSound, KeepsMetaWhere, HasSmallGroup, CallEffect, OneLossEffect}
-use Rattle.pmem_engine.specs.Calls.{IsDownAnswer, AnswersDown, TakesWithin, TakesWithinOfLive, Work, IsWork, IsPastFetch, IsReadWork, AnswersRead, HasReadLine, HasFetchedSome}
+use Rattle.pmem_engine.specs.CallFacts.{IsDownAnswer, AnswersDown, TakesWithin, TakesWithinOfLive, Work, IsWork, IsPastFetch, IsReadWork, AnswersRead}
+use Rattle.pmem_engine.specs.declared.fault.Fault.TheVariants as Fail
+use Rattle.pmem_engine.specs.Calls.{HasReadLine}
+use Rattle.call_plan.specs.Plans.{ended}
+use Rattle.call_plan.specs.Following.{Follows}
+use Rattle.pmem_engine.specs.Plans.{Chip, chip_in, with_engine, read_line_plan, read_plan}
+use Rattle.pmem_engine.proofs.PlannedCalls.CalledEngines.{called_down, called_as}
 use Rattle.pmem_engine.specs.Inner.{ended_by, UpReadOutcome}
 
 -- the parts afterwards
@@ -117,38 +123,36 @@ read_work_ended : (g : Shape) (a : ℕ) (old new : Parts) (end : Outcome) → Is
     → IsReadWork g a old (ended_parts new end)
 read_work_ended g a old new end it = search (rules, work_ended)
 
-pub fetched_ended : {T : Type 0} (g : Shape) (page : ℕ) (old new : Parts) (answer : Result T Fault) (end : Outcome)
-    → HasFetchedSome g page old new answer → HasFetchedSome g page old (ended_parts new end) answer
-fetched_ended g page old new answer end it = search rules
-
 answers_read_ended : (setup : Setup) (a : ℕ) (old new : Parts) (answer : Result Line Fault) (outcome : Outcome)
     → AnswersRead setup a old new answer → AnswersRead setup a old (ended_parts new outcome) answer
 answers_read_ended setup a old new v4 outcome it = search rules
 
 pub read_ended : (setup : Setup) (a : ℕ) (old new : Parts) (answer : Result Line Fault) → old.engine.down ≡ false
+    → Follows (read_line_plan setup (regs_of old) a (chip_in old)) old.device new.device (ended answer (chip_in new))
     → UpReadOutcome setup a old new answer → HasReadLine setup a old (ended_parts new (outcome_of answer)) answer
-read_ended setup a old new answer was it =
+read_ended setup a old new answer was planned it =
     record {
+      plan =
+          called_as (λ (chip : Chip). chip.engine) with_engine (chip_in old) (read_line_plan setup (regs_of old) a (chip_in old)) was (λ t. refl)
+          answer (chip_in new) planned;
       down = answers_down answer old new was it.down it.not_down;
       done = λ up. done_ended setup (outcome_of answer) [] old new it.done;
       answered = λ up trusted. answers_read_ended setup a old new answer (outcome_of answer) (it.answered trusted);
       unrefused = λ up sound. it.unrefused sound;
-      path_cached = it.path_cached;
       path_fetched = λ past. it.path_fetched (past_ended old new answer (outcome_of answer) past);
       possible = it.possible;
-      meta_uncached = it.meta_uncached;
-      shadow = record { mirror = it.shadow.mirror; lines = it.shadow.lines };
       work = λ ok. read_work_ended setup.shape a old new (outcome_of answer) (it.work ok);
-      fetched = λ up. fetched_ended setup.shape (page_of a) old new answer (outcome_of answer) it.fetched;
-      of_cached =
-          λ up cached.
-          record {
-            no_steps = (it.of_cached cached).no_steps;
-            uncut = (it.of_cached cached).uncut;
-            no_digests = (it.of_cached cached).no_digests;
-            two_reads = (it.of_cached cached).two_reads;
-            one_tag = (it.of_cached cached).one_tag;
-          };
       steps_of_path = λ up. within_live_ended (outcome_of answer) (outcome_of answer) _ old new it.steps_of_path;
       steps_of_dirty = λ up. within_live_ended (outcome_of answer) (outcome_of answer) _ old new it.steps_of_dirty;
     }
+
+-- ---- the engine is down
+
+down_plan : (setup : Setup) (a : ℕ) (parts : Parts) → parts.engine.down ≡ true
+    → Follows (read_plan setup (regs_of parts) a (chip_in parts)) parts.device parts.device (Err (chip_in parts, Fail.Down))
+down_plan setup a parts down =
+    called_down (λ (chip : Chip). chip.engine) with_engine (λ fault. fault) (chip_in parts) (read_line_plan setup (regs_of parts) a (chip_in parts))
+    parts.device down
+
+pub read_down : (setup : Setup) (a : ℕ) (parts : Parts) → parts.engine.down ≡ true → HasReadLine setup a parts parts (Err Fail.Down)
+read_down setup a parts down = search (rules, true≢false, down_plan)

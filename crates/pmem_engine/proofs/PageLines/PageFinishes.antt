@@ -19,15 +19,14 @@ use Rattle.pmem_engine.specs.declared.fault.LineFault.{LineFault}
 use Rattle.pmem_engine.specs.Sealed.{sealed_counter}
 use Rattle.pmem_engine.specs.Parts.{Parts, regs_of, AreTrusted, HoldsSeal}
 use Rattle.pmem_engine.specs.Outcomes.{going, is_sealed_by, OneLossEffect, TakesSteps}
-use Rattle.pmem_engine.specs.Calls.{IsUsable, IsMemory, moment_in, IsWork, reseal_work, IsUnderMinorZero}
+use Rattle.pmem_engine.specs.CallFacts.{IsUsable, IsMemory, moment_in, IsWork, reseal_work, IsUnderMinorZero}
 use Rattle.pmem_engine.specs.Still.{HasOnlyRead}
 use Rattle.pmem_engine.specs.Resealing.{register_in, line_of_page, HasResealed}
 use Rattle.pmem_engine.specs.Writing.{reseals_of, HasFinishedPage}
 use Rattle.pmem_engine.specs.Finishing.{IsStillOpen, IsClosed, HasPlacesLeft, HasResealedFirst}
-use Rattle.pmem_engine.proofs.CallEnds.CallChains.{done_chained, still_unarmed, sealed_by_either, going_unshown}
+use Rattle.pmem_engine.proofs.CallEnds.CallChains.{done_chained, sealed_by_either, going_unshown}
 use Rattle.pmem_engine.proofs.CallEnds.StillParts.{done_reading}
 use Rattle.pmem_engine.proofs.CallEnds.ExactWork.{work_then, work_alone, reseal_more}
-use Rattle.pmem_engine.proofs.CallEnds.ShadowLines.{shadow_still, shadow_chained}
 use Rattle.pmem_engine.proofs.Laws.AskedCounters.{asked-held}
 use Rattle.pmem_engine.proofs.CallEnds.UsableParts.{usable_after}
 use Rattle.pmem_engine.proofs.PostedWrites.WriteParts.{held_back}
@@ -76,7 +75,6 @@ first_none setup n old valid inside =
           (record { engine = refl; device = refl; ledger = refl; tags = refl; digests = refl });
       meta_lines = λ x within. refl;
       minors = All-nil IsUnderMinorZero;
-      shadow = shadow_still setup.shape old old refl refl;
       done = done_reading setup old old (same_parts setup old);
       marks = λ trusted memory was. refl;
       memory_kept = λ trusted memory was. was;
@@ -84,7 +82,6 @@ first_none setup n old valid inside =
       registers =
           left_at_first old n (not_done (register_in old n)) refl (valid.each_page n empty_progress inside).some_left;
       others = λ page none. none;
-      metadata = λ no_group x within. refl;
       steps = record { writes = omega arith; latches = omega arith; sum = λ one two. omega arith };
       engine = refl;
       truth = refl;
@@ -279,7 +276,6 @@ module _ (setup : Setup) (n number : ℕ) (old mid new : Parts) (valid : IsValid
             (work_then (reseal_work number) (reseal_work 1) old mid new first.work (it.work refl));
         meta_lines = λ x within. it.meta_lines refl x within ∙ first.meta_lines x within;
         minors = All-append IsUnderMinorZero first.made it.made first.minors it.minors;
-        shadow = shadow_chained setup.shape old mid new first.shadow it.shadow;
         done = done_chained setup going first.made it.made old mid new first.done it.done;
         marks =
             λ trusted memory was.
@@ -297,9 +293,6 @@ module _ (setup : Setup) (n number : ℕ) (old mid new : Parts) (valid : IsValid
             λ page none.
             ap (λ items. register_of items page) line_done
             ∙ others_kept (regs_of mid).progress.items (line_of_page (register_in mid n) it.place) page (first.others page none);
-        metadata =
-            λ no_group x within.
-            it.metadata (still_unarmed setup first.made old mid first.done.gone no_group) x within ∙ first.metadata no_group x within;
         steps =
             subst (λ k. TakesSteps k old.device new.device) (omega arith)
             (steps_more (4 * number) 4 old.device mid.device new.device first.steps it.counts.0);
@@ -321,7 +314,6 @@ finished setup n number old new first whole =
       seals = λ ok. first.seals ∙ sym first.as_many;
       work = λ ok. subst (λ k. IsWork (reseal_work k) old new) (sym first.as_many) first.work;
       meta_lines = λ ok. first.meta_lines;
-      shadow = first.shadow;
       few_steps =
           more_most (4 * number) (4 * length (not_done (register_in old n))) old.device new.device
           (let all = total in let count = first.count in omega (arith, all, count))
@@ -339,7 +331,6 @@ finished setup n number old new first whole =
       closed = λ ok. closed.gone;
       one_less = λ ok. closed.one_less;
       others = λ ok page none. first.others page none;
-      metadata = first.metadata;
       counts =
           λ trusted memory was.
           subst (λ k. TakesSteps k old.device new.device)

@@ -11,13 +11,12 @@ use Rattle.pmem_engine.specs.declared.fault.LineFault.{LineFault}
 use Rattle.pmem_engine.specs.declared.fault.LineFault.TheVariants as AtLine
 use Rattle.pmem_engine.specs.Parts.{Parts, regs_of, AreTrusted}
 use Rattle.pmem_engine.specs.Outcomes.{fault_of_line, outcome_of_fault, TakesSteps, TakesAtMost}
-use Rattle.pmem_engine.specs.Calls.{IsMemory, moment_in, IsUnderMinorZero}
+use Rattle.pmem_engine.specs.CallFacts.{IsMemory, moment_in, IsUnderMinorZero}
 use Rattle.pmem_engine.specs.Resealing.{register_in, line_of_page, HasResealMarks, AnswersReseal, CountsReseal, HasResealed}
 use Rattle.pmem_engine.specs.Writing.{reseals_of, IsFrontOf, IsStoppedAt, HasFinishMarks, AnswersFinish, CountsFinish, HasFinishedPage}
 use Rattle.pmem_engine.specs.Finishing.{HasResealedFirst}
-use Rattle.pmem_engine.proofs.CallEnds.CallChains.{done_chained, still_unarmed}
+use Rattle.pmem_engine.proofs.CallEnds.CallChains.{done_chained}
 use Rattle.pmem_engine.proofs.CallEnds.ErrorAnswers.{line_unrefused}
-use Rattle.pmem_engine.proofs.CallEnds.ShadowLines.{shadow_chained}
 use Rattle.pmem_engine.proofs.PostedWrites.WriteSteps.{most_then, steps_most, fewer_most, more_most}
 use Rattle.pmem_engine.proofs.PageLines.PageFinishes.{steps_more, asked_of, rest, at_is, all_asked, same_mark, few_of_both, sealed_of_both}
 
@@ -136,7 +135,6 @@ module _ (setup : Setup) (n number : ℕ) (old mid new : Parts) (valid : IsValid
         seals = λ ok. absurd (false≢true ok);
         work = λ ok. absurd (false≢true ok);
         meta_lines = λ ok. absurd (false≢true ok);
-        shadow = shadow_chained setup.shape old mid new first.shadow it.shadow;
         few_steps =
             more_most (4 * number + 4) (4 * length (not_done (register_in old n))) old.device new.device (omega (arith, some))
             (most_then (4 * number) 4 old.device mid.device new.device
@@ -151,9 +149,6 @@ module _ (setup : Setup) (n number : ℕ) (old mid new : Parts) (valid : IsValid
         closed = λ ok. absurd (false≢true ok);
         one_less = λ ok. absurd (false≢true ok);
         others = λ ok. absurd (false≢true ok);
-        metadata =
-            λ no_group x within.
-            it.metadata (still_unarmed setup first.made old mid first.done.gone no_group) x within ∙ first.metadata no_group x within;
         counts = λ trusted memory was. counts_so fault trusted memory was (step_marks trusted memory was) it.counts;
         engine = it.engine ∙ first.engine;
         truth = λ unshown. it.truth unshown ∙ first.truth;

@@ -1,5 +1,5 @@
 -- The exits of a reseal: its line isn't unsealed, its group is cut, or the line is sealed anew.
-use Rattle.std.proofs.Common.{rules, ℕ, ◌≡◌, ◌<◌, ◌+◌, ◌++◌, inl, inr, true, false, cond, [], ◌∷◌, length, get_or, Some, Ok, Err, refl, sym, ap, ap₂, subst, ◌∙◌, arith}
+use Rattle.std.proofs.Common.{rules, ℕ, ◌≡◌, ◌<◌, ◌+◌, ◌++◌, inl, inr, true, false, cond, [], ◌∷◌, length, get_or, Some, Ok, Err, refl, sym, ap, subst, ◌∙◌, arith}
 use Rattle.std.proofs.lemmas.Bool.{true≢false, eq-eqb, and_from}
 use Rattle.std.proofs.lemmas.Option.{same_Some, get_or_from_slice_get}
 use Rattle.std.proofs.lemmas.List.Elements.{All-nil, All-cons}
@@ -9,7 +9,6 @@ use Rattle.pmem_base.specs.declared.registers.Progress.{Progress}
 use Rattle.pmem_base.specs.declared.answers.Mark.{Mark}
 use Rattle.pmem_base.specs.declared.answers.Mark.TheVariants.{Seal}
 use Rattle.pmem_base.specs.Counts.{last_count, risen}
-use Rattle.pmem_base.specs.Shape.{Shape}
 use Rattle.pmem_base.specs.Layout as layout
 use Rattle.pmem_base.specs.Layout.{page_of, index_in_page}
 use Rattle.pmem_base.specs.Lines.{IsLine, line_at, zero_line}
@@ -19,7 +18,6 @@ use Rattle.suite.specs.Setup.{Setup}
 use Rattle.board.specs.Counts.{RisesBy}
 use Rattle.board.specs.Device.{Device, IsDevice}
 use Rattle.meta_path.specs.Work.{told_line}
-use Rattle.commit_regs.specs.Groups.{redone_told}
 use Rattle.page_reencrypt.specs.Registers.{register_held}
 use Rattle.page_reencrypt.proofs.DoneBits.{not_done-not_done}
 use Rattle.page_reencrypt.proofs.Holding.{old_major-unpacked}
@@ -36,10 +34,9 @@ use Rattle.pmem_engine.specs.declared.reading.Unsealed.{Unsealed}
 use Rattle.pmem_engine.specs.declared.resealing.HeldLine.{HeldLine}
 use Rattle.pmem_engine.specs.declared.resealing.NextSeal.{NextSeal}
 use Rattle.pmem_engine.specs.Engine.{EngineState}
-use Rattle.commit_regs.proofs.GroupLemmas.{redone-nil}
-use Rattle.pmem_engine.specs.Parts.{Parts, parts_of, regs_of, lines_redone, AreTrusted, HoldsSeal, meta_line_in}
+use Rattle.pmem_engine.specs.Parts.{Parts, parts_of, AreTrusted, HoldsSeal}
 use Rattle.pmem_engine.specs.Outcomes.{going, cut_short, is_going, is_sealed_by, NeverFalls, TakesSteps, TakesFewer}
-use Rattle.pmem_engine.specs.Calls.{IsUsable, IsMemory, moment_in, IsUnderMinorZero}
+use Rattle.pmem_engine.specs.CallFacts.{IsUsable, IsMemory, moment_in, IsUnderMinorZero}
 use Rattle.pmem_engine.specs.Inner.{HasUnsealed, IsLastCounter}
 use Rattle.pmem_engine.specs.Committing.{next_seal_of, entries_of}
 use Rattle.pmem_engine.specs.Resealing.{IsNextHeld, HasLineSealed, HasResealCommitted, IsCutUnarmed, IsResealCutArmed, IsResealCut, line_of_page, HasResealMarks, AnswersReseal, CountsReseal, HasResealed}
@@ -47,17 +44,12 @@ use Rattle.pmem_engine.proofs.CallEnds.ErrorAnswers.{line_unrefused}
 use Rattle.pmem_engine.proofs.CallEnds.StillParts.{sound_trusted}
 use Rattle.pmem_engine.proofs.CallEnds.CallChains.{done_chained}
 use Rattle.pmem_engine.proofs.CallEnds.MetaLines.{committed_at}
-use Rattle.pmem_engine.proofs.CallEnds.ShadowLines.{shadow_still, committed_off, armed_off, entries_off, told_off, meta_off}
+use Rattle.pmem_engine.proofs.CallEnds.UnwrittenLines.{meta_off}
 use Rattle.pmem_engine.proofs.Laws.PlainLines.{plain_line-resealed}
 use Rattle.pmem_engine.proofs.CheckedReads.UnsealedLines.{risen_never_falls, same_never_falls}
 use Rattle.pmem_engine.proofs.Laws.DeviceSteps.{sealed_here}
 use Rattle.pmem_engine.proofs.Seals.GroupCommits.{IsCommit, done_committed, done_cut}
 use Rattle.pmem_engine.proofs.PageLines.LineReseals.{IsResealing, resealing}
-
--- a metadata line where lines and registers are as they were
-pub meta_of_same : (g : Shape) (x : ℕ) (old new : Parts) → regs_of new ≡ regs_of old → new.device.lines ≡ old.device.lines
-    → meta_line_in g new x ≡ meta_line_in g old x
-meta_of_same g x old new regs lines = search rules
 
 -- what a call passed to the line that it works on
 module _ (setup : Setup) (n : ℕ) (engine : EngineState) (old : Device) (before : LedgerState) (tags digests : ℕ) (held : HeldLine)
@@ -143,12 +135,10 @@ module _ (setup : Setup) (n : ℕ) (engine : EngineState) (old : Device) (before
         work = λ ok. absurd (true≢false (sym ok));
         meta_lines = λ ok. absurd (true≢false (sym ok));
         minors = All-nil IsUnderMinorZero;
-        shadow = shadow_still setup.shape start final refl it.lines;
         engine = refl;
         truth = λ unshown. ap (λ ledger. ledger.truth) (it.same_ledger unshown);
         root = ap (λ regs. regs.root) it.regs;
         digests = it.digests;
-        metadata = λ no_group x within. meta_of_same setup.shape x start final it.regs it.lines;
       }
     where
       final : Parts
@@ -231,14 +221,10 @@ module _ (setup : Setup) (n : ℕ) (engine : EngineState) (old : Device) (before
           work = λ ok. absurd (true≢false (sym ok));
           meta_lines = λ ok. absurd (true≢false (sym ok));
           minors = All-nil IsUnderMinorZero;
-          shadow = shadow_still setup.shape start final refl (was_cut.device.lines ∙ it.lines);
           engine = refl;
           truth = λ unshown. ap (λ seals. seals.truth) (was_cut.ledger ∙ same_ledger);
           root = ap (λ regs. regs.root) (was_cut.device.regs ∙ it.regs);
           digests = same_digests ∙ it.digests;
-          metadata =
-              λ no_group x within.
-              meta_of_same setup.shape x start final (was_cut.device.regs ∙ it.regs) (was_cut.device.lines ∙ it.lines);
         }
       where
         final : Parts
@@ -274,12 +260,6 @@ module _ (setup : Setup) (n : ℕ) (engine : EngineState) (old : Device) (before
       root_is : HasLineSealed setup.shape sealing mid new ledger after → new.regs.root ≡ old.regs.root
       root_is done = done.line_done.root ∙ ap (λ regs. regs.root) it.regs
 
-      -- no metadata line is in its group
-      kept_meta : (x : ℕ) → HasLineSealed setup.shape sealing mid new ledger after
-          → lines_redone final ≡ redone_told (entries_of setup.shape sealing) mid.lines
-          → meta_line_in setup.shape final x ≡ meta_line_in setup.shape start x
-      kept_meta x done comes = search (rules, redone-nil, told_off, meta_off, unarmed, held_in_range)
-
       -- ---- or while it was armed
 
       cut_armed : IsDevice new → IsResealCutArmed setup.shape sealing mid new ledger after
@@ -308,23 +288,10 @@ module _ (setup : Setup) (n : ℕ) (engine : EngineState) (old : Device) (before
             work = λ ok. absurd (true≢false (sym ok));
             meta_lines = λ ok. absurd (true≢false (sym ok));
             minors = All-cons IsUnderMinorZero mark [] (ap (λ (ctr : Ctr). ctr.minor) next.next) (All-nil IsUnderMinorZero);
-            shadow =
-                record {
-                  mirror = refl;
-                  lines =
-                      λ m within.
-                      armed_off setup.shape (entries_of setup.shape sealing) mid new
-                      (entries_off setup.shape sealing held_in_range) was_cut.device m
-                      ∙ ap (λ told. told_line told (layout.shadow_line setup.shape m)) it.lines;
-                };
             engine = refl;
             truth = λ unshown. truth_is was_cut.line_sealed;
             root = root_is was_cut.line_sealed;
             digests = same_digests ∙ it.digests;
-            metadata =
-                λ no_group x within.
-                kept_meta x was_cut.line_sealed
-                (ap (λ items. redone_told items new.lines) was_cut.device.armed ∙ was_cut.device.again);
           }
         where
           fewer : new.writes < last_count → new.latches < last_count
@@ -375,24 +342,10 @@ module _ (setup : Setup) (n : ℕ) (engine : EngineState) (old : Device) (before
                 (meta_off setup.shape sealing x held_in_range) committed.device
                 ∙ ap (λ told. told_line told (layout.meta_line setup.shape x)) it.lines;
             minors = All-cons IsUnderMinorZero mark [] (ap (λ (ctr : Ctr). ctr.minor) next.next) (All-nil IsUnderMinorZero);
-            shadow =
-                record {
-                  mirror = refl;
-                  lines =
-                      λ m within.
-                      committed_off setup.shape (entries_of setup.shape sealing) mid new
-                      (entries_off setup.shape sealing held_in_range) committed.device m
-                      ∙ ap (λ told. told_line told (layout.shadow_line setup.shape m)) it.lines;
-                };
             engine = refl;
             truth = λ unshown. truth_is committed.line_sealed;
             root = root_is committed.line_sealed;
             digests = same_digests ∙ it.digests;
-            metadata =
-                λ no_group x within.
-                kept_meta x committed.line_sealed
-                (ap₂ redone_told committed.device.no_group committed.device.lines
-                ∙ redone-nil (redone_told (entries_of setup.shape sealing) mid.lines));
           }
 
       -- every exit

@@ -18,9 +18,12 @@ use Rattle.pmem_engine.specs.Invariants.{register_page}
 use Rattle.pmem_engine.specs.Parts.{Parts, regs_of, AreTrusted}
 use Rattle.pmem_engine.specs.Outcomes.{fault_of_line, of_line, outcome_of, OneLossEffect}
 use Rattle.pmem_engine.specs.Faults.{IsTagRefused, IsForgedShown}
-use Rattle.pmem_engine.specs.Calls.{IsUnrefused, IsLeftAlone, moment_in, AreMarksOfTurn, IsAnswerOfTurn, AnswersTurn, IsTurnWork, CountsTurn, HasTurned}
+use Rattle.pmem_engine.specs.CallFacts.{IsUnrefused, IsLeftAlone, moment_in, AreMarksOfTurn, IsAnswerOfTurn, AnswersTurn, IsTurnWork, CountsTurn}
+use Rattle.pmem_engine.specs.Calls.{HasTurned}
+use Rattle.call_plan.specs.Plans.{ended}
+use Rattle.call_plan.specs.Following.{Follows}
+use Rattle.pmem_engine.specs.Plans.{chip_in, turn_plan}
 use Rattle.pmem_engine.specs.Resealing.{HasResealMarks, HasSealedHeld, CountsReseal, AnswersReseal, HasResealed, register_in, line_of_page}
-use Rattle.pmem_engine.proofs.CallEnds.ShadowLines.{shadow_still}
 use Rattle.pmem_engine.proofs.CheckedReads.ReadEnds.{ended_parts, done_ended}
 
 left_alone : (parts : Parts) → IsLeftAlone parts parts
@@ -28,9 +31,12 @@ left_alone parts = record { engine = refl; device = refl; ledger = refl; tags = 
 
 -- ---- the engine is down
 
-pub turned_down : (setup : Setup) (parts : Parts) → parts.engine.down ≡ true → HasTurned setup parts parts (Err Fail.Down)
-turned_down setup parts down =
+pub turned_down : (setup : Setup) (parts : Parts) → parts.engine.down ≡ true
+    → Follows (turn_plan setup (regs_of parts) (chip_in parts)) parts.device parts.device (Err (chip_in parts, Fail.Down))
+    → HasTurned setup parts parts (Err Fail.Down)
+turned_down setup parts down planned =
     record {
+      plan = planned;
       made = [];
       down =
           search rules;
@@ -45,16 +51,17 @@ turned_down setup parts down =
       work = tt;
       possible = tt;
       cache = refl;
-      shadow = shadow_still setup.shape parts parts refl refl;
       digests = refl;
     }
 
 -- ---- no page is open
 
 pub turned_idle : (setup : Setup) (parts : Parts) → parts.engine.down ≡ false → (regs_of parts).progress.items ≡ []
+    → Follows (turn_plan setup (regs_of parts) (chip_in parts)) parts.device parts.device (Ok (chip_in parts, None))
     → HasTurned setup parts parts (Ok None)
-turned_idle setup parts up none =
+turned_idle setup parts up none planned =
     record {
+      plan = planned;
       made = [];
       down =
           search rules;
@@ -70,7 +77,6 @@ turned_idle setup parts up none =
       work = λ some. absurd (true≢false (sym some));
       possible = tt;
       cache = refl;
-      shadow = shadow_still setup.shape parts parts refl refl;
       digests = refl;
     }
 
@@ -188,9 +194,11 @@ module _ (setup : Setup) (old mid : Parts) (answer : Result (ℕ × ℕ) LineFau
   turn_possible : (reply : Result (ℕ × ℕ) LineFault) → IsAnswerOfTurn (turned_of reply)
   turn_possible v0 = search rules
 
-  pub turned : HasTurned setup old new (turned_of answer)
-  turned =
+  pub turned : Follows (turn_plan setup (regs_of old) (chip_in old)) old.device new.device (ended (turned_of answer) (chip_in new))
+      → HasTurned setup old new (turned_of answer)
+  turned planned =
       record {
+        plan = planned;
         made = it.made;
         down =
             search rules;
@@ -210,7 +218,6 @@ module _ (setup : Setup) (old mid : Parts) (answer : Result (ℕ × ℕ) LineFau
         counts = λ is_up. turn_counts answer it.counts;
         work = turn_work answer it.work;
         possible = turn_possible answer;
-        shadow = record { mirror = it.shadow.mirror; lines = it.shadow.lines };
         cache = ap (λ e. e.cache) it.engine;
         digests = it.digests;
       }

@@ -24,14 +24,13 @@ use Rattle.pmem_engine.specs.Engine.{EngineState}
 use Rattle.pmem_engine.specs.Invariants.{IsSound, IsDurable, IsSealStored, IsCounterStored}
 use Rattle.pmem_engine.specs.Parts.{Parts, parts_of, AreTrusted, AreSound, HoldsCounters, lines_redone, meta_line_in}
 use Rattle.pmem_engine.specs.Outcomes.{Outcome, going, cut_short, KeepsPlaces, KeepsMeta, CallEffect, OneLossEffect, HasPower, HasSmallGroup, LeavesTrusted, LeavesSound, KeepsMetaWhere}
-use Rattle.pmem_engine.specs.Inner.{HasNamedAll, HasNamedPath}
+use Rattle.pmem_engine.specs.Inner.{HasNamedPath}
 use Rattle.pmem_engine.proofs.CallEnds.ToldLines.{unarmed, whole_lines}
 use Rattle.pmem_engine.proofs.CallEnds.ExactWork.{still_rise}
 use Rattle.pmem_engine.proofs.CallEnds.MetaLines.{named_off_meta}
 use Rattle.pmem_engine.proofs.Laws.CounterBlocks.{IsCounterStored-same}
 use Rattle.pmem_engine.proofs.Laws.DeviceRegions.{IsSealStored-kept}
-use Rattle.pmem_engine.proofs.PathNaming.ShadowNames.{names_written, all_names}
-use Rattle.pmem_engine.proofs.PathNaming.PathNames.{IsMirror, meta_kept, place_kept, none_written, sound_at}
+use Rattle.pmem_engine.proofs.PathNaming.PathNames.{IsMirror, meta_kept, place_kept, sound_at}
 
 -- the first n blocks of the path were named on the board; the engine's copy may be one ahead
 module _ (setup : Setup) (page n : ℕ) (old new : EngineState) (before after : Device) (ledger : LedgerState) (tags digests : ℕ)
@@ -164,8 +163,6 @@ module _ (setup : Setup) (page : ℕ) (old new : EngineState) (before after : De
                   subst (λ banks. slot_entry setup.shape new.mirror j (path_number setup.shape banks page j) ≡ path_at setup.shape page j + 1)
                   (sym cache) (it.entries.named j (omega (arith, within)));
             };
-        names = all_written.some;
-        all_named = λ ok. all_written;
         work =
             λ ok.
             record {
@@ -189,10 +186,6 @@ module _ (setup : Setup) (page : ℕ) (old new : EngineState) (before after : De
         tags = refl;
         digests = refl;
         reads = it.work.no_read refl;
-        metadata =
-            λ no_group x within.
-            meta_same setup page (levels + 1) old new before after ledger tags digests its_shape shape cache down it.work.lines
-            it.work.regs it.work.size (it.work.no_read refl) no_group x within;
         steps =
             record {
               writes = it.work.writes.never_falls;
@@ -206,25 +199,8 @@ module _ (setup : Setup) (page : ℕ) (old new : EngineState) (before after : De
                     length-naming_writes setup.shape old.cache page old.mirror (levels + 1),
                   );
             };
-        still_named =
-            λ named.
-            let none = none_written setup.shape old.cache page old.mirror (levels + 1) (omega arith) named.each in (
-              refl,
-              record {
-                lines = it.work.lines ∙ ap (λ writes. redone_told writes before.lines) none.0 ∙ unarmed [] before.lines refl;
-                regs = it.work.regs;
-                reads = it.work.no_read refl;
-                writes = it.work.no_write (ap length none.0);
-                latches = it.work.latches;
-              },
-            );
       }
     where
-      all_written : HasNamedAll setup.shape page (parts_of old before ledger tags digests) (parts_of new after ledger tags digests)
-      all_written =
-          all_names setup.shape page (parts_of old before ledger tags digests) (parts_of new after ledger tags digests) its_mirror
-          cache long (levels + 1) (omega arith) it.mirror it.entries it.work.lines
-
       same_engine : new ≡ record {
         shape = old.shape;
         cache = old.cache;
@@ -252,11 +228,6 @@ module _ (setup : Setup) (page : ℕ) (old new : EngineState) (before after : De
             (sound_at setup page old were before.regs ledger its_page few_levels some_sets cache_form form cached its_mirror sound
             it.n (omega (arith, it.on_path))).durable);
         path_named = λ ok. absurd (true≢false (sym ok));
-        names =
-            names_written setup.shape page (parts_of old before ledger tags digests) (parts_of new after ledger tags digests)
-            its_mirror cache long (it.n + 1) it.n (omega arith) (omega arith) (λ live. absurd (true≢false (sym live ∙ it.off)))
-            (let low = it.on_path in omega (arith, low)) it.mirror it.entries it.lines;
-        all_named = λ ok. absurd (true≢false (sym ok));
         work = λ ok. absurd (true≢false (sym ok));
         meta_lines = λ ok. absurd (true≢false (sym ok));
         cache = cache;
@@ -266,10 +237,6 @@ module _ (setup : Setup) (page : ℕ) (old new : EngineState) (before after : De
         tags = refl;
         digests = refl;
         reads = it.reads;
-        metadata =
-            λ no_group x within.
-            meta_same setup page it.n old new before after ledger tags digests its_shape shape cache down it.lines it.regs it.size
-            it.reads no_group x within;
         steps =
             record {
               writes = it.writes.never_falls;
@@ -284,5 +251,4 @@ module _ (setup : Setup) (page : ℕ) (old new : EngineState) (before after : De
                     length-naming_writes setup.shape old.cache page old.mirror it.n,
                   );
             };
-        still_named = λ named. absurd (it.unnamed (named.each it.n it.on_path));
       }

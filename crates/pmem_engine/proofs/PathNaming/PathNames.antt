@@ -1,7 +1,6 @@
 -- A path is named in the shadow tables, from the top down: what stays sound, and which lines change.
-use Rattle.std.proofs.Common.{rules, ℕ, zero, suc, ◌≡◌, ◌<◌, ◌≤◌, ◌+◌, ◌^◌, true, false, List, [], ◌∷◌, ◌++◌, length, refl, sym, ap, ap₂, subst, subst₂, ◌∙◌, arith}
+use Rattle.std.proofs.Common.{rules, ℕ, zero, suc, ◌≡◌, ◌<◌, ◌≤◌, ◌+◌, ◌^◌, true, false, List, [], ◌∷◌, length, refl, sym, ap, subst, subst₂, ◌∙◌, arith}
 use Rattle.std.specs.Prelude.{All}
-use Rattle.std.proofs.lemmas.Bool.{cond-true, eq-eqb}
 use Rattle.pmem_base.specs.declared.lines.Line.{Line}
 use Rattle.pmem_base.specs.declared.registers.Regs.{Regs}
 use Rattle.pmem_base.specs.Shape.{Shape}
@@ -13,7 +12,6 @@ use Rattle.pmem_base.proofs.LineLemmas.{IsLine-line_at}
 use Rattle.board.proofs.LineLemmas.{AreLinesOf-set}
 use Rattle.board.specs.Device.{AreLinesOf}
 use Rattle.seal_ledger.specs.Ledger.{LedgerState}
-use Rattle.shadow_tables.specs.Entries.{slot_entry}
 use Rattle.shadow_tables.specs.Naming.{entry_line, entry_index, naming_line, with_named}
 use Rattle.shadow_tables.proofs.ShadowLines.{IsLine-with_entry}
 use Rattle.pmem_base.proofs.LayoutLemmas.{meta_lines-most}
@@ -84,26 +82,6 @@ place_kept g cache page mirror lines (suc n) a within =
     IsPlaceKept-set_shadow g (put_lines (naming_writes g cache page mirror n) lines)
     (entry_line g n (path_number g cache page n))
     (naming_line g (named_path g cache page mirror n) n (path_number g cache page n) (path_at g page n)) a within)))
-
--- ---- where the path is named already
-
--- nothing is written
-pub none_written : (g : Shape) (cache : Banks) (page : ℕ) (mirror : List Line) (n : ℕ) → n ≤ g.levels + 1
-    → ((j : ℕ) → j ≤ g.levels → slot_entry g mirror j (path_number g cache page j) ≡ path_at g page j + 1)
-    → (naming_writes g cache page mirror n ≡ []) × (named_path g cache page mirror n ≡ mirror)
-none_written g cache page mirror zero within named = (refl, refl)
-none_written g cache page mirror (suc n) within named =
-    let before = none_written g cache page mirror n (omega (arith, within)) named in
-    let here : is_slot_named g mirror n (path_number g cache page n) (path_at g page n) ≡ true =
-    eq-eqb (slot_entry g mirror n (path_number g cache page n)) (path_at g page n + 1) (named n (omega (arith, within))) in
-    let now : is_slot_named g (named_path g cache page mirror n) n (path_number g cache page n) (path_at g page n) ≡ true =
-    ap (λ shadow. is_slot_named g shadow n (path_number g cache page n) (path_at g page n)) before.1 ∙ here in (
-      ap₂ (λ xs ys. xs ++ ys) before.0
-          (cond-true (is_slot_named g (named_path g cache page mirror n) n (path_number g cache page n) (path_at g page n)) [] _ now),
-      cond-true (is_slot_named g (named_path g cache page mirror n) n (path_number g cache page n) (path_at g page n))
-          (named_path g cache page mirror n) _ now
-          ∙ before.1,
-    )
 
 -- ---- the copy of the shadow lines
 

@@ -20,7 +20,7 @@ use Rattle.plain_model.specs.View.{plain_of_seal}
 use Rattle.pmem_engine.specs.declared.fault.LineFault.{LineFault}
 use Rattle.pmem_engine.specs.declared.reading.Unsealed.{Unsealed}
 use Rattle.pmem_engine.specs.Parts.{Parts, AreTrusted}
-use Rattle.pmem_engine.specs.Calls.{IsWork, unseal_work, unsealed_count}
+use Rattle.pmem_engine.specs.CallFacts.{IsWork, unseal_work, unsealed_count}
 use Rattle.pmem_engine.specs.Inner.{HasUnsealed, IsLastCounter}
 use Rattle.pmem_engine.specs.Writing.{HasMadePlain}
 use Rattle.pmem_engine.proofs.PageLines.PageFinishes.{same_parts}

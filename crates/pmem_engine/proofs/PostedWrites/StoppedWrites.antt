@@ -8,7 +8,7 @@ use Rattle.pmem_base.specs.declared.answers.Mark.{Mark}
 use Rattle.suite.specs.Formulas.{Formulas}
 use Rattle.plain_model.specs.Asked.{Moment}
 use Rattle.plain_model.specs.Fits.{drained_marks, next_marks, marks_in_flight, marks_still_asked, IsStopped}
-use Rattle.pmem_engine.specs.Calls.{IsPartOf}
+use Rattle.pmem_engine.specs.CallFacts.{IsPartOf}
 
 module _ (f : Formulas) (now : Moment) (queue : List Posted) (n : ℕ) (made more : List Mark) (asked : Option (List Mark)) (write : Posted)
     (place : slice_get queue n ≡ Some write) (drained : drained_marks f now queue n ≡ Some made) (next : next_marks f now queue n ≡ asked) where

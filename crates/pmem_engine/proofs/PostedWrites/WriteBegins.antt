@@ -11,21 +11,19 @@ use Rattle.split_counters.specs.Blocks.{minor_of}
 use Rattle.split_counters.proofs.Packing.{zero_minors-zero}
 use Rattle.board.specs.Device.{Device}
 use Rattle.meta_path.specs.Work.{told_line}
-use Rattle.meta_path.specs.Naming.{path_number}
 use Rattle.suite.specs.Setup.{Setup}
 use Rattle.pmem_engine.specs.declared.fault.Fault.{Fault}
 use Rattle.pmem_engine.specs.declared.fault.Fault.TheVariants as Fail
 use Rattle.pmem_engine.specs.Parts.{Parts, AreTrusted}
 use Rattle.pmem_engine.specs.Engine.{EngineState}
 use Rattle.pmem_engine.specs.Outcomes.{outcome_of, TakesSteps, TakesAtMost, TakesFewer}
-use Rattle.pmem_engine.specs.Calls.{KeepsShadow, IsWork, begin_work, KeepsButPath, KeepsOtherMeta, IsUnderMinorZero, AreUnderMinorZero}
+use Rattle.pmem_engine.specs.CallFacts.{IsWork, begin_work, KeepsButPath, KeepsOtherMeta, IsUnderMinorZero, AreUnderMinorZero}
 use Rattle.pmem_engine.specs.Inner.{cached_block}
-use Rattle.pmem_engine.specs.Sealing.{KeepsNumbers, next_counter_of, HasBeginMarks, TakesBeginSteps, HasBegunPage}
+use Rattle.pmem_engine.specs.Sealing.{next_counter_of, HasBeginMarks, TakesBeginSteps, HasBegunPage}
 use Rattle.pmem_engine.specs.Writing.{HasLeftOut, IsFrontOf, HasBegunFor}
 use Rattle.pmem_engine.proofs.Seals.KeptSlots.{kept_same}
 use Rattle.pmem_engine.proofs.PostedWrites.WriteParts.{IsWritePart, alone_part, begin_part}
 use Rattle.pmem_engine.proofs.PostedWrites.WriteSteps.{begin_asked, steps_most, fewer_most, more_most}
-use Rattle.pmem_engine.proofs.CallEnds.ShadowLines.{shadow_still}
 use Rattle.pmem_engine.proofs.CallEnds.ExactWork.{work_alone}
 
 -- the counter that the write's own seal gets
@@ -51,8 +49,6 @@ pub record HasBegunSome (setup : Setup) (at : ℕ) (asked : List Mark) (ctr : Ct
   pub counts : CountsBegun (length asked) old new answer
   pub few : length made ≤ 1
   pub minors : AreUnderMinorZero made
-  pub shadow : KeepsShadow setup.shape old new
-  pub numbers : KeepsNumbers setup.shape (page_of at) old.engine new.engine
   pub few_steps : TakesAtMost 3 old.device new.device
   pub work : IsOk answer → IsWork (begin_work setup.shape (length asked)) old new
   pub cache : KeepsButPath setup.shape (page_of at) old.engine.cache new.engine.cache
@@ -71,8 +67,6 @@ module _ (setup : Setup) (at : ℕ) (old new : Parts) (answer : Result Unit Faul
         counts = none;
         few = omega arith;
         minors = All-nil IsUnderMinorZero;
-        shadow = shadow_still setup.shape old new it.alone.engine (ap (λ (d : Device). d.lines) it.alone.device);
-        numbers = λ j le. ap (λ (e : EngineState). path_number setup.shape e.cache (page_of at) j) it.alone.engine;
         few_steps = more_most 0 3 old.device new.device (omega arith) (steps_most 0 old.device new.device none);
         work =
             λ ok.
@@ -99,8 +93,6 @@ module _ (setup : Setup) (at : ℕ) (old new : Parts) (answer : Result Unit Faul
         counts = counts answer it.marks it.steps;
         few = few answer it.marks;
         minors = minors answer it.marks;
-        shadow = it.shadow;
-        numbers = it.numbers;
         few_steps = few_steps answer it.steps;
         work = it.work;
         cache = it.cache;

@@ -16,13 +16,15 @@ use Rattle.pmem_engine.specs.declared.fault.Fault.{Fault}
 use Rattle.pmem_engine.specs.declared.fault.Fault.TheVariants as Fail
 use Rattle.pmem_engine.specs.Parts.{Parts, regs_of}
 use Rattle.pmem_engine.specs.Outcomes.{Outcome, outcome_of}
-use Rattle.pmem_engine.specs.Calls.{IsBlockTrue, AnswersWrite, TakesSpent, TakesOfWrite, whole_write, HasWrittenLine, HasNamedSome, AreInWriteOrder, IsWriteWork}
+use Rattle.pmem_engine.specs.CallFacts.{IsBlockTrue, AnswersWrite, TakesSpent, TakesOfWrite, whole_write, AreInWriteOrder, IsWriteWork}
+use Rattle.pmem_engine.specs.Calls.{HasWrittenLine}
+use Rattle.call_plan.specs.Plans.{ended}
+use Rattle.call_plan.specs.Following.{Follows}
+use Rattle.pmem_engine.specs.Plans.{Chip, chip_in, with_engine}
+use Rattle.pmem_engine.specs.WritePlans.{write_posted_plan}
+use Rattle.pmem_engine.proofs.PlannedCalls.CalledEngines.{called_down, called_as}
 use Rattle.pmem_engine.specs.Writing.{UpWriteOutcome}
 use Rattle.pmem_engine.proofs.CheckedReads.ReadEnds.{ended_parts, done_ended, answers_down, past_ended, work_ended}
-use Rattle.pmem_engine.proofs.CallEnds.ShadowLines.{shadow_still}
-use Rattle.pmem_engine.proofs.PathNaming.ShadowNames.{none_named}
-use Rattle.pmem_engine.proofs.PostedWrites.WriteRefusals.{refused_ended}
-use Rattle.pmem_engine.proofs.PostedWrites.WriteCuts.{cut_ended}
 use Rattle.pmem_engine.proofs.PostedWrites.WriteExits.{none_order}
 
 -- a whole line is posted
@@ -35,6 +37,9 @@ pub written_down : (setup : Setup) (write : Posted) (parts : Parts) → parts.en
     → HasWrittenLine setup write parts parts (Err Fail.Down)
 written_down setup write parts down =
     record {
+      plan =
+          called_down (λ (chip : Chip). chip.engine) with_engine (λ fault. fault) (chip_in parts)
+          (write_posted_plan setup (regs_of parts) write (chip_in parts)) parts.device down;
       made = [];
       down =
           search rules;
@@ -44,14 +49,8 @@ written_down setup write parts down =
       answered = λ up trusted memory was. absurd (true≢false (sym down ∙ up));
       unrefused = λ up sound. absurd (true≢false (sym down ∙ up));
       sealed_before = λ trusted a within made other. absurd (true≢false (sym made));
-      path_cached = λ ok. absurd (true≢false (sym ok));
       path_named = λ ok. absurd (true≢false (sym ok));
       path_fetched = λ past. absurd past;
-      meta_uncached = tt;
-      names = none_named setup.shape (page_of write.at) parts parts (shadow_still setup.shape parts parts refl refl);
-      refused = λ up. tt;
-      cut = λ up. tt;
-      own_armed = λ trusted memory was is sealed. absurd (true≢false (sym sealed));
       order = none_order write.at;
       few_marks = omega arith;
       own_sealed = λ ok. absurd (true≢false (sym ok));
@@ -59,8 +58,6 @@ written_down setup write parts down =
       work = tt;
       steps = λ up trusted memory was. absurd (true≢false (sym down ∙ up));
       steps_of_spent = λ up trusted memory was none. absurd (true≢false (sym down ∙ up));
-      steps_of_named = λ cached named one. tt;
-      block_kept = λ none. refl;
       block_written = λ trusted. tt;
     }
 
@@ -84,21 +81,6 @@ block_ended : (setup : Setup) (page loss : ℕ) (new : Parts) (answer : Result C
     → IfOk answer (λ ctr. ctr.minor % loss ≡ 0 → IsBlockTrue setup (ended_parts new end) page)
 block_ended setup page loss new v4 end it = search rules
 
-names_ended : (g : Shape) (page : ℕ) (old new : Parts) (end : Outcome) → HasNamedSome g page old new
-    → HasNamedSome g page old (ended_parts new end)
-names_ended g page old new end it =
-    record {
-      named = it.named;
-      on_path = it.on_path;
-      mirror = it.mirror;
-      entries = it.entries;
-      written = it.written;
-      few_written = it.few_written;
-      one_ahead = it.one_ahead;
-      all_written = it.all_written;
-      lines = it.lines;
-    }
-
 write_work_ended : (g : Shape) (write : Posted) (made : List Mark) (old new : Parts) (answer : Result Ctr Fault) (end : Outcome)
     → IfOk answer (λ ctr. IsWriteWork g write ctr made old new)
     → IfOk answer (λ ctr. IsWriteWork g write ctr made old (ended_parts new end))
@@ -108,9 +90,13 @@ few_in_order : (at : ℕ) (made : List Mark) → AreInWriteOrder at made → len
 few_in_order at made it = search (rules, length-append)
 
 pub written_ended : (setup : Setup) (write : Posted) (old new : Parts) (answer : Result Ctr Fault) → old.engine.down ≡ false
-    → (regs_of old).group.items ≡ [] → UpWriteOutcome setup write old new answer → HasWrittenLine setup write old (ended_parts new (outcome_of answer)) answer
-written_ended setup write old new answer was no_group it =
+    → Follows (write_posted_plan setup (regs_of old) write (chip_in old)) old.device new.device (ended answer (chip_in new))
+    → UpWriteOutcome setup write old new answer → HasWrittenLine setup write old (ended_parts new (outcome_of answer)) answer
+written_ended setup write old new answer was planned it =
     record {
+      plan =
+          called_as (λ (chip : Chip). chip.engine) with_engine (chip_in old) (write_posted_plan setup (regs_of old) write (chip_in old)) was
+          (λ t. refl) answer (chip_in new) planned;
       made = it.made;
       down = answers_down answer old new was it.down it.not_down;
       done = λ up. done_ended setup (outcome_of answer) it.made old new it.done;
@@ -121,14 +107,8 @@ written_ended setup write old new answer was no_group it =
           answers_ended setup _ it.made write old new answer (outcome_of answer) (it.answered trusted memory held);
       unrefused = λ up sound. it.unrefused sound;
       sealed_before = it.sealed_before;
-      path_cached = it.path_cached;
       path_named = λ ok. record { each = (it.path_named ok).each };
       path_fetched = λ past. it.path_fetched (past_ended old new answer (outcome_of answer) past);
-      meta_uncached = it.meta_uncached;
-      names = names_ended setup.shape (page_of write.at) old new (outcome_of answer) it.names;
-      refused = λ up. refused_ended setup.shape (page_of write.at) old new answer (outcome_of answer) it.refused;
-      cut = λ up. cut_ended setup write it.made old new answer (outcome_of answer) it.cut;
-      own_armed = it.own_armed;
       order = it.order;
       few_marks = few_in_order write.at it.made it.order;
       own_sealed = it.own_sealed;
@@ -140,8 +120,6 @@ written_ended setup write old new answer was no_group it =
       steps_of_spent =
           λ up trusted memory held none.
           spent_ended setup.shape (outcome_of answer) (outcome_of answer) old new (it.steps_of_spent trusted memory held none);
-      steps_of_named = it.steps_of_named;
-      block_kept = it.block_kept no_group;
       block_written =
           λ trusted.
           block_ended setup (page_of write.at) (regs_of old).loss new answer (outcome_of answer) (it.block_written trusted);

@@ -1,6 +1,6 @@
 -- What a write answers where a part ended it, by the part's answer.
 use Rattle.std.proofs.lemmas.Grind.{common_steps}
-use Rattle.std.proofs.Common.{rules, ℕ, ◌≡◌, ◌<◌, ◌≤◌, ◌+◌, ◌*◌, ◌++◌, inl, inr, true, List, [], ◌∷◌, length, IsTrue, Option, Some, None, Err, refl, sym, ap, subst, ◌∙◌, arith}
+use Rattle.std.proofs.Common.{rules, ℕ, ◌≡◌, ◌<◌, ◌≤◌, ◌+◌, ◌*◌, ◌++◌, inl, inr, true, List, [], ◌∷◌, length, IsTrue, Option, Some, None, Err, sym, ap, subst, ◌∙◌, arith}
 use Rattle.std.specs.Prelude.{◌||◌, nat_lt, unwrap_or, is_none, IsSome}
 use Rattle.std.proofs.lemmas.Bool.{true≢false, cond-false, lt-ltb}
 use Rattle.std.proofs.lemmas.List.{append_assoc, append-nil, length-append}
@@ -12,7 +12,6 @@ use Rattle.pmem_base.specs.Layout.{page_of}
 use Rattle.meta_path.specs.declared.faults.PathFault.{PathFault}
 use Rattle.suite.specs.Setup.{Setup}
 use Rattle.suite.specs.Formulas.{Formulas}
-use Rattle.pmem_base.specs.Shape.{Shape}
 use Rattle.meta_path.specs.Blocks.{IsPathCached, dirty_count}
 use Rattle.plain_model.specs.State.{Memory, memory_with}
 use Rattle.plain_model.specs.Asked.{Moment, marks_of_write}
@@ -23,15 +22,12 @@ use Rattle.pmem_engine.specs.declared.fault.LineFault.{LineFault}
 use Rattle.pmem_engine.specs.declared.fault.LineFault.TheVariants as AtLine
 use Rattle.pmem_engine.specs.Parts.{Parts, AreTrusted, AreSound}
 use Rattle.pmem_engine.specs.Outcomes.{fault_of_path, fault_of_line, outcome_of_fault, is_seal_of, is_sealed_by, TakesAtMost}
-use Rattle.pmem_engine.specs.Calls.{IsMemory, IsDownAnswer, IsUnrefused, TakesWithin, TakesWithinOfLive, moment_in, IsPartOf, IsRefusedLine, AreMarksOfWrite, AnswersWrite, write_bound, TakesSpent, TakesOfWrite, IsMetaUncached, IsPastFetch, HasNamedSome, IsRefusedAsFetched, IsCutOfWrite, IsUnderMinorZero, AreUnderMinorZero, AreInWriteOrder}
+use Rattle.pmem_engine.specs.CallFacts.{IsMemory, IsDownAnswer, IsUnrefused, TakesWithin, TakesWithinOfLive, moment_in, IsPartOf, IsRefusedLine, AreMarksOfWrite, AnswersWrite, write_bound, TakesSpent, TakesOfWrite, IsPastFetch, IsUnderMinorZero, AreUnderMinorZero, AreInWriteOrder}
 use Rattle.pmem_engine.specs.Inner.{AnswersFetch, HasFetched}
 use Rattle.pmem_engine.specs.Writing.{AnswersPlain, IsFrontOf, IsStoppedAt, HasFinishMarks, AnswersFinish, CountsFinish, UpWriteOutcome}
 use Rattle.pmem_engine.proofs.CallEnds.ErrorAnswers.{path_not_down, path_unrefused}
-use Rattle.pmem_engine.proofs.CheckedReads.LineReads.{past_fault, meta_fault, most_of_within}
-use Rattle.pmem_engine.proofs.PathNaming.ShadowNames.{none_named}
+use Rattle.pmem_engine.proofs.CheckedReads.LineReads.{past_fault, most_of_within}
 use Rattle.pmem_engine.proofs.PostedWrites.WriteParts.{IsWritePart, fetch_part}
-use Rattle.pmem_engine.proofs.PostedWrites.WriteRefusals.{refused_in_fetch}
-use Rattle.pmem_engine.proofs.PostedWrites.WriteCuts.{cut_in_fetch}
 use Rattle.pmem_engine.proofs.PostedWrites.WriteSteps.{more_most}
 use Rattle.pmem_engine.proofs.PostedWrites.WriteFinishes.{finish_front}
 
@@ -74,14 +70,10 @@ refused_at front rest made write b some it =
 
 -- ---- a write that a part ended
 
--- whatever the chip is: the path, the names, the marks and the steps of a write that ends with a fault
+-- whatever the chip is: the path, the marks and the steps of a write that ends with a fault
 pub record IsExit (setup : Setup) (write : Posted) (old new : Parts) (made : List Mark) (fault : Fault) : Type 0 where
   pub path_fetched :
       IsPastFetch {T = Ctr} old new (Err fault) → IsPathCached setup.shape new.engine.cache (page_of write.at)
-  pub meta_uncached : IsMetaUncached {T = Ctr} setup.shape (page_of write.at) old (Err fault)
-  pub names : HasNamedSome setup.shape (page_of write.at) old new
-  pub refused : IsRefusedAsFetched setup.shape (page_of write.at) old new (Err fault)
-  pub cut : IsCutOfWrite setup write made old new (Err fault)
   pub order : AreInWriteOrder write.at made
   pub few_steps : TakesAtMost (2 * path_length setup.shape + 264) old.device new.device
 
@@ -91,10 +83,6 @@ unsealed_order at made few minors = search (rules, append-nil, All-nil)
 
 pub none_order : (at : ℕ) → AreInWriteOrder at []
 none_order at = unsealed_order at [] (omega arith) (All-nil IsUnderMinorZero)
-
--- a line's fault isn't of the path
-pub line_meta : (g : Shape) (page : ℕ) (old : Parts) (fault : LineFault) → IsMetaUncached {T = Ctr} g page old (Err (fault_of_line fault))
-line_meta g page old v3 = search rules
 
 pub stopped : (setup : Setup) (write : Posted) (old new : Parts) (made : List Mark) (fault : Fault)
     → IsWritePart setup write.at (outcome_of_fault fault) made old new
@@ -124,15 +112,8 @@ stopped setup write old new made fault part exit marks answered unrefused not_do
       unrefused = unrefused;
       not_down = not_down;
       sealed_before = λ trusted a within sealed other. part.sealed_before trusted a within sealed;
-      path_cached = λ ok. absurd (true≢false (sym ok));
       path_named = λ ok. absurd (true≢false (sym ok));
       path_fetched = exit.path_fetched;
-      meta_uncached = exit.meta_uncached;
-      names = exit.names;
-      refused = exit.refused;
-      cut = exit.cut;
-      own_armed =
-          λ trusted memory was cut sealed. absurd (true≢false (sym sealed ∙ part.not_own trusted memory was));
       order = exit.order;
       own_sealed = λ ok. absurd (true≢false (sym ok));
       few_steps = exit.few_steps;
@@ -140,8 +121,6 @@ stopped setup write old new made fault part exit marks answered unrefused not_do
       down = part.down;
       steps = steps;
       steps_of_spent = steps_of_spent;
-      steps_of_named = λ cached named one. tt;
-      block_kept = part.block_kept;
       block_written = λ trusted. tt;
     }
 
@@ -168,10 +147,6 @@ written_unfetched setup write old new fault it =
     stopped setup write old new [] (fault_of_path fault) (fetch_part setup write.at old new (Err fault) it)
     (record {
       path_fetched = λ past. it.path_fetched (past_fault Ctr old new fault past);
-      meta_uncached = meta_fault Ctr setup.shape (page_of write.at) old fault it.meta_uncached;
-      names = none_named setup.shape (page_of write.at) old new it.shadow;
-      refused = refused_in_fetch setup (page_of write.at) old new fault it;
-      cut = cut_in_fetch setup write [] old new fault refl it;
       order = none_order write.at;
       few_steps =
           more_most (path_length setup.shape) (2 * path_length setup.shape + 264) old.device new.device (omega arith)

@@ -11,8 +11,6 @@ use Rattle.pmem_base.specs.declared.answers.Mark.{Mark}
 use Rattle.pmem_base.specs.Layout as layout
 use Rattle.pmem_base.specs.Layout.{page_of, index_in_page}
 use Rattle.pmem_base.specs.Registers.{is_done, not_done, empty_progress}
-use Rattle.bonsai_tree.specs.Positions.{counter_position}
-use Rattle.bonsai_tree.proofs.Levels.{counter_position-lt}
 use Rattle.page_reencrypt.specs.Registers.{is_holding, register_held}
 use Rattle.page_reencrypt.proofs.DoneBits.{not_done-small, not_done-not_done}
 use Rattle.board.specs.Device.{Device}
@@ -25,14 +23,13 @@ use Rattle.plain_model.specs.Bounds.{is_seal, seal_count}
 use Rattle.pmem_engine.specs.declared.fault.LineFault.{LineFault}
 use Rattle.pmem_engine.specs.Parts.{Parts, regs_of, AreTrusted, AreSound}
 use Rattle.pmem_engine.specs.Outcomes.{of_line, outcome_of, is_seal_of, is_sealed_by, TakesSteps, TakesAtMost}
-use Rattle.pmem_engine.specs.Calls.{IsMemory, IsUnrefused, moment_in, KeepsShadow, IsWork, reseal_work, KeepsMetaLines, IsUnderMinorZero, AreUnderMinorZero}
+use Rattle.pmem_engine.specs.CallFacts.{IsMemory, IsUnrefused, moment_in, IsWork, reseal_work, KeepsMetaLines, IsUnderMinorZero, AreUnderMinorZero}
 use Rattle.pmem_engine.specs.Resealing.{register_in}
 use Rattle.pmem_engine.specs.Writing.{HasLeftOut, reseals_of, IsFrontOf, HasFinishMarks, AnswersFinish, CountsFinish, HasFinishedPage, HasFinishedWhere, HasFinishedFor, register_to_finish}
 use Rattle.pmem_engine.proofs.PostedWrites.WriteAsks.{marks_of_finish}
 use Rattle.pmem_engine.proofs.PostedWrites.WriteParts.{IsWritePart, alone_part}
 use Rattle.pmem_engine.proofs.PostedWrites.WritePremises.{few_left}
 use Rattle.pmem_engine.proofs.PostedWrites.WriteSteps.{steps_most, more_most}
-use Rattle.pmem_engine.proofs.CallEnds.ShadowLines.{shadow_still}
 use Rattle.pmem_engine.proofs.CallEnds.ExactWork.{work_alone}
 
 -- ---- none of the marks is the written line's
@@ -116,7 +113,6 @@ pub record HasFinishedSome (setup : Setup) (at : ℕ) (asked : Memory → List M
   pub made_seals : IsOk answer → seal_count made ≡ length made
   pub work : IsOk answer → IsWork (reseal_work (length made)) old new
   pub meta_lines : IsOk answer → KeepsMetaLines setup.shape old.device.lines new.device.lines
-  pub shadow : KeepsShadow setup.shape old new
   pub few_steps : TakesAtMost 256 old.device new.device
   pub engine : new.engine ≡ old.engine
 
@@ -140,10 +136,6 @@ module _ (setup : Setup) (at : ℕ) (old new : Parts) (answer : Result Unit Line
             (or_parts (is_sealed_by it.made at) (is_sealed_by front.left at)
             (sym (list_any-append (is_seal_of at) it.made front.left)
             ∙ ap (λ ms. is_sealed_by ms at) (sym front.front) ∙ none)).0;
-        block_kept =
-            λ no_group none.
-            it.metadata no_group (counter_position setup.shape (page_of at))
-            (counter_position-lt setup.shape (page_of at) (omega (arith, within)));
         down = ap (λ engine. engine.down) it.engine;
       }
 
@@ -165,7 +157,6 @@ module _ (setup : Setup) (at : ℕ) (old new : Parts) (answer : Result Unit Line
         meta_lines =
             λ ok x within.
             ap (λ (d : Device). told_line d.lines (layout.meta_line setup.shape x)) it.alone.device;
-        shadow = shadow_still setup.shape old new it.alone.engine (ap (λ (d : Device). d.lines) it.alone.device);
         few_steps = more_most 0 256 old.device new.device (omega arith) (steps_most 0 old.device new.device none);
         engine = it.alone.engine;
       })
@@ -198,7 +189,6 @@ module _ (setup : Setup) (at : ℕ) (old new : Parts) (answer : Result Unit Line
         made_seals = it.seals;
         work = it.work;
         meta_lines = it.meta_lines;
-        shadow = it.shadow;
         few_steps =
             more_most (4 * length (not_done (register_in old n))) 256 old.device new.device
             (let all = few_left (register_in old n) in omega (arith, all)) it.few_steps;

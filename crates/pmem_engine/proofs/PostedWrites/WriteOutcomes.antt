@@ -24,8 +24,8 @@ use Rattle.pmem_engine.specs.declared.fault.Fault.TheVariants as Fail
 use Rattle.pmem_engine.specs.declared.fault.LineFault.{LineFault}
 use Rattle.pmem_engine.specs.Parts.{Parts, regs_of, AreTrusted}
 use Rattle.pmem_engine.specs.Outcomes.{fault_of_line, of_cut, going, cut_short, is_going, outcome_of_fault, TakesSteps, TakesAtMost}
-use Rattle.pmem_engine.specs.Calls.{IsMemory, IsPathNamedInMirror, moment_in, AreMarksOfWrite, AnswersWrite, write_bound, TakesSpent, TakesOfWrite, KeepsShadow, KeepsButPath, IsUnderMinorZero}
-use Rattle.pmem_engine.specs.Inner.{cached_block, HasFetched, HasNamedAll, HasNamedPath}
+use Rattle.pmem_engine.specs.CallFacts.{IsMemory, moment_in, AreMarksOfWrite, AnswersWrite, write_bound, TakesSpent, TakesOfWrite, IsUnderMinorZero}
+use Rattle.pmem_engine.specs.Inner.{cached_block, HasFetched, HasNamedPath}
 use Rattle.pmem_engine.specs.Sealing.{next_counter_of, HasSealedNext}
 use Rattle.pmem_engine.specs.Writing.{overflow_of, HasFinishMarks, HasMadePlain, HasFinishedFor, HasBegunFor, UpWriteOutcome}
 use Rattle.pmem_engine.proofs.PostedWrites.WriteAsks.{asked_seal, asked_begin, asked_none, free_at_overflow, overflow_fault}
@@ -34,13 +34,9 @@ use Rattle.pmem_engine.proofs.PostedWrites.WriteFinishes.{HasFinishedSome, finis
 use Rattle.pmem_engine.proofs.PostedWrites.WriteWorks.{IsWriteWorkBefore, worked_before}
 use Rattle.pmem_engine.proofs.PostedWrites.WriteSeals.{written_with_seal}
 use Rattle.pmem_engine.proofs.CallEnds.ErrorAnswers.{line_not_down, line_unrefused}
-use Rattle.pmem_engine.proofs.CallEnds.ShadowLines.{shadow_still, shadow_chained}
-use Rattle.pmem_engine.proofs.PathNaming.ShadowNames.{none_named, then_named, then_all, named_then}
-use Rattle.pmem_engine.proofs.PostedWrites.WriteSteps.{only_last, most_then, fewer_most, more_most, fewer_then, steps_most, more_fewer, begin_asked, bound_whole}
+use Rattle.pmem_engine.proofs.PostedWrites.WriteSteps.{most_then, fewer_most, more_most, fewer_then, steps_most, more_fewer, begin_asked, bound_whole}
 use Rattle.pmem_engine.proofs.PostedWrites.WriteBegins.{HasBegunSome, begin_counter, begun_for}
-use Rattle.pmem_engine.proofs.PostedWrites.WriteRefusals.{all_fetched, refused_line}
-use Rattle.pmem_engine.proofs.PostedWrites.WriteCuts.{cut_past, cut_still}
-use Rattle.pmem_engine.proofs.PostedWrites.WriteExits.{none_order, unsealed_order, line_meta, some_after, some_asked, part_of_front, unnamed_front, stopped, unplain_marks, unplain_answers, unplain_steps, unfinished_marks, unfinished_answers, unfinished_steps}
+use Rattle.pmem_engine.proofs.PostedWrites.WriteExits.{none_order, unsealed_order, some_after, some_asked, part_of_front, unnamed_front, stopped, unplain_marks, unplain_answers, unplain_steps, unfinished_marks, unfinished_answers, unfinished_steps}
 
 module _ (setup : Setup) (write : Posted) (within : write.at < layout.data_lines setup.shape) (old : Parts) where
   abbrev page : ℕ
@@ -83,10 +79,6 @@ module _ (setup : Setup) (write : Posted) (within : write.at < layout.data_lines
         (stopped setup write old p1 [] (Fail.Spent page) part1
         (record {
           path_fetched = λ past. cached1;
-          meta_uncached = tt;
-          names = none_named setup.shape page old p1 fetched.shadow;
-          refused = all_fetched setup page old p1 fetched;
-          cut = tt;
           order = none_order write.at;
           few_steps = more_most path (2 * path + 264) old.device p1.device (omega arith) fetched.steps_of_path;
         })
@@ -122,11 +114,6 @@ module _ (setup : Setup) (write : Posted) (within : write.at < layout.data_lines
           (plain_part setup write p1 new (Err fault) it))
           (record {
             path_fetched = λ past. subst (λ engine. IsPathCached setup.shape engine.cache page) (sym it.engine) cached1;
-            meta_uncached = line_meta setup.shape page old fault;
-            names = none_named setup.shape page old new shadow;
-            refused = refused_line setup page old p1 new fault fetched it.engine shadow;
-            cut = cut_still setup write [] old p1 new fetched (ap (λ engine. engine.cache) it.engine) unspent
-                (Err (fault_of_line fault));
             order = none_order write.at;
             few_steps = more_most path (2 * path + 264) old.device new.device (omega arith) (path_alone new it.no_steps);
           })
@@ -142,10 +129,6 @@ module _ (setup : Setup) (write : Posted) (within : write.at < layout.data_lines
           unplain_steps setup write old p1 new (asked memory old) fault (unspent trusted memory)
           (it.answered (trusted1 trusted) cached1) (path_alone new it.no_steps))
           (λ trusted memory was none. spent_not (TakesSpent setup.shape (outcome_of_fault (fault_of_line fault)) old new) trusted memory none)
-        where
-          shadow : KeepsShadow setup.shape old new
-          shadow =
-              shadow_chained setup.shape old p1 new fetched.shadow (shadow_still setup.shape p1 new it.engine it.lines)
 
       module _ (p2 : Parts) (plain : Line) (made_plain : HasMadePlain setup write p1 p2 (Ok plain)) where
         trusted2 : AreTrusted setup old → AreTrusted setup p2
@@ -165,11 +148,6 @@ module _ (setup : Setup) (write : Posted) (within : write.at < layout.data_lines
 
         steps2 : TakesAtMost path old.device p2.device
         steps2 = path_alone p2 made_plain.no_steps
-
-        shadow2 : KeepsShadow setup.shape old p2
-        shadow2 =
-            shadow_chained setup.shape old p1 p2 fetched.shadow
-            (shadow_still setup.shape p1 p2 made_plain.engine made_plain.lines)
 
         -- what it asks for: the finishing, a begin or none, and its own seal
         abbrev front : Memory → List Mark
@@ -205,12 +183,6 @@ module _ (setup : Setup) (write : Posted) (within : write.at < layout.data_lines
             (part_chained setup write.at (outcome_of_fault (fault_of_line fault)) [] it.made old p2 new part2 it.part)
             (record {
               path_fetched = λ past. subst (λ engine. IsPathCached setup.shape engine.cache page) (sym it.engine) cached2;
-              meta_uncached = line_meta setup.shape page old fault;
-              names = none_named setup.shape page old new shadow;
-              refused = refused_line setup page old p1 new fault fetched (it.engine ∙ made_plain.engine) shadow;
-              cut =
-                  cut_still setup write it.made old p1 new fetched (ap (λ engine. engine.cache) (it.engine ∙ made_plain.engine)) unspent
-                  (Err (fault_of_line fault));
               order = unsealed_order write.at it.made (let few = it.few in omega (arith, few)) it.minors;
               few_steps =
                   more_most (path + 256) (2 * path + 264) old.device new.device (omega arith)
@@ -239,9 +211,6 @@ module _ (setup : Setup) (write : Posted) (within : write.at < layout.data_lines
                 → HasFinishMarks (front memory) it.made (Err fault)
             marks trusted memory was = it.marks (trusted2 trusted) memory (part2.memory_kept trusted memory was)
 
-            shadow : KeepsShadow setup.shape old new
-            shadow = shadow_chained setup.shape old p2 new shadow2 it.shadow
-
         module _ (p3 : Parts) (finished : HasFinishedFor overflows setup page p2 p3 (Ok tt)) where
           some3 : HasFinishedSome setup write.at front p2 p3 (Ok tt)
           some3 = finished_for setup write.at p2 p3 (Ok tt) within overflows free finished
@@ -263,8 +232,8 @@ module _ (setup : Setup) (write : Posted) (within : write.at < layout.data_lines
           cache3 : p3.engine.cache ≡ p1.engine.cache
           cache3 = ap (λ engine. engine.cache) (some3.engine ∙ made_plain.engine)
 
-          shadow3 : KeepsShadow setup.shape old p3
-          shadow3 = shadow_chained setup.shape old p2 p3 shadow2 some3.shadow
+          mirror3 : p3.engine.mirror ≡ old.engine.mirror
+          mirror3 = ap (λ engine. engine.mirror) (some3.engine ∙ made_plain.engine) ∙ fetched.mirror
 
           most3 : TakesAtMost (path + 256) old.device p3.device
           most3 = most_then path 256 old.device p2.device p3.device steps2 some3.few_steps
@@ -279,10 +248,6 @@ module _ (setup : Setup) (write : Posted) (within : write.at < layout.data_lines
               (name_part setup write.at p3 new (Err cut) within it))
               (record {
                 path_fetched = λ past. absurd past;
-                meta_uncached = tt;
-                names = then_named setup.shape page old p3 new shadow3 it.names;
-                refused = tt;
-                cut = cut_still setup write (some3.made ++ []) old p1 new fetched (it.cache ∙ cache3) unspent (Err Fail.Cut);
                 order =
                     unsealed_order write.at (some3.made ++ [])
                     (let few = some3.few in let both = length-append some3.made [] in omega (arith, few, both))
@@ -316,9 +281,6 @@ module _ (setup : Setup) (write : Posted) (within : write.at < layout.data_lines
             steps4 trusted memory was =
                 most_then (path + 4 * length (front memory)) path old.device p3.device p4.device (steps3 trusted memory was) named.steps
 
-            names4 : HasNamedAll setup.shape page old p4
-            names4 = then_all setup.shape page old p3 p4 shadow3 (named.all_named refl)
-
             most4 : TakesAtMost (path + 256 + path) old.device p4.device
             most4 = most_then (path + 256) path old.device p3.device p4.device most3 named.steps
 
@@ -335,13 +297,6 @@ module _ (setup : Setup) (write : Posted) (within : write.at < layout.data_lines
                 (part_chained setup write.at (outcome_of_fault Fail.Cut) some3.made it.made old p4 new part4 it.part)
                 (record {
                   path_fetched = λ past. absurd past;
-                  meta_uncached = tt;
-                  names = (named_then setup.shape page old p4 new names4 it.shadow it.numbers).some;
-                  refused = tt;
-                  cut =
-                      cut_past setup write (some3.made ++ it.made) old new p1.engine.cache (fetched.work refl).cache
-                      (subst (λ cache. KeepsButPath setup.shape page cache new.engine.cache) (named.cache ∙ cache3) it.cache) unspent
-                      (Err Fail.Cut);
                   order =
                       unsealed_order write.at (some3.made ++ it.made)
                       (let few = some3.few in let one = it.few in let both = length-append some3.made it.made in
@@ -406,7 +361,7 @@ module _ (setup : Setup) (write : Posted) (within : write.at < layout.data_lines
               work5 : IsWriteWorkBefore setup write before old p5
               work5 =
                   worked_before setup write old p1 p2 p3 p4 p5 plain overflows front (begin_counter overflows setup write.at p4) fetched
-                  made_plain some3 shadow3.mirror named some5
+                  made_plain some3 mirror3 named some5
 
               abbrev next : Ctr
               next = next_counter_of setup.shape p5.engine write.at
@@ -428,11 +383,6 @@ module _ (setup : Setup) (write : Posted) (within : write.at < layout.data_lines
                   → before ++ seal ∷ [] ≡ front memory ++ rest memory
               whole trusted memory was = search (rules, append_assoc, begin_asked, some3, all3, some5, seal_is)
 
-              -- nothing but the seal takes steps where the path was cached and named, and no mark comes before it
-              alone : (new : Parts) → IsPathCached setup.shape old.engine.cache page → IsPathNamedInMirror setup.shape old.engine page
-                  → length before ≡ 0 → (n : ℕ) → TakesSteps n p5.device new.device → TakesSteps n old.device new.device
-              alone new cached was_named none n steps = search (rules, length-append, only_last, begin_asked, some3, some5)
-
               pub written_sealed : (new : Parts) (answer : Result Ctr Cut) → HasSealedNext setup write.at plain p5 new answer
                   → UpWriteOutcome setup write old new (of_cut answer)
               written_sealed new answer it =
@@ -442,11 +392,9 @@ module _ (setup : Setup) (write : Posted) (within : write.at < layout.data_lines
                   (λ trusted short.
                   held_back setup going [] old p2 part2.done trusted write.at within refl
                   ((made_plain.answered (trusted1 trusted) cached1).1 short))
-                  (alone new)
                   (let few = some3.few in let one = some5.few in let both = length-append some3.made some5.made in
                   omega (arith, few, one, both))
                   (All-append IsUnderMinorZero some3.made some5.made some3.minors some5.minors)
-                  (named_then setup.shape page old p4 p5 names4 some5.shadow some5.numbers)
                   (more_most (path + 256 + path + 3) (2 * path_length setup.shape + 259) old.device p5.device (omega arith)
                   (most_then (path + 256 + path) 3 old.device p4.device p5.device most4 some5.few_steps))
                   work5 answer it

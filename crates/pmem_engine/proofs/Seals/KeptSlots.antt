@@ -11,7 +11,7 @@ use Rattle.meta_cache.specs.Sets.{lined, slot_marked, with_slot_line, with_mark}
 use Rattle.meta_cache.specs.State.{CacheState}
 use Rattle.meta_path.specs.Blocks.{path_at, IsPathCached}
 use Rattle.meta_path.specs.Storing.{stored_set, IsStoredTo, IsPathOf, KeepsSlots}
-use Rattle.pmem_engine.specs.Calls.{masked, KeepsButPath}
+use Rattle.pmem_engine.specs.CallFacts.{masked, KeepsButPath}
 use Rattle.pmem_engine.specs.Sealing.{HasStoredPath}
 
 -- another line in a position's slot isn't seen where that position is masked

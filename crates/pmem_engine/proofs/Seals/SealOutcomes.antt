@@ -1,7 +1,6 @@
 -- The exits of a seal under the next counter: its tag line isn't read, its group is cut, or the line is sealed.
 use Rattle.std.proofs.Common.{rules, ℕ, ◌≡◌, ◌<◌, ◌≤◌, ◌%◌, ◌++◌, inl, inr, Bool, true, false, List, [], ◌∷◌, length, IsTrue, Some, Ok, Err, cond, refl, sym, ap, subst, subst₂, ◌∙◌, arith}
 use Rattle.std.specs.Prelude.{option_map, ◌↔◌, ◌==◌, if◌then◌else◌}
-use Rattle.std.specs.List.{list_any}
 use Rattle.std.proofs.lemmas.Bool.{true≢false, cond-true, cond-false}
 use Rattle.pmem_base.specs.declared.faults.Cut.{Cut}
 use Rattle.pmem_base.specs.declared.lines.Line.{Line}
@@ -24,17 +23,16 @@ use Rattle.board.specs.Steps.{HasRead, WasCut}
 use Rattle.commit_regs.specs.Groups.{redone_told}
 use Rattle.seal_ledger.specs.Ledger.{LedgerState}
 use Rattle.meta_path.specs.Blocks.{IsPathCached, AreCachedTrue}
-use Rattle.meta_path.specs.Naming.{path_number}
 use Rattle.meta_path.specs.Work.{told_line}
 use Rattle.meta_path.specs.Storing.{IsRenewed}
 use Rattle.plain_model.specs.View.{plain_line}
 use Rattle.plain_model.specs.Bounds.{path_length}
 use Rattle.pmem_engine.specs.declared.resealing.NextSeal.{NextSeal}
 use Rattle.pmem_engine.specs.Engine.{EngineState}
-use Rattle.pmem_engine.specs.Invariants.{IsTrusted, stored_meta}
-use Rattle.pmem_engine.specs.Parts.{Parts, parts_of, lines_redone, AreTrusted, meta_line_in}
+use Rattle.pmem_engine.specs.Invariants.{IsTrusted}
+use Rattle.pmem_engine.specs.Parts.{Parts, parts_of, lines_redone, AreTrusted}
 use Rattle.pmem_engine.specs.Outcomes.{going, cut_short, is_sealed_by, NeverFalls, OneLossEffect}
-use Rattle.pmem_engine.specs.Calls.{IsUsable, IsPathNamedInMirror, is_persisting}
+use Rattle.pmem_engine.specs.CallFacts.{IsUsable, IsPathNamedInMirror}
 use Rattle.pmem_engine.specs.Committing.{next_seal_of, HasCommitted, IsCutArmed}
 use Rattle.pmem_engine.specs.Inner.{cached_block}
 use Rattle.pmem_engine.specs.Sealing.{next_counter_of, raised_block, seal_steps, seal_group, HasPathSealed, HasSealCommitted, IsNothingDone, IsSealCut, HasSealedNext}
@@ -44,12 +42,10 @@ use Rattle.pmem_engine.proofs.CheckedReads.UnsealedLines.{risen_never_falls}
 use Rattle.pmem_engine.proofs.Laws.DeviceSteps.{sealed_here, unsealed_other}
 use Rattle.pmem_engine.proofs.Seals.NextPaths.{times_never_fall}
 use Rattle.pmem_engine.proofs.Seals.KeptSlots.{kept_same}
-use Rattle.pmem_engine.proofs.Seals.StoredPaths.{block_clean, path_number_kept, kept_named}
+use Rattle.pmem_engine.proofs.Seals.StoredPaths.{block_clean, kept_named}
 use Rattle.pmem_engine.proofs.CallEnds.MetaLines.{committed_at, seal_off_meta}
-use Rattle.pmem_engine.proofs.CallEnds.ShadowLines.{shadow_still, committed_off, armed_off, seal_off, told_off, undue_off}
 use Rattle.pmem_engine.proofs.Seals.GroupCommits.{IsCommit, block_true, comes_committed, done_committed, done_cut}
 use Rattle.pmem_engine.proofs.Seals.PathSeals.{IsPathSealing, sealing}
-use Rattle.commit_regs.proofs.GroupLemmas.{redone-nil}
 
 module _ (setup : Setup) (at : ℕ) (plain : Line) (engine : EngineState) (old : Device) (before : LedgerState) (tags digests : ℕ)
     (usable : IsUsable setup.shape engine old before) (up : engine.down ≡ false) where
@@ -69,24 +65,14 @@ module _ (setup : Setup) (at : ℕ) (plain : Line) (engine : EngineState) (old :
         plain_now = λ a. refl;
         path_cached = λ ok. absurd (true≢false (sym ok));
         path_named = λ ok. absurd (true≢false (sym ok));
-        shadow = shadow_still setup.shape start (parts_of engine new before tags_now digests_now) refl was.lines;
-        numbers = λ j le. refl;
         down = refl;
         steps =
             search rules;
         work = tt;
         cache = kept_same setup.shape (page_of at) engine.cache engine.cache refl;
-        armed = λ cut. inl refl;
         meta_lines = λ ok. absurd (true≢false (sym ok));
-        block_kept =
-            search rules;
         block_written = λ trusted ok. absurd (true≢false (sym ok));
       }
-
--- a seal that doesn't write the counter block
-undivided : (loss at : ℕ) (ctr : Ctr) (cipher : Line) (tag : List ℕ)
-    → list_any (is_persisting loss at) (Seal at ctr cipher tag ∷ []) ≡ false → (ctr.minor % loss == 0) ≡ false
-undivided loss at ctr cipher tag unmade = search rules
 
 -- how many lines its group has
 group_length : (g : Shape) (next : NextSeal) (block : Line) (persisted : Bool)
@@ -183,17 +169,6 @@ module _ (setup : Setup) (at : ℕ) (plain tag_line : Line) (persisted : Bool) (
     trusted_mid : AreTrusted setup first → IsTrusted setup engine mid.regs before
     trusted_mid trusted = was_read.gone.trusted trusted
 
-    block_as_it_was : lines_redone final ≡ redone_told group mid.lines → old.regs.group.items ≡ []
-        → list_any (is_persisting old.regs.loss at) (mark ∷ []) ≡ false
-        → meta_line_in setup.shape final position ≡ meta_line_in setup.shape first position
-    block_as_it_was comes no_group unmade =
-        let rest : (ctr.minor % old.regs.loss == 0) ≡ false = undivided old.regs.loss at ctr next.cipher next.tag unmade in
-        ap (option_map (λ ls. stored_meta setup.shape ls position)) comes
-        ∙ told_off group mid.lines (layout.meta_line setup.shape position)
-        (undue_off setup.shape next persisted block position inside (sym is_due ∙ rest))
-        ∙ ap (option_map (λ ls. stored_meta setup.shape ls position))
-        (read.lines ∙ sym (ap (λ items. redone_told items old.lines) was_unarmed ∙ redone-nil old.lines))
-
     -- cut while its group was armed
     pub seal_cut : (cut : Cut) → IsDevice new → IsCutArmed group mid new → HasSealedNext setup at plain first final (Err cut)
     seal_cut cut device_now armed =
@@ -206,28 +181,12 @@ module _ (setup : Setup) (at : ℕ) (plain tag_line : Line) (persisted : Bool) (
           plain_now = plain_after done.noted.marks;
           path_cached = λ ok. absurd (true≢false (sym ok));
           path_named = λ ok. absurd (true≢false (sym ok));
-          shadow =
-              record {
-                mirror = done.stored.mirror;
-                lines =
-                    λ n within.
-                    armed_off setup.shape group mid new (seal_off setup.shape next persisted block inside) armed n
-                    ∙ ap (λ told. told_line told (layout.shadow_line setup.shape n)) read.lines;
-              };
-          numbers = path_number_kept setup.shape (page_of at) persisted lines engine engine_now done.stored cached;
           down = done.stored.down;
           steps =
               search rules;
           work = tt;
           cache = done.stored.kept;
-          armed =
-              λ cut.
-              inr (λ none.
-              some_written persisted (length group) (group_length setup.shape next block persisted)
-              (ap length (sym armed.armed ∙ none)));
           meta_lines = λ ok. absurd (true≢false (sym ok));
-          block_kept =
-              block_as_it_was (ap (λ items. redone_told items new.lines) armed.armed ∙ armed.again);
           block_written = λ trusted ok. absurd (true≢false (sym ok));
         }
 
@@ -243,15 +202,6 @@ module _ (setup : Setup) (at : ℕ) (plain tag_line : Line) (persisted : Bool) (
           plain_now = plain_after done.noted.marks;
           path_cached = λ ok. done.stored.cached;
           path_named = λ ok. path_named;
-          shadow =
-              record {
-                mirror = done.stored.mirror;
-                lines =
-                    λ n within.
-                    committed_off setup.shape group mid new (seal_off setup.shape next persisted block inside) finished n
-                    ∙ ap (λ told. told_line told (layout.shadow_line setup.shape n)) read.lines;
-              };
-          numbers = path_number_kept setup.shape (page_of at) persisted lines engine engine_now done.stored cached;
           down = done.stored.down;
           steps =
               search rules;
@@ -269,13 +219,11 @@ module _ (setup : Setup) (at : ℕ) (plain tag_line : Line) (persisted : Bool) (
                 digests = more_digests;
               };
           cache = done.stored.kept;
-          armed = λ cut. absurd (true≢false (sym cut));
           meta_lines =
               λ ok x within apart.
               committed_at group mid new (layout.meta_line setup.shape x)
               (seal_off_meta setup.shape next persisted block x inside apart) finished
               ∙ ap (λ told. told_line told (layout.meta_line setup.shape x)) read.lines;
-          block_kept = block_as_it_was comes;
           block_written =
               λ trusted ok zero.
               record {
@@ -306,18 +254,13 @@ module _ (setup : Setup) (at : ℕ) (plain tag_line : Line) (persisted : Bool) (
         plain_now = λ a. ap (λ ledger. plain_line setup.formulas ledger.marks a) was.ledger;
         path_cached = λ ok. absurd (true≢false (sym ok));
         path_named = λ ok. absurd (true≢false (sym ok));
-        shadow = shadow_still setup.shape first final was.engine (was.device.lines ∙ read.lines);
-        numbers = λ j le. ap (λ (e : EngineState). path_number setup.shape e.cache (page_of at) j) was.engine;
         down = ap (λ e. e.down) was.engine;
         steps =
             search rules;
         work = tt;
         cache =
             kept_same setup.shape (page_of at) engine.cache engine_now.cache (ap (λ (e : EngineState). e.cache) was.engine);
-        armed = λ cut. inl refl;
         meta_lines = λ ok. absurd (true≢false (sym ok));
-        block_kept =
-            search rules;
         block_written = λ trusted ok. absurd (true≢false (sym ok));
       }
 

@@ -35,7 +35,7 @@ use Rattle.pmem_engine.specs.Invariants.{IsTrueSlot, IsDirtyNamed, IsTrusted}
 use Rattle.pmem_engine.specs.Recached.{IsSlotOfStoredPath}
 use Rattle.pmem_engine.specs.Named.{IsSlotInShadow, ArePathSlotsNamed}
 use Rattle.pmem_engine.specs.Outcomes.{is_touching}
-use Rattle.pmem_engine.specs.Calls.{IsPathNamedInMirror}
+use Rattle.pmem_engine.specs.CallFacts.{IsPathNamedInMirror}
 use Rattle.pmem_engine.specs.Inner.{cached_block}
 use Rattle.pmem_engine.specs.Sealing.{HasStoredPath, HasNotedPath}
 use Rattle.pmem_engine.proofs.Laws.AnchoredSeals.{anchored-new_path}

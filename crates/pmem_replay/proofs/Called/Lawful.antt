@@ -20,7 +20,8 @@ use Rattle.pmem_engine.specs.declared.fault.Fault.{Fault}
 use Rattle.pmem_engine.specs.declared.fault.Fault.TheVariants as Fail
 use Rattle.pmem_engine.specs.Parts.{Parts, regs_of, HoldsCounters, HoldsMeta}
 use Rattle.pmem_engine.specs.Outcomes.{outcome_of, CallEffect, TakesSteps, TakesAtMost, TakesFewer}
-use Rattle.pmem_engine.specs.Calls.{AnswersDown, IsDownAnswer, moment_in, CountsTurn, IsCutInLoss, HasReadLine, HasTurned, HasFlushed, HasSetLoss, HasWrittenLine, AnswersRead, AnswersTurn, AnswersFlush, AnswersLoss, AnswersWrite}
+use Rattle.pmem_engine.specs.Calls.{AnswersDown, IsDownAnswer, moment_in, HasReadLine, HasTurned, HasFlushed, HasSetLoss, HasWrittenLine, AnswersRead, AnswersTurn, AnswersFlush, AnswersLoss, AnswersWrite}
+use Rattle.pmem_engine.specs.CallFacts.{CountsTurn, IsCutInLoss}
 use Rattle.plain_model.specs.Asked.{marks_of_write}
 use Rattle.plain_model.specs.Bounds.{path_length}
 use Rattle.watched_board.specs.Watching.{step_limit}

@@ -40,6 +40,7 @@ use Rattle.plain_model.proofs.PlainMemory.{memory_is}
 pub record IsJustMade (setup : Setup) (p : WorldParts) (old : Device) : Type 0 where
   pub shape : IsShape setup.shape
   pub formulas : AreInRange setup.formulas
+  pub blank : old ≡ device_of (new_memory (layout.device_lines setup.shape))
   pub formatted : WasFormatted setup p.ledger old (device_of p.board) p.engine
   pub count : length p.board.lines ≡ layout.device_lines setup.shape
   pub each_line : All IsLine p.board.lines
@@ -234,7 +235,11 @@ module _ (setup : Setup) (p : WorldParts) (old : Device) (made : IsJustMade setu
   its_engine = found.1 ∙ ap (λ (e : EngineState). Some e) formatted.engine_new
 
   pub made_new : IsNewWorld setup world
-  made_new = search (rules, its_state, its_view, made_world, its_engine)
+  made_new =
+      let just : HasFormatted setup p.ledger (device_of (new_memory (layout.device_lines setup.shape))) (device_of p.board) (new_engine setup.shape) =
+      subst (λ (d : Device). HasFormatted setup p.ledger d (device_of p.board) (new_engine setup.shape)) made.blank
+      (subst (λ (e : EngineState). HasFormatted setup p.ledger old (device_of p.board) e) formatted.engine_new formatted) in
+      search (rules, its_state, its_view, made_world, its_engine, just)
 
 -- as many lines as before
 pub device_count : (setup : Setup) (p : WorldParts) (old : Device) → WasFormatted setup p.ledger old (device_of p.board) p.engine

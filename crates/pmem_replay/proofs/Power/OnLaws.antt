@@ -52,7 +52,7 @@ nothing_dirty g bank x =
     ap (λ slots. list_any (λ slot. slot.position == x && slot.dirty) slots) (set_of-empty_banks g bank (set_index g x))
 
 -- recovery's steps are few
-small_recovery : (g : Shape) → IsShape g → recovery_bound g < 60000
+pub small_recovery : (g : Shape) → IsShape g → recovery_bound g < 60000
 small_recovery g shape =
     let slots : layout.slots g ≤ 512 =
     omega (arith, mul-le-mul_left g.sets shape.at_most_eight_ways, mul-le-mul_right 8 shape.at_most_64_sets) in

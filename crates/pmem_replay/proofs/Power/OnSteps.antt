@@ -19,6 +19,8 @@ use Rattle.pmem_base.specs.Ranges.{IsAnswer}
 use Rattle.pmem_base.specs.Registers.{without_group}
 use Rattle.pmem_base.specs.WaitingWrites.{no_writes}
 use Rattle.board.specs.Memory.{BoardMemory}
+use Rattle.call_plan.specs.Plans.{ended}
+use Rattle.call_plan.specs.Following.{Follows}
 use Rattle.commit_regs.specs.Groups.{finishing_latches}
 use Rattle.meta_cache.specs.Banks.{IsBanksOf}
 use Rattle.suite.specs.Setup.{Setup}
@@ -33,12 +35,13 @@ use Rattle.pmem_recovery.specs.declared.faults.RecFault.TheVariants as Fail
 use Rattle.pmem_recovery.specs.Parts.{SuiteState, IsRefusal, suite_state}
 use Rattle.pmem_recovery.specs.Trials.{first_undecided, tried_minors}
 use Rattle.pmem_recovery.specs.Fixed.{found_root}
+use Rattle.pmem_recovery.specs.Plans.{suite_counts, recover_plan}
 use Rattle.pmem_recovery.specs.Recovered.{HasRecovered, HasOnlyRedone}
 use Rattle.pmem_recovery.proofs.LatchLaws.{one_latch}
 use Rattle.pmem_recovery.proofs.UndecidedLaws.{undecided_line}
 use Rattle.pmem_replay.specs.Flagged.{Tampering, Dirtying, HasDirtyingOf, with_tampering, with_dirtying}
 use Rattle.pmem_replay.specs.World.{WorldState, WorldParts, IsOff, IsWorld, state_in, world_of, lines_in}
-use Rattle.watched_board.specs.Watching.{none_taken, steps_in, device_during}
+use Rattle.watched_board.specs.Watching.{none_taken, steps_in, step_limit, device_during}
 use Rattle.pmem_replay.specs.During.{IsTakenApart}
 use Rattle.pmem_replay.specs.Replies.{without_marks}
 use Rattle.pmem_replay.specs.Stepped.{HasStepped, IsOnAnswer, IsSeenOnDevice, board_after_on, engine_given}
@@ -46,7 +49,7 @@ use Rattle.pmem_replay.proofs.Steps.GoodReplies.{IsGood}
 use Rattle.pmem_replay.proofs.Steps.WorldsAfterCalls.{cut_counted, uncut_counted}
 use Rattle.pmem_base.specs.Counts.{HasRisen}
 use Rattle.pmem_replay.proofs.Steps.MarklessCalls.{counted_state, cut_state}
-use Rattle.pmem_replay.proofs.Power.OnLaws.{IsOnCall, lit, off_in, recovered_state, cut_on_state, recovered-good, recovered-world, cut-good, cut-world}
+use Rattle.pmem_replay.proofs.Power.OnLaws.{IsOnCall, small_recovery, lit, off_in, recovered_state, cut_on_state, recovered-good, recovered-world, cut-good, cut-world}
 use Rattle.pmem_replay.proofs.Power.RefusedRecoveries.{redone_same, refused-world, counter_tampered, counter_lasting, counter-good, root_tampered, root_lasting, root-good, twin-good}
 use Rattle.pmem_replay.proofs.Steps.DeviceEvidence.{small_line}
 use Rattle.pmem_replay.proofs.Steps.PartsOfWorld.{EndsCall, ends, numbered, setup_in}
@@ -81,6 +84,10 @@ module _ (s : RecoveryCall) where
       → new.ledger ≡ s.parts.ledger → IsOnCall setup old new s.board s.taken answer
   on_call answer has new shape start ledger = search rules
 
+  -- power that lasts isn't off
+  lasts : s.board.powered ≡ true → s.board.powered ≡ false → steps_in s.taken < step_limit
+  lasts lasting off = absurd (true≢false (sym lasting ∙ off))
+
   few : steps_in s.taken < 2 ^ 64
   few = omega (arith, s.served.watched.follows.few)
 
@@ -109,6 +116,17 @@ module _ (s : RecoveryCall) where
       let fuse : s.board.fuse ≡ None = s.served.watched.follows.cleared dark in
       cc (dark, fuse, s.served.watched.follows.snapshot, empty, s.served.counted, loss)
 
+  -- recovery had its memory, and followed its plan
+  followed : (answer : Result (EngineState × Work) RecFault) (said : Answer) → Has answer → IsOnAnswer (steps_in s.taken) answer said
+      → Follows (recover_plan setup s.parts.board.regs (suite_counts s.parts.tags s.parts.digests)) (device_during (lit s.parts.board) none_taken)
+      (device_during s.board s.taken) (ended answer (suite_counts s.tags s.digests))
+  followed (Ok done) said has is = has.plan
+  followed (Err Fail.Cut) said has is = has.plan
+  followed (Err (Fail.NoCounter at)) said has is = has.plan
+  followed (Err (Fail.Root kept found)) said has is = has.plan
+  followed (Err (Fail.Twin at major low high cipher tag)) said has is = has.plan
+  followed (Err Fail.Memory) said has is = absurd is
+
   -- a step with recovery in it
   powered : (answer : Result (EngineState × Work) RecFault) → Has answer → (said : Answer) (new : WorldState)
       → IsGood setup old Do.On (without_marks said) → IsAnswer said
@@ -117,12 +135,13 @@ module _ (s : RecoveryCall) where
       → new.board ≡ board_after_on answer s.board
       → s.board.powered ≡ not (is_cut said)
       → (is_shown said ≡ false → steps_of said ≡ steps_in s.taken)
-      → IsOnAnswer answer said
+      → (s.board.powered ≡ false → steps_in s.taken < step_limit)
+      → IsOnAnswer (steps_in s.taken) answer said
       → (is_shown said ≡ false → new.state ≡ state_after setup.shape old.state Do.On (without_marks said))
       → (is_shown said ≡ false → IsWorld setup new)
       → IsSeenOnDevice setup old Do.On said new
       → HasStepped setup old Do.On (without_marks said) new
-  powered answer has said new good its shape new_keys start shown ledger capacity new_tags new_digests engine board power its_steps answered state world seen =
+  powered answer has said new good its shape new_keys start shown ledger capacity new_tags new_digests engine board power its_steps within answered state world seen =
       stepped_by_engine setup old new Do.On (without_marks said) undecided good its
       (record { shape = shape; keys = new_keys ∙ has.keys; start = start })
       shown
@@ -131,9 +150,7 @@ module _ (s : RecoveryCall) where
       (record {
         left = s.board;
         taken = s.taken;
-        follows_on = s.served.watched.follows;
-        steps = its_steps;
-        outcome = answer;
+        result = answer;
         suite_old = suite_state s.parts.keys s.pads s.parts.tags s.parts.digests;
         suite_new = suite_state s.keys s.pads_new s.tags s.digests;
         keys = refl;
@@ -141,8 +158,10 @@ module _ (s : RecoveryCall) where
         tags_new = sym new_tags;
         digests_old = refl;
         digests_new = sym new_digests;
+        outcome = record { run = record { follows = s.served.watched.follows; within = within }; follows = followed answer said has answered };
         recovered = has;
         answered = answered;
+        steps = its_steps;
         engine = engine;
         board = board;
         ledger = ledger;
@@ -161,11 +180,11 @@ module _ (s : RecoveryCall) where
   abbrev EndsOn : Answer → WorldParts → Type 0
   EndsOn answer q = EndsCall s.formulas_of s.geometry s.now Do.On (without_marks answer) q
 
-  ended : (say : ℕ → Answer) (to : Option EngineState → BoardMemory → WorldParts) (engine : Option EngineState) (left board : BoardMemory)
+  ends_on : (say : ℕ → Answer) (to : Option EngineState → BoardMemory → WorldParts) (engine : Option EngineState) (left board : BoardMemory)
       → (to s.engine left).keys ≡ s.keys → s.engine ≡ engine → left ≡ board
       → HasStepped setup old Do.On (without_marks (say (steps_in s.taken))) (world_of setup (to engine board))
       → EndsOn (say s.said) (to s.engine left)
-  ended say to engine left board keys same same_board step =
+  ends_on say to engine left board keys same same_board step =
       ends s.formulas_of s.geometry s.parts (to s.engine left) s.now Do.On (without_marks (say s.said)) s.is (keys ∙ s.was.recovered.keys)
       (numbered setup old (world_of setup (to s.engine left)) Do.On [] say s.said (steps_in s.taken) s.counted
       (subst (λ (e : Option EngineState). HasStepped setup old Do.On (without_marks (say (steps_in s.taken))) (world_of setup (to e left))) (sym same)
@@ -201,7 +220,7 @@ module _ (s : RecoveryCall) where
       (recovered-good setup old new s.board s.taken found work call)
       (few_trials, few_digests, few)
       refl refl refl s.served.going.unshown refl refl refl refl refl refl lasting
-      (λ quiet. refl) (refl, refl)
+      (λ quiet. refl) (lasts lasting) refl
       (λ quiet. its_state)
       (λ quiet. recovered-world setup old new s.board s.taken found work call its_state refl refl
       (subst (λ (e : EngineState). IsBanksOf setup.shape e.cache) (sym has.engine) (whole_empty setup.shape)))
@@ -214,7 +233,7 @@ module _ (s : RecoveryCall) where
       → EndsOn (Say.Recovered work.trials work.digests s.said) (record (left_with s.engine s.board) { tampering = tampering; dirtying = dirtying })
   on-recovered work tampering dirtying is loosened cleaned few_trials few_digests =
       let apart = apart_ok s.was.answer s.engine work (subst (IsTakenApart s.was.answer s.engine) is s.was.apart) in
-      ended (λ n. Say.Recovered work.trials work.digests n) (λ e board. record (left_with e board) { tampering = tampering; dirtying = dirtying })
+      ends_on (λ n. Say.Recovered work.trials work.digests n) (λ e board. record (left_with e board) { tampering = tampering; dirtying = dirtying })
       (Some apart.0) s.board s.board refl apart.1 refl
       (on_recovered_some apart.0 work tampering dirtying (subst Has apart.2 s.was.recovered) loosened cleaned few_trials few_digests)
 
@@ -247,7 +266,7 @@ module _ (s : RecoveryCall) where
       (cut-good setup old new s.board s.taken call fewer)
       few
       refl refl refl s.served.going.unshown refl refl refl refl refl refl dark
-      (λ quiet. refl) tt
+      (λ quiet. refl) (λ off. omega (arith, fewer, small_recovery setup.shape s.served.going.whole.whole_shape)) refl
       (λ quiet. its_state)
       (λ quiet. cut-world setup old new s.board s.taken call its_state refl refl)
       tt
@@ -256,7 +275,7 @@ module _ (s : RecoveryCall) where
       → EndsOn (Say.Cut s.said) (record (left_with s.engine s.board) { tampering = tampering; queues = queues })
   on-cut tampering queues is loosened empty =
       let apart = refused_as Fail.Cut is in
-      ended (λ n. Say.Cut n) (λ e board. record (left_with e board) { tampering = tampering; queues = queues }) None s.board s.board refl apart.0 refl
+      ends_on (λ n. Say.Cut n) (λ e board. record (left_with e board) { tampering = tampering; queues = queues }) None s.board s.board refl apart.0 refl
       (on_cut_none tampering queues (subst Has apart.1 s.was.recovered) loosened empty)
 
   -- ---- refused, and power goes off
@@ -290,7 +309,7 @@ module _ (s : RecoveryCall) where
       (counter-good setup old new s.board s.taken at call)
       (small_line setup.shape s.served.going.whole.whole_shape at (undecided_line setup (lines_in old) s.parts.board.regs at refused.0).0.on_device, few)
       refl refl refl s.served.going.unshown refl refl refl refl refl refl lasting
-      (λ quiet. refl) refl
+      (λ quiet. refl) (lasts lasting) refl
       (λ quiet. its_state)
       (λ quiet. refused-world setup old new s.board s.taken (Fail.NoCounter at) call call.recovered.regs call.recovered.unchanged
       (counter_tampered setup old new s.board s.taken at call) (counter_lasting setup old new s.board s.taken at call) its_state refl refl)
@@ -300,7 +319,7 @@ module _ (s : RecoveryCall) where
       → EndsOn (Say.NoCounter at s.said) (record (left_with s.engine rested) { shown = s.parts.shown })
   on-counter rested at is rest =
       let apart = refused_as (Fail.NoCounter at) is in
-      ended (λ n. Say.NoCounter at n) (λ e board. record (left_with e board) { shown = s.parts.shown }) None rested dim refl apart.0 rest
+      ends_on (λ n. Say.NoCounter at n) (λ e board. record (left_with e board) { shown = s.parts.shown }) None rested dim refl apart.0 rest
       (on_counter_none at (subst Has apart.1 s.was.recovered))
 
   on_root_none : (kept found : List ℕ) → Has (Err (Fail.Root kept found)) → IsTag kept → IsTag found
@@ -320,7 +339,7 @@ module _ (s : RecoveryCall) where
       (root-good setup old new s.board s.taken kept found call)
       (kept_tag, found_tag, few)
       refl refl refl s.served.going.unshown refl refl refl refl refl refl lasting
-      (λ quiet. refl) (refl, refl)
+      (λ quiet. refl) (lasts lasting) refl
       (λ quiet. its_state)
       (λ quiet. refused-world setup old new s.board s.taken (Fail.Root kept found) call call.recovered.regs call.recovered.unchanged
       (root_tampered setup old new s.board s.taken kept found call) (root_lasting setup old new s.board s.taken kept found call) its_state refl refl)
@@ -330,7 +349,7 @@ module _ (s : RecoveryCall) where
       → EndsOn (Say.WrongRoot kept found s.said) (record (left_with s.engine rested) { shown = s.parts.shown })
   on-root rested kept found is rest kept_tag found_tag =
       let apart = refused_as (Fail.Root kept found) is in
-      ended (λ n. Say.WrongRoot kept found n) (λ e board. record (left_with e board) { shown = s.parts.shown }) None rested dim refl apart.0 rest
+      ends_on (λ n. Say.WrongRoot kept found n) (λ e board. record (left_with e board) { shown = s.parts.shown }) None rested dim refl apart.0 rest
       (on_root_none kept found (subst Has apart.1 s.was.recovered) kept_tag found_tag)
 
   -- ---- shown
@@ -357,7 +376,7 @@ module _ (s : RecoveryCall) where
         whole_tag,
       )
       refl refl refl refl refl refl refl refl refl refl (has.power.live refl)
-      (λ quiet. absurd (true≢false quiet)) refl
+      (λ quiet. absurd (true≢false quiet)) (lasts (has.power.live refl)) refl
       (λ quiet. absurd (true≢false quiet))
       (λ quiet. absurd (true≢false quiet)) (
         refused.1.its_cipher ∙ ap (λ ls. line_at ls at) (sym lines),
@@ -376,7 +395,7 @@ module _ (s : RecoveryCall) where
       → EndsOn (Say.Shown (Show.Twin at major low high cipher tag)) (record (left_with s.engine rested) { shown = true })
   on-twin rested at major low high cipher tag is rest small_major whole_cipher whole_tag =
       let apart = refused_as (Fail.Twin at major low high cipher tag) is in
-      ended (λ n. Say.Shown (Show.Twin at major low high cipher tag)) (λ e board. record (left_with e board) { shown = true }) None rested dim refl apart.0 rest
+      ends_on (λ n. Say.Shown (Show.Twin at major low high cipher tag)) (λ e board. record (left_with e board) { shown = true }) None rested dim refl apart.0 rest
       (on_twin_none at major low high cipher tag (subst Has apart.1 s.was.recovered) small_major whole_cipher whole_tag)
 
   -- ---- no memory

@@ -238,7 +238,7 @@ few_stat world answer told = absurd told
 
 few_on : (setup : Setup) (old new : WorldState) (answer : Answer) → HasPoweredOn setup old new answer
     → is_shown answer ≡ false → steps_of answer ≤ most_command_steps
-few_on setup old new answer on quiet = omega (arith, on.steps quiet, on.follows_on.few)
+few_on setup old new answer on quiet = omega (arith, on.steps quiet, on.outcome.run.follows.few)
 
 -- no queue has more than sixteen writes
 short_queue : (queues : List (List Posted)) → ArePorts queues → (port : ℕ) → length (queue_of queues port) ≤ 16

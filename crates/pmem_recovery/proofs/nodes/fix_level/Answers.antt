@@ -1,20 +1,15 @@
-use Rattle.std.proofs.Common.{ℕ, Result, Ok, Err, suc, ◌≡◌, ◌<◌, ◌≤◌, ◌+◌, ◌++◌, ◌∷◌, [], List, sym, ap, subst, false, ◌∙◌, add-one, arith}
+use Rattle.std.proofs.Common.{ℕ, Result, Ok, Err, suc, ◌≡◌, ◌<◌, ◌≤◌, ◌+◌, List, ap, subst, false, ◌∙◌, add-one, arith}
 use Rattle.pmem_base.specs.declared.faults.Cut.{Cut}
 use Rattle.pmem_base.specs.declared.lines.Line.{Line}
 use Rattle.pmem_base.specs.declared.geometry.Geo.{Geo}
 use Rattle.pmem_base.specs.Geo.{shape_of}
 use Rattle.pmem_base.specs.Shape.{Shape}
 use Rattle.pmem_base.specs.Layout.{level_start}
-use Rattle.bonsai_tree.proofs.Levels.{level_start-le, meta_lines-counters}
+use Rattle.bonsai_tree.proofs.Levels.{level_start-le}
 use Rattle.pmem_recovery.specs.Named.{names, count_named, IsNextAt}
-use Rattle.pmem_recovery.specs.Upward.{AreMadeTo, node_made}
 use Rattle.pmem_recovery.specs.Parts.{setup_of, setup_with}
-use Rattle.pmem_recovery.proofs.PartLaws.{longer, on_tree_more, KeepsDevice-then, IsUncut-then, RisesAtMost-less, RisesAtMost-both, SuiteWork-then, SuiteWorkAtMost-of, SuiteWorkAtMost-after, IsShape-geo, told_before}
+use Rattle.pmem_recovery.proofs.PartLaws.{longer, IsShape-geo}
 use Rattle.pmem_recovery.proofs.NamedLaws.{count_named-next, count_named-last, count_named-le, count_named-small}
-use Rattle.pmem_recovery.specs.Reads.{children_reads, node_reads}
-use Rattle.pmem_recovery.proofs.ReadLaws.{RisesBy-as, blocks_next, sum_named-last, node_reads_are}
-use Rattle.pmem_recovery.proofs.UpwardSteps.{AreMadeTo-upto}
-use Rattle.pmem_recovery.proofs.NodeSteps.{AreMadeTo-next_node}
 use Rattle.board.specs.Device.{Device}
 use Rattle.call_plan.specs.Plans.{the_cut}
 use Rattle.call_plan.specs.Following.{Follows}
@@ -71,7 +66,7 @@ module _ (g : Over) (c : In-Some g) where
       → Follows (fixed_node_plan (setup_with g.S.Suite c.args.geo.now c.args.suite.now) c.in-Some.x before) (g.B.Board.device c.positions.board) new end
   node_then new end it =
       subst (λ keys. Follows (fixed_node_plan (setup_of c.args.geo.now (g.S.Suite.formulas_of keys)) c.in-Some.x before) (g.B.Board.device c.positions.board) new end)
-      c.positions.invariant.worked.keys it
+      c.positions.invariant.keys it
 
 pub fix_node-requires-clause-node : goal.fix_node-requires-clause-node
 fix_node-requires-clause-node g c =
@@ -87,11 +82,6 @@ overflow_add-digests g c =
     let h = next_here g (goal.at.overflow_add-digests g c).In-Some in
     omega (arith, h.more, h.few, c.positions.invariant.done)
 
-pub returns-in_err-fix_node-clause-at_most : goal.returns-in_err-fix_node-clause-at_most
-returns-in_err-fix_node-clause-at_most g c =
-    let h = next_here g (goal.at.returns-in_err-fix_node-clause-at_most g c).In-Some in
-    SuiteWorkAtMost-after 0 c.positions.digests 0 4 0 _ _ _ _ (omega arith) (omega (arith, h.more, h.within, c.positions.invariant.done)) c.positions.invariant.worked c.in_err-fix_node.ensures.at_most
-
 pub positions-preserved : goal.positions-preserved
 positions-preserved g c =
     let shape = shape_of c.args.geo.now in
@@ -99,17 +89,8 @@ positions-preserved g c =
     let ok = c.in_ok-fix_node.ensures in
     let h = next_here g (goal.at.positions-preserved g c).In-Some in
     record {
-      read = KeepsDevice-then _ _ _ inv.read ok.read;
-      goes = IsUncut-then _ _ _ inv.goes ok.goes;
-      reads = RisesAtMost-both _ 5 _ _ _ _ (omega (arith, h.more)) inv.reads c.fix_node.ensures.reads;
-      exact_reads = λ lines told regs shadow before.
-          let setup = setup_of c.args.geo.now (g.S.Suite.formulas_of (g.S.Suite.keys c.args.suite.now)) in
-          let here : 1 + children_reads c.positions.made.items c.in-Some.x 4 ≡ node_reads shape c.args.shadow.now c.in-Some.x =
-          node_reads_are setup lines regs c.args.level c.positions.from c.in-Some.x c.positions.made.items c.requires.level
-          (record { from = omega (arith, inv.low, h.next.low); below = h.next.high }) (inv.told lines told regs shadow before)
-          ∙ ap (λ s. node_reads shape s c.in-Some.x) (sym shadow) in
-          blocks_next shape c.args.shadow.now (node_reads shape c.args.shadow.now) (level_start c.args.level) c.positions.from (level_start (suc c.args.level)) c.in-Some.x _ _ _ inv.low h.next
-          (inv.exact_reads lines told regs shadow before) (RisesBy-as _ _ _ _ here ok.exact_reads);
+      keys = c.fix_node.ensures.keys ∙ inv.keys;
+      pads = c.fix_node.ensures.pads ∙ inv.pads;
       reached =
           let place = (goal.at.positions-preserved g c).In-Some in
           let after : RecoveryParts = recovery_parts c.fix_node.new.made.items (counts_at g.S.Suite c.fix_node.new.suite) in
@@ -118,20 +99,9 @@ positions-preserved g c =
           (mapped_follows _ _ (node_then g place (g.B.Board.device c.fix_node.new.board) (Ok (after, tt)) ok.plan));
       low = omega (arith, inv.low, h.next.low);
       high = omega (arith, h.next.high);
-      counted = longer ok.made ∙ omega (arith, inv.counted, h.more);
+      counted = ok.longer ∙ omega (arith, inv.counted, h.more);
       done = omega (arith, inv.done, h.more);
-      worked = SuiteWork-then 0 c.positions.digests 0 4 _ _ _ inv.worked ok.worked;
-      on_tree = λ all. on_tree_more shape ok.made (omega (arith, h.node, meta_lines-counters shape)) (inv.on_tree all);
-      capacity = ok.capacity ∙ inv.capacity;
-      told = λ lines told regs shadow before.
-          let setup = setup_of c.args.geo.now (g.S.Suite.formulas_of (g.S.Suite.keys c.args.suite.now)) in
-          let made : c.fix_node.new.made.items ≡ c.positions.made.items ++ node_made setup lines c.positions.made.items c.in-Some.x ∷ [] =
-          subst (λ keys. c.fix_node.new.made.items ≡ c.positions.made.items ++ node_made (setup_of c.args.geo.now (g.S.Suite.formulas_of keys)) lines c.positions.made.items c.in-Some.x ∷ []) inv.worked.keys
-          (ok.told lines (told_before _ _ inv.read lines told)) in
-          subst (AreMadeTo setup lines regs c.args.level (c.in-Some.x + 1)) (sym made)
-          (AreMadeTo-next_node setup lines regs c.args.level c.positions.from c.in-Some.x c.positions.made.items (IsShape-geo c.args.geo.now) c.requires.level inv.low
-          (subst (λ s. IsNextAt (names shape s) c.positions.from (level_start (suc c.args.level)) c.in-Some.x) shadow h.next)
-          (inv.told lines told regs shadow before));
+      capacity = c.fix_node.ensures.capacity ∙ inv.capacity;
     }
 
 -- at the end of the level
@@ -145,47 +115,15 @@ module _ (g : Over) (c : In_default g) where
   all_here =
       all_counted (shape_of c.args.geo.now) c.args.shadow.now c.args.level c.positions.from c.first_of_level-end.result c.positions.invariant.low c.positions.invariant.high c.first_of_level-end.ensures.value c.in_default.ensures
 
-pub returns-in_err-fix_node-clause-reads : goal.returns-in_err-fix_node-clause-reads
-returns-in_err-fix_node-clause-reads g c =
-    let h = next_here g (goal.at.returns-in_err-fix_node-clause-reads g c).In-Some in
-    RisesAtMost-both _ 5 _ _ _ _ (omega (arith, h.more, h.within)) c.positions.invariant.reads c.fix_node.ensures.reads
-
-pub returns-clause-reads : goal.returns-clause-reads
-returns-clause-reads g c =
-    let all = all_here g (goal.at.returns-clause-reads g c).In_default in
-    RisesAtMost-less _ _ _ _ (omega (arith, all)) c.positions.invariant.reads
-
-pub returns-clause-exact_reads : goal.returns-clause-exact_reads
-returns-clause-exact_reads g c = λ lines told regs shadow before.
-    let shape = shape_of c.args.geo.now in
-    let inv = c.positions.invariant in
-    let last = sum_named-last shape c.args.shadow.now (node_reads shape c.args.shadow.now) (level_start c.args.level) c.positions.from (level_start (suc c.args.level)) inv.low inv.high
-    (λ y low high. c.in_default.ensures y low (omega (arith, high, end_is c.args.level c.first_of_level-end.result c.first_of_level-end.ensures.value))) in
-    RisesBy-as _ _ _ _ (sym last) (inv.exact_reads lines told regs shadow before)
-
 pub returns-clause-digests : goal.returns-clause-digests
 returns-clause-digests g c =
     let all = all_here g (goal.at.returns-clause-digests g c).In_default in
     omega (arith, all, c.positions.invariant.done)
 
-pub returns-clause-at_most : goal.returns-clause-at_most
-returns-clause-at_most g c =
-    let all = returns-clause-digests g c in
-    SuiteWorkAtMost-of 0 c.positions.digests 0 _ _ _ (omega arith) (omega (arith, all)) c.positions.invariant.worked
-
 pub returns-clause-counted : goal.returns-clause-counted
 returns-clause-counted g c =
     let all = all_here g (goal.at.returns-clause-counted g c).In_default in
     omega (arith, all, c.positions.invariant.counted)
-
-pub returns-clause-told : goal.returns-clause-told
-returns-clause-told g c = λ lines told regs shadow before.
-    let shape = shape_of c.args.geo.now in
-    let inv = c.positions.invariant in
-    let setup = setup_of c.args.geo.now (g.S.Suite.formulas_of (g.S.Suite.keys c.args.suite.now)) in
-    AreMadeTo-upto setup lines regs c.args.level c.positions.from (level_start (suc c.args.level)) c.positions.made.items inv.low inv.high
-    (λ y low high. subst (λ s. names shape s y ≡ false) shadow (c.in_default.ensures y low (omega (arith, high, end_is c.args.level c.first_of_level-end.result c.first_of_level-end.ensures.value))))
-    (inv.told lines told regs shadow before)
 
 -- ---- the plan
 

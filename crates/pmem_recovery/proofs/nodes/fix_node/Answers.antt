@@ -1,4 +1,4 @@
-use Rattle.std.proofs.Common.{List, Ok, Err, refl, subst, arith}
+use Rattle.std.proofs.Common.{List, Ok, Err, refl, subst}
 use Rattle.board.specs.Steps.{HasRead}
 use Rattle.pmem_base.specs.Layout.{meta_line}
 use Rattle.call_plan.specs.Plans.{the_cut}
@@ -9,13 +9,9 @@ use Rattle.pmem_recovery.specs.Parts.{setup_with}
 use Rattle.pmem_recovery.specs.declared.entries.Made.{Made}
 use Rattle.pmem_recovery.specs.Plans.{RecoveryParts, recovery_parts, counts_at, children_plan}
 use Rattle.pmem_recovery.proofs.NodePlans.{same_made, node_unread, node_stopped, node_made_so}
-use Rattle.pmem_recovery.proofs.PartLaws.{SuiteWork-none, SuiteWorkAtMost-of}
 use Rattle.pmem_recovery.proofs.nodes.fix_node.Given.{Over}
 use Rattle.pmem_recovery.proofs.nodes.fix_node.Goals.{After-deref}
 use Rattle.pmem_recovery.proofs.nodes.fix_node.Goals as goal
-
-pub returns-in_err-read-clause-at_most : goal.returns-in_err-read-clause-at_most
-returns-in_err-read-clause-at_most g c = SuiteWorkAtMost-of 0 0 0 4 _ _ (omega arith) (omega arith) (SuiteWork-none _)
 
 -- ---- the plan
 

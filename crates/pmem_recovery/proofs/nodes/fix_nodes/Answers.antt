@@ -1,4 +1,4 @@
-use Rattle.std.proofs.Common.{ℕ, Result, Ok, Err, Some, suc, ◌≡◌, ◌<◌, ◌≤◌, ◌+◌, ◌-◌, ◌*◌, List, sym, ap, subst, ◌∙◌, arith}
+use Rattle.std.proofs.Common.{ℕ, Result, Ok, Err, suc, ◌≡◌, ◌<◌, ◌≤◌, ◌+◌, ◌-◌, List, ap, subst, ◌∙◌, arith}
 use Rattle.pmem_base.specs.declared.faults.Cut.{Cut}
 use Rattle.pmem_base.specs.declared.lines.Line.{Line}
 use Rattle.pmem_base.specs.declared.geometry.Geo.{Geo}
@@ -6,19 +6,10 @@ use Rattle.pmem_base.specs.Geo.{shape_of}
 use Rattle.pmem_base.specs.Shape.{Shape}
 use Rattle.pmem_base.specs.Layout.{level_start}
 use Rattle.bonsai_tree.proofs.Levels.{level_start-le}
-use Rattle.commit_regs.specs.Groups.{RisesAtMost}
 use Rattle.pmem_recovery.specs.Named.{count_named}
-use Rattle.pmem_recovery.specs.Upward.{AreMadeTo}
 use Rattle.pmem_recovery.specs.Parts.{setup_of, setup_with}
-use Rattle.pmem_recovery.proofs.PartLaws.{KeepsDevice-then, IsUncut-then, RisesAtMost-both, SuiteWork-then, SuiteWorkAtMost-after, IsShape-geo, told_before}
+use Rattle.pmem_recovery.proofs.PartLaws.{IsShape-geo}
 use Rattle.pmem_recovery.proofs.NamedLaws.{count_named-parts, count_named-within, count_named-small}
-use Rattle.board.specs.Counts.{RisesBy}
-use Rattle.pmem_base.specs.declared.registers.Regs.{Regs}
-use Rattle.pmem_base.specs.Layout.{meta_lines}
-use Rattle.shadow_tables.specs.Entries.{shadow_of}
-use Rattle.pmem_recovery.specs.Reads.{sum_named, node_reads}
-use Rattle.pmem_recovery.proofs.ReadLaws.{levels_next}
-use Rattle.pmem_recovery.proofs.UpwardSteps.{AreMadeTo-next}
 use Rattle.board.specs.Device.{Device}
 use Rattle.call_plan.specs.Plans.{the_cut}
 use Rattle.call_plan.specs.Following.{Follows}
@@ -69,17 +60,6 @@ module _ (g : Over) (c : After-levels g) where
       next_level c.args.geo.now c.args.shadow.now c.upward.above c.levels.result (c.levels.result - 1 - c.upward.above) c.levels.ensures
       (omega (arith, c.upward-test.true, c.levels.ensures, c.levels-above-end.ensures)) (omega arith)
 
-  -- the levels below are made
-  below_made : (lines : List Line) → (g.B.Board.device c.args.board.now).lines ≡ Some lines → (regs : Regs) → c.args.shadow.now ≡ shadow_of (shape_of c.args.geo.now) lines → AreMadeTo (setup_of c.args.geo.now (g.S.Suite.formulas_of (g.S.Suite.keys c.args.suite.now))) lines regs (shape_of c.args.geo.now).levels (meta_lines (shape_of c.args.geo.now)) c.args.made.now.items → AreMadeTo (setup_of c.args.geo.now (g.S.Suite.formulas_of (g.S.Suite.keys c.upward.suite))) lines regs (c.levels.result - 1 - c.upward.above) (level_start (c.levels.result - 1 - c.upward.above)) c.upward.made.items
-  below_made lines told regs its_shadow before =
-      let level : ℕ = c.levels.result - 1 - c.upward.above in
-      let inv = c.upward.invariant in
-      let setup = setup_of c.args.geo.now (g.S.Suite.formulas_of (g.S.Suite.keys c.args.suite.now)) in
-      let below : AreMadeTo setup lines regs (suc level) (level_start (suc (suc level))) c.upward.made.items =
-      subst (λ i. AreMadeTo setup lines regs i (level_start (suc i)) c.upward.made.items) (sym next_here.below) (inv.told lines told regs its_shadow before) in
-      subst (λ keys. AreMadeTo (setup_of c.args.geo.now (g.S.Suite.formulas_of keys)) lines regs level (level_start level) c.upward.made.items) (sym inv.worked.keys)
-      (AreMadeTo-next setup lines regs level c.upward.made.items below)
-
   abbrev before : RecoveryParts
   before = recovery_parts c.upward.made.items (counts_at g.S.Suite c.upward.suite)
 
@@ -96,22 +76,12 @@ module _ (g : Over) (c : After-levels g) where
       subst (λ n. Follows (fixed_level_plan (setup_with g.S.Suite c.args.geo.now c.args.suite.now) c.args.shadow.now (n - 1 - c.upward.above) before)
       (g.B.Board.device c.upward.board) new end) c.levels.ensures
       (subst (λ keys. Follows (fixed_level_plan (setup_of c.args.geo.now (g.S.Suite.formulas_of keys)) c.args.shadow.now (c.levels.result - 1 - c.upward.above) before)
-      (g.B.Board.device c.upward.board) new end) c.upward.invariant.worked.keys it)
+      (g.B.Board.device c.upward.board) new end) c.upward.invariant.keys it)
 
 pub fix_level-requires-clause-room : goal.fix_level-requires-clause-room
 fix_level-requires-clause-room g c =
     let n = next_here g (goal.at.fix_level-requires-clause-room g c).After-levels in
     omega (arith, n.parts, n.within, c.upward.invariant.counted, c.upward.invariant.capacity, c.requires.room)
-
-pub returns-in_err-digests-clause-at_most : goal.returns-in_err-digests-clause-at_most
-returns-in_err-digests-clause-at_most g c =
-    let n = next_here g (goal.at.returns-in_err-digests-clause-at_most g c).After-levels in
-    SuiteWorkAtMost-after 0 c.upward.digests 0 _ 0 _ _ _ _ (omega arith) (omega (arith, n.parts, n.within, c.upward.invariant.done)) c.upward.invariant.worked c.in_err-digests.ensures.at_most
-
-pub returns-in_err-digests-clause-reads : goal.returns-in_err-digests-clause-reads
-returns-in_err-digests-clause-reads g c =
-    let n = next_here g (goal.at.returns-in_err-digests-clause-reads g c).After-levels in
-    RisesAtMost-both _ _ _ _ _ _ (omega (arith, n.parts, n.within)) c.upward.invariant.reads c.fix_level.ensures.reads
 
 pub overflow_add-digests : goal.overflow_add-digests
 overflow_add-digests g c =
@@ -130,14 +100,8 @@ upward-preserved g c =
     ap (λ i. count_named shape shadow (level_start i) (level_start shape.levels)) n.again in
     record {
       few = omega (arith, n.below);
-      read = KeepsDevice-then _ _ _ inv.read ok.read;
-      goes = IsUncut-then _ _ _ inv.goes ok.goes;
-      reads = RisesAtMost-both _ _ _ _ _ _ (omega (arith, n.parts, count)) inv.reads c.fix_level.ensures.reads;
-      exact_reads = λ lines told regs its_shadow before.
-          let start : AreMadeTo (setup_of c.args.geo.now (g.S.Suite.formulas_of (g.S.Suite.keys c.upward.suite))) lines regs level (level_start level) c.upward.made.items =
-          below_made g (goal.at.upward-preserved g c).After-levels lines told regs its_shadow before in
-          levels_next shape shadow (node_reads shape shadow) (c.upward.above) level _ _ _ n.below n.again n.inside
-          (inv.exact_reads lines told regs its_shadow before) (ok.exact_reads lines (told_before _ _ inv.read lines told) regs its_shadow start);
+      keys = c.fix_level.ensures.keys ∙ inv.keys;
+      pads = c.fix_level.ensures.pads ∙ inv.pads;
       reached =
           let place = (goal.at.upward-preserved g c).After-levels in
           let after : RecoveryParts = recovery_parts c.fix_level.new.made.items (counts_at g.S.Suite c.fix_level.new.suite) in
@@ -145,37 +109,8 @@ upward-preserved g c =
           (mapped_follows _ _ (level_then g place (g.B.Board.device c.fix_level.new.board) (Ok (after, c.in_ok-digests.field-0)) ok.plan));
       counted = omega (arith, ok.counted, inv.counted, n.parts, count);
       done = omega (arith, ok.digests, inv.done, n.parts, count);
-      worked = SuiteWork-then 0 c.upward.digests 0 c.in_ok-digests.field-0 _ _ _ inv.worked ok.worked;
-      on_tree = λ all. ok.on_tree (inv.on_tree all);
-      capacity = ok.capacity ∙ inv.capacity;
-      told = λ lines told regs its_shadow before.
-          let setup = setup_of c.args.geo.now (g.S.Suite.formulas_of (g.S.Suite.keys c.args.suite.now)) in
-          let start : AreMadeTo (setup_of c.args.geo.now (g.S.Suite.formulas_of (g.S.Suite.keys c.upward.suite))) lines regs level (level_start level) c.upward.made.items =
-          below_made g (goal.at.upward-preserved g c).After-levels lines told regs its_shadow before in
-          subst (λ i. AreMadeTo setup lines regs i (level_start (suc i)) c.fix_level.new.made.items) (sym n.again)
-          (subst (λ keys. AreMadeTo (setup_of c.args.geo.now (g.S.Suite.formulas_of keys)) lines regs level (level_start (suc level)) c.fix_level.new.made.items) inv.worked.keys
-          (ok.told lines (told_before _ _ inv.read lines told) regs its_shadow start));
+      capacity = c.fix_level.ensures.capacity ∙ inv.capacity;
     }
-
-pub returns-clause-reads : goal.returns-clause-reads
-returns-clause-reads g c =
-    let shape = shape_of c.args.geo.now in
-    let top : shape.levels - c.upward.above ≡ 0 = omega (arith, c.upward-test.false, c.levels-above-end.ensures) in
-    subst (λ i. RisesAtMost (5 * count_named shape c.args.shadow.now (level_start i) (level_start shape.levels)) (g.B.Board.device c.args.board.now).reads (g.B.Board.device c.upward.board).reads) top c.upward.invariant.reads
-
-pub returns-clause-exact_reads : goal.returns-clause-exact_reads
-returns-clause-exact_reads g c = λ lines told regs its_shadow before.
-    let shape = shape_of c.args.geo.now in
-    let top : shape.levels - c.upward.above ≡ 0 = omega (arith, c.upward-test.false, c.levels-above-end.ensures) in
-    subst (λ i. RisesBy (sum_named shape c.args.shadow.now (node_reads shape c.args.shadow.now) (level_start i) (level_start shape.levels)) (g.B.Board.device c.args.board.now).reads (g.B.Board.device c.upward.board).reads) top
-    (c.upward.invariant.exact_reads lines told regs its_shadow before)
-
-pub returns-clause-told : goal.returns-clause-told
-returns-clause-told g c = λ lines told regs its_shadow before.
-    let setup = setup_of c.args.geo.now (g.S.Suite.formulas_of (g.S.Suite.keys c.args.suite.now)) in
-    let top : (shape_of c.args.geo.now).levels - c.upward.above ≡ 0 = omega (arith, c.upward-test.false, c.levels-above-end.ensures) in
-    subst (λ i. AreMadeTo setup lines regs i (level_start (suc i)) c.upward.made.items) top
-    (c.upward.invariant.told lines told regs its_shadow before)
 
 -- ---- the plan
 

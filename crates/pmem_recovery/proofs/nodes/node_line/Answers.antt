@@ -3,12 +3,9 @@ use Rattle.std.proofs.lemmas.List.{take_more_set, take_all}
 use Rattle.bonsai_tree.specs.Nodes.{node_of}
 use Rattle.call_plan.proofs.Steps.{ended_err}
 use Rattle.call_plan.proofs.Loops.{turns_start, turn_ok, turn_err, turns_end}
-use Rattle.suite.specs.Formulas.{Formulas}
 use Rattle.pmem_recovery.specs.Parts.{setup_with}
 use Rattle.pmem_recovery.specs.Plans.{counts_at, child_turn}
 use Rattle.pmem_recovery.proofs.NodePlans.{same_counts, child_made, child_cut, children_made, children_cut}
-use Rattle.pmem_recovery.proofs.PartLaws.{KeepsDevice-none, IsUncut-none, RisesAtMost-none, SuiteWork-none}
-use Rattle.pmem_recovery.proofs.ReadLaws.{RisesBy-none, RisesBy-as, children_reads-none, children_more}
 use Rattle.pmem_base.specs.Geo.{shape_of}
 use Rattle.pmem_recovery.proofs.NodeSteps.{node-small}
 use Rattle.pmem_recovery.proofs.nodes.node_line.Given.{Over}
@@ -18,37 +15,27 @@ use Rattle.pmem_recovery.proofs.nodes.node_line.Goals as goal
 pub children-init : goal.children-init
 children-init g c =
     record {
-      read = KeepsDevice-none _;
-      goes = IsUncut-none _;
-      reads = RisesAtMost-none _ _;
-      exact_reads = RisesBy-as 0 _ _ _ (sym (children_reads-none c.args.made.now c.args.x)) (RisesBy-none _);
-      worked = SuiteWork-none _;
+      keys = refl;
+      pads = refl;
       reached =
           turns_start (child_turn (setup_with g.S.Suite c.args.geo.now c.args.suite.now) c.args.made.now c.args.x) 4 (counts_at g.S.Suite c.args.suite.now, [])
           (g.B.Board.device c.args.board.now);
       long = refl;
-      told = λ lines told k small. absurd (omega (arith, small));
     }
 
 -- one more child
 module _ (g : Over) (c : After-from g) where
-  abbrev formulas : Formulas
-  formulas = g.S.Suite.formulas_of (g.S.Suite.keys c.args.suite.now)
-
   place : 4 * c.args.x + 1 + c.from.result ≡ 4 * c.args.x + 1 + c.children.i
   place = ap (λ n. 4 * c.args.x + 1 + n) c.from.ensures
 
 pub children-preserved : goal.children-preserved
 children-preserved g c =
     record {
-      read = search rules;
-      goes = search rules;
-      reads = search rules;
-      exact_reads = children_more c.args.made.now c.args.x c.children.i c.from.result _ _ _ c.from.ensures c.children.invariant.exact_reads c.in_ok-line.ensures.exact_reads;
-      worked = search rules;
+      keys = c.digest.ensures.keys ∙ c.children.invariant.keys;
+      pads = c.digest.ensures.pads ∙ c.children.invariant.pads;
       reached =
           let here = (goal.at.children-preserved g c).After-from in
-          let keys = c.children.invariant.worked.keys in
+          let keys = c.children.invariant.keys in
           turn_ok c.children.invariant.reached c.children-test.true
           (child_made (setup_with g.S.Suite c.args.geo.now c.args.suite.now) c.args.made.now c.args.x c.children.i (counts_at g.S.Suite c.children.suite)
           (take c.children.i c.children.digests) (place g here) c.in_ok-line.line (counts_at g.S.Suite c.digest.new.self)
@@ -59,7 +46,6 @@ children-preserved g c =
           (c.digest.ensures.digest ∙ ap (λ (k : List ℕ). (g.S.Suite.formulas_of k).digest_of (4 * c.args.x + 1 + c.from.result) c.in_ok-line.line) keys)
           c.in_ok-line.ensures.plan);
       long = search rules;
-      told = search rules;
     }
 
 pub overflow_mul-child : goal.overflow_mul-child

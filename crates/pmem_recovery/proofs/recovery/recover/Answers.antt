@@ -1,4 +1,4 @@
-use Rattle.std.proofs.Common.{◌≡◌, Ok, Err, sym, ap, subst, ◌∙◌}
+use Rattle.std.proofs.Common.{◌≡◌, IsTrue, Result, Ok, Err, sym, ap, subst, ◌∙◌}
 use Rattle.std.proofs.lemmas.Bool.{false≢true}
 use Rattle.std.proofs.lemmas.Result.{err_from_is_err_and}
 use Rattle.board.specs.Device.{Device}
@@ -12,7 +12,12 @@ use Rattle.pmem_recovery.specs.Recovered.{Answer, HasRecovered}
 use Rattle.pmem_recovery.proofs.PartLaws.{IsShape-geo}
 use Rattle.pmem_recovery.proofs.RecoverLaws.{IsRecoveryRun, recovered_memory, recovered_interrupted, recovered_fault, recovered_ok}
 use Rattle.call_plan.specs.Following.{Follows}
-use Rattle.pmem_recovery.specs.Plans.{counts_at, redo_plan}
+use Rattle.pmem_recovery.specs.Plans.{SuiteCounts, counts_at, redo_plan, mend_plan}
+use Rattle.pmem_recovery.specs.declared.faults.Work.{Work}
+use Rattle.pmem_base.specs.declared.registers.Regs.{Regs}
+use Rattle.pmem_base.specs.Shape.{is_loss}
+use Rattle.pmem_base.specs.Layout.{device_lines}
+use Rattle.pmem_recovery.proofs.MendEnds.{HasFollowedMending, all_told, mending_followed}
 use Rattle.pmem_recovery.proofs.RecoveryPlans.{redo_cut, redo_done, recover_cut, recover_stopped, recover_done}
 use Rattle.pmem_recovery.proofs.recovery.recover.Given.{Over}
 use Rattle.pmem_recovery.proofs.recovery.recover.Goals.{After-mend}
@@ -47,8 +52,23 @@ module _ (g : Over) (c : After-mend g) where
   abbrev setup : Setup
   setup = setup_of c.args.geo.now (g.S.Suite.formulas_of (g.S.Suite.keys c.args.suite.now))
 
-  run : IsRecoveryRun setup (g.B.Board.device c.args.board.now) (g.B.Board.device c.finish.new.board) (g.B.Board.device c.mend.new.board)
-  run =
+  mending : (end : Result (SuiteCounts × Work) (SuiteCounts × RecFault))
+      → Follows (mend_plan setup (g.B.Board.device c.finish.new.board).regs (counts_at g.S.Suite c.args.suite.now)) (g.B.Board.device c.finish.new.board)
+      (g.B.Board.device c.mend.new.board) end
+      → HasFollowedMending setup (g.B.Board.device c.finish.new.board).regs (g.B.Board.device c.finish.new.board) (g.B.Board.device c.mend.new.board)
+      (counts_at g.S.Suite c.args.suite.now) end
+  mending end it =
+      let done = c.in_ok-finish.ensures.ok in
+      mending_followed setup (g.B.Board.device c.finish.new.board).regs (counts_at g.S.Suite c.args.suite.now) (IsShape-geo c.args.geo.now)
+      (subst (λ (r : Regs). IsTrue (is_loss r.loss)) (sym done.regs) c.requires.regs.known_loss) (g.B.Board.device c.finish.new.board)
+      (all_told (g.B.Board.device c.finish.new.board) (device_lines setup.shape) (g.met.B.Board.whole c.finish.new.board) (done.size ∙ c.requires.size))
+      (g.B.Board.device c.mend.new.board) end it
+
+  run : {end : Result (SuiteCounts × Work) (SuiteCounts × RecFault)}
+      → HasFollowedMending setup (g.B.Board.device c.finish.new.board).regs (g.B.Board.device c.finish.new.board) (g.B.Board.device c.mend.new.board)
+      (counts_at g.S.Suite c.args.suite.now) end
+      → IsRecoveryRun setup (g.B.Board.device c.args.board.now) (g.B.Board.device c.finish.new.board) (g.B.Board.device c.mend.new.board)
+  run it =
       record {
         size = c.requires.size;
         whole_before = g.met.B.Board.whole c.args.board.now;
@@ -57,8 +77,8 @@ module _ (g : Over) (c : After-mend g) where
         valid = c.requires.regs;
         finished = c.in_ok-finish.ensures.ok;
         idle = λ none. ap (λ board. g.B.Board.device board) (c.in_ok-finish.ensures.empty none).1;
-        written = c.mend.ensures.written;
-        few_reads = c.mend.ensures.few_reads;
+        written = it.written;
+        few_reads = it.few_reads;
       }
 
   -- the group was redone
@@ -69,19 +89,21 @@ module _ (g : Over) (c : After-mend g) where
 
 pub returns-in_err-work : goal.returns-in_err-work
 returns-in_err-work g c =
-    at_exit _ _ _ _ _ _ c.from_residual-in_err-work.result c.in_err-work.field-0.0 (err_from_is_err_and c.from_residual-in_err-work.result c.from_residual-in_err-work.ensures.1)
-    (recovered_fault _ (g.A.Audit.ledger c.args.audit.now) _ _ _ (run g (goal.at.returns-in_err-work g c).After-mend) _ _ c.in_err-work.field-0.0
-    (recover_stopped (setup_with g.S.Suite c.args.geo.now c.args.suite.now) (g.B.Board.device c.args.board.now).regs (counts_at g.S.Suite c.args.suite.now)
-    (redo_followed g (goal.at.returns-in_err-work g c).After-mend) (g.B.Board.device c.finish.new.board).regs c.in_ok-finish.ensures.ok.regs
-    (counts_at g.S.Suite c.mend.new.suite) c.in_err-work.field-0.0 c.in_err-work.ensures.plan)
-    c.in_err-work.ensures.stopped_reads c.in_err-work.ensures.stopped c.in_err-work.ensures.short c.in_err-work.ensures.stopped_work c.in_err-work.ensures.at_most)
+    let place = (goal.at.returns-in_err-work g c).After-mend in
+    let fault = c.in_err-work.field-0.0 in
+    let left = counts_at g.S.Suite c.mend.new.suite in
+    let it = mending g place (Err (left, fault)) c.in_err-work.ensures.plan in
+    at_exit _ _ _ _ _ _ c.from_residual-in_err-work.result fault (err_from_is_err_and c.from_residual-in_err-work.result c.from_residual-in_err-work.ensures.1)
+    (recovered_fault _ (g.A.Audit.ledger c.args.audit.now) _ _ _ (run g place it) _ _ fault c.mend.ensures.keys c.mend.ensures.pads
+    (recover_stopped (setup g place) (g.B.Board.device c.args.board.now).regs (counts_at g.S.Suite c.args.suite.now)
+    (redo_followed g place) (g.B.Board.device c.finish.new.board).regs c.in_ok-finish.ensures.ok.regs left fault c.in_err-work.ensures.plan) it.ends)
 
 pub returns : goal.returns
 returns g c =
     let place = (goal.at.returns g c).After-mend in
-    let ok = c.in_ok-work.ensures in
+    let left = counts_at g.S.Suite c.mend.new.suite in
+    let it = mending g place (Ok (left, c.in_ok-work.work)) c.in_ok-work.ensures.plan in
     subst (λ (e : EngineState). HasRecovered (setup g place) (g.A.Audit.ledger c.args.audit.now) (g.B.Board.device c.args.board.now) (g.B.Board.device c.mend.new.board) (suite_state (g.S.Suite.keys c.args.suite.now) (g.S.Suite.pads c.args.suite.now) (g.S.Suite.tags c.args.suite.now) (g.S.Suite.digests c.args.suite.now)) (suite_state (g.S.Suite.keys c.mend.new.suite) (g.S.Suite.pads c.mend.new.suite) (g.S.Suite.tags c.mend.new.suite) (g.S.Suite.digests c.mend.new.suite)) (Ok (e, c.in_ok-work.work))) (sym c.new-4.ensures)
-    (recovered_ok _ (g.A.Audit.ledger c.args.audit.now) _ _ _ (run g place) _ _ c.in_ok-work.work
-    (recover_done (setup_with g.S.Suite c.args.geo.now c.args.suite.now) (g.B.Board.device c.args.board.now).regs (counts_at g.S.Suite c.args.suite.now)
-    (redo_followed g place) (g.B.Board.device c.finish.new.board).regs c.in_ok-finish.ensures.ok.regs (counts_at g.S.Suite c.mend.new.suite) c.in_ok-work.work ok.plan)
-    ok.exact_reads ok.goes ok.recovered ok.all_work ok.worked ok.few_trials ok.few_digests)
+    (recovered_ok _ (g.A.Audit.ledger c.args.audit.now) _ _ _ (run g place it) _ _ c.in_ok-work.work c.mend.ensures.keys c.mend.ensures.pads
+    (recover_done (setup g place) (g.B.Board.device c.args.board.now).regs (counts_at g.S.Suite c.args.suite.now)
+    (redo_followed g place) (g.B.Board.device c.finish.new.board).regs c.in_ok-finish.ensures.ok.regs left c.in_ok-work.work c.in_ok-work.ensures.plan) it.ends)

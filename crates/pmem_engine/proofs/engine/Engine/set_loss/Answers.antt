@@ -9,12 +9,6 @@ use Rattle.pmem_engine.specs.Calls.{HasSetLoss}
 use Rattle.pmem_engine.proofs.BlockWrites.LossOutcomes.{loss_set, set_down}
 use Rattle.pmem_engine.proofs.CallEnds.ErrorAnswers.{is_err_of}
 use Rattle.pmem_engine.proofs.CallEnds.UsableParts.{some_setup, some_ledger, ready_call, shape_call}
-use Rattle.board.specs.Device.{Device}
-use Rattle.call_plan.specs.Plans.{ended}
-use Rattle.call_plan.specs.Following.{Follows}
-use Rattle.pmem_engine.specs.Outcomes.{fault_of_cut}
-use Rattle.pmem_engine.specs.Plans.{latch_loss_plan, set_loss_plan}
-use Rattle.pmem_engine.proofs.PlannedCalls.CalledEngines.{called_down, called_end}
 use Rattle.pmem_engine.proofs.engine.Engine.set_loss.Goals as goal
 
 pub returns-clause-set : goal.returns-clause-set
@@ -28,7 +22,7 @@ returns-clause-set g c = λ setup ledger tags digests shape.
     (g.B.Board.device c.latch_loss-answer.new.board) ledger tags digests (sym shape)
     (subst (λ (s : Shape). s.levels ≤ 6) (sym shape) c.has_shape.ensures.at_most_six_levels)
     c.requires.number c.requires.ready.valid_regs.known_loss (c.requires.ready.no_group (c.in_ok-is_up.ensures.up))
-    c.latch_loss-answer.result (c.in_ok-is_up.ensures.up) c.latch_loss-answer.ensures.changed)
+    c.latch_loss-answer.result (c.in_ok-is_up.ensures.up) c.latch_loss-answer.ensures.plan c.latch_loss-answer.ensures.changed)
 
 pub returns-clause-ready : goal.returns-clause-ready
 returns-clause-ready g c =
@@ -54,17 +48,7 @@ returns-in_err-is_up-clause-set g c = λ setup ledger tags digests shape.
     (set_down setup c.args.n parts c.in_err-is_up.ensures.down)
 
 pub returns-clause-plan : goal.returns-clause-plan
-returns-clause-plan g c =
-    let old : Device = g.B.Board.device c.args.board.now in
-    subst₂ (λ (engine : EngineState) (answer : Result ℕ Fault). Follows (set_loss_plan c.args.n old.regs c.args.self.now) old
-    (g.B.Board.device c.latch_loss-answer.new.board) (ended answer engine)) (sym c.ended_or_cut.ensures.engine) (sym c.ended_or_cut.ensures.answer)
-    (called_end (λ (old : EngineState). old) (λ old new. new) fault_of_cut c.args.self.now (latch_loss_plan c.args.n old.regs c.args.self.now)
-    c.in_ok-is_up.ensures.up (λ t. refl) c.latch_loss-answer.result c.latch_loss-answer.new.self c.latch_loss-answer.ensures.plan)
+returns-clause-plan g c = (returns-clause-set g c (some_setup c.args.self.now.shape) some_ledger 0 0 refl).plan
 
 pub returns-in_err-is_up-clause-plan : goal.returns-in_err-is_up-clause-plan
-returns-in_err-is_up-clause-plan g c =
-    let old : Device = g.B.Board.device c.args.board.now in
-    subst (λ (answer : Result ℕ Fault). Follows (set_loss_plan c.args.n old.regs c.args.self.now) old old (ended answer c.args.self.now))
-    (sym (is_err_of c.from_residual.result c.in_err-is_up.field-0.0 c.from_residual.ensures.1 ∙ ap Err c.in_err-is_up.ensures.fault))
-    (called_down (λ (old : EngineState). old) (λ old new. new) fault_of_cut c.args.self.now (latch_loss_plan c.args.n old.regs c.args.self.now) old
-    c.in_err-is_up.ensures.down)
+returns-in_err-is_up-clause-plan g c = (returns-in_err-is_up-clause-set g c (some_setup c.args.self.now.shape) some_ledger 0 0 refl).plan

@@ -1,5 +1,5 @@
 -- The engine is down, or no page is open, or the oldest page's lowest line was to be sealed anew.
-use Rattle.std.proofs.Common.{◌<◌, length, Ok, Err, Some, sym, ap, subst, ◌∙◌, arith}
+use Rattle.std.proofs.Common.{◌≡◌, ◌<◌, [], length, Ok, Err, Some, sym, ap, subst, ◌∙◌, arith}
 use Rattle.std.proofs.lemmas.Bool.{eqb-true, eqb-false}
 use Rattle.suite.specs.Setup.{Setup}
 use Rattle.pmem_engine.specs.Engine.{EngineState}
@@ -7,10 +7,7 @@ use Rattle.pmem_engine.specs.Parts.{Parts, parts_at, setup_at}
 use Rattle.pmem_engine.specs.Outcomes.{outcome_of}
 use Rattle.pmem_engine.specs.Calls.{HasTurned}
 use Rattle.pmem_engine.specs.Inner.{ended_by}
-use Rattle.board.specs.Device.{Device}
-use Rattle.call_plan.specs.Plans.{ended}
-use Rattle.call_plan.specs.Following.{Follows}
-use Rattle.pmem_engine.specs.Plans.{Chip, chip_at, with_engine, turn_plan}
+use Rattle.pmem_engine.specs.Plans.{chip_in}
 use Rattle.pmem_engine.proofs.PlannedCalls.TurnPlans.{turn_down, turn_idle, turn_end}
 use Rattle.pmem_engine.proofs.CallEnds.ErrorAnswers.{is_err_of}
 use Rattle.pmem_engine.proofs.PageLines.TurnOutcomes.{turned_of, turned_by_fault, turned_by_seal, turned_down, turned_idle, turned, none_from_length}
@@ -29,34 +26,25 @@ returns-in_err-is_up-clause-turned g c =
     let old : Parts = at g c.args.self.now c.args.board.now c.args.suite.now c.args.audit.now in
     subst (HasTurned setup old old)
     (sym (is_err_of c.from_residual.result c.in_err-is_up.field-0.0 c.from_residual.ensures.1 ∙ ap Err c.in_err-is_up.ensures.fault))
-    (turned_down setup old c.in_err-is_up.ensures.down)
+    (turned_down setup old c.in_err-is_up.ensures.down
+    (turn_down setup old.device.regs (chip_in old) old.device c.in_err-is_up.ensures.down))
 
 pub returns-then-is_empty-clause-turned : goal.returns-then-is_empty-clause-turned
 returns-then-is_empty-clause-turned g c =
-    turned_idle (setup_at g.S.Suite c.args.self.now c.args.suite.now) (at g c.args.self.now c.args.board.now c.args.suite.now c.args.audit.now)
-    c.in_ok-is_up.ensures.up
-    (ap (λ regs. regs.progress.items) (sym c.regs.ensures)
+    let setup : Setup = setup_at g.S.Suite c.args.self.now c.args.suite.now in
+    let old : Parts = at g c.args.self.now c.args.board.now c.args.suite.now c.args.audit.now in
+    let none : old.device.regs.progress.items ≡ [] =
+    ap (λ regs. regs.progress.items) (sym c.regs.ensures)
     ∙ none_from_length c.regs.result.now.progress.items
-    (eqb-true (length c.regs.result.now.progress.items) 0 (sym c.if-is_empty.ensures)))
+    (eqb-true (length c.regs.result.now.progress.items) 0 (sym c.if-is_empty.ensures)) in
+    turned_idle setup old c.in_ok-is_up.ensures.up none
+    (turn_idle setup old.device.regs (chip_in old) old.device c.in_ok-is_up.ensures.up none)
 
 pub returns-in_err-is_up-clause-plan : goal.returns-in_err-is_up-clause-plan
-returns-in_err-is_up-clause-plan g c =
-    let old : Device = g.B.Board.device c.args.board.now in
-    subst (λ answer. Follows (turn_plan (setup_at g.S.Suite c.args.self.now c.args.suite.now) old.regs
-    (chip_at g.S.Suite g.A.Audit c.args.self.now c.args.suite.now c.args.audit.now)) old old
-    (ended answer (chip_at g.S.Suite g.A.Audit c.args.self.now c.args.suite.now c.args.audit.now)))
-    (sym (is_err_of c.from_residual.result c.in_err-is_up.field-0.0 c.from_residual.ensures.1 ∙ ap Err c.in_err-is_up.ensures.fault))
-    (turn_down (setup_at g.S.Suite c.args.self.now c.args.suite.now) old.regs
-    (chip_at g.S.Suite g.A.Audit c.args.self.now c.args.suite.now c.args.audit.now) old c.in_err-is_up.ensures.down)
+returns-in_err-is_up-clause-plan g c = (returns-in_err-is_up-clause-turned g c).plan
 
 pub returns-then-is_empty-clause-plan : goal.returns-then-is_empty-clause-plan
-returns-then-is_empty-clause-plan g c =
-    let old : Device = g.B.Board.device c.args.board.now in
-    turn_idle (setup_at g.S.Suite c.args.self.now c.args.suite.now) old.regs
-    (chip_at g.S.Suite g.A.Audit c.args.self.now c.args.suite.now c.args.audit.now) old c.in_ok-is_up.ensures.up
-    (ap (λ regs. regs.progress.items) (sym c.regs.ensures)
-    ∙ none_from_length c.regs.result.now.progress.items
-    (eqb-true (length c.regs.result.now.progress.items) 0 (sym c.if-is_empty.ensures)))
+returns-then-is_empty-clause-plan g c = (returns-then-is_empty-clause-turned g c).plan
 
 -- ---- after a line was to be sealed anew
 
@@ -83,35 +71,8 @@ module _ (g : Over) (c : After-ended g) where
   turned_at_end =
       subst (λ engine. HasTurned setup old (record mid { engine = engine }) (turned_of c.reseal-answer.result))
       (sym (c.ended.ensures.engine ∙ ap (λ answer. ended_by c.args.self.now (outcome_of answer)) c.line_answer.ensures))
-      (turned setup old mid c.reseal-answer.result c.in_ok-is_up.ensures.up some c.reseal-answer.ensures.resealed)
-
-  abbrev was : Chip
-  was = chip_at g.S.Suite g.A.Audit c.args.self.now c.args.suite.now c.args.audit.now
-
-  abbrev is : Chip
-  is = chip_at g.S.Suite g.A.Audit c.ended.new.self c.reseal-answer.new.suite c.reseal-answer.new.audit
-
-  planned_at_end : Follows (turn_plan setup old.device.regs was) old.device new.device (ended (turned_of c.reseal-answer.result) is)
-  planned_at_end =
-      subst (λ engine. Follows (turn_plan setup old.device.regs was) old.device new.device (ended (turned_of c.reseal-answer.result)
-      (with_engine is engine))) (sym (c.ended.ensures.engine ∙ ap (λ answer. ended_by c.args.self.now (outcome_of answer)) c.line_answer.ensures))
-      (turn_end setup old.device.regs was (chip_at g.S.Suite g.A.Audit c.args.self.now c.reseal-answer.new.suite c.reseal-answer.new.audit)
-      c.reseal-answer.result c.in_ok-is_up.ensures.up some c.reseal-answer.ensures.plan)
-
-pub returns-in_err-sealed-clause-plan : goal.returns-in_err-sealed-clause-plan
-returns-in_err-sealed-clause-plan g c =
-    let end : After-ended g = (goal.at.returns-in_err-sealed-clause-plan g c).After-ended in
-    subst (λ answer. Follows (turn_plan (setup g end) (old g end).device.regs (was g end)) (old g end).device (new g end).device (ended answer (is g end)))
-    (turned_by_fault c.reseal-answer.result c.in_err-sealed.field-0.0 (sym c.line_answer.ensures ∙ sym c.in_err-sealed.ensures.answer)
-    ∙ sym (is_err_of c.from_residual-in_err-sealed.result c.in_err-sealed.field-0.0 c.from_residual-in_err-sealed.ensures.1))
-    (planned_at_end g end)
-
-pub returns-clause-plan : goal.returns-clause-plan
-returns-clause-plan g c =
-    let end : After-ended g = (goal.at.returns-clause-plan g c).After-ended in
-    subst (λ answer. Follows (turn_plan (setup g end) (old g end).device.regs (was g end)) (old g end).device (new g end).device (ended answer (is g end)))
-    (turned_by_seal c.reseal-answer.result c.in_ok-sealed.sealed (sym c.line_answer.ensures ∙ sym c.in_ok-sealed.ensures.answer))
-    (planned_at_end g end)
+      (turned setup old mid c.reseal-answer.result c.in_ok-is_up.ensures.up some c.reseal-answer.ensures.resealed
+      (turn_end setup old.device.regs (chip_in old) (chip_in mid) c.reseal-answer.result c.in_ok-is_up.ensures.up some c.reseal-answer.ensures.plan))
 
 pub returns-in_err-sealed-clause-turned : goal.returns-in_err-sealed-clause-turned
 returns-in_err-sealed-clause-turned g c =
@@ -139,3 +100,9 @@ returns-clause-usable g c =
     let it = returns-clause-turned g c in
     usable_call (setup g end) it.made (old g end) (new g end) (Ok (Some c.in_ok-sealed.sealed)) it.down (λ up. (it.done up).gone)
     c.requires.usable
+
+pub returns-in_err-sealed-clause-plan : goal.returns-in_err-sealed-clause-plan
+returns-in_err-sealed-clause-plan g c = (returns-in_err-sealed-clause-turned g c).plan
+
+pub returns-clause-plan : goal.returns-clause-plan
+returns-clause-plan g c = (returns-clause-turned g c).plan

@@ -39,7 +39,7 @@ blocks-2-preserved g c =
           blocks_more c.blocks-2.written c.in-Some.x c.args.self.now c.blocks-2.self c.write_back_block.new.self
           (g.B.Board.device c.args.board.now) (g.B.Board.device c.blocks-2.board) (g.B.Board.device c.write_back_block.new.board)
           c.requires.size (g.met.B.Board.whole c.blocks-2.board) c.blocks-2.invariant.written c.in_ok-write_back_block.ensures.ok
-          c.in_ok-write_back_block.ensures.fewer c.in_ok-write_back_block.ensures.order;
+          c.in_ok-write_back_block.ensures.fewer;
       reached =
           block_more c.blocks-2.self c.blocks-2.invariant.reached c.in-Some.x c.write_back_block.new.self
           c.in_ok-write_back_block.ensures.ok.cleaned.cache.shape c.in_ok-write_back_block.ensures.order c.in_ok-write_back_block.ensures.plan;

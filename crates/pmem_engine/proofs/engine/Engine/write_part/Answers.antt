@@ -1,18 +1,12 @@
 -- The engine is down, or it was up and wrote, and is down afterwards where it was cut or stopped.
-use Rattle.std.proofs.Common.{Result, Err, refl, sym, ap, subst, subst₂, ◌∙◌}
+use Rattle.std.proofs.Common.{Result, Err, sym, ap, subst, subst₂, ◌∙◌}
 use Rattle.pmem_base.specs.declared.lines.Ctr.{Ctr}
 use Rattle.suite.specs.Setup.{Setup}
 use Rattle.pmem_engine.specs.declared.fault.Fault.{Fault}
 use Rattle.pmem_engine.specs.Engine.{EngineState}
 use Rattle.pmem_engine.specs.Parts.{Parts, parts_of, parts_at, setup_at}
 use Rattle.pmem_engine.specs.Calls.{HasWrittenLine}
-use Rattle.board.specs.Device.{Device}
-use Rattle.call_plan.specs.Plans.{ended}
-use Rattle.call_plan.specs.Following.{Follows}
-use Rattle.pmem_engine.specs.Plans.{Chip, chip_at, with_engine}
-use Rattle.pmem_engine.specs.WritePlans.{write_posted_plan, write_plan}
 use Rattle.pmem_engine.proofs.CallEnds.ErrorAnswers.{is_err_of}
-use Rattle.pmem_engine.proofs.PlannedCalls.CalledEngines.{called_down, called_as}
 use Rattle.pmem_engine.proofs.PostedWrites.WriteEnds.{written_down, written_ended}
 use Rattle.pmem_engine.proofs.CallEnds.UsableParts.{usable_call, shape_call}
 use Rattle.pmem_engine.proofs.engine.Engine.write_part.Goals as goal
@@ -35,7 +29,7 @@ returns-clause-written g c =
     (parts_of engine new.device new.ledger new.tags new.digests) answer)
     (sym c.ended.ensures.engine) (sym c.ended.ensures.answer)
     (written_ended setup c.args.write.now old new c.write_posted-answer.result (c.in_ok-is_up.ensures.up)
-    (c.requires.usable.ready.no_group (c.in_ok-is_up.ensures.up)) c.write_posted-answer.ensures.written)
+    c.write_posted-answer.ensures.plan c.write_posted-answer.ensures.written)
 
 pub returns-clause-usable : goal.returns-clause-usable
 returns-clause-usable g c =
@@ -52,22 +46,7 @@ returns-clause-shape g c =
     shape_call setup (returns-clause-written g c).made old new c.ended.result (returns-clause-written g c).down (λ up. ((returns-clause-written g c).done up).gone)
 
 pub returns-clause-plan : goal.returns-clause-plan
-returns-clause-plan g c =
-    let setup : Setup = setup_at g.S.Suite c.args.self.now c.args.suite.now in
-    let old : Device = g.B.Board.device c.args.board.now in
-    let was : Chip = chip_at g.S.Suite g.A.Audit c.args.self.now c.args.suite.now c.args.audit.now in
-    let after : Chip = chip_at g.S.Suite g.A.Audit c.write_posted-answer.new.self c.write_posted-answer.new.suite c.write_posted-answer.new.audit in
-    subst₂ (λ (engine : EngineState) (answer : Result Ctr Fault). Follows (write_plan setup old.regs c.args.write.now was) old
-    (g.B.Board.device c.write_posted-answer.new.board) (ended answer (with_engine after engine))) (sym c.ended.ensures.engine) (sym c.ended.ensures.answer)
-    (called_as (λ (chip : Chip). chip.engine) with_engine was (write_posted_plan setup old.regs c.args.write.now was) c.in_ok-is_up.ensures.up (λ t. refl)
-    c.write_posted-answer.result after c.write_posted-answer.ensures.plan)
+returns-clause-plan g c = (returns-clause-written g c).plan
 
 pub returns-in_err-is_up-clause-plan : goal.returns-in_err-is_up-clause-plan
-returns-in_err-is_up-clause-plan g c =
-    let setup : Setup = setup_at g.S.Suite c.args.self.now c.args.suite.now in
-    let old : Device = g.B.Board.device c.args.board.now in
-    let was : Chip = chip_at g.S.Suite g.A.Audit c.args.self.now c.args.suite.now c.args.audit.now in
-    subst (λ (answer : Result Ctr Fault). Follows (write_plan setup old.regs c.args.write.now was) old old (ended answer was))
-    (sym (is_err_of c.from_residual.result c.in_err-is_up.field-0.0 c.from_residual.ensures.1 ∙ ap Err c.in_err-is_up.ensures.fault))
-    (called_down (λ (chip : Chip). chip.engine) with_engine (λ fault. fault) was (write_posted_plan setup old.regs c.args.write.now was) old
-    c.in_err-is_up.ensures.down)
+returns-in_err-is_up-clause-plan g c = (returns-in_err-is_up-clause-written g c).plan

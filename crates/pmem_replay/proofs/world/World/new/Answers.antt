@@ -3,7 +3,7 @@ use Rattle.std.proofs.Common.{false, length, ap, refl, sym, subst, ◌∙◌}
 use Rattle.pmem_base.specs.Geo.{shape_of}
 use Rattle.pmem_base.specs.Layout.{device_lines}
 use Rattle.board.specs.MemBoard.{memory_of}
-use Rattle.board.specs.Memory.{BoardMemory, device_of}
+use Rattle.board.specs.Memory.{BoardMemory, device_of, new_memory}
 use Rattle.seal_ledger.specs.View.{capacity_of, ledger_of}
 use Rattle.suite.specs.Setup.{Setup}
 use Rattle.pmem_replay.specs.World.{WorldParts, IsWorld, world_of}
@@ -29,6 +29,7 @@ module _ (g : Over) (c : After-new-5 g) where
       record {
         shape = c.layout_is_one_to_one.ensures.ranges;
         formulas = g.met.S.Suite.in_range c.args.suite;
+        blank = ap device_of (c.in_ok-board.ensures ∙ ap new_memory c.size.ensures.value);
         formatted = c.in_ok-format.ensures.formatted;
         count = device_count setup q (device_of (memory_of c.in_ok-board.board)) c.in_ok-format.ensures.formatted
             ∙ (ap (λ (m : BoardMemory). length m.lines) c.in_ok-board.ensures ∙ length-new (device_lines (shape_of c.args.geo)) c.size.result c.size.ensures.value);
@@ -54,3 +55,8 @@ returns-clause-new g c =
     let place = (goal.at.returns-clause-new g c).After-new-5 in
     subst (λ k. IsNewWorld (setup g place) (world_of (record { shape = shape_of c.args.geo; formulas = g.S.Suite.formulas_of k }) (q g place)))
     (sym c.format.ensures.keys) (made_new (setup g place) (q g place) (device_of (memory_of c.in_ok-board.board)) (made g place))
+
+pub returns-clause-work : goal.returns-clause-work
+returns-clause-work g c =
+    let made = c.in_ok-format.ensures.work in
+    record { tags = made.its_tags; digests = made.its_digests }
