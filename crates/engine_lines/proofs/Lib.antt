@@ -1,5 +1,7 @@
 pub mod EngineLines
 pub mod EditLaws
+pub mod RegisterPlans
+pub mod EditPlans
 pub mod EditStages
 pub mod SealedLines
 pub mod AskedWrites

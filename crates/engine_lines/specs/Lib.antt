@@ -1,3 +1,4 @@
 pub mod Lines
 pub mod Edits
 pub mod Writes
+pub mod Plans

@@ -3,7 +3,10 @@ ghost use Rattle.std.specs.Prelude.{◌≡◌, ◌≤◌, ◌<◌, ◌+◌, ◌*
 ghost use Rattle.pmem_base.specs.Layout.{data_lines};
 ghost use Rattle.pmem_engine.specs.Parts.{setup_at, parts_at};
 ghost use Rattle.pmem_engine.specs.Calls.{IsUsable};
+ghost use Rattle.pmem_engine.specs.Plans.{chip_at, ended_with};
+ghost use Rattle.call_plan.specs.Following.{Follows};
 ghost use Rattle.engine_lines.specs.Edits.{HasLinePut, HasEdited, AreEdited, IsEditOf};
+ghost use Rattle.engine_lines.specs.Plans.{put_plan, edit_plan, edits_plan};
 ghost use Rattle.seal_ledger.specs.Notes.{HasRoom};
 
 use board::Board;
@@ -29,7 +32,7 @@ impl Default for Edit {
 }
 
 /// Makes these changes in order, up to one that isn't made: a fault is that of the engine's call that ended it. Each
-/// change makes at most 66 marks.
+/// change makes at most 66 marks. What it does of the board is `edits_plan` of `specs/Plans.antt`.
 pub fn edit_all<B: Board, S: Suite, A: Audit>(
     engine: &mut Engine,
     board: &mut B,
@@ -43,6 +46,9 @@ pub fn edit_all<B: Board, S: Suite, A: Audit>(
     ensures edited { AreEdited (setup_at S.Suite engine.old suite.old) edits.now
         (parts_at B.Board S.Suite A.Audit engine.old board.old suite.old audit.old)
         (parts_at B.Board S.Suite A.Audit engine.new board.new suite.new audit.new) result }
+    ensures plan { Follows (edits_plan (setup_at S.Suite engine.old suite.old) edits.now
+        (chip_at S.Suite A.Audit engine.old suite.old audit.old, (B.device board.old).regs)) (B.device board.old) (B.device board.new)
+        (ended_with result (chip_at S.Suite A.Audit engine.new suite.new audit.new) (B.device board.new).regs) }
     ensures few { IfOk result (λ done. length (A.ledger audit.new).marks ≤ length (A.ledger audit.old).marks + 66 * length edits.now) }
     ensures capacity { A.capacity audit.new ≡ A.capacity audit.old }
     ensures keys { S.keys suite.new ≡ S.keys suite.old }
@@ -71,6 +77,9 @@ fn edit_line<B: Board, S: Suite, A: Audit>(
     ensures edited { HasEdited (setup_at S.Suite engine.old suite.old) edit.now
         (parts_at B.Board S.Suite A.Audit engine.old board.old suite.old audit.old)
         (parts_at B.Board S.Suite A.Audit engine.new board.new suite.new audit.new) result }
+    ensures plan { Follows (edit_plan (setup_at S.Suite engine.old suite.old) edit.now
+        (chip_at S.Suite A.Audit engine.old suite.old audit.old, (B.device board.old).regs)) (B.device board.old) (B.device board.new)
+        (ended_with result (chip_at S.Suite A.Audit engine.new suite.new audit.new) (B.device board.new).regs) }
     ensures few { IfOk result (λ done. length (A.ledger audit.new).marks ≤ length (A.ledger audit.old).marks + 66) }
     ensures capacity { A.capacity audit.new ≡ A.capacity audit.old }
     ensures keys { S.keys suite.new ≡ S.keys suite.old }
@@ -101,6 +110,9 @@ fn put_line<B: Board, S: Suite, A: Audit>(
     ensures put { HasLinePut (setup_at S.Suite engine.old suite.old) at line.now
         (parts_at B.Board S.Suite A.Audit engine.old board.old suite.old audit.old)
         (parts_at B.Board S.Suite A.Audit engine.new board.new suite.new audit.new) result }
+    ensures plan { Follows (put_plan (setup_at S.Suite engine.old suite.old) at line.now
+        (chip_at S.Suite A.Audit engine.old suite.old audit.old) (B.device board.old).regs) (B.device board.old) (B.device board.new)
+        (ended_with result (chip_at S.Suite A.Audit engine.new suite.new audit.new) (B.device board.new).regs) }
     ensures few { IfOk result (λ done. length (A.ledger audit.new).marks ≤ length (A.ledger audit.old).marks + 66) }
     ensures capacity { A.capacity audit.new ≡ A.capacity audit.old }
     ensures keys { S.keys suite.new ≡ S.keys suite.old }

@@ -5,3 +5,5 @@ pub mod EditStages
 pub mod Commits
 pub mod Openings
 pub mod Served
+pub mod HeaderReads
+pub mod StorePlans

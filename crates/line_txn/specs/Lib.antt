@@ -3,3 +3,5 @@ pub mod Logged
 pub mod Edits
 pub mod Serving
 pub mod Store
+pub mod Plans
+pub mod Determined

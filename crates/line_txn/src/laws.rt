@@ -3,6 +3,7 @@ ghost use Rattle.std.specs.Prelude.{◌+◌, [], replicate};
 ghost use Rattle.pmem_base.specs.Lines.{zero_line};
 ghost use Rattle.line_txn.specs.Header.{IsNamedOnce};
 ghost use Rattle.line_txn.specs.Logged.{IsLogged, IsWholeAtEachStage, IsKeptByRedo, IsKeptByTarget, IsKeptByOpening, IsReadThroughLog};
+ghost use Rattle.line_txn.specs.Determined.{OpeningIsDetermined, CommitIsDetermined};
 
 /// A law: a line is the header of one list of targets at most.
 pub fn headers_name_one_list(n: u32)
@@ -31,3 +32,14 @@ pub fn zero_lines_are_logged(n: u32)
 {
     let _ = n;
 }
+
+/// A law: two openings over one watched board, which has power, that meet the same fuse have the same answer, and leave
+/// the same engine, ledger and board.
+pub fn opening_is_determined()
+    ensures { OpeningIsDetermined }
+{}
+
+/// A law: the same of two commits of one transaction. How the store serves its lines then is by the answer.
+pub fn commit_is_determined()
+    ensures { CommitIsDetermined }
+{}

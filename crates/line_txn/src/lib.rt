@@ -8,5 +8,8 @@ mod laws;
 mod store;
 
 pub use header::{header_line, read_header};
-pub use laws::{headers_name_one_list, transactions_are_whole, zero_lines_are_logged};
+pub use laws::{
+    commit_is_determined, headers_name_one_list, opening_is_determined, transactions_are_whole,
+    zero_lines_are_logged,
+};
 pub use store::{CommitFault, Done, Opened, Store, TxnFault};

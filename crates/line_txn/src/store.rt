@@ -7,6 +7,9 @@ ghost use Rattle.pmem_engine.specs.Engine.{EngineState};
 ghost use Rattle.pmem_engine.specs.Parts.{AreTrusted, AreSound, setup_at, parts_at};
 ghost use Rattle.pmem_engine.specs.Outcomes.{LeavesTrusted, LeavesSound};
 ghost use Rattle.pmem_engine.specs.Calls.{IsUsable, HasReadLine};
+ghost use Rattle.pmem_engine.specs.Plans.{chip_at, read_plan};
+ghost use Rattle.call_plan.specs.Plans.{ended};
+ghost use Rattle.call_plan.specs.Following.{Follows};
 ghost use Rattle.engine_lines.specs.Lines.{HasLines};
 ghost use Rattle.line_txn.specs.Header.{AreTargets, AreDistinctBelow};
 ghost use Rattle.line_txn.specs.Logged.{IsLogged, targets_of};
@@ -72,6 +75,7 @@ pub struct Store {
 impl Store {
     ghost use Rattle.line_txn.specs.Edits.{IsWholeTxn};
     ghost use Rattle.line_txn.specs.Serving.{served_from};
+    ghost use Rattle.line_txn.specs.Plans.{FollowsOpeningTo, FollowsCommit};
     ghost use Rattle.line_txn.specs.Store.{HasStoreOpened, HasOpenedLogged, LeavesOpenedTrusted, LeavesOpenedSound, HasStoreCommitted, IsLeftLogged, IsSoundCommitAnswer, IsSpentUndecided, IsServedAs, commit_outcome_by, logged_lines};
 
     /// Reads the header, and redoes the transaction in force. `Header` comes exactly where the line is no header.
@@ -86,6 +90,9 @@ impl Store {
         ensures opened { HasStoreOpened (setup_at S.Suite engine suite.old)
             (parts_at B.Board S.Suite A.Audit engine board.old suite.old audit.old)
             (λ now. parts_at B.Board S.Suite A.Audit now board.new suite.new audit.new) result }
+        ensures plan { FollowsOpeningTo (setup_at S.Suite engine suite.old) (B.device board.old).regs
+            (chip_at S.Suite A.Audit engine suite.old audit.old) (B.device board.old) (B.device board.new)
+            (λ now. chip_at S.Suite A.Audit now suite.new audit.new) result }
         ensures logged { AreTrusted (setup_at S.Suite engine suite.old)
             (parts_at B.Board S.Suite A.Audit engine board.old suite.old audit.old)
             → (lines : List Line)
@@ -122,6 +129,9 @@ impl Store {
         ensures opened { HasStoreOpened (setup_at S.Suite engine suite.old)
             (parts_at B.Board S.Suite A.Audit engine board.old suite.old audit.old)
             (λ now. parts_at B.Board S.Suite A.Audit now board.new suite.new audit.new) result }
+        ensures plan { FollowsOpeningTo (setup_at S.Suite engine suite.old) (B.device board.old).regs
+            (chip_at S.Suite A.Audit engine suite.old audit.old) (B.device board.old) (B.device board.new)
+            (λ now. chip_at S.Suite A.Audit now suite.new audit.new) result }
         ensures few { logged_lines engine.shape ≤ 2 ^ 30 }
         ensures capacity { A.capacity audit.new ≡ A.capacity audit.old }
         ensures keys { S.keys suite.new ≡ S.keys suite.old }
@@ -200,6 +210,10 @@ impl Store {
             (served_from self.old.lines self.old.logged.items at)
             (parts_at B.Board S.Suite A.Audit self.old.engine board.old suite.old audit.old)
             (parts_at B.Board S.Suite A.Audit self.new.engine board.new suite.new audit.new) result }
+        ensures plan { Follows (read_plan (setup_at S.Suite self.old.engine suite.old) (B.device board.old).regs
+            (served_from self.old.lines self.old.logged.items at)
+            (chip_at S.Suite A.Audit self.old.engine suite.old audit.old)) (B.device board.old) (B.device board.new)
+            (ended result (chip_at S.Suite A.Audit self.new.engine suite.new audit.new)) }
         ensures logged { AreTrusted (setup_at S.Suite self.old.engine suite.old)
             (parts_at B.Board S.Suite A.Audit self.old.engine board.old suite.old audit.old)
             → (lines memory : List Line)
@@ -250,6 +264,10 @@ impl Store {
             txn.now.items self.old self.new
             (parts_at B.Board S.Suite A.Audit self.old.engine board.old suite.old audit.old)
             (parts_at B.Board S.Suite A.Audit self.new.engine board.new suite.new audit.new) result }
+        ensures plan { FollowsCommit (setup_at S.Suite self.old.engine suite.old)
+            txn.now.items self.old self.new (B.device board.old).regs
+            (chip_at S.Suite A.Audit self.old.engine suite.old audit.old)
+            (chip_at S.Suite A.Audit self.new.engine suite.new audit.new) (B.device board.old) (B.device board.new) result }
         ensures logged { AreTrusted (setup_at S.Suite self.old.engine suite.old)
             (parts_at B.Board S.Suite A.Audit self.old.engine board.old suite.old audit.old)
             → (lines : List Line)
@@ -292,6 +310,10 @@ impl Store {
             txn.now.items self.old self.new
             (parts_at B.Board S.Suite A.Audit self.old.engine board.old suite.old audit.old)
             (parts_at B.Board S.Suite A.Audit self.new.engine board.new suite.new audit.new) result }
+        ensures plan { FollowsCommit (setup_at S.Suite self.old.engine suite.old)
+            txn.now.items self.old self.new (B.device board.old).regs
+            (chip_at S.Suite A.Audit self.old.engine suite.old audit.old)
+            (chip_at S.Suite A.Audit self.new.engine suite.new audit.new) (B.device board.old) (B.device board.new) result }
         ensures whole { IsWholeTxn txn.now.items }
         ensures capacity { A.capacity audit.new ≡ A.capacity audit.old }
         ensures keys { S.keys suite.new ≡ S.keys suite.old }

@@ -4,3 +4,4 @@ pub mod Levelled
 pub mod LevelledCalls
 pub mod LevelledWrites
 pub mod LevelledEnds
+pub mod LevelledPlans

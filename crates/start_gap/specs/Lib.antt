@@ -2,3 +2,5 @@ pub mod Wear
 pub mod Record
 pub mod Logical
 pub mod Gapped
+pub mod Plans
+pub mod Determined

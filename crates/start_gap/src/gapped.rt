@@ -7,8 +7,12 @@ ghost use Rattle.pmem_engine.specs.Engine.{EngineState};
 ghost use Rattle.pmem_engine.specs.Parts.{AreTrusted, AreSound, setup_at, parts_at};
 ghost use Rattle.pmem_engine.specs.Outcomes.{LeavesTrusted, LeavesSound};
 ghost use Rattle.pmem_engine.specs.Calls.{IsUsable, HasReadLine};
+ghost use Rattle.pmem_engine.specs.Plans.{chip_at, ended_with, read_plan};
+ghost use Rattle.call_plan.specs.Plans.{ended};
+ghost use Rattle.call_plan.specs.Following.{Follows};
 ghost use Rattle.engine_lines.specs.Lines.{HasLines};
 ghost use Rattle.engine_lines.specs.Edits.{AreEdited};
+ghost use Rattle.engine_lines.specs.Plans.{edits_plan};
 ghost use Rattle.start_gap.specs.declared.wear.Wear.{Wear};
 ghost use Rattle.start_gap.specs.Wear.{IsWear, place_of};
 ghost use Rattle.start_gap.specs.Logical.{IsLevelled, move_edits};
@@ -66,6 +70,7 @@ pub struct Gapped {
 }
 
 impl Gapped {
+    ghost use Rattle.start_gap.specs.Plans.{FollowsOpening, FollowsWrite};
     ghost use Rattle.start_gap.specs.Gapped.{HasGappedOpened, HasWearOf, HasLevelledWrite, IsLeftLevelled, IsSoundWriteAnswer, IsSpentUnwritten, HasWear, logical_lines, write_answer_by, write_outcome_by, wear_by};
 
     /// Reads the record of the wear. `BadWear` comes exactly where its line is no record.
@@ -81,6 +86,9 @@ impl Gapped {
         ensures opened { HasGappedOpened (setup_at S.Suite engine suite.old) every
             (parts_at B.Board S.Suite A.Audit engine board.old suite.old audit.old)
             (λ now. parts_at B.Board S.Suite A.Audit now board.new suite.new audit.new) result }
+        ensures plan { FollowsOpening (setup_at S.Suite engine suite.old) (B.device board.old).regs
+            (chip_at S.Suite A.Audit engine suite.old audit.old) (B.device board.old) (B.device board.new)
+            (λ now. chip_at S.Suite A.Audit now suite.new audit.new) result }
         ensures levelled { AreTrusted (setup_at S.Suite engine suite.old)
             (parts_at B.Board S.Suite A.Audit engine board.old suite.old audit.old)
             → (lines memory : List Line) (wear : Wear)
@@ -140,6 +148,10 @@ impl Gapped {
             (place_of self.old.lines self.old.wear line)
             (parts_at B.Board S.Suite A.Audit self.old.engine board.old suite.old audit.old)
             (parts_at B.Board S.Suite A.Audit self.new.engine board.new suite.new audit.new) result }
+        ensures plan { Follows (read_plan (setup_at S.Suite self.old.engine suite.old) (B.device board.old).regs
+            (place_of self.old.lines self.old.wear line)
+            (chip_at S.Suite A.Audit self.old.engine suite.old audit.old)) (B.device board.old) (B.device board.new)
+            (ended result (chip_at S.Suite A.Audit self.new.engine suite.new audit.new)) }
         ensures levelled { AreTrusted (setup_at S.Suite self.old.engine suite.old)
             (parts_at B.Board S.Suite A.Audit self.old.engine board.old suite.old audit.old)
             → (lines memory : List Line)
@@ -174,6 +186,10 @@ impl Gapped {
             line plain.now self.old self.new
             (parts_at B.Board S.Suite A.Audit self.old.engine board.old suite.old audit.old)
             (parts_at B.Board S.Suite A.Audit self.new.engine board.new suite.new audit.new) result }
+        ensures plan { FollowsWrite (setup_at S.Suite self.old.engine suite.old)
+            line plain.now self.old self.new (B.device board.old).regs
+            (chip_at S.Suite A.Audit self.old.engine suite.old audit.old)
+            (chip_at S.Suite A.Audit self.new.engine suite.new audit.new) (B.device board.old) (B.device board.new) result }
         ensures levelled { AreTrusted (setup_at S.Suite self.old.engine suite.old)
             (parts_at B.Board S.Suite A.Audit self.old.engine board.old suite.old audit.old)
             → (lines : List Line)
@@ -217,6 +233,10 @@ impl Gapped {
             line plain.now self.old self.new
             (parts_at B.Board S.Suite A.Audit self.old.engine board.old suite.old audit.old)
             (parts_at B.Board S.Suite A.Audit self.new.engine board.new suite.new audit.new) result }
+        ensures plan { FollowsWrite (setup_at S.Suite self.old.engine suite.old)
+            line plain.now self.old self.new (B.device board.old).regs
+            (chip_at S.Suite A.Audit self.old.engine suite.old audit.old)
+            (chip_at S.Suite A.Audit self.new.engine suite.new audit.new) (B.device board.old) (B.device board.new) result }
         ensures capacity { A.capacity audit.new ≡ A.capacity audit.old }
         ensures keys { S.keys suite.new ≡ S.keys suite.old }
         ensures usable { IsUsable self.old.engine.shape self.new.engine (B.device board.new) (A.ledger audit.new) }
@@ -251,6 +271,11 @@ impl Gapped {
             (move_edits self.old.lines self.old.wear)
             (parts_at B.Board S.Suite A.Audit self.old.engine board.old suite.old audit.old)
             (parts_at B.Board S.Suite A.Audit self.new.engine board.new suite.new audit.new) result }
+        ensures plan { Follows (edits_plan (setup_at S.Suite self.old.engine suite.old)
+            (move_edits self.old.lines self.old.wear)
+            (chip_at S.Suite A.Audit self.old.engine suite.old audit.old, (B.device board.old).regs))
+            (B.device board.old) (B.device board.new)
+            (ended_with result (chip_at S.Suite A.Audit self.new.engine suite.new audit.new) (B.device board.new).regs) }
         ensures wear { HasWear (wear_by result self.old.lines self.old.wear) self.old.count self.old self.new }
         ensures capacity { A.capacity audit.new ≡ A.capacity audit.old }
         ensures keys { S.keys suite.new ≡ S.keys suite.old }

@@ -2,6 +2,7 @@
 ghost use Rattle.std.specs.Prelude.{◌≤◌, ◌+◌, replicate};
 ghost use Rattle.pmem_base.specs.Lines.{zero_line};
 ghost use Rattle.start_gap.specs.Wear.{IsWear, first_wear};
+ghost use Rattle.start_gap.specs.Determined.{LevelledWriteIsDetermined};
 ghost use Rattle.start_gap.specs.Logical.{ArePlaces, IsLevelled, IsSafeAtEachStage, IsSameUnderNext};
 
 use crate::wear::Wear;
@@ -32,3 +33,9 @@ pub fn zero_lines_are_levelled(n: u32)
 {
     let _ = n;
 }
+
+/// A law: two writes of one line over one watched board, which has power, that meet the same fuse have the same answer,
+/// and leave the same wear, count, engine, ledger and board.
+pub fn levelled_write_is_determined()
+    ensures { LevelledWriteIsDetermined }
+{}

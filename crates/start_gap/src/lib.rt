@@ -8,6 +8,8 @@ mod record;
 mod wear;
 
 pub use gapped::{GapFault, Gapped, Moved, WriteFault};
-pub use laws::{lines_have_places, moves_keep_memory, zero_lines_are_levelled};
+pub use laws::{
+    levelled_write_is_determined, lines_have_places, moves_keep_memory, zero_lines_are_levelled,
+};
 pub use record::{read_wear, wear_line};
 pub use wear::{Wear, next, place, source};

@@ -36,7 +36,8 @@ use Rattle.engine_lines.proofs.EditWrites.{edits_memory}
 use Rattle.txn_session.specs.State.{TxnState, Entries, commit_writes, with_commit}
 use Rattle.txn_session.specs.World.{TxnParts, IsTxnWorld, IsStoreOn, targets_in_force, redone_memory, txn_of}
 use Rattle.txn_session.specs.Answered.{IsTxnButForSteps, GoesToTxnState, IsTxnCutOff, after_commit, most_of_commit}
-use Rattle.txn_session.proofs.Worlds.{few_data, targets_held, memory_held, logged_is, goes_to, cut_off, IsOpenTxn, on_in, lines_are, on_after, off_after}
+use Rattle.line_session.proofs.NewDevices.{few_data}
+use Rattle.txn_session.proofs.Worlds.{targets_held, memory_held, logged_is, goes_to, cut_off, IsOpenTxn, on_in, lines_are, on_after, off_after}
 use Rattle.txn_session.proofs.WriteLists.{posted_commit, length-commit_writes}
 use Rattle.txn_session.proofs.Stages.{commit_edits, IsAtStage, at_stage}
 use Rattle.txn_session.proofs.CommitEnds.{commit_queue, CommitEndsAt, CommitServes, commit_serves, commit_ends_at}

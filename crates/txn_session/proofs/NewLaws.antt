@@ -40,7 +40,7 @@ use Rattle.line_txn.specs.Store.{HasStoreOpened, HasStoreStarted, HasTargetsRedo
 use Rattle.line_txn.proofs.Headers.{one_header}
 use Rattle.line_txn.proofs.LoggedLaws.{zero_logged}
 use Rattle.line_txn.proofs.Openings.{logged_size}
-use Rattle.wear_session.proofs.NewLaws.{none_to_write}
+use Rattle.line_session.proofs.NewDevices.{none_to_write}
 use Rattle.txn_session.specs.State.{IsNewTxn}
 use Rattle.txn_session.specs.World.{TxnParts, IsTxnWorld, targets_in_force, txn_of}
 use Rattle.txn_session.proofs.Worlds.{few_lines, targets_held, memory_held, logged_is, on_of}

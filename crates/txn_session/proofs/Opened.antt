@@ -33,15 +33,15 @@ use Rattle.line_txn.specs.Store.{HasStoreOpened, HasStoreStarted, HasFailedRedo,
 use Rattle.watched_board.specs.Watching.{steps_in}
 use Rattle.engine_lines.specs.Writes.{Writing, read_steps}
 use Rattle.engine_lines.proofs.EngineLines.{setup_under}
-use Rattle.wear_session.proofs.Twins.{seal_twin}
-use Rattle.wear_session.proofs.Recoveries.{few_recovery, sound_recovered, cut_left, wanted_left, untouched, twin_left, twin_of_last, twin_within, rests}
+use Rattle.line_session.proofs.Twins.{seal_twin}
+use Rattle.line_session.proofs.Recoveries.{few_recovery, sound_recovered, cut_left, wanted_left, untouched, twin_left, twin_of_last, twin_within, rests}
 use Rattle.engine_lines.proofs.EngineWrites.{fewer_within, memory_done, read_line, read_cut}
-use Rattle.txn_session.specs.declared.calls.StartFault.{StartFault}
-use Rattle.txn_session.specs.declared.calls.StartFault.TheVariants as Start
+use Rattle.line_session.specs.declared.starts.StartFault.{StartFault}
+use Rattle.line_session.specs.declared.starts.StartFault.TheVariants as Start
 use Rattle.txn_session.specs.declared.commands.TxnCommand.TheVariants as Do
 use Rattle.txn_session.specs.declared.answers.TxnAnswer.{TxnAnswer}
 use Rattle.txn_session.specs.declared.answers.TxnAnswer.TheVariants as Say
-use Rattle.txn_session.specs.During.{HasTxnOpenedAfter, txn_started_as}
+use Rattle.line_session.specs.During.{HasOpenedAfter, started_as}
 use Rattle.txn_session.specs.State.{TxnState, txn_setup_in}
 use Rattle.txn_session.specs.World.{TxnParts, IsTxnWorld, stuck_in, txn_of}
 use Rattle.txn_session.specs.Answered.{IsTxnAnswered, IsTxnShownBy, IsTxnMemoryWanted, GoesToTxnState, HasTxnOpened, after_redo}
@@ -129,7 +129,7 @@ module _ (c : OnTxnCall) where
   rested = record c.board { powered = false }
 
   -- what holds after each answer of recovery and the opening
-  abbrev OpenOutcome : Result (Store × Opened) StartFault → Type 0
+  abbrev OpenOutcome : Result (Store × Opened) (StartFault TxnFault) → Type 0
   OpenOutcome (Ok both) =
       MatchOption both.1.stuck (OpenExit c.board (Some both.0) (Say.Opened both.1.redone (steps_in c.taken)))
       (λ page. OpenExit c.board (Some both.0) (Say.Stuck page (steps_in c.taken)))
@@ -224,7 +224,7 @@ module _ (c : OnTxnCall) where
         (state.cut_seen c writing come (inl (omega arith, refl)) cut.dark cut.loss
         (fewer_within from to (bound + read_steps c.geometry) most (omega arith) cut.takes))
 
-    by_opened : (opened : Result (Store × Opened) TxnFault) → HasStoreOpened setup middle parts_to opened → OpenOutcome (txn_started_as opened)
+    by_opened : (opened : Result (Store × Opened) TxnFault) → HasStoreOpened setup middle parts_to opened → OpenOutcome (started_as opened)
     by_opened (Ok both) opened = opened_exit both.0 both.1 opened
     by_opened (Err (Txn.Engine Fail.Cut)) opened =
         elim opened.1 [ inl read ↦ read_cut_exit opened.0 read | inr redo ↦ redo_cut_exit opened.0 redo ]
@@ -302,10 +302,10 @@ module _ (c : OnTxnCall) where
 
       go : (recovery : Result (EngineState × Work) RecFault)
           → HasRecovered setup p.ledger from (state.started c).between c.suite_old (state.started c).suite_between recovery
-          → HasTxnOpenedAfter recovery setup (state.started c).between to p.ledger c.ledger (state.started c).suite_between c.suite_new c.answer
+          → HasOpenedAfter recovery (state.opens c) (state.started c).between to p.ledger c.ledger (state.started c).suite_between c.suite_new c.answer
           → OpenOutcome c.answer
       go (Ok done) it later =
-          subst OpenOutcome (sym later.2) (by_opened (state.started c).between (state.started c).suite_between done.0 done.1 it later.0 later.1)
+          subst OpenOutcome (sym later.2) (by_opened (state.started c).between (state.started c).suite_between done.0 done.1 it later.0 later.1.was_opened)
       go (Err Rec.Cut) it later =
           subst OpenOutcome (sym later.0) (recovery_cut (state.started c).suite_between (refused Rec.Cut it later.1) later.2)
       go (Err Rec.Memory) it later =
@@ -318,7 +318,7 @@ module _ (c : OnTxnCall) where
 
   -- ---- as contracts write it
 
-  outcome_as : (answer : Result (Store × Opened) StartFault) → c.answer ≡ answer → OpenOutcome answer
+  outcome_as : (answer : Result (Store × Opened) (StartFault TxnFault)) → c.answer ≡ answer → OpenOutcome answer
   outcome_as answer is = subst OpenOutcome is outcome
 
   -- what is held, whether the store is stuck or not
@@ -391,7 +391,7 @@ module _ (c : OnTxnCall) where
         )
 
   -- no other answer comes
-  abbrev pub IsTxnPossible : Result (Store × Opened) StartFault → Type 0
+  abbrev pub IsTxnPossible : Result (Store × Opened) (StartFault TxnFault) → Type 0
   IsTxnPossible (Ok both) = ⊤
   IsTxnPossible (Err (Start.Recovery Rec.Cut)) = ⊤
   IsTxnPossible (Err (Start.Opening (Txn.Engine Fail.Cut))) = ⊤
@@ -399,10 +399,10 @@ module _ (c : OnTxnCall) where
   IsTxnPossible (Err (Start.Recovery (Rec.Twin at major low high cipher tag))) = ⊤
   IsTxnPossible answer = ⊥
 
-  pub possible : (answer : Result (Store × Opened) StartFault) → c.answer ≡ answer → IsTxnPossible answer
+  pub possible : (answer : Result (Store × Opened) (StartFault TxnFault)) → c.answer ≡ answer → IsTxnPossible answer
   possible answer is = go answer (outcome_as answer is)
     where
-      go : (answer : Result (Store × Opened) StartFault) → OpenOutcome answer → IsTxnPossible answer
+      go : (answer : Result (Store × Opened) (StartFault TxnFault)) → OpenOutcome answer → IsTxnPossible answer
       go (Ok both) it = tt
       go (Err (Start.Recovery Rec.Cut)) it = tt
       go (Err (Start.Opening (Txn.Engine Fail.Cut))) it = tt

@@ -24,6 +24,8 @@ use Rattle.pmem_recovery.specs.declared.faults.Work.{Work}
 use Rattle.pmem_recovery.specs.Parts.{SuiteState}
 use Rattle.pmem_recovery.specs.Recovered.{HasRecovered}
 use Rattle.line_txn.specs.declared.store.Store.{Store}
+use Rattle.line_txn.specs.declared.store.Opened.{Opened}
+use Rattle.line_txn.specs.declared.store.TxnFault.{TxnFault}
 use Rattle.line_txn.specs.Header.{AreTargets, IsHeader}
 use Rattle.line_txn.specs.Logged.{IsLogged, lines_opened, targets_opened}
 use Rattle.engine_lines.specs.Edits.{AreEdited}
@@ -37,15 +39,17 @@ use Rattle.watched_board.specs.Watching.{steps_in, device_during, none_taken, Is
 use Rattle.watched_board.proofs.StepLaws.{at_most, fewer}
 use Rattle.engine_lines.specs.Writes.{Writing, IsCutAmong, read_steps}
 use Rattle.engine_lines.proofs.EngineLines.{setup_under}
-use Rattle.wear_session.proofs.Recoveries.{recovered}
+use Rattle.line_session.proofs.Recoveries.{recovered}
 use Rattle.engine_lines.proofs.SealedLines.{whole_places}
 use Rattle.engine_lines.proofs.EngineWrites.{memory_now, AreDone, memory_done, read_line, read_done}
 use Rattle.txn_session.specs.declared.answers.TxnAnswer.TheVariants as Say
-use Rattle.txn_session.specs.During.{HasTxnStarted}
+use Rattle.line_session.specs.During.{OpeningRelation, HasStartedBy}
+use Rattle.txn_session.specs.Called.{HasOpened}
 use Rattle.txn_session.specs.State.{TxnState, txn_moment_in, redo_writes}
 use Rattle.txn_session.specs.World.{TxnParts, IsTxnWorld, IsStoreOff, IsStoredBy, targets_in_force, redone_memory, txn_of}
 use Rattle.txn_session.specs.Answered.{GoesToTxnState, HasTxnOpened, after_redo, txn_most_of_on}
-use Rattle.txn_session.proofs.Worlds.{few_data, few_lines, targets_held, memory_held, logged_is, goes_to, cut_off, on_after, off_after}
+use Rattle.line_session.proofs.NewDevices.{few_data}
+use Rattle.txn_session.proofs.Worlds.{few_lines, targets_held, memory_held, logged_is, goes_to, cut_off, on_after, off_after}
 use Rattle.engine_lines.proofs.EngineEdits.{all_posted, cost, EndsAt, edits_go}
 use Rattle.engine_lines.proofs.EditWrites.{edits_memory}
 use Rattle.txn_session.proofs.WriteLists.{posted_redo}
@@ -108,9 +112,11 @@ module _ (c : OnTxnCall) where
   pub watched : IsWatched lit c.board c.taken
   watched = subst (λ b. IsWatched b c.board c.taken) c.lit_is c.watched
 
-  pub started : HasTxnStarted setup from to p.ledger c.ledger c.suite_old c.suite_new c.answer
-  started =
-      subst (λ b. HasTxnStarted setup (device_during b none_taken) to p.ledger c.ledger c.suite_old c.suite_new c.answer) c.lit_is c.started
+  abbrev pub opens : OpeningRelation (Store × Opened) TxnFault
+  opens = λ start now. HasOpened setup start now
+
+  pub started : HasStartedBy setup opens from to p.ledger c.ledger c.suite_old c.suite_new c.answer
+  started = subst (λ b. HasStartedBy setup opens (device_during b none_taken) to p.ledger c.ledger c.suite_old c.suite_new c.answer) c.lit_is c.started
 
   its_targets : AreTargets n targets
   its_targets = world.logged.header.its_targets

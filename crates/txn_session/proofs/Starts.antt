@@ -1,63 +1,26 @@
--- Recovery, and then the opening of the store.
-use Rattle.std.proofs.Common.{ℕ, ◌≡◌, ◌≤◌, ◌+◌, ◌*◌, Bool, true, false, List, None, Result, Ok, refl, ap, subst, mul-le-mul_left, mul-le-mul_right, arith}
+-- Recovery, and then the opening of the store: the steps of both, and what is known of them.
+use Rattle.std.proofs.Common.{ℕ, ◌≡◌, ◌≤◌, ◌+◌, ◌*◌, Bool, true, false, List, None, Result, mul-le-mul_left, mul-le-mul_right, arith}
 use Rattle.std.specs.Prelude.{◌==◌, if◌then◌else◌}
 use Rattle.pmem_base.specs.Layout as layout
 use Rattle.pmem_base.specs.Shape.{Shape, IsShape}
-use Rattle.board.specs.Device.{Device}
 use Rattle.board.specs.Memory.{BoardMemory}
 use Rattle.seal_ledger.specs.Ledger.{LedgerState}
 use Rattle.suite.specs.Formulas.{Formulas}
 use Rattle.plain_model.specs.Bounds.{path_length, recovery_bound}
-use Rattle.pmem_engine.specs.Engine.{EngineState}
-use Rattle.pmem_engine.specs.Parts.{parts_of}
-use Rattle.pmem_recovery.specs.declared.faults.Work.{Work}
-use Rattle.pmem_recovery.specs.declared.faults.RecFault.{RecFault}
 use Rattle.pmem_recovery.specs.Parts.{SuiteState}
-use Rattle.pmem_recovery.specs.Recovered.{HasRecovered}
 use Rattle.line_txn.specs.declared.store.Store.{Store}
 use Rattle.line_txn.specs.declared.store.Opened.{Opened}
 use Rattle.line_txn.specs.declared.store.TxnFault.{TxnFault}
-use Rattle.line_txn.specs.Store.{HasStoreOpened}
 use Rattle.watched_board.specs.declared.taken.Taken.{Taken}
 use Rattle.watched_board.specs.Watching.{steps_in, step_limit, device_during, none_taken, IsWatched}
 use Rattle.engine_lines.specs.Writes.{read_steps, write_steps}
 use Rattle.engine_lines.proofs.EngineLines.{setup_under}
-use Rattle.txn_session.specs.declared.calls.StartFault.{StartFault}
+use Rattle.line_session.specs.declared.starts.StartFault.{StartFault}
+use Rattle.line_session.specs.During.{HasStartedBy}
 use Rattle.txn_session.specs.State.{TxnState}
 use Rattle.txn_session.specs.World.{TxnParts, IsTxnWorld, txn_of}
-use Rattle.txn_session.specs.During.{HasTxnStarted, txn_started_as}
+use Rattle.txn_session.specs.Called.{HasOpened}
 use Rattle.txn_session.specs.Answered.{most_of_redo}
-
--- where recovery was done, its engine is of the geometry, and the store is opened under the same keys
-pub has_started : (formulas_of : List ℕ → Formulas) (g : Shape) (old between new : Device) (ledger_old ledger_new : LedgerState)
-    (suite_old suite_between suite_new : SuiteState) (recovery : Result (EngineState × Work) RecFault) (engine : EngineState) (work : Work)
-    (answer : Result (Store × Opened) TxnFault) → recovery ≡ Ok (engine, work)
-    → HasRecovered (record { shape = g; formulas = formulas_of suite_old.keys }) ledger_old old between suite_old suite_between recovery
-    → HasStoreOpened (record { shape = engine.shape; formulas = formulas_of suite_between.keys })
-    (parts_of engine between ledger_old suite_between.tags suite_between.digests)
-    (λ now. parts_of now new ledger_new suite_new.tags suite_new.digests) answer
-    → HasTxnStarted (record { shape = g; formulas = formulas_of suite_old.keys }) old new ledger_old ledger_new suite_old suite_new
-    (txn_started_as answer)
-has_started formulas_of g old between new ledger_old ledger_new suite_old suite_between suite_new recovery engine work answer is recovered opened =
-    let done = subst (λ r. HasRecovered (record { shape = g; formulas = formulas_of suite_old.keys }) ledger_old old between suite_old suite_between r) is recovered in
-    record {
-      recovery = Ok (engine, work);
-      between = between;
-      suite_between = suite_between;
-      recovered = done;
-      then = (
-        answer,
-        subst (λ k. HasStoreOpened (record { shape = g; formulas = formulas_of k })
-            (parts_of engine between ledger_old suite_between.tags suite_between.digests)
-            (λ now. parts_of now new ledger_new suite_new.tags suite_new.digests) answer) done.keys
-            (subst (λ s. HasStoreOpened (record { shape = s; formulas = formulas_of suite_between.keys })
-            (parts_of engine between ledger_old suite_between.tags suite_between.digests)
-            (λ now. parts_of now new ledger_new suite_new.tags suite_new.digests) answer) (ap (λ (e : EngineState). e.shape) done.engine) opened),
-        refl,
-      );
-    }
-
--- ---- bounds
 
 pub few_of_on : (g : Shape) → IsShape g → (count : ℕ) → count ≤ 15 → recovery_bound g + read_steps g + most_of_redo g count ≤ step_limit
 few_of_on g shape count few =
@@ -104,7 +67,8 @@ pub record OnTxnCall : Type 0 where
   pub suite_new : SuiteState
   pub said : ℕ
   pub counted : said ≡ steps_in taken
-  pub answer : Result (Store × Opened) StartFault
+  pub answer : Result (Store × Opened) (StartFault TxnFault)
   pub started :
-      HasTxnStarted (setup_under formulas_of geometry before.keys) (device_during lit none_taken) (device_during board taken)
+      HasStartedBy (setup_under formulas_of geometry before.keys)
+      (λ old now. HasOpened (setup_under formulas_of geometry before.keys) old now) (device_during lit none_taken) (device_during board taken)
       ledger_before ledger suite_old suite_new answer

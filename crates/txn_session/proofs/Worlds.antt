@@ -1,7 +1,6 @@
 -- What a session holds after a call that goes on or is cut, and how its state stands to the one before.
 use Rattle.std.proofs.Common.{rules, ℕ, ◌≡◌, ◌<◌, ◌≤◌, ◌^◌, true, false, List, length, Option, Some, None, refl, sym, ap, subst, subst₂, ◌∙◌, arith}
 use Rattle.std.specs.Prelude.{IfSome}
-use Rattle.std.proofs.Math.Nat.{pow-le-pow_right}
 use Rattle.pmem_base.specs.Layout as layout
 use Rattle.pmem_base.specs.Lines.{line_at}
 use Rattle.pmem_base.specs.Shape.{Shape, IsShape}
@@ -21,17 +20,13 @@ use Rattle.line_txn.proofs.Openings.{logged_size}
 use Rattle.watched_board.specs.declared.taken.Taken.{Taken}
 use Rattle.watched_board.specs.Watching.{steps_in, step_limit, IsWatched}
 use Rattle.engine_lines.proofs.SealedLines.{sealed_in, places_of}
-use Rattle.wear_session.proofs.Worlds.{rises_by, has_burnt, has_run_out}
+use Rattle.line_session.proofs.StepCounts.{rises_by, has_burnt, has_run_out}
+use Rattle.line_session.proofs.NewDevices.{few_data}
 use Rattle.txn_session.specs.State.{TxnState, Entries, txn_without_power}
 use Rattle.txn_session.specs.World.{TxnParts, IsTxnWorld, IsStoreOn, IsStoredBy, targets_in_force, redone_memory, txn_of}
 use Rattle.txn_session.specs.Answered.{IsTxnButForSteps, GoesToTxnState, IsTxnCutOff}
 
 -- ---- the log
-
-pub few_data : (g : Shape) → IsShape g → layout.data_lines g ≤ 2 ^ 30
-few_data g shape =
-    let pages : 4 ^ g.levels ≤ 4 ^ 6 = pow-le-pow_right (omega arith) shape.at_most_six_levels in
-    omega (arith, pages)
 
 pub few_lines : (g : Shape) → IsShape g → logged_lines g < 2 ^ 30
 few_lines g shape = let few = few_data g shape in let size = logged_size g in omega (arith, few, size)

@@ -18,7 +18,7 @@ use Rattle.plain_model.specs.Asked.{Moment}
 use Rattle.plain_model.specs.Fits.{IsSpentNext}
 use Rattle.plain_model.specs.Shown.{IsTwinOfSeal}
 use Rattle.engine_lines.specs.Writes.{write_steps, read_steps, Writing, AreAllWritesMade, IsCutAmong, is_own_seal}
-use Rattle.wear_session.specs.Answered.{RisesBySteps}
+use Rattle.line_session.specs.Steps.{RisesBySteps}
 use Rattle.txn_session.specs.declared.commands.TxnCommand.{TxnCommand}
 use Rattle.txn_session.specs.declared.commands.TxnCommand.TheVariants as Do
 use Rattle.txn_session.specs.declared.answers.TxnAnswer.{TxnAnswer}

@@ -1,39 +1,25 @@
 //! The open transaction, and its commit.
 ghost use Rattle.std.specs.Prelude.{◌≡◌, ◌<◌, ◌==◌, not, length, IfSome, IfOk, OnErr, true, false};
-ghost use Rattle.std.specs.List.{list_any, position_from};
+ghost use Rattle.std.specs.List.{position_from};
 ghost use Rattle.access_log.specs.Traced.{GoesOn};
 ghost use Rattle.txn_session.specs.declared.commands.TxnCommand.TheVariants as Do;
 ghost use Rattle.txn_session.specs.State.{txn_setup_in, with_put_line};
-ghost use Rattle.engine_lines.specs.Writes.{is_own_seal};
 ghost use Rattle.txn_session.specs.Answered.{IsTxnAnswered, is_txn_full, IsTxnMemoryWanted};
 
 use crate::answers::TxnAnswer;
-use crate::calls;
+use crate::calls::CommitTxn;
 use crate::world::TxnWorld;
 use access_log::AccessLog;
 use arrayvec::ArrayVec;
+use line_session::{call, has_own_seal};
 use line_txn::{CommitFault, Done};
-use pmem_base::{Line, Mark, MemFault};
+use pmem_base::{Line, MemFault};
 use pmem_engine::Fault;
 use seal_ledger::Audit;
 use suite::Suite;
 
 /// The most marks of a commit: thirty-two writes of an engine.
 const COMMIT_MARKS: u32 = 2112;
-
-/// Whether one of these marks is a write's own seal of line `at`: a line that is only sealed anew gets the minor 0.
-fn has_own_seal(marks: &[Mark], at: u32) -> bool
-    ensures { result ≡ list_any (is_own_seal at) marks.now }
-{
-    for mark in marks {
-        if let Mark::Seal { at: line, ctr, .. } = mark {
-            if *line == at && ctr.minor > 0 {
-                return true;
-            }
-        }
-    }
-    false
-}
 
 /// The place that a data line has in a transaction.
 fn place_in(txn: &[(u32, Line)], at: u32) -> Option<usize>
@@ -141,12 +127,12 @@ impl<S: Suite + Drop> TxnWorld<S> {
         self.ledger.reserve(COMMIT_MARKS)?;
         let from = self.ledger.marks().len();
         let header = store.lines();
-        let done = calls::commit(
+        let done = call(
+            &CommitTxn { txn },
             store,
             &mut self.board,
             &mut self.suite,
             &mut self.ledger,
-            txn,
             log,
         );
         self.txn = None;

@@ -6,9 +6,10 @@ ghost use Rattle.txn_session.specs.State.{txn_setup_in};
 ghost use Rattle.txn_session.specs.Answered.{IsTxnAnswered, IsTxnHalt};
 
 use crate::answers::TxnAnswer;
-use crate::calls::{self, StartFault};
+use crate::calls::OpenStore;
 use crate::world::{OPENING_MARKS, TxnWorld};
 use access_log::AccessLog;
+use line_session::{StartFault, start};
 use line_txn::TxnFault;
 use pmem_base::{Exhibit, MemFault};
 use pmem_engine::Fault;
@@ -54,9 +55,10 @@ impl<S: Suite + Drop> TxnWorld<S> {
             return Err(Halt::Memory);
         }
         self.board.power();
-        let done = calls::start(
+        let done = start(
             alloc,
             &self.geo,
+            &OpenStore,
             &mut self.board,
             &mut self.suite,
             &mut self.ledger,

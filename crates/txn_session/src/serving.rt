@@ -6,10 +6,11 @@ ghost use Rattle.txn_session.specs.State.{txn_setup_in, entry_in};
 ghost use Rattle.txn_session.specs.Answered.{IsTxnAnswered};
 
 use crate::answers::TxnAnswer;
-use crate::calls;
+use crate::calls::ReadLine;
 use crate::world::TxnWorld;
 use access_log::AccessLog;
 use arrayvec::ArrayVec;
+use line_session::call;
 use pmem_base::Line;
 use pmem_engine::Fault;
 use suite::Suite;
@@ -51,12 +52,12 @@ impl<S: Suite + Drop> TxnWorld<S> {
         if let Some(line) = line_held(&self.txn, at as u32) {
             return TxnAnswer::Got { line, steps: 0 };
         }
-        let done = calls::read(
+        let done = call(
+            &ReadLine { at: at as u32 },
             store,
             &mut self.board,
             &mut self.suite,
             &mut self.ledger,
-            at as u32,
             log,
         );
         let steps = done.taken.steps();

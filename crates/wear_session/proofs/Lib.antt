@@ -8,7 +8,5 @@ pub mod WriteLaws
 pub mod Written
 pub mod Turns
 pub mod Sessions
-pub mod Twins
-pub mod Recoveries
 pub mod Opened
 pub mod NewLaws

@@ -1,11 +1,9 @@
 -- A new session: formatting, and the opening of zero lines.
-use Rattle.std.proofs.Common.{ℕ, zero, suc, ◌≡◌, ◌<◌, ◌≤◌, ◌+◌, ◌^◌, ◌++◌, true, List, [], length, replicate, Option, Some, None, Result, Ok, Err, refl, sym, ap, ap₂, subst, ◌∙◌, subst₂, arith, rules}
-use Rattle.std.specs.Prelude.{is_none, ◌&&◌, ◌==◌, if◌then◌else◌}
+use Rattle.std.proofs.Common.{ℕ, zero, ◌≡◌, ◌<◌, ◌≤◌, ◌+◌, true, List, [], length, replicate, Option, Some, None, Result, Ok, Err, refl, sym, ap, subst, ◌∙◌, subst₂, arith, rules}
+use Rattle.std.specs.Prelude.{is_none, ◌&&◌}
 use Rattle.std.proofs.lemmas.Option.{none-some}
-use Rattle.std.proofs.Math.Nat.{pow-le-pow_right}
 use Rattle.std.proofs.lemmas.Bool.{true≢false, and_parts}
 use Rattle.std.proofs.lemmas.List.{append-nil, length-replicate, get_or-replicate}
-use Rattle.std.specs.List.{list_any}
 use Rattle.pmem_base.specs.declared.lines.Line.{Line}
 use Rattle.pmem_base.specs.declared.registers.Regs.{Regs}
 use Rattle.pmem_base.specs.declared.answers.Mark.{Mark}
@@ -16,13 +14,7 @@ use Rattle.pmem_base.specs.Shape.{Shape, IsShape}
 use Rattle.board.specs.Counts.{RisesBy}
 use Rattle.board.specs.Device.{Device}
 use Rattle.board.specs.Memory.{BoardMemory, device_of}
-use Rattle.meta_cache.specs.declared.slot.Slot.{Slot}
-use Rattle.meta_cache.specs.Banks.{set_index}
-use Rattle.meta_cache.specs.State.{empty_banks}
-use Rattle.meta_path.specs.Blocks.{path_at}
-use Rattle.meta_path.specs.Levels.{room_write}
 use Rattle.meta_path.specs.Fetching.{spilled}
-use Rattle.meta_path.proofs.PathFacts.{set_of-empty_banks}
 use Rattle.seal_ledger.specs.Ledger.{LedgerState}
 use Rattle.suite.specs.Formulas.{AreInRange}
 use Rattle.suite.specs.Setup.{Setup}
@@ -45,27 +37,11 @@ use Rattle.start_gap.specs.Logical.{IsLevelled}
 use Rattle.start_gap.specs.Gapped.{HasGappedOpened, HasReadRecord, logical_lines}
 use Rattle.start_gap.proofs.Levelled.{zero_levelled}
 use Rattle.engine_lines.proofs.EngineLines.{least_lines}
+use Rattle.line_session.proofs.NewDevices.{none_to_write, few_data}
 use Rattle.wear_session.specs.State.{IsNewWear}
 use Rattle.wear_session.specs.World.{WearParts, IsWearWorld, wear_in, wear_of}
 use Rattle.wear_session.proofs.Levels.{wear_is, memory_held, levelled_is}
 use Rattle.wear_session.proofs.Worlds.{on_of}
-
--- an empty cache has nothing to write back
-pub none_to_write : (g : Shape) (page n : ℕ) → spilled g (empty_banks g) page n ≡ []
-none_to_write g page zero = refl
-none_to_write g page (suc n) =
-    ap₂ (λ xs ys. xs ++ ys) (none_to_write g page n)
-    (ap (λ (slots : List Slot). if list_any (λ slot. slot.position == path_at g page n) slots then [] else room_write g slots)
-    (set_of-empty_banks g n (set_index g (path_at g page n)))
-    ∙ nothing)
-  where
-    nothing : room_write g [] ≡ []
-    nothing = search rules
-
-few_lines : (g : Shape) → IsShape g → layout.data_lines g < 2 ^ 30
-few_lines g shape =
-    let pages : 4 ^ g.levels ≤ 4 ^ 6 = pow-le-pow_right (omega arith) shape.at_most_six_levels in
-    omega (arith, pages)
 
 -- what formatting and the opening leave
 pub record NewWearCall : Type 0 where
@@ -133,7 +109,7 @@ module _ (c : NewWearCall) where
   begun =
       subst (λ l. IsLevelled n l (first_wear n) (replicate n zero_line))
       (ap (λ k. replicate k zero_line) size ∙ sym places)
-      (zero_levelled n (let least = least_lines g in omega (arith, least)) (let few = few_lines g c.whole_shape in omega (arith, few)))
+      (zero_levelled n (let least = least_lines g in omega (arith, least)) (let few = few_data g c.whole_shape in omega (arith, few)))
 
   record_inside : n + 1 < layout.data_lines g
   record_inside = let its = size in omega (arith, its)

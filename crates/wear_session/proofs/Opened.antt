@@ -34,12 +34,13 @@ use Rattle.start_gap.specs.Logical.{IsLevelled}
 use Rattle.start_gap.specs.Gapped.{HasGappedOpened, HasReadRecord, logical_lines}
 use Rattle.watched_board.specs.Watching.{steps_in, device_during, none_taken, IsWatched}
 use Rattle.watched_board.proofs.StepLaws.{at_most, fewer}
-use Rattle.wear_session.specs.declared.calls.StartFault.{StartFault}
-use Rattle.wear_session.specs.declared.calls.StartFault.TheVariants as Start
+use Rattle.line_session.specs.declared.starts.StartFault.{StartFault}
+use Rattle.line_session.specs.declared.starts.StartFault.TheVariants as Start
 use Rattle.wear_session.specs.declared.commands.WearCommand.TheVariants as Do
 use Rattle.wear_session.specs.declared.answers.WearAnswer.{WearAnswer}
 use Rattle.wear_session.specs.declared.answers.WearAnswer.TheVariants as Say
-use Rattle.wear_session.specs.During.{HasWearStarted, HasWearOpenedAfter, wear_started_as}
+use Rattle.line_session.specs.During.{OpeningRelation, HasStartedBy, HasOpenedAfter, started_as}
+use Rattle.wear_session.specs.Called.{HasLinesOpened}
 use Rattle.wear_session.specs.State.{WearState, wear_setup_in}
 use Rattle.wear_session.specs.World.{WearParts, IsWearWorld, IsLevelledOff, IsLevelledBy, wear_in, levelled_memory, wear_of}
 use Rattle.wear_session.specs.Answered.{IsWearAnswered, IsWearShownBy, IsWearMemoryWanted, HasWearOpened, wear_decided, with_power}
@@ -49,8 +50,8 @@ use Rattle.engine_lines.proofs.EngineLines.{setup_under}
 use Rattle.engine_lines.proofs.EngineWrites.{fewer_within, AreDone, read_line, read_done, read_cut}
 use Rattle.wear_session.proofs.Seen.{served, seen_from, held_under}
 use Rattle.wear_session.proofs.Starts.{OnWearCall, few_of_on}
-use Rattle.wear_session.proofs.Twins.{seal_twin}
-use Rattle.wear_session.proofs.Recoveries.{few_recovery, recovered, sound_recovered, cut_left, wanted_left, untouched, rests, twin_left, twin_of_last, twin_within}
+use Rattle.line_session.proofs.Twins.{seal_twin}
+use Rattle.line_session.proofs.Recoveries.{few_recovery, recovered, sound_recovered, cut_left, wanted_left, untouched, rests, twin_left, twin_of_last, twin_within}
 
 -- parts of one session that are equal one by one
 same_parts : (a b : WearParts) → a.tags ≡ b.tags → a.digests ≡ b.digests → a.board ≡ b.board → a.ledger ≡ b.ledger → a.gapped ≡ b.gapped
@@ -91,9 +92,11 @@ module _ (c : OnWearCall) where
   watched : IsWatched lit c.board c.taken
   watched = subst (λ b. IsWatched b c.board c.taken) c.lit_is c.watched
 
-  started : HasWearStarted setup p.every from to p.ledger c.ledger c.suite_old c.suite_new c.answer
-  started =
-      subst (λ b. HasWearStarted setup p.every (device_during b none_taken) to p.ledger c.ledger c.suite_old c.suite_new c.answer) c.lit_is c.started
+  abbrev opens : OpeningRelation Gapped GapFault
+  opens = λ start now. HasLinesOpened setup p.every start now
+
+  started : HasStartedBy setup opens from to p.ledger c.ledger c.suite_old c.suite_new c.answer
+  started = subst (λ b. HasStartedBy setup opens (device_during b none_taken) to p.ledger c.ledger c.suite_old c.suite_new c.answer) c.lit_is c.started
 
   no_count : old.count ≡ 0
   no_count = ap (λ (g : Option Gapped). unwrap_or (option_map (λ (k : Gapped). k.count) g) 0) c.there
@@ -228,7 +231,7 @@ module _ (c : OnWearCall) where
   rested = record c.board { powered = false }
 
   -- what holds after each answer of recovery and the opening
-  abbrev WearOutcome : Result Gapped StartFault → Type 0
+  abbrev WearOutcome : Result Gapped (StartFault GapFault) → Type 0
   WearOutcome (Ok gapped) = WearExit c.board (Some gapped) (Say.Opened gapped.wear.start gapped.wear.gap (steps_in c.taken))
   WearOutcome (Err (Start.Recovery Rec.Cut)) = WearExit c.board None (Say.Cut (steps_in c.taken))
   WearOutcome (Err (Start.Opening (Gap.Engine Fail.Cut))) = WearExit c.board None (Say.Cut (steps_in c.taken))
@@ -279,7 +282,7 @@ module _ (c : OnWearCall) where
         (cut_seen marks cut.dark cut.loss cut.takes)
 
     by_opened : (opened : Result Gapped GapFault) → HasGappedOpened setup p.every (parts_between between suite_between engine work it) parts_to opened
-        → WearOutcome (wear_started_as opened)
+        → WearOutcome (started_as opened)
     by_opened (Ok gapped) opened = opened_exit gapped opened.0 opened.1
     by_opened (Err (Gap.Engine Fail.Cut)) opened = read_cut_exit opened.0 opened.1
     by_opened (Err (Gap.Engine (Fail.Spent page))) opened = absurd opened.1.possible
@@ -344,10 +347,10 @@ module _ (c : OnWearCall) where
 
       go : (recovery : Result (EngineState × Work) RecFault)
           → HasRecovered setup p.ledger from started.between c.suite_old started.suite_between recovery
-          → HasWearOpenedAfter recovery setup p.every started.between to p.ledger c.ledger started.suite_between c.suite_new c.answer
+          → HasOpenedAfter recovery opens started.between to p.ledger c.ledger started.suite_between c.suite_new c.answer
           → WearOutcome c.answer
       go (Ok done) it later =
-          subst WearOutcome (sym later.2) (by_opened started.between started.suite_between done.0 done.1 it later.0 later.1)
+          subst WearOutcome (sym later.2) (by_opened started.between started.suite_between done.0 done.1 it later.0 later.1.was_opened)
       go (Err Rec.Cut) it later =
           subst WearOutcome (sym later.0) (recovery_cut started.suite_between (refused Rec.Cut it later.1) later.2)
       go (Err Rec.Memory) it later =
@@ -360,7 +363,7 @@ module _ (c : OnWearCall) where
 
   -- ---- as contracts write it
 
-  outcome_as : (answer : Result Gapped StartFault) → c.answer ≡ answer → WearOutcome answer
+  outcome_as : (answer : Result Gapped (StartFault GapFault)) → c.answer ≡ answer → WearOutcome answer
   outcome_as answer is = subst WearOutcome is outcome
 
   pub open_exit : (gapped : Gapped) → c.answer ≡ Ok gapped
@@ -409,7 +412,7 @@ module _ (c : OnWearCall) where
         )
 
   -- no other answer comes
-  abbrev pub IsWearPossible : Result Gapped StartFault → Type 0
+  abbrev pub IsWearPossible : Result Gapped (StartFault GapFault) → Type 0
   IsWearPossible (Ok gapped) = ⊤
   IsWearPossible (Err (Start.Recovery Rec.Cut)) = ⊤
   IsWearPossible (Err (Start.Opening (Gap.Engine Fail.Cut))) = ⊤
@@ -417,10 +420,10 @@ module _ (c : OnWearCall) where
   IsWearPossible (Err (Start.Recovery (Rec.Twin at major low high cipher tag))) = ⊤
   IsWearPossible answer = ⊥
 
-  pub possible : (answer : Result Gapped StartFault) → c.answer ≡ answer → IsWearPossible answer
+  pub possible : (answer : Result Gapped (StartFault GapFault)) → c.answer ≡ answer → IsWearPossible answer
   possible answer is = go answer (outcome_as answer is)
     where
-      go : (answer : Result Gapped StartFault) → WearOutcome answer → IsWearPossible answer
+      go : (answer : Result Gapped (StartFault GapFault)) → WearOutcome answer → IsWearPossible answer
       go (Ok gapped) it = tt
       go (Err (Start.Recovery Rec.Cut)) it = tt
       go (Err (Start.Opening (Gap.Engine Fail.Cut))) it = tt

@@ -1,60 +1,23 @@
--- Recovery, and then the opening of the lines: one relation, and the steps of both.
-use Rattle.std.proofs.Common.{true, None, ℕ, mul-le-mul_left, mul-le-mul_right, ◌≡◌, ◌≤◌, ◌+◌, ◌*◌, List, Result, Ok, refl, ap, subst, arith}
+-- Recovery, and then the opening of the lines: the steps of both, and what is known of them.
+use Rattle.std.proofs.Common.{true, None, ℕ, mul-le-mul_left, mul-le-mul_right, ◌≡◌, ◌≤◌, ◌+◌, ◌*◌, List, Result, arith}
 use Rattle.pmem_base.specs.Layout as layout
 use Rattle.pmem_base.specs.Shape.{Shape, IsShape}
-use Rattle.board.specs.Device.{Device}
 use Rattle.board.specs.Memory.{BoardMemory}
 use Rattle.seal_ledger.specs.Ledger.{LedgerState}
 use Rattle.suite.specs.Formulas.{Formulas}
 use Rattle.plain_model.specs.Bounds.{path_length, recovery_bound}
-use Rattle.pmem_engine.specs.Engine.{EngineState}
-use Rattle.pmem_engine.specs.Parts.{parts_of}
-use Rattle.pmem_recovery.specs.declared.faults.Work.{Work}
-use Rattle.pmem_recovery.specs.declared.faults.RecFault.{RecFault}
 use Rattle.pmem_recovery.specs.Parts.{SuiteState}
-use Rattle.pmem_recovery.specs.Recovered.{HasRecovered}
 use Rattle.start_gap.specs.declared.gapped.Gapped.{Gapped}
 use Rattle.start_gap.specs.declared.gapped.GapFault.{GapFault}
-use Rattle.start_gap.specs.Gapped.{HasGappedOpened}
 use Rattle.watched_board.specs.declared.taken.Taken.{Taken}
 use Rattle.watched_board.specs.Watching.{steps_in, step_limit, device_during, none_taken, IsWatched}
-use Rattle.wear_session.specs.declared.calls.StartFault.{StartFault}
+use Rattle.line_session.specs.declared.starts.StartFault.{StartFault}
+use Rattle.line_session.specs.During.{HasStartedBy}
 use Rattle.wear_session.specs.State.{WearState}
 use Rattle.wear_session.specs.World.{WearParts, IsWearWorld, wear_of}
-use Rattle.wear_session.specs.During.{HasWearStarted, wear_started_as}
+use Rattle.wear_session.specs.Called.{HasLinesOpened}
 use Rattle.engine_lines.specs.Writes.{read_steps}
 use Rattle.engine_lines.proofs.EngineLines.{setup_under}
-
--- where recovery was done, its engine is of the geometry, and the lines are opened under the same keys
-pub has_started : (formulas_of : List ℕ → Formulas) (g : Shape) (every : ℕ) (old between new : Device) (ledger_old ledger_new : LedgerState)
-    (suite_old suite_between suite_new : SuiteState) (recovery : Result (EngineState × Work) RecFault) (engine : EngineState) (work : Work)
-    (answer : Result Gapped GapFault) → recovery ≡ Ok (engine, work)
-    → HasRecovered (record { shape = g; formulas = formulas_of suite_old.keys }) ledger_old old between suite_old suite_between recovery
-    → HasGappedOpened (record { shape = engine.shape; formulas = formulas_of suite_between.keys }) every
-    (parts_of engine between ledger_old suite_between.tags suite_between.digests)
-    (λ now. parts_of now new ledger_new suite_new.tags suite_new.digests) answer
-    → HasWearStarted (record { shape = g; formulas = formulas_of suite_old.keys }) every old new ledger_old ledger_new suite_old suite_new
-    (wear_started_as answer)
-has_started formulas_of g every old between new ledger_old ledger_new suite_old suite_between suite_new recovery engine work answer is recovered opened =
-    let done = subst (λ r. HasRecovered (record { shape = g; formulas = formulas_of suite_old.keys }) ledger_old old between suite_old suite_between r) is recovered in
-    record {
-      recovery = Ok (engine, work);
-      between = between;
-      suite_between = suite_between;
-      recovered = done;
-      then = (
-        answer,
-        subst (λ k. HasGappedOpened (record { shape = g; formulas = formulas_of k }) every
-            (parts_of engine between ledger_old suite_between.tags suite_between.digests)
-            (λ now. parts_of now new ledger_new suite_new.tags suite_new.digests) answer) done.keys
-            (subst (λ s. HasGappedOpened (record { shape = s; formulas = formulas_of suite_between.keys }) every
-            (parts_of engine between ledger_old suite_between.tags suite_between.digests)
-            (λ now. parts_of now new ledger_new suite_new.tags suite_new.digests) answer) (ap (λ (e : EngineState). e.shape) done.engine) opened),
-        refl,
-      );
-    }
-
--- ---- bounds
 
 pub few_of_on : (g : Shape) → IsShape g → recovery_bound g + read_steps g ≤ step_limit
 few_of_on g shape =
@@ -88,7 +51,8 @@ pub record OnWearCall : Type 0 where
   pub suite_new : SuiteState
   pub said : ℕ
   pub counted : said ≡ steps_in taken
-  pub answer : Result Gapped StartFault
+  pub answer : Result Gapped (StartFault GapFault)
   pub started :
-      HasWearStarted (setup_under formulas_of geometry parts.keys) parts.every (device_during lit none_taken) (device_during board taken)
+      HasStartedBy (setup_under formulas_of geometry parts.keys)
+      (λ old now. HasLinesOpened (setup_under formulas_of geometry parts.keys) parts.every old now) (device_during lit none_taken) (device_during board taken)
       parts.ledger ledger suite_old suite_new answer

@@ -1,10 +1,6 @@
 -- What a session holds after a call that goes on or is cut, and how its state stands to the one before.
-use Rattle.std.proofs.Common.{rules, ℕ, ◌≡◌, ◌<◌, ◌≤◌, true, false, length, Some, None, refl, sym, ap, subst, arith, List, Option, ◌∙◌}
-use Rattle.std.specs.Prelude.{IsSome, option_map}
-use Rattle.std.proofs.lemmas.Option.{none-some}
-use Rattle.pmem_base.specs.declared.answers.Mark.{Mark}
+use Rattle.std.proofs.Common.{rules, ℕ, ◌≡◌, ◌<◌, ◌≤◌, true, false, length, Some, None, refl, sym, ap, subst, arith}
 use Rattle.pmem_base.specs.Layout as layout
-use Rattle.pmem_base.specs.Marks.{SealOf, last_seal}
 use Rattle.pmem_base.specs.Shape.{IsShape}
 use Rattle.board.specs.Memory.{BoardMemory}
 use Rattle.seal_ledger.specs.Ledger.{LedgerState}
@@ -17,36 +13,11 @@ use Rattle.start_gap.specs.declared.gapped.Gapped.{Gapped}
 use Rattle.start_gap.specs.Logical.{IsLevelled}
 use Rattle.start_gap.specs.Gapped.{logical_lines}
 use Rattle.watched_board.specs.declared.taken.Taken.{Taken}
-use Rattle.watched_board.specs.Watching.{steps_in, step_limit, FollowsOn, IsWatched}
-use Rattle.watched_board.proofs.StepLaws.{rose}
-use Rattle.trace_text.specs.Sessions.{HasBurnt, HasRunOut}
+use Rattle.watched_board.specs.Watching.{steps_in, step_limit, IsWatched}
+use Rattle.line_session.proofs.StepCounts.{rises_by, has_burnt, has_run_out}
 use Rattle.wear_session.specs.State.{WearState, wear_without_power}
 use Rattle.wear_session.specs.World.{WearParts, IsWearWorld, IsLevelledOn, IsLevelledBy, wear_in, levelled_memory, wear_of}
-use Rattle.wear_session.specs.Answered.{IsWearButForSteps, RisesBySteps, GoesToWearState, IsWearCutOff}
-
--- ---- steps of a call
-
-module _ (old new : BoardMemory) (taken : Taken) (follows : FollowsOn old new taken) where
-  pub rises_by : RisesBySteps (steps_in taken) old.writes old.latches new.writes new.latches
-  rises_by =
-      record {
-        written = taken.writes;
-        latched = taken.latches;
-        sum = refl;
-        its_writes = follows.writes;
-        its_latches = follows.latches;
-      }
-
-  pub has_burnt : new.powered ≡ true → HasBurnt (steps_in taken) old.fuse new.fuse old.cuts new.cuts
-  has_burnt powered = record { lasting = follows.lasting powered; rest = follows.burnt powered; uncut = follows.uncut powered }
-
-  pub has_run_out : new.powered ≡ false → steps_in taken < step_limit → HasRunOut (steps_in taken) old.fuse new.fuse old.cuts new.cuts
-  has_run_out off below =
-      record {
-        at_end = follows.spent off below;
-        cleared = follows.cleared off;
-        cut = rose old new taken follows off;
-      }
+use Rattle.wear_session.specs.Answered.{IsWearButForSteps, GoesToWearState, IsWearCutOff}
 
 -- ---- states
 

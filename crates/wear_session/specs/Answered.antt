@@ -9,7 +9,6 @@ use Rattle.pmem_base.specs.declared.answers.Exhibit.{Exhibit}
 use Rattle.pmem_base.specs.declared.answers.Exhibit.TheVariants.{Twin}
 use Rattle.pmem_base.specs.Layout.{data_lines}
 use Rattle.pmem_base.specs.Lines.{line_at}
-use Rattle.watched_board.specs.Watching.{counted}
 use Rattle.suite.specs.Formulas.{Formulas}
 use Rattle.suite.specs.Setup.{Setup}
 use Rattle.collision_witness.specs.Exhibits.{IsExhibit}
@@ -23,6 +22,7 @@ use Rattle.wear_session.specs.declared.commands.WearCommand.TheVariants as Do
 use Rattle.wear_session.specs.declared.answers.WearAnswer.{WearAnswer}
 use Rattle.wear_session.specs.declared.answers.WearAnswer.TheVariants as Say
 use Rattle.trace_text.specs.Sessions.{HasBurnt, HasRunOut}
+use Rattle.line_session.specs.Steps.{RisesBySteps}
 use Rattle.trace_text.specs.declared.talk.Halt.{Halt}
 use Rattle.trace_text.specs.declared.talk.Halt.TheVariants as Stop
 use Rattle.wear_session.specs.Answers.{wear_text}
@@ -63,14 +63,6 @@ pub record IsWearButForSteps (expected new : WearState) : Type 0 where
   pub power : new.board.powered ≡ expected.board.powered
   pub loss : new.board.regs.loss ≡ expected.board.regs.loss
   pub marks : new.marks ≡ expected.marks
-
--- line writes and latches rose by so many together
-pub record RisesBySteps (steps writes latches writes_after latches_after : ℕ) : Type 0 where
-  pub written : ℕ
-  pub latched : ℕ
-  pub sum : steps ≡ written + latched
-  pub its_writes : writes_after ≡ counted writes written
-  pub its_latches : latches_after ≡ counted latches latched
 
 -- steps were done, at most `most` and no more than the fuse had left, and nothing was cut
 pub record GoesToWearState (expected : WearState) (steps most : ℕ) (old new : WearState) : Type 0 where

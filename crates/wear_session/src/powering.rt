@@ -6,9 +6,10 @@ ghost use Rattle.wear_session.specs.State.{wear_setup_in};
 ghost use Rattle.wear_session.specs.Answered.{IsWearAnswered, IsWearHalt};
 
 use crate::answers::WearAnswer;
-use crate::calls::{self, StartFault};
+use crate::calls::OpenLines;
 use crate::world::WearWorld;
 use access_log::AccessLog;
+use line_session::{StartFault, start};
 use pmem_base::Exhibit;
 use pmem_engine::Fault;
 use pmem_recovery::RecFault;
@@ -48,13 +49,13 @@ impl<S: Suite + Drop> WearWorld<S> {
             return Ok(WearAnswer::Already);
         }
         self.board.power();
-        let done = calls::start(
+        let done = start(
             alloc,
             &self.geo,
+            &OpenLines { every: self.every },
             &mut self.board,
             &mut self.suite,
             &mut self.ledger,
-            self.every,
             log,
         );
         let steps = done.taken.steps();

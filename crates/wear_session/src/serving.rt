@@ -1,17 +1,16 @@
 //! Commands on logical lines.
 ghost use Rattle.std.specs.Prelude.{◌≡◌, IfOk, OnErr};
-ghost use Rattle.std.specs.List.{list_any};
 ghost use Rattle.access_log.specs.Traced.{GoesOn};
 ghost use Rattle.wear_session.specs.declared.commands.WearCommand.TheVariants as Do;
 ghost use Rattle.wear_session.specs.State.{wear_setup_in};
-ghost use Rattle.engine_lines.specs.Writes.{is_own_seal};
 ghost use Rattle.wear_session.specs.Answered.{IsWearAnswered, IsWearMemoryWanted};
 
 use crate::answers::WearAnswer;
-use crate::calls;
+use crate::calls::{ReadLine, WriteLine};
 use crate::world::WearWorld;
 use access_log::AccessLog;
-use pmem_base::{Line, Mark, MemFault};
+use line_session::{call, has_own_seal};
+use pmem_base::{Line, MemFault};
 use pmem_engine::Fault;
 use seal_ledger::Audit;
 use start_gap::{Moved, WriteFault, place};
@@ -19,20 +18,6 @@ use suite::Suite;
 
 /// The most marks of a write with its move: three writes of an engine.
 const WRITE_MARKS: u32 = 198;
-
-/// Whether one of these marks is a write's own seal of line `at`: a line that is only sealed anew gets the minor 0.
-fn has_own_seal(marks: &[Mark], at: u32) -> bool
-    ensures { result ≡ list_any (is_own_seal at) marks.now }
-{
-    for mark in marks {
-        if let Mark::Seal { at: line, ctr, .. } = mark {
-            if *line == at && ctr.minor > 0 {
-                return true;
-            }
-        }
-    }
-    false
-}
 
 impl<S: Suite + Drop> WearWorld<S> {
     /// A logical line is written. The one error is want of memory.
@@ -57,13 +42,15 @@ impl<S: Suite + Drop> WearWorld<S> {
         self.ledger.reserve(WRITE_MARKS)?;
         let from = self.ledger.marks().len();
         let own = place(gapped.lines(), gapped.wear(), at as u32);
-        let done = calls::write(
+        let done = call(
+            &WriteLine {
+                at: at as u32,
+                line,
+            },
             gapped,
             &mut self.board,
             &mut self.suite,
             &mut self.ledger,
-            at as u32,
-            line,
             log,
         );
         let steps = done.taken.steps();
@@ -100,12 +87,12 @@ impl<S: Suite + Drop> WearWorld<S> {
         if at >= u64::from(gapped.lines()) {
             return WearAnswer::Range;
         }
-        let done = calls::read(
+        let done = call(
+            &ReadLine { at: at as u32 },
             gapped,
             &mut self.board,
             &mut self.suite,
             &mut self.ledger,
-            at as u32,
             log,
         );
         let steps = done.taken.steps();

@@ -6,6 +6,8 @@ use Rattle.suite.specs.Setup.{Setup}
 use Rattle.pmem_engine.specs.declared.fault.Fault.TheVariants as Fail
 use Rattle.pmem_engine.specs.Engine.{EngineState}
 use Rattle.pmem_engine.specs.Parts.{Parts, parts_of}
+use Rattle.pmem_engine.specs.Plans.{Chip, chip_of}
+use Rattle.engine_lines.proofs.EditPlans.{edits_as, edits_follow_under}
 use Rattle.line_txn.specs.declared.store.Done.TheVariants as Do
 use Rattle.line_txn.specs.Logged.{targets_of}
 use Rattle.engine_lines.specs.Edits.{AreEdited, IsEditOf}
@@ -13,6 +15,7 @@ use Rattle.engine_lines.proofs.EditLaws.{edits_under}
 use Rattle.line_txn.specs.Edits.{IsWholeTxn, deciding_edits, applying_edits}
 use Rattle.line_txn.proofs.EditStages.{deciding_fit, applying_fit}
 use Rattle.line_txn.proofs.Commits.{empty_list, some_list, no_txn, refused_by, applied_by, fault_answer, fault_served}
+use Rattle.line_txn.proofs.StorePlans.{edits_fault, nothing_committed, undecided, decided_then}
 use Rattle.line_txn.proofs.store.Store.commit_lines.Given.{Over}
 use Rattle.line_txn.proofs.store.Store.commit_lines.Goals as goal
 
@@ -22,6 +25,9 @@ setup_at g engine suite = record { shape = engine.shape; formulas = g.S.Suite.fo
 abbrev at : (g : Over) → EngineState → g.row.B.Denot → g.row.S.Denot → g.row.A.Denot → Parts
 at g engine board suite audit =
     parts_of engine (g.B.Board.device board) (g.A.Audit.ledger audit) (g.S.Suite.tags suite) (g.S.Suite.digests suite)
+
+abbrev chip : (g : Over) → EngineState → g.row.S.Denot → g.row.A.Denot → Chip
+chip g engine suite audit = chip_of engine (g.A.Audit.ledger audit) (g.S.Suite.tags suite) (g.S.Suite.digests suite)
 
 pub returns-then-is_empty-clause-whole : goal.returns-then-is_empty-clause-whole
 returns-then-is_empty-clause-whole g c =
@@ -139,3 +145,64 @@ returns-in_default-fault-clause-committed g c =
     (sym (fault_answer c.in-Err-edit_all.fault c.in_default-fault.not-Spent))
     (fault_served c.in-Err-edit_all.fault c.args.txn.now.items c.args.self.now _ c.in_default-fault.not-Spent
     (record { its_lines = refl; its_targets = refl; its_page = refl }))
+
+pub returns-then-is_empty-clause-plan : goal.returns-then-is_empty-clause-plan
+returns-then-is_empty-clause-plan g c =
+    nothing_committed (setup_at g c.args.self.now.engine c.args.suite.now) c.args.self.now _
+    (chip g c.args.self.now.engine c.args.suite.now c.args.audit.now) (chip g c.args.self.now.engine c.args.suite.now c.args.audit.now)
+    c.args.txn.now.items (empty_list c.args.txn.now.items (sym c.is_empty.ensures ∙ c.if-is_empty.true))
+    (record { its_lines = refl; its_targets = refl; its_page = refl })
+
+pub returns-in-Err-clause-plan : goal.returns-in-Err-clause-plan
+returns-in-Err-clause-plan g c =
+    undecided (setup_at g c.args.self.now.engine c.args.suite.now) c.args.self.now _
+    (chip g c.args.self.now.engine c.args.suite.now c.args.audit.now) (chip g c.edit_all.new.engine c.edit_all.new.suite c.edit_all.new.audit)
+    c.args.txn.now.items c.in-Err.fault (some_list c.args.txn.now.items (sym c.is_empty.ensures ∙ c.if-is_empty.false))
+    (edits_as (setup_at g c.args.self.now.engine c.args.suite.now) _ _ _
+    (c.deref-2.ensures.0 ∙ c.deciding-edits.ensures.edits ∙ ap (deciding_edits c.args.self.now.lines) c.deref.ensures.0) c.in-Err.ensures.plan)
+    (record { its_lines = refl; its_targets = refl; its_page = refl })
+
+pub returns-in-Ok-clause-plan : goal.returns-in-Ok-clause-plan
+returns-in-Ok-clause-plan g c =
+    decided_then (setup_at g c.args.self.now.engine c.args.suite.now) c.args.self.now _
+    (chip g c.args.self.now.engine c.args.suite.now c.args.audit.now) (chip g c.edit_all-2.new.engine c.edit_all-2.new.suite c.edit_all-2.new.audit)
+    c.args.txn.now.items (chip g c.edit_all.new.engine c.edit_all.new.suite c.edit_all.new.audit) (Ok tt) _
+    (some_list c.args.txn.now.items (sym c.is_empty.ensures ∙ c.if-is_empty.false))
+    (edits_as (setup_at g c.args.self.now.engine c.args.suite.now) _ _ _
+    (c.deref-2.ensures.0 ∙ c.deciding-edits.ensures.edits ∙ ap (deciding_edits c.args.self.now.lines) c.deref.ensures.0) c.in_default.ensures.plan)
+    (edits_as (setup_at g c.args.self.now.engine c.args.suite.now) _ _ _
+    (c.deref-4.ensures.0 ∙ c.applying-edits.ensures ∙ ap (applying_edits c.args.self.now.lines) c.deref-3.ensures.0)
+    (edits_follow_under g.S.Suite.formulas_of c.args.self.now.engine.shape c.edit_all.new.engine.shape (g.S.Suite.keys c.args.suite.now)
+    (g.S.Suite.keys c.edit_all.new.suite) c.in_default.ensures.shape c.in_default.ensures.keys _ _ c.in-Ok.ensures.plan))
+    refl
+    (record { its_lines = refl; its_targets = refl; its_page = refl })
+
+pub returns-in-Spent-clause-plan : goal.returns-in-Spent-clause-plan
+returns-in-Spent-clause-plan g c =
+    decided_then (setup_at g c.args.self.now.engine c.args.suite.now) c.args.self.now _
+    (chip g c.args.self.now.engine c.args.suite.now c.args.audit.now) (chip g c.edit_all-2.new.engine c.edit_all-2.new.suite c.edit_all-2.new.audit)
+    c.args.txn.now.items (chip g c.edit_all.new.engine c.edit_all.new.suite c.edit_all.new.audit) (Err (Fail.Spent c.in-Spent.page)) _
+    (some_list c.args.txn.now.items (sym c.is_empty.ensures ∙ c.if-is_empty.false))
+    (edits_as (setup_at g c.args.self.now.engine c.args.suite.now) _ _ _
+    (c.deref-2.ensures.0 ∙ c.deciding-edits.ensures.edits ∙ ap (deciding_edits c.args.self.now.lines) c.deref.ensures.0) c.in_default.ensures.plan)
+    (edits_as (setup_at g c.args.self.now.engine c.args.suite.now) _ _ _
+    (c.deref-4.ensures.0 ∙ c.applying-edits.ensures ∙ ap (applying_edits c.args.self.now.lines) c.deref-3.ensures.0)
+    (edits_follow_under g.S.Suite.formulas_of c.args.self.now.engine.shape c.edit_all.new.engine.shape (g.S.Suite.keys c.args.suite.now)
+    (g.S.Suite.keys c.edit_all.new.suite) c.in_default.ensures.shape c.in_default.ensures.keys _ _ (edits_fault (setup_at g c.edit_all.new.engine c.edit_all.new.suite) (chip g c.edit_all-2.new.engine c.edit_all-2.new.suite c.edit_all-2.new.audit) _ _ c.in-Spent.is c.in-Err-edit_all.ensures.plan)))
+    refl
+    (record { its_lines = refl; its_targets = c.targets_in-self.ensures ∙ ap targets_of c.deref-in-Spent.ensures.0; its_page = refl })
+
+pub returns-in_default-fault-clause-plan : goal.returns-in_default-fault-clause-plan
+returns-in_default-fault-clause-plan g c =
+    decided_then (setup_at g c.args.self.now.engine c.args.suite.now) c.args.self.now _
+    (chip g c.args.self.now.engine c.args.suite.now c.args.audit.now) (chip g c.edit_all-2.new.engine c.edit_all-2.new.suite c.edit_all-2.new.audit)
+    c.args.txn.now.items (chip g c.edit_all.new.engine c.edit_all.new.suite c.edit_all.new.audit) (Err c.in-Err-edit_all.fault) _
+    (some_list c.args.txn.now.items (sym c.is_empty.ensures ∙ c.if-is_empty.false))
+    (edits_as (setup_at g c.args.self.now.engine c.args.suite.now) _ _ _
+    (c.deref-2.ensures.0 ∙ c.deciding-edits.ensures.edits ∙ ap (deciding_edits c.args.self.now.lines) c.deref.ensures.0) c.in_default.ensures.plan)
+    (edits_as (setup_at g c.args.self.now.engine c.args.suite.now) _ _ _
+    (c.deref-4.ensures.0 ∙ c.applying-edits.ensures ∙ ap (applying_edits c.args.self.now.lines) c.deref-3.ensures.0)
+    (edits_follow_under g.S.Suite.formulas_of c.args.self.now.engine.shape c.edit_all.new.engine.shape (g.S.Suite.keys c.args.suite.now)
+    (g.S.Suite.keys c.edit_all.new.suite) c.in_default.ensures.shape c.in_default.ensures.keys _ _ c.in-Err-edit_all.ensures.plan))
+    (sym (fault_answer c.in-Err-edit_all.fault c.in_default-fault.not-Spent))
+    (fault_served c.in-Err-edit_all.fault c.args.txn.now.items c.args.self.now _ c.in_default-fault.not-Spent (record { its_lines = refl; its_targets = refl; its_page = refl }))

@@ -1,12 +1,15 @@
 -- The header is read, and its transaction redone.
-use Rattle.std.proofs.Common.{◌≡◌, ◌+◌, ◌-◌, inr, ℕ, Err, rules, ap, sym, subst, ◌∙◌, arith}
+use Rattle.std.proofs.Common.{◌≡◌, ◌+◌, ◌-◌, ◌<◌, ◌^◌, inr, ℕ, Some, None, Ok, Err, rules, refl, ap, sym, subst, ◌∙◌, arith}
 use Rattle.std.specs.Prelude.{All}
 use Rattle.pmem_base.specs.Shape.{Shape}
 use Rattle.pmem_base.specs.Geo.{shape_of}
 use Rattle.pmem_base.specs.Layout.{data_lines}
 use Rattle.suite.specs.Setup.{Setup}
+use Rattle.pmem_engine.specs.declared.fault.Fault.TheVariants as Fail
 use Rattle.pmem_engine.specs.Engine.{EngineState}
 use Rattle.pmem_engine.specs.Parts.{Parts, parts_of}
+use Rattle.pmem_engine.specs.Plans.{Chip, chip_of}
+use Rattle.engine_lines.proofs.EditPlans.{edits_as, edits_follow_under}
 use Rattle.engine_lines.specs.Edits.{AreEdited, IsEditOf}
 use Rattle.engine_lines.proofs.EngineLines.{least_lines}
 use Rattle.engine_lines.proofs.EditLaws.{edits_under}
@@ -14,6 +17,9 @@ use Rattle.line_txn.specs.Edits.{redoing_edits}
 use Rattle.line_txn.specs.Store.{logged_lines}
 use Rattle.line_txn.proofs.EditStages.{redoing_fit}
 use Rattle.line_txn.proofs.Openings.{logged_size, none_by, redone_by, some_none, unspent_fault}
+use Rattle.line_txn.specs.Header.{header_in}
+use Rattle.line_txn.proofs.HeaderReads.{header_found, header_none}
+use Rattle.line_txn.proofs.StorePlans.{edits_fault, header_unread, header_refused, header_redone, unredone_fault}
 use Rattle.line_txn.proofs.store.Store.open_lines.Given.{Over}
 use Rattle.line_txn.proofs.store.Store.open_lines.Goals as goal
 
@@ -23,6 +29,9 @@ setup_at g engine suite = record { shape = engine.shape; formulas = g.S.Suite.fo
 abbrev at : (g : Over) → EngineState → g.row.B.Denot → g.row.S.Denot → g.row.A.Denot → Parts
 at g engine board suite audit =
     parts_of engine (g.B.Board.device board) (g.A.Audit.ledger audit) (g.S.Suite.tags suite) (g.S.Suite.digests suite)
+
+abbrev chip : (g : Over) → EngineState → g.row.S.Denot → g.row.A.Denot → Chip
+chip g engine suite audit = chip_of engine (g.A.Audit.ledger audit) (g.S.Suite.tags suite) (g.S.Suite.digests suite)
 
 -- the number of data lines
 logged_in : (lines : ℕ) (g shape : Shape) → lines ≡ data_lines g → g ≡ shape → lines - 16 ≡ logged_lines shape
@@ -106,3 +115,65 @@ returns-in_default-fault-clause-opened g c =
             unspent = unspent_fault c.in-Err-edit_all.fault c.in_default-fault.not-Spent;
           }),
     )
+
+pub returns-in-Err-clause-plan : goal.returns-in-Err-clause-plan
+returns-in-Err-clause-plan g c =
+    (c.read.new.self, header_unread (setup_at g c.args.engine c.args.suite.now) (chip g c.args.engine c.args.suite.now c.args.audit.now) (c.lines-lines.result - 16) c.in-Err.fault (chip g c.read.new.self c.read.new.suite c.read.new.audit) (logged_in c.lines-lines.result (shape_of c.geo.result.now) c.args.engine.shape c.lines-lines.ensures.value c.geo.ensures) c.in-Err.ensures.plan)
+
+pub returns-in_default-clause-plan : goal.returns-in_default-clause-plan
+returns-in_default-clause-plan g c = (
+  c.read.new.self,
+  header_refused (setup_at g c.args.engine c.args.suite.now) (chip g c.args.engine c.args.suite.now c.args.audit.now) (c.lines-lines.result - 16) c.in-Ok.header (chip g c.read.new.self c.read.new.suite c.read.new.audit) (logged_in c.lines-lines.result (shape_of c.geo.result.now) c.args.engine.shape c.lines-lines.ensures.value c.geo.ensures)
+      (subst (λ n. header_in n c.in-Ok.header ≡ None) (logged_in c.lines-lines.result (shape_of c.geo.result.now) c.args.engine.shape c.lines-lines.ensures.value c.geo.ensures)
+      (header_none (c.lines-lines.result - 16) c.in-Ok.header (λ targets its. c.in_default.ensures.none (search rules) targets its)))
+      c.in-Ok.ensures.plan,
+)
+
+pub returns-in-Ok-edit_all-clause-plan : goal.returns-in-Ok-edit_all-clause-plan
+returns-in-Ok-edit_all-clause-plan g c =
+    record {
+      opening = header_redone (setup_at g c.args.engine c.args.suite.now) (chip g c.args.engine c.args.suite.now c.args.audit.now) (c.lines-lines.result - 16) c.in-Ok.header c.in-Some.targets.items
+          (chip g c.read.new.self c.read.new.suite c.read.new.audit) (chip g c.edit_all.new.engine c.edit_all.new.suite c.edit_all.new.audit) (Ok tt) _ (logged_in c.lines-lines.result (shape_of c.geo.result.now) c.args.engine.shape c.lines-lines.ensures.value c.geo.ensures)
+          (subst (λ n. header_in n c.in-Ok.header ≡ Some c.in-Some.targets.items) (logged_in c.lines-lines.result (shape_of c.geo.result.now) c.args.engine.shape c.lines-lines.ensures.value c.geo.ensures)
+          (header_found (c.lines-lines.result - 16) c.in-Ok.header c.in-Some.targets.items (omega (arith, c.lines-lines.ensures.bound)) c.in-Some.ensures.header))
+          c.in-Ok.ensures.plan
+          (edits_as (setup_at g c.args.engine c.args.suite.now) _ _ _
+          (c.deref-2.ensures.0 ∙ c.redoing-edits.ensures ∙ ap (redoing_edits (c.lines-lines.result - 16)) c.deref.ensures.0)
+          (edits_follow_under g.S.Suite.formulas_of c.args.engine.shape c.read.new.self.shape (g.S.Suite.keys c.args.suite.now) (g.S.Suite.keys c.read.new.suite)
+          c.in-Ok.ensures.shape c.in-Ok.ensures.keys _ _ c.in-Ok-edit_all.ensures.plan))
+          (search rules);
+      its_lines = (logged_in c.lines-lines.result (shape_of c.geo.result.now) c.args.engine.shape c.lines-lines.ensures.value c.geo.ensures);
+      its_page = refl;
+    }
+
+pub returns-in-Spent-clause-plan : goal.returns-in-Spent-clause-plan
+returns-in-Spent-clause-plan g c =
+    record {
+      opening = header_redone (setup_at g c.args.engine c.args.suite.now) (chip g c.args.engine c.args.suite.now c.args.audit.now) (c.lines-lines.result - 16) c.in-Ok.header c.in-Some.targets.items
+          (chip g c.read.new.self c.read.new.suite c.read.new.audit) (chip g c.edit_all.new.engine c.edit_all.new.suite c.edit_all.new.audit) (Err (Fail.Spent c.in-Spent.page)) _ (logged_in c.lines-lines.result (shape_of c.geo.result.now) c.args.engine.shape c.lines-lines.ensures.value c.geo.ensures)
+          (subst (λ n. header_in n c.in-Ok.header ≡ Some c.in-Some.targets.items) (logged_in c.lines-lines.result (shape_of c.geo.result.now) c.args.engine.shape c.lines-lines.ensures.value c.geo.ensures)
+          (header_found (c.lines-lines.result - 16) c.in-Ok.header c.in-Some.targets.items (omega (arith, c.lines-lines.ensures.bound)) c.in-Some.ensures.header))
+          c.in-Ok.ensures.plan
+          (edits_as (setup_at g c.args.engine c.args.suite.now) _ _ _
+          (c.deref-2.ensures.0 ∙ c.redoing-edits.ensures ∙ ap (redoing_edits (c.lines-lines.result - 16)) c.deref.ensures.0)
+          (edits_follow_under g.S.Suite.formulas_of c.args.engine.shape c.read.new.self.shape (g.S.Suite.keys c.args.suite.now) (g.S.Suite.keys c.read.new.suite)
+          c.in-Ok.ensures.shape c.in-Ok.ensures.keys _ _ (edits_fault (setup_at g c.read.new.self c.read.new.suite) (chip g c.edit_all.new.engine c.edit_all.new.suite c.edit_all.new.audit) _ _ c.in-Spent.is c.in-Err-edit_all.ensures.plan)))
+          (search rules);
+      its_lines = (logged_in c.lines-lines.result (shape_of c.geo.result.now) c.args.engine.shape c.lines-lines.ensures.value c.geo.ensures);
+      its_page = refl;
+    }
+
+pub returns-in_default-fault-clause-plan : goal.returns-in_default-fault-clause-plan
+returns-in_default-fault-clause-plan g c = (
+  c.edit_all.new.engine,
+  header_redone (setup_at g c.args.engine c.args.suite.now) (chip g c.args.engine c.args.suite.now c.args.audit.now) (c.lines-lines.result - 16) c.in-Ok.header c.in-Some.targets.items
+      (chip g c.read.new.self c.read.new.suite c.read.new.audit) (chip g c.edit_all.new.engine c.edit_all.new.suite c.edit_all.new.audit) (Err c.in-Err-edit_all.fault) _ (logged_in c.lines-lines.result (shape_of c.geo.result.now) c.args.engine.shape c.lines-lines.ensures.value c.geo.ensures)
+      (subst (λ n. header_in n c.in-Ok.header ≡ Some c.in-Some.targets.items) (logged_in c.lines-lines.result (shape_of c.geo.result.now) c.args.engine.shape c.lines-lines.ensures.value c.geo.ensures)
+      (header_found (c.lines-lines.result - 16) c.in-Ok.header c.in-Some.targets.items (omega (arith, c.lines-lines.ensures.bound)) c.in-Some.ensures.header))
+      c.in-Ok.ensures.plan
+      (edits_as (setup_at g c.args.engine c.args.suite.now) _ _ _
+      (c.deref-2.ensures.0 ∙ c.redoing-edits.ensures ∙ ap (redoing_edits (c.lines-lines.result - 16)) c.deref.ensures.0)
+      (edits_follow_under g.S.Suite.formulas_of c.args.engine.shape c.read.new.self.shape (g.S.Suite.keys c.args.suite.now) (g.S.Suite.keys c.read.new.suite)
+      c.in-Ok.ensures.shape c.in-Ok.ensures.keys _ _ c.in-Err-edit_all.ensures.plan))
+      (sym (unredone_fault c.in-Some.targets.items c.in-Err-edit_all.fault c.in_default-fault.not-Spent)),
+)

@@ -3,7 +3,10 @@ use Rattle.std.proofs.Common.{refl, arith}
 use Rattle.suite.specs.Setup.{Setup}
 use Rattle.pmem_engine.specs.Engine.{EngineState}
 use Rattle.pmem_engine.specs.Parts.{Parts, parts_of}
+use Rattle.pmem_engine.specs.Plans.{Chip, chip_of}
 use Rattle.engine_lines.proofs.EngineLines.{few_marks}
+use Rattle.engine_lines.proofs.EditPlans.{edits_follow_under}
+use Rattle.start_gap.proofs.LevelledPlans.{follows_refused, follows_counted, follows_tried}
 use Rattle.start_gap.proofs.LevelledCalls.{write_at, move_as, wear_over, counted, tried_as}
 use Rattle.start_gap.proofs.gapped.Gapped.write_and_move.Given.{Over}
 use Rattle.start_gap.proofs.gapped.Gapped.write_and_move.Goals as goal
@@ -15,6 +18,9 @@ setup_at g engine suite = record { shape = engine.shape; formulas = g.S.Suite.fo
 abbrev at : (g : Over) → EngineState → g.row.B.Denot → g.row.S.Denot → g.row.A.Denot → Parts
 at g engine board suite audit =
     parts_of engine (g.B.Board.device board) (g.A.Audit.ledger audit) (g.S.Suite.tags suite) (g.S.Suite.digests suite)
+
+abbrev chip : (g : Over) → EngineState → g.row.S.Denot → g.row.A.Denot → Chip
+chip g engine suite audit = chip_of engine (g.A.Audit.ledger audit) (g.S.Suite.tags suite) (g.S.Suite.digests suite)
 
 pub move_gap-tried-requires-clause-room : goal.move_gap-tried-requires-clause-room
 move_gap-tried-requires-clause-room g c =
@@ -38,3 +44,27 @@ returns-clause-written g c =
     (move_as g.S.Suite.formulas_of c.args.self.now.engine.shape c.write.new.self.shape (g.S.Suite.keys c.args.suite.now)
     (g.S.Suite.keys c.write.new.suite) c.write.ensures.shape c.write.ensures.keys _ _ _ _ _ c.move_gap-tried.ensures.moved)
     (wear_over _ _ c.args.self.now _ _ c.move_gap-tried.ensures.wear refl refl) c.answer_of_move.ensures
+
+pub returns-in-Err-clause-plan : goal.returns-in-Err-clause-plan
+returns-in-Err-clause-plan g c =
+    follows_refused (setup_at g c.args.self.now.engine c.args.suite.now) c.args.line c.args.plain.now c.args.self.now _
+    (chip g c.args.self.now.engine c.args.suite.now c.args.audit.now) (chip g c.write.new.self c.write.new.suite c.write.new.audit)
+    c.place-at.result c.in-Err.fault c.place-at.ensures.place c.in-Err.ensures.plan
+    (record { its_lines = refl; its_every = refl; its_wear = refl; its_count = refl })
+
+pub returns-then-self-clause-plan : goal.returns-then-self-clause-plan
+returns-then-self-clause-plan g c =
+    follows_counted (setup_at g c.args.self.now.engine c.args.suite.now) c.args.line c.args.plain.now c.args.self.now _
+    (chip g c.args.self.now.engine c.args.suite.now c.args.audit.now) (chip g c.write.new.self c.write.new.suite c.write.new.audit)
+    c.place-at.result c.write.result c.place-at.ensures.place c.in_default.not-Err (omega arith) c.write.ensures.plan
+    (record { its_lines = refl; its_every = refl; its_wear = refl; its_count = refl })
+
+pub returns-clause-plan : goal.returns-clause-plan
+returns-clause-plan g c =
+    follows_tried (setup_at g c.args.self.now.engine c.args.suite.now) c.args.line c.args.plain.now c.args.self.now _
+    (chip g c.args.self.now.engine c.args.suite.now c.args.audit.now) _
+    c.place-at.result c.write.result (chip g c.write.new.self c.write.new.suite c.write.new.audit) c.move_gap-tried.result _
+    c.place-at.ensures.place c.in_default.not-Err (omega arith) c.write.ensures.plan
+    (edits_follow_under g.S.Suite.formulas_of c.args.self.now.engine.shape c.write.new.self.shape (g.S.Suite.keys c.args.suite.now)
+    (g.S.Suite.keys c.write.new.suite) c.write.ensures.shape c.write.ensures.keys _ _ c.move_gap-tried.ensures.plan)
+    c.answer_of_move.ensures (wear_over _ _ c.args.self.now _ _ c.move_gap-tried.ensures.wear refl refl)

@@ -47,29 +47,29 @@ module _ (g : Over) (c : After-steps-steps g) where
         entries = c.in-Some-txn.txn.items;
         opened = ap (option_map (λ txn. txn.items)) c.in-Some-txn.is;
         some = some_list c.in-Some-txn.txn.items (sym c.is_empty.ensures ∙ c.if-is_empty.false);
-        whole = c.commit-done.ensures.whole;
-        after = c.commit-done.new.store;
-        keys = g.S.Suite.keys c.commit-done.new.suite;
-        same_keys = c.commit-done.ensures.keys;
-        board = memory_of c.commit-done.new.board;
-        ledger = ledger_of c.commit-done.new.ledger;
-        taken = c.commit-done.result.taken;
-        watched = c.commit-done.ensures.watched;
+        whole = c.call-done.ensures.made.whole;
+        after = c.call-done.new.store;
+        keys = g.S.Suite.keys c.call-done.new.suite;
+        same_keys = c.call-done.ensures.keys;
+        board = memory_of c.call-done.new.board;
+        ledger = ledger_of c.call-done.new.ledger;
+        taken = c.call-done.result.taken;
+        watched = c.call-done.ensures.watched;
         tags = g.S.Suite.tags c.self.inside.suite;
         digests = g.S.Suite.digests c.self.inside.suite;
-        tags_new = g.S.Suite.tags c.commit-done.new.suite;
-        digests_new = g.S.Suite.digests c.commit-done.new.suite;
+        tags_new = g.S.Suite.tags c.call-done.new.suite;
+        digests_new = g.S.Suite.digests c.call-done.new.suite;
         said = c.steps-steps.result;
         counted = c.steps-steps.ensures;
-        answer = c.commit-done.result.answer;
-        was_committed = c.commit-done.ensures.committed;
+        answer = c.call-done.result.answer;
+        was_committed = c.call-done.ensures.made.committed;
       }
 
   -- the log goes on by that call
-  logged : GoesOn c.args.log.now c.args.self.now.board c.commit-done.new.log (memory_of c.commit-done.new.board)
+  logged : GoesOn c.args.log.now c.args.self.now.board c.call-done.new.log (memory_of c.call-done.new.board)
   logged =
-      goes_on-between c.args.log.now c.commit-done.new.log c.args.self.now.board (memory_of c.self.inside.board) (memory_of c.commit-done.new.board)
-      (memory_of c.commit-done.new.board) (ap (λ (w : TxnState). traced_of w.board) c.self.view_is) refl c.commit-done.ensures.noted
+      goes_on-between c.args.log.now c.call-done.new.log c.args.self.now.board (memory_of c.self.inside.board) (memory_of c.call-done.new.board)
+      (memory_of c.call-done.new.board) (ap (λ (w : TxnState). traced_of w.board) c.self.view_is) refl c.call-done.ensures.logged
 
 pub invariant_of-self-in-Ok-Applied : goal.invariant_of-self-in-Ok-Applied
 invariant_of-self-in-Ok-Applied g c =
@@ -133,30 +133,30 @@ unreachable-requires g c =
 pub returns-after-has_own_seal-clause-answered : goal.returns-after-has_own_seal-clause-answered
 returns-after-has_own_seal-clause-answered g c =
     let its = call g ((goal.at.returns-after-has_own_seal-clause-answered g c).After-steps-steps) in
-    let is : c.commit-done.result.answer ≡ Err (record { fault = Fail.Cut; committed = c.in-Err.committed }) =
+    let is : c.call-done.result.answer ≡ Err (record { fault = Fail.Cut; committed = c.in-Err.committed }) =
     (let h = c.in-Err.is in let k = c.in-Err.field-0-is in let m = c.in-Cut.is in search rules) in
     elim c.if-has_own_seal.branch [
       | then-has_own_seal w ↦
           let why : (c.in-Err.committed ≡ true)
           ⊎ (list_any (is_own_seal c.in-Some.store.lines)
-          (drop (length (ledger_of c.reserve.new.self).marks) (ledger_of c.commit-done.new.ledger).marks) ≡ true) =
+          (drop (length (ledger_of c.reserve.new.self).marks) (ledger_of c.call-done.new.ledger).marks) ≡ true) =
           elim c.if-committed.branch [
             | then-committed v ↦ let t = v.if-committed.true in inl (search (rules, t))
             | else-committed v ↦
                 inr (sym (own_marks v.has_own_seal.result c.lines-header.result c.in-Some.store.lines c.marks-from.result.now v.marks.result.now
-                (ledger_of c.reserve.new.self).marks (ledger_of c.commit-done.new.ledger).marks v.has_own_seal.ensures c.lines-header.ensures.value
+                (ledger_of c.reserve.new.self).marks (ledger_of c.call-done.new.ledger).marks v.has_own_seal.ensures c.lines-header.ensures.value
                 c.marks-from.ensures v.marks.ensures)
                 ∙ sym v.value-is ∙ w.if-has_own_seal.true)
           ] in
           rw w.result-is (kept_seen its c.in-Err.committed is why)
       | else-has_own_seal w ↦
           let none : list_any (is_own_seal c.in-Some.store.lines)
-          (drop (length (ledger_of c.reserve.new.self).marks) (ledger_of c.commit-done.new.ledger).marks) ≡ false =
+          (drop (length (ledger_of c.reserve.new.self).marks) (ledger_of c.call-done.new.ledger).marks) ≡ false =
           elim c.if-committed.branch [
             | then-committed v ↦ absurd (true≢false (sym (v.value-is ∙ v.if-committed.true) ∙ w.if-has_own_seal.false))
             | else-committed v ↦
                 sym (own_marks v.has_own_seal.result c.lines-header.result c.in-Some.store.lines c.marks-from.result.now v.marks.result.now
-                (ledger_of c.reserve.new.self).marks (ledger_of c.commit-done.new.ledger).marks v.has_own_seal.ensures c.lines-header.ensures.value
+                (ledger_of c.reserve.new.self).marks (ledger_of c.call-done.new.ledger).marks v.has_own_seal.ensures c.lines-header.ensures.value
                 c.marks-from.ensures v.marks.ensures)
                 ∙ sym v.value-is ∙ w.if-has_own_seal.false
           ] in

@@ -9,7 +9,7 @@ use Rattle.pmem_recovery.specs.declared.faults.RecFault.TheVariants as Rec
 use Rattle.pmem_recovery.specs.Parts.{suite_state}
 use Rattle.line_txn.specs.declared.store.TxnFault.TheVariants as Txn
 use Rattle.pmem_recovery.proofs.ResultLaws.{none_of}
-use Rattle.txn_session.specs.declared.calls.StartFault.TheVariants as Start
+use Rattle.line_session.specs.declared.starts.StartFault.TheVariants as Start
 use Rattle.access_log.specs.Traced.{GoesOn, traced_of}
 use Rattle.access_log.proofs.TraceLemmas.{goes_on-between}
 use Rattle.txn_session.specs.State.{TxnState}
@@ -69,7 +69,7 @@ module _ (g : Over) (c : After-steps-steps g) where
   logged =
       goes_on-between c.args.log.now c.start-done.new.log c.args.self.now.board (memory_of c.power.new.self) (memory_of c.start-done.new.board)
       (memory_of c.start-done.new.board) (ap traced_of c.power.ensures ∙ ap (λ (w : TxnState). traced_of w.board) c.self.view_is) refl
-      c.start-done.ensures.noted
+      c.start-done.ensures.logged
 
 pub invariant_of-self-in-Ok : goal.invariant_of-self-in-Ok
 invariant_of-self-in-Ok g c =

@@ -37,30 +37,30 @@ module _ (g : Over) (c : After-steps-steps g) where
         at = c.args.at;
         within = omega (arith, c.if-at-from.false, c.from.ensures, c.lines.ensures.value);
         unheld = search (rules, c.line_held.ensures);
-        after = c.read-done.new.store;
-        served_as = c.read-done.ensures.served;
-        keys = g.S.Suite.keys c.read-done.new.suite;
-        same_keys = c.read-done.ensures.keys;
-        board = memory_of c.read-done.new.board;
-        ledger = ledger_of c.read-done.new.ledger;
-        taken = c.read-done.result.taken;
-        watched = c.read-done.ensures.watched;
+        after = c.call-done.new.store;
+        served_as = c.call-done.ensures.made.served;
+        keys = g.S.Suite.keys c.call-done.new.suite;
+        same_keys = c.call-done.ensures.keys;
+        board = memory_of c.call-done.new.board;
+        ledger = ledger_of c.call-done.new.ledger;
+        taken = c.call-done.result.taken;
+        watched = c.call-done.ensures.watched;
         tags = g.S.Suite.tags c.self.inside.suite;
         digests = g.S.Suite.digests c.self.inside.suite;
-        tags_new = g.S.Suite.tags c.read-done.new.suite;
-        digests_new = g.S.Suite.digests c.read-done.new.suite;
+        tags_new = g.S.Suite.tags c.call-done.new.suite;
+        digests_new = g.S.Suite.digests c.call-done.new.suite;
         said = c.steps-steps.result;
         counted = c.steps-steps.ensures;
-        answer = c.read-done.result.answer;
-        was_read = c.read-done.ensures.read;
-        read_logged = c.read-done.ensures.logged;
+        answer = c.call-done.result.answer;
+        was_read = c.call-done.ensures.made.was_read;
+        read_logged = c.call-done.ensures.made.logged;
       }
 
   -- the log goes on by that call
-  logged : GoesOn c.args.log.now c.args.self.now.board c.read-done.new.log (memory_of c.read-done.new.board)
+  logged : GoesOn c.args.log.now c.args.self.now.board c.call-done.new.log (memory_of c.call-done.new.board)
   logged =
-      goes_on-between c.args.log.now c.read-done.new.log c.args.self.now.board (memory_of c.self.inside.board) (memory_of c.read-done.new.board)
-      (memory_of c.read-done.new.board) (ap (λ (w : TxnState). traced_of w.board) c.self.view_is) refl c.read-done.ensures.noted
+      goes_on-between c.args.log.now c.call-done.new.log c.args.self.now.board (memory_of c.self.inside.board) (memory_of c.call-done.new.board)
+      (memory_of c.call-done.new.board) (ap (λ (w : TxnState). traced_of w.board) c.self.view_is) refl c.call-done.ensures.logged
 
 pub invariant_of-self-in-Ok : goal.invariant_of-self-in-Ok
 invariant_of-self-in-Ok g c =

@@ -8,7 +8,7 @@ use Rattle.pmem_recovery.specs.declared.faults.RecFault.TheVariants as Rec
 use Rattle.pmem_recovery.specs.Parts.{suite_state}
 use Rattle.start_gap.specs.declared.gapped.Gapped.{Gapped}
 use Rattle.start_gap.specs.declared.gapped.GapFault.TheVariants as Gap
-use Rattle.wear_session.specs.declared.calls.StartFault.TheVariants as Start
+use Rattle.line_session.specs.declared.starts.StartFault.TheVariants as Start
 use Rattle.access_log.specs.Traced.{GoesOn, traced_of}
 use Rattle.access_log.proofs.TraceLemmas.{goes_on-between}
 use Rattle.wear_session.specs.State.{WearState}

@@ -35,29 +35,29 @@ module _ (g : Over) (c : After-steps-steps g) where
         there = c.in-Some.is;
         at = c.args.at;
         within = omega (arith, c.if-at-from.false, c.from.ensures, c.lines.ensures.value);
-        after = c.read-done.new.gapped;
-        wear = c.read-done.ensures.wear;
-        keys = g.S.Suite.keys c.read-done.new.suite;
-        same_keys = c.read-done.ensures.keys;
-        board = memory_of c.read-done.new.board;
-        ledger = ledger_of c.read-done.new.ledger;
-        taken = c.read-done.result.taken;
-        watched = c.read-done.ensures.watched;
+        after = c.call-done.new.store;
+        wear = c.call-done.ensures.made.its_wear;
+        keys = g.S.Suite.keys c.call-done.new.suite;
+        same_keys = c.call-done.ensures.keys;
+        board = memory_of c.call-done.new.board;
+        ledger = ledger_of c.call-done.new.ledger;
+        taken = c.call-done.result.taken;
+        watched = c.call-done.ensures.watched;
         tags = g.S.Suite.tags c.self.inside.suite;
         digests = g.S.Suite.digests c.self.inside.suite;
-        tags_new = g.S.Suite.tags c.read-done.new.suite;
-        digests_new = g.S.Suite.digests c.read-done.new.suite;
+        tags_new = g.S.Suite.tags c.call-done.new.suite;
+        digests_new = g.S.Suite.digests c.call-done.new.suite;
         said = c.steps-steps.result;
         counted = c.steps-steps.ensures;
-        answer = c.read-done.result.answer;
-        was_read = c.read-done.ensures.read;
+        answer = c.call-done.result.answer;
+        was_read = c.call-done.ensures.made.was_read;
       }
 
   -- the log goes on by that call
-  logged : GoesOn c.args.log.now c.args.self.now.board c.read-done.new.log (memory_of c.read-done.new.board)
+  logged : GoesOn c.args.log.now c.args.self.now.board c.call-done.new.log (memory_of c.call-done.new.board)
   logged =
-      goes_on-between c.args.log.now c.read-done.new.log c.args.self.now.board (memory_of c.self.inside.board) (memory_of c.read-done.new.board)
-      (memory_of c.read-done.new.board) (ap (λ (w : WearState). traced_of w.board) c.self.view_is) refl c.read-done.ensures.logged
+      goes_on-between c.args.log.now c.call-done.new.log c.args.self.now.board (memory_of c.self.inside.board) (memory_of c.call-done.new.board)
+      (memory_of c.call-done.new.board) (ap (λ (w : WearState). traced_of w.board) c.self.view_is) refl c.call-done.ensures.logged
 
 pub invariant_of-self-in-Ok : goal.invariant_of-self-in-Ok
 invariant_of-self-in-Ok g c =

@@ -47,28 +47,28 @@ module _ (g : Over) (c : After-steps-steps g) where
         within = omega (arith, c.if-at-from.false, c.from.ensures, c.lines.ensures.value);
         plain = c.args.line.now;
         whole = c.is_whole.ensures;
-        after = c.write-done.new.gapped;
-        keys = g.S.Suite.keys c.write-done.new.suite;
-        same_keys = c.write-done.ensures.keys;
-        board = memory_of c.write-done.new.board;
-        ledger = ledger_of c.write-done.new.ledger;
-        taken = c.write-done.result.taken;
-        watched = c.write-done.ensures.watched;
+        after = c.call-done.new.store;
+        keys = g.S.Suite.keys c.call-done.new.suite;
+        same_keys = c.call-done.ensures.keys;
+        board = memory_of c.call-done.new.board;
+        ledger = ledger_of c.call-done.new.ledger;
+        taken = c.call-done.result.taken;
+        watched = c.call-done.ensures.watched;
         tags = g.S.Suite.tags c.self.inside.suite;
         digests = g.S.Suite.digests c.self.inside.suite;
-        tags_new = g.S.Suite.tags c.write-done.new.suite;
-        digests_new = g.S.Suite.digests c.write-done.new.suite;
+        tags_new = g.S.Suite.tags c.call-done.new.suite;
+        digests_new = g.S.Suite.digests c.call-done.new.suite;
         said = c.steps-steps.result;
         counted = c.steps-steps.ensures;
-        answer = c.write-done.result.answer;
-        was_written = c.write-done.ensures.written;
+        answer = c.call-done.result.answer;
+        was_written = c.call-done.ensures.made.was_written;
       }
 
   -- the log goes on by that call
-  logged : GoesOn c.args.log.now c.args.self.now.board c.write-done.new.log (memory_of c.write-done.new.board)
+  logged : GoesOn c.args.log.now c.args.self.now.board c.call-done.new.log (memory_of c.call-done.new.board)
   logged =
-      goes_on-between c.args.log.now c.write-done.new.log c.args.self.now.board (memory_of c.self.inside.board) (memory_of c.write-done.new.board)
-      (memory_of c.write-done.new.board) (ap (λ (w : WearState). traced_of w.board) c.self.view_is) refl c.write-done.ensures.logged
+      goes_on-between c.args.log.now c.call-done.new.log c.args.self.now.board (memory_of c.self.inside.board) (memory_of c.call-done.new.board)
+      (memory_of c.call-done.new.board) (ap (λ (w : WearState). traced_of w.board) c.self.view_is) refl c.call-done.ensures.logged
 
 pub invariant_of-self-in-Ok-Not : goal.invariant_of-self-in-Ok-Not
 invariant_of-self-in-Ok-Not g c =
@@ -142,7 +142,7 @@ unreachable-requires g c =
 pub returns-after-has_own_seal-clause-answered : goal.returns-after-has_own_seal-clause-answered
 returns-after-has_own_seal-clause-answered g c =
     let its = call g ((goal.at.returns-after-has_own_seal-clause-answered g c).After-steps-steps) in
-    let is : c.write-done.result.answer ≡ Err (record { fault = Fail.Cut; written = c.in-Err.written }) =
+    let is : c.call-done.result.answer ≡ Err (record { fault = Fail.Cut; written = c.in-Err.written }) =
     (let h = c.in-Err.is in let k = c.in-Err.field-0-is in let m = c.in-Cut.is in search rules) in
     let own_is : c.place-own.result ≡ place_of c.in-Some.gapped.lines c.in-Some.gapped.wear c.args.at =
     c.place-own.ensures.place ∙ ap (λ n. place_of n c.wear.result.now c.args.at) c.lines-2.ensures.value
@@ -151,26 +151,26 @@ returns-after-has_own_seal-clause-answered g c =
       | then-has_own_seal w ↦
           let why : (c.in-Err.written ≡ true)
           ⊎ (list_any (is_own_seal (place_of c.in-Some.gapped.lines c.in-Some.gapped.wear c.args.at))
-          (drop (length (ledger_of c.reserve.new.self).marks) (ledger_of c.write-done.new.ledger).marks) ≡ true) =
+          (drop (length (ledger_of c.reserve.new.self).marks) (ledger_of c.call-done.new.ledger).marks) ≡ true) =
           elim c.if-written.branch [
             | then-written v ↦ let t = v.if-written.true in inl (search (rules, t))
             | else-written v ↦
                 inr (sym (own_marks v.has_own_seal.result c.place-own.result
                 (place_of c.in-Some.gapped.lines c.in-Some.gapped.wear c.args.at) c.marks-from.result.now v.marks.result.now
-                (ledger_of c.reserve.new.self).marks (ledger_of c.write-done.new.ledger).marks v.has_own_seal.ensures own_is c.marks-from.ensures
+                (ledger_of c.reserve.new.self).marks (ledger_of c.call-done.new.ledger).marks v.has_own_seal.ensures own_is c.marks-from.ensures
                 v.marks.ensures)
                 ∙ sym v.value-is ∙ w.if-has_own_seal.true)
           ] in
           rw w.result-is (kept_seen its c.in-Err.written is why)
       | else-has_own_seal w ↦
           let none : list_any (is_own_seal (place_of c.in-Some.gapped.lines c.in-Some.gapped.wear c.args.at))
-          (drop (length (ledger_of c.reserve.new.self).marks) (ledger_of c.write-done.new.ledger).marks) ≡ false =
+          (drop (length (ledger_of c.reserve.new.self).marks) (ledger_of c.call-done.new.ledger).marks) ≡ false =
           elim c.if-written.branch [
             | then-written v ↦ absurd (true≢false (sym (v.value-is ∙ v.if-written.true) ∙ w.if-has_own_seal.false))
             | else-written v ↦
                 sym (own_marks v.has_own_seal.result c.place-own.result
                 (place_of c.in-Some.gapped.lines c.in-Some.gapped.wear c.args.at) c.marks-from.result.now v.marks.result.now
-                (ledger_of c.reserve.new.self).marks (ledger_of c.write-done.new.ledger).marks v.has_own_seal.ensures own_is c.marks-from.ensures
+                (ledger_of c.reserve.new.self).marks (ledger_of c.call-done.new.ledger).marks v.has_own_seal.ensures own_is c.marks-from.ensures
                 v.marks.ensures)
                 ∙ sym v.value-is ∙ w.if-has_own_seal.false
           ] in

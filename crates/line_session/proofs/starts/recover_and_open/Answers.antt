@@ -1,0 +1,25 @@
+-- Recovery was done, and the opening answers.
+use Rattle.std.proofs.Common.{rules, Ok, Err}
+use Rattle.pmem_base.specs.Geo.{shape_of}
+use Rattle.seal_ledger.specs.View.{ledger_of}
+use Rattle.pmem_recovery.specs.Parts.{SuiteState, suite_state}
+use Rattle.line_session.proofs.Openings.{has_started}
+use Rattle.line_session.proofs.starts.recover_and_open.Given.{Over}
+use Rattle.line_session.proofs.starts.recover_and_open.Goals as goal
+
+abbrev at : (g : Over) → g.row.S.Denot → SuiteState
+at g suite = suite_state (g.S.Suite.keys suite) (g.S.Suite.pads suite) (g.S.Suite.tags suite) (g.S.Suite.digests suite)
+
+pub returns-in-Err-open-clause-started : goal.returns-in-Err-open-clause-started
+returns-in-Err-open-clause-started g c =
+    has_started (λ setup. g.O.StoreOpening.relation c.args.opening.now setup) g.S.Suite.formulas_of (shape_of c.args.geo.now)
+    (g.B.Board.device c.args.board.now) (g.B.Board.device c.recover.new.board) (g.B.Board.device c.open.new.board)
+    (ledger_of c.args.ledger.now) (ledger_of c.open.new.ledger) (at g c.args.suite.now) (at g c.recover.new.suite) (at g c.open.new.suite)
+    c.recover.result c.in-Ok.engine c.in-Ok.field-0-1 (Err c.in-Err-open.fault) (search (rules, c.in-Ok.is)) c.recover.ensures c.in-Err-open.ensures.opened
+
+pub returns-in-Ok-open-clause-started : goal.returns-in-Ok-open-clause-started
+returns-in-Ok-open-clause-started g c =
+    has_started (λ setup. g.O.StoreOpening.relation c.args.opening.now setup) g.S.Suite.formulas_of (shape_of c.args.geo.now)
+    (g.B.Board.device c.args.board.now) (g.B.Board.device c.recover.new.board) (g.B.Board.device c.open.new.board)
+    (ledger_of c.args.ledger.now) (ledger_of c.open.new.ledger) (at g c.args.suite.now) (at g c.recover.new.suite) (at g c.open.new.suite)
+    c.recover.result c.in-Ok.engine c.in-Ok.field-0-1 (Ok c.in-Ok-open.opened) (search (rules, c.in-Ok.is)) c.recover.ensures c.in-Ok-open.ensures.opened

@@ -1,0 +1,129 @@
+//! A call of a store over a board whose fuse is watched, and whose accesses are logged: one watched board for each
+//! command, so that its steps are those of the whole command.
+ghost use Rattle.std.specs.Prelude.{◌≡◌, ℕ, true, Result, Some, IsSome, IfSome};
+ghost use Rattle.board.specs.MemBoard.{memory_of};
+ghost use Rattle.suite.specs.Setup.{Setup};
+ghost use Rattle.seal_ledger.specs.Ledger.{LedgerState};
+ghost use Rattle.seal_ledger.specs.View.{capacity_of, ledger_of};
+ghost use Rattle.pmem_engine.specs.Engine.{EngineState};
+ghost use Rattle.pmem_engine.specs.Parts.{Parts, parts_of, setup_at};
+ghost use Rattle.pmem_engine.specs.Calls.{IsUsable};
+ghost use Rattle.watched_board.specs.Watching.{IsWatched, device_during, none_taken};
+ghost use Rattle.access_log.specs.Traced.{GoesOn};
+
+use access_log::{AccessLog, Entry, Logged};
+use board::{Board, MemBoard};
+use seal_ledger::Ledger;
+use std::marker::Brand;
+use suite::Suite;
+use watched_board::{Left, Start, Taken};
+
+/// A call's answer, and the steps that it took.
+#[derive(Drop)]
+pub struct Done<T> {
+    pub taken: Taken,
+    pub answer: T,
+}
+
+/// A call of a store of lines over an engine: what it needs of the store and of the room for marks, and what it does of
+/// the store and of the engine's parts, by its plan and by what it makes of the lines.
+pub trait StoreCall {
+    /// The store.
+    type Store;
+    /// What the call answers where it is done.
+    type Value: Copy;
+    /// Why it isn't.
+    type Fault: Copy;
+
+    /// The store's engine.
+    ghost engine_of: { Self.Store → EngineState };
+
+    ghost can: { Self → Self.Store → LedgerState → ℕ → Type 0 };
+
+    ghost relation: { Self → Setup → Self.Store → Self.Store → Parts → Parts → Result Self.Value Self.Fault → Type 0 };
+
+    /// Makes the call.
+    fn make<B: Board, S: Suite>(
+        &self,
+        store: &mut Self::Store,
+        board: &mut B,
+        suite: &mut S,
+        ledger: &mut Ledger,
+    ) -> Result<Self::Value, Self::Fault>
+        requires can { can self.now store.old (ledger_of ledger.old) (capacity_of ledger.old) }
+        requires usable { IsUsable (engine_of store.old).shape (engine_of store.old) (B.device board.old) (ledger_of ledger.old) }
+        ensures made { relation self.now (setup_at S.Suite (engine_of store.old) suite.old) store.old store.new
+            (parts_of (engine_of store.old) (B.device board.old) (ledger_of ledger.old) (S.tags suite.old) (S.digests suite.old))
+            (parts_of (engine_of store.new) (B.device board.new) (ledger_of ledger.new) (S.tags suite.new) (S.digests suite.new)) result }
+        ensures capacity { capacity_of ledger.new ≡ capacity_of ledger.old }
+        ensures keys { S.keys suite.new ≡ S.keys suite.old }
+        ensures usable { IsUsable (engine_of store.old).shape (engine_of store.new) (B.device board.new) (ledger_of ledger.new) }
+        ensures shape { (engine_of store.new).shape ≡ (engine_of store.old).shape };
+}
+
+/// Makes a call over the watched board, whose accesses are logged.
+pub fn call<C: StoreCall, S: Suite>(
+    call: &C,
+    store: &mut C::Store,
+    board: &mut MemBoard,
+    suite: &mut S,
+    ledger: &mut Ledger,
+    log: &mut AccessLog,
+) -> Done<Result<C::Value, C::Fault>>
+    requires can { C.can call.now store.old (ledger_of ledger.old) (capacity_of ledger.old) }
+    requires on { (memory_of board.old).powered ≡ true }
+    requires usable { IsUsable (C.engine_of store.old).shape (C.engine_of store.old) (device_during (memory_of board.old) none_taken) (ledger_of ledger.old) }
+    ensures made { C.relation call.now (setup_at S.Suite (C.engine_of store.old) suite.old) store.old store.new
+        (parts_of (C.engine_of store.old) (device_during (memory_of board.old) none_taken) (ledger_of ledger.old) (S.tags suite.old) (S.digests suite.old))
+        (parts_of (C.engine_of store.new) (device_during (memory_of board.new) result.taken) (ledger_of ledger.new) (S.tags suite.new) (S.digests suite.new)) result.answer }
+    ensures watched { IsWatched (memory_of board.old) (memory_of board.new) result.taken }
+    ensures logged { GoesOn log.old (memory_of board.old) log.new (memory_of board.new) }
+    ensures capacity { capacity_of ledger.new ≡ capacity_of ledger.old }
+    ensures keys { S.keys suite.new ≡ S.keys suite.old }
+    ensures usable { IsUsable (C.engine_of store.old).shape (C.engine_of store.new) (device_during (memory_of board.new) result.taken) (ledger_of ledger.new) }
+    ensures shape { (C.engine_of store.new).shape ≡ (C.engine_of store.old).shape }
+{
+    let mut outcome = None;
+    let left = call_logged::<Brand, C, S>(call, store, board, suite, ledger, log, &mut outcome);
+    let Left {
+        board: _,
+        taken,
+        ..
+    } = left;
+    match outcome {
+        Some(answer) => Done { taken, answer },
+        None => unreachable!(),
+    }
+}
+
+fn call_logged<'a, K: Start + Entry, C: StoreCall, S: Suite>(
+    call: &C,
+    store: &mut C::Store,
+    board: &'a mut MemBoard,
+    suite: &mut S,
+    ledger: &mut Ledger,
+    log: &mut AccessLog,
+    outcome: &mut Option<Result<C::Value, C::Fault>>,
+) -> Left<'a, ()>
+    requires can { C.can call.now store.old (ledger_of ledger.old) (capacity_of ledger.old) }
+    requires start { memory_of board.old ≡ K.start }
+    requires name { board.ghost_name ≡ K.name }
+    requires log { log.old ≡ K.log }
+    requires on { (memory_of board.old).powered ≡ true }
+    requires usable { IsUsable (C.engine_of store.old).shape (C.engine_of store.old) (device_during (memory_of board.old) none_taken) (ledger_of ledger.old) }
+    ensures name { result.board.ghost_name ≡ K.name }
+    ensures made { IfSome outcome.new (λ answer. C.relation call.now (setup_at S.Suite (C.engine_of store.old) suite.old) store.old store.new
+        (parts_of (C.engine_of store.old) (device_during (memory_of board.old) none_taken) (ledger_of ledger.old) (S.tags suite.old) (S.digests suite.old))
+        (parts_of (C.engine_of store.new) (device_during (memory_of result.board.now) result.taken) (ledger_of ledger.new) (S.tags suite.new) (S.digests suite.new)) answer) }
+    ensures some { IsSome outcome.new }
+    ensures watched { IsWatched K.start (memory_of result.board.now) result.taken }
+    ensures logged { GoesOn K.log K.start log.new (memory_of result.board.now) }
+    ensures capacity { capacity_of ledger.new ≡ capacity_of ledger.old }
+    ensures keys { S.keys suite.new ≡ S.keys suite.old }
+    ensures usable { IsUsable (C.engine_of store.old).shape (C.engine_of store.new) (device_during (memory_of result.board.now) result.taken) (ledger_of ledger.new) }
+    ensures shape { (C.engine_of store.new).shape ≡ (C.engine_of store.old).shape }
+{
+    let mut logged = Logged::<K>::new(board, log.take());
+    *outcome = Some(call.make(store, &mut logged, suite, ledger));
+    logged.left((), log)
+}

@@ -1,0 +1,193 @@
+//! Power comes on: the device is recovered, and a store is opened by the engine that recovery gives.
+ghost use Rattle.std.specs.Prelude.{◌≡◌, ◌<◌, ℕ, true, Result, Some, IsSome, IfOk, IfSome, length};
+ghost use Rattle.pmem_base.specs.Geo.{shape_of};
+ghost use Rattle.pmem_base.specs.Layout.{data_lines, device_lines};
+ghost use Rattle.pmem_base.specs.Marks.{last_seal};
+ghost use Rattle.pmem_base.specs.Registers.{IsValidRegs};
+ghost use Rattle.board.specs.MemBoard.{memory_of};
+ghost use Rattle.suite.specs.Setup.{Setup};
+ghost use Rattle.seal_ledger.specs.Ledger.{IsOfShape, LedgerState};
+ghost use Rattle.seal_ledger.specs.View.{capacity_of, ledger_of};
+ghost use Rattle.pmem_engine.specs.Engine.{EngineState};
+ghost use Rattle.pmem_engine.specs.Parts.{Parts, parts_of, setup_at};
+ghost use Rattle.pmem_engine.specs.Calls.{IsUsable};
+ghost use Rattle.pmem_recovery.specs.Parts.{suite_state};
+ghost use Rattle.watched_board.specs.Watching.{IsWatched, device_during, none_taken};
+ghost use Rattle.access_log.specs.Traced.{GoesOn};
+ghost use Rattle.line_session.specs.During.{HasStartedBy};
+
+use crate::calls::Done;
+use access_log::{AccessLog, Entry, Logged};
+use board::{Board, MemBoard};
+use pmem_base::Geo;
+use pmem_engine::Engine;
+use pmem_recovery::{RecFault, recover};
+use seal_ledger::Ledger;
+use std::alloc::Global;
+use std::marker::Brand;
+use suite::Suite;
+use watched_board::{Left, Start};
+
+/// Why power didn't come on.
+#[derive(Clone, Copy)]
+pub enum StartFault<F> {
+    /// The device wasn't recovered.
+    Recovery(RecFault),
+    /// It was, and its lines weren't opened.
+    Opening(F),
+}
+
+/// The opening of a store of lines: what it needs of the room for marks, and what it does, by its plan and by what it
+/// makes of the lines.
+pub trait StoreOpening {
+    /// The store, with what its opening tells.
+    type Opened: Drop;
+    /// Why it isn't opened.
+    type Fault: Copy;
+
+    /// The engine of an opened store.
+    ghost engine_of: { Self.Opened → EngineState };
+
+    ghost can: { Self → LedgerState → ℕ → Type 0 };
+
+    ghost relation: { Self → Setup → Parts → (EngineState → Parts) → Result Self.Opened Self.Fault → Type 0 };
+
+    /// Opens the store.
+    fn open<B: Board, S: Suite>(
+        &self,
+        engine: Engine,
+        board: &mut B,
+        suite: &mut S,
+        ledger: &mut Ledger,
+    ) -> Result<Self::Opened, Self::Fault>
+        requires can { can self.now (ledger_of ledger.old) (capacity_of ledger.old) }
+        requires usable { IsUsable engine.shape engine (B.device board.old) (ledger_of ledger.old) }
+        ensures opened { relation self.now (setup_at S.Suite engine suite.old)
+            (parts_of engine (B.device board.old) (ledger_of ledger.old) (S.tags suite.old) (S.digests suite.old))
+            (λ now. parts_of now (B.device board.new) (ledger_of ledger.new) (S.tags suite.new) (S.digests suite.new)) result }
+        ensures capacity { capacity_of ledger.new ≡ capacity_of ledger.old }
+        ensures keys { S.keys suite.new ≡ S.keys suite.old }
+        ensures usable { IfOk result (λ opened. IsUsable engine.shape (engine_of opened) (B.device board.new) (ledger_of ledger.new)) }
+        ensures shape { IfOk result (λ opened. (engine_of opened).shape ≡ engine.shape) };
+}
+
+/// Recovers the device, and opens its store, over the watched board, whose accesses are logged.
+pub fn start<O: StoreOpening, S: Suite>(
+    alloc: Global,
+    geo: &Geo,
+    opening: &O,
+    board: &mut MemBoard,
+    suite: &mut S,
+    ledger: &mut Ledger,
+    log: &mut AccessLog,
+) -> Done<Result<O::Opened, StartFault<O::Fault>>>
+    requires can { O.can opening.now (ledger_of ledger.old) (capacity_of ledger.old) }
+    requires size { length (memory_of board.old).lines ≡ device_lines (shape_of geo.now) }
+    requires on { (memory_of board.old).powered ≡ true }
+    requires regs { IsValidRegs (shape_of geo.now) (memory_of board.old).regs }
+    requires ledger { IsOfShape (shape_of geo.now) (ledger_of ledger.old) }
+    requires each_sealed { (a : ℕ) → a < data_lines (shape_of geo.now) → IsSome (last_seal (ledger_of ledger.old).marks a) }
+    ensures started { HasStartedBy (record { shape = shape_of geo.now; formulas = S.formulas_of (S.keys suite.old) })
+        (O.relation opening.now (record { shape = shape_of geo.now; formulas = S.formulas_of (S.keys suite.old) }))
+        (device_during (memory_of board.old) none_taken) (device_during (memory_of board.new) result.taken)
+        (ledger_of ledger.old) (ledger_of ledger.new)
+        (suite_state (S.keys suite.old) (S.pads suite.old) (S.tags suite.old) (S.digests suite.old))
+        (suite_state (S.keys suite.new) (S.pads suite.new) (S.tags suite.new) (S.digests suite.new)) result.answer }
+    ensures watched { IsWatched (memory_of board.old) (memory_of board.new) result.taken }
+    ensures logged { GoesOn log.old (memory_of board.old) log.new (memory_of board.new) }
+    ensures keys { S.keys suite.new ≡ S.keys suite.old }
+    ensures usable { IfOk result.answer (λ opened. IsUsable (shape_of geo.now) (O.engine_of opened) (device_during (memory_of board.new) result.taken) (ledger_of ledger.new)) }
+    ensures shape { IfOk result.answer (λ opened. (O.engine_of opened).shape ≡ shape_of geo.now) }
+{
+    let mut outcome = None;
+    let left = start_logged::<Brand, O, S>(
+        alloc,
+        geo,
+        opening,
+        board,
+        suite,
+        ledger,
+        log,
+        &mut outcome,
+    );
+    let Left {
+        board: _,
+        taken,
+        ..
+    } = left;
+    match outcome {
+        Some(answer) => Done { taken, answer },
+        None => unreachable!(),
+    }
+}
+
+fn start_logged<'a, K: Start + Entry, O: StoreOpening, S: Suite>(
+    alloc: Global,
+    geo: &Geo,
+    opening: &O,
+    board: &'a mut MemBoard,
+    suite: &mut S,
+    ledger: &mut Ledger,
+    log: &mut AccessLog,
+    outcome: &mut Option<Result<O::Opened, StartFault<O::Fault>>>,
+) -> Left<'a, ()>
+    requires can { O.can opening.now (ledger_of ledger.old) (capacity_of ledger.old) }
+    requires size { length (memory_of board.old).lines ≡ device_lines (shape_of geo.now) }
+    requires start { memory_of board.old ≡ K.start }
+    requires name { board.ghost_name ≡ K.name }
+    requires log { log.old ≡ K.log }
+    requires on { (memory_of board.old).powered ≡ true }
+    requires regs { IsValidRegs (shape_of geo.now) (memory_of board.old).regs }
+    requires ledger { IsOfShape (shape_of geo.now) (ledger_of ledger.old) }
+    requires each_sealed { (a : ℕ) → a < data_lines (shape_of geo.now) → IsSome (last_seal (ledger_of ledger.old).marks a) }
+    ensures name { result.board.ghost_name ≡ K.name }
+    ensures started { IfSome outcome.new (λ answer. HasStartedBy (record { shape = shape_of geo.now; formulas = S.formulas_of (S.keys suite.old) })
+        (O.relation opening.now (record { shape = shape_of geo.now; formulas = S.formulas_of (S.keys suite.old) }))
+        (device_during (memory_of board.old) none_taken) (device_during (memory_of result.board.now) result.taken)
+        (ledger_of ledger.old) (ledger_of ledger.new)
+        (suite_state (S.keys suite.old) (S.pads suite.old) (S.tags suite.old) (S.digests suite.old))
+        (suite_state (S.keys suite.new) (S.pads suite.new) (S.tags suite.new) (S.digests suite.new)) answer) }
+    ensures some { IsSome outcome.new }
+    ensures watched { IsWatched K.start (memory_of result.board.now) result.taken }
+    ensures logged { GoesOn K.log K.start log.new (memory_of result.board.now) }
+    ensures keys { S.keys suite.new ≡ S.keys suite.old }
+    ensures usable { IfSome outcome.new (λ answer. IfOk answer (λ opened. IsUsable (shape_of geo.now) (O.engine_of opened) (device_during (memory_of result.board.now) result.taken) (ledger_of ledger.new))) }
+    ensures shape { IfSome outcome.new (λ answer. IfOk answer (λ opened. (O.engine_of opened).shape ≡ shape_of geo.now)) }
+{
+    let mut logged = Logged::<K>::new(board, log.take());
+    *outcome = Some(recover_and_open(alloc, geo, opening, &mut logged, suite, ledger));
+    logged.left((), log)
+}
+
+/// The same over any board.
+fn recover_and_open<B: Board, O: StoreOpening, S: Suite>(
+    alloc: Global,
+    geo: &Geo,
+    opening: &O,
+    board: &mut B,
+    suite: &mut S,
+    ledger: &mut Ledger,
+) -> Result<O::Opened, StartFault<O::Fault>>
+    requires can { O.can opening.now (ledger_of ledger.old) (capacity_of ledger.old) }
+    requires size { (B.device board.old).size ≡ device_lines (shape_of geo.now) }
+    requires regs { IsValidRegs (shape_of geo.now) (B.device board.old).regs }
+    requires ledger { IsOfShape (shape_of geo.now) (ledger_of ledger.old) }
+    requires each_sealed { (a : ℕ) → a < data_lines (shape_of geo.now) → IsSome (last_seal (ledger_of ledger.old).marks a) }
+    ensures started { HasStartedBy (record { shape = shape_of geo.now; formulas = S.formulas_of (S.keys suite.old) })
+        (O.relation opening.now (record { shape = shape_of geo.now; formulas = S.formulas_of (S.keys suite.old) }))
+        (B.device board.old) (B.device board.new) (ledger_of ledger.old) (ledger_of ledger.new)
+        (suite_state (S.keys suite.old) (S.pads suite.old) (S.tags suite.old) (S.digests suite.old))
+        (suite_state (S.keys suite.new) (S.pads suite.new) (S.tags suite.new) (S.digests suite.new)) result }
+    ensures keys { S.keys suite.new ≡ S.keys suite.old }
+    ensures usable { IfOk result (λ opened. IsUsable (shape_of geo.now) (O.engine_of opened) (B.device board.new) (ledger_of ledger.new)) }
+    ensures shape { IfOk result (λ opened. (O.engine_of opened).shape ≡ shape_of geo.now) }
+{
+    let engine = match recover(alloc, geo, board, suite, ledger) {
+        Err(fault) => return Err(StartFault::Recovery(fault)),
+        Ok((engine, _)) => engine,
+    };
+    match opening.open(engine, board, suite, ledger) {
+        Err(fault) => Err(StartFault::Opening(fault)),
+        Ok(opened) => Ok(opened),
+    }
+}

@@ -1,8 +1,0 @@
--- None of the marks so far is a write's own seal of the line.
-use Rattle.std.proofs.Common.{◌≡◌, false, take}
-use Rattle.std.specs.List.{list_any}
-use Rattle.engine_lines.specs.Writes.{is_own_seal}
-use Rattle.wear_session.proofs.serving.has_own_seal.Given as goal
-
-abbrev pub invariant-loop-mark : goal.invariant-loop-mark
-invariant-loop-mark l = list_any (is_own_seal l.at) (take l.mark-index l.marks) ≡ false
