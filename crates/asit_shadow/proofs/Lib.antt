@@ -35,3 +35,6 @@ pub mod WriteCalls
 pub mod CallCounts
 pub mod FormatSteps
 pub mod FormatEnds
+pub mod FetchPlans
+pub mod CalledPlans
+pub mod WritePlans

@@ -14,3 +14,6 @@ pub mod Fetching
 pub mod Recovering
 pub mod Writing
 pub mod Formatting
+pub mod Plans
+pub mod WritePlans
+pub mod Determined

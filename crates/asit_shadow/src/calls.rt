@@ -5,6 +5,10 @@ ghost use Rattle.counter_tree.specs.Layout.{tree_lines};
 ghost use Rattle.pmem_recovery.specs.Parts.{suite_state};
 ghost use Rattle.asit_shadow.specs.Parts.{tree_parts_of, IsTreeUsable};
 ghost use Rattle.asit_shadow.specs.Counts.{CountsOfRead, CountsOfWrite};
+ghost use Rattle.call_plan.specs.Plans.{ended};
+ghost use Rattle.call_plan.specs.Following.{Follows};
+ghost use Rattle.asit_shadow.specs.Plans.{tree_chip_of, read_line_plan, read_plan};
+ghost use Rattle.asit_shadow.specs.WritePlans.{write_plan};
 ghost use Rattle.asit_shadow.specs.Calls.{outcome_of_tree_fault, IsLineRead, HasReadTreeLine, HasWrittenTreeLine};
 
 use crate::engine::TreeEngine;
@@ -38,6 +42,9 @@ impl TreeEngine {
         ensures keys { S.keys suite.new ≡ S.keys suite.old }
         ensures digests { S.digests suite.new ≡ S.digests suite.old }
         ensures shape { self.new.shape ≡ self.old.shape }
+        ensures plan { Follows (read_plan (record { shape = self.old.shape; formulas = S.formulas_of (S.keys suite.old) }) at
+            (tree_chip_of self.old (W.watched watch.old) (S.pads suite.old) (S.tags suite.old) (S.digests suite.old))) (B.device board.old) (B.device board.new)
+            (ended result (tree_chip_of self.new (W.watched watch.new) (S.pads suite.new) (S.tags suite.new) (S.digests suite.new))) }
     {
         if self.is_down() {
             return Err(TreeFault::Down);
@@ -74,6 +81,9 @@ impl TreeEngine {
         ensures usable { IsTreeUsable self.old.shape (tree_parts_of self.new (B.device board.new) (W.watched watch.new)) }
         ensures keys { S.keys suite.new ≡ S.keys suite.old }
         ensures shape { self.new.shape ≡ self.old.shape }
+        ensures plan { Follows (write_plan (record { shape = self.old.shape; formulas = S.formulas_of (S.keys suite.old) }) (B.device board.old).regs at line.now
+            (tree_chip_of self.old (W.watched watch.old) (S.pads suite.old) (S.tags suite.old) (S.digests suite.old))) (B.device board.old) (B.device board.new)
+            (ended result (tree_chip_of self.new (W.watched watch.new) (S.pads suite.new) (S.tags suite.new) (S.digests suite.new))) }
     {
         if self.is_down() {
             return Err(TreeFault::Down);
@@ -108,6 +118,9 @@ impl TreeEngine {
         ensures down { self.new.down ≡ self.old.down }
         ensures keys { S.keys suite.new ≡ S.keys suite.old }
         ensures digests { S.digests suite.new ≡ S.digests suite.old }
+        ensures plan { Follows (read_line_plan (record { shape = self.old.shape; formulas = S.formulas_of (S.keys suite.old) }) at
+            (tree_chip_of self.old (W.watched watch.old) (S.pads suite.old) (S.tags suite.old) (S.digests suite.old))) (B.device board.old) (B.device board.new)
+            (ended result (tree_chip_of self.new (W.watched watch.new) (S.pads suite.new) (S.tags suite.new) (S.digests suite.new))) }
     {
         self.is_whole();
         let node = match self.fetch(board, suite, watch, at) {

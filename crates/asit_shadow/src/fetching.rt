@@ -6,10 +6,15 @@ ghost use Rattle.pmem_base.specs.Geo.{shape_of};
 ghost use Rattle.pmem_base.specs.Layout.{meta_lines};
 ghost use Rattle.board.specs.Steps.{WasCut};
 ghost use Rattle.counter_tree.specs.Layout.{tree_lines, tree_slots, tree_size};
+ghost use Rattle.counter_tree.specs.Slots.{slot_of};
 ghost use Rattle.asit_shadow.specs.State.{cache_at, IsCached, IsCachedAs};
 ghost use Rattle.asit_shadow.specs.Parts.{tree_parts_of, IsTreeUsable};
 ghost use Rattle.asit_shadow.specs.Work.{holds_dirty};
 ghost use Rattle.asit_shadow.specs.Counts.{level_tags, fetch_tags};
+ghost use Rattle.asit_shadow.specs.Plans.{TreeChip, tree_chip_of, with_read, fault_of_node, node_in, room_plan, level_plan, fetch_plan};
+ghost use Rattle.call_plan.specs.Plans.{ended, lifted};
+ghost use Rattle.call_plan.specs.Following.{Follows};
+ghost use Rattle.counter_tree.specs.Plans.{read_parts, node_plan};
 ghost use Rattle.asit_shadow.specs.Fetching.{IsRoomMade, IsNodeTaken, HasFetchedNode, HasNoNode, IsNodePathFetched, IsFetchStopped};
 
 use crate::cache::CachedNode;
@@ -44,6 +49,9 @@ impl TreeEngine {
         ensures keys { S.keys suite.new ≡ S.keys suite.old }
         ensures pads { S.pads suite.new ≡ S.pads suite.old }
         ensures digests { S.digests suite.new ≡ S.digests suite.old }
+        ensures plan { Follows (fetch_plan (record { shape = self.old.shape; formulas = S.formulas_of (S.keys suite.old) }) at
+            (tree_chip_of self.old (W.watched watch.old) (S.pads suite.old) (S.tags suite.old) (S.digests suite.old))) (B.device board.old) (B.device board.new)
+            (ended result (tree_chip_of self.new (W.watched watch.new) (S.pads suite.new) (S.tags suite.new) (S.digests suite.new))) }
     {
         let geo = self.geo();
         let path = path(&geo, at / 4);
@@ -84,6 +92,9 @@ impl TreeEngine {
         ensures keys { S.keys suite.new ≡ S.keys suite.old }
         ensures pads { S.pads suite.new ≡ S.pads suite.old }
         ensures digests { S.digests suite.new ≡ S.digests suite.old }
+        ensures plan { Follows (level_plan (record { shape = self.old.shape; formulas = S.formulas_of (S.keys suite.old) }) x version
+            (tree_chip_of self.old (W.watched watch.old) (S.pads suite.old) (S.tags suite.old) (S.digests suite.old))) (B.device board.old) (B.device board.new)
+            (ended result (tree_chip_of self.new (W.watched watch.new) (S.pads suite.new) (S.tags suite.new) (S.digests suite.new))) }
     {
         self.is_whole();
         if let Some(node) = self.cached(x) {
@@ -111,6 +122,7 @@ impl TreeEngine {
         requires { x < meta_lines self.now.shape }
         ensures some { IfSome result (IsCachedAs self.now.shape self.now.cache x) }
         ensures none { IfNone result (IsCached self.now.shape self.now.cache x → ⊥) }
+        ensures value { result ≡ node_in (cache_at self.now.cache (slot_of self.now.shape x)) x }
     {
         match self.held(slot_of(&self.geo(), x)) {
             Some(held) => { if held.x == x { Some(held.node) } else { None } }
@@ -130,6 +142,8 @@ impl TreeEngine {
         ensures keys { S.keys suite.new ≡ S.keys suite.old }
         ensures pads { S.pads suite.new ≡ S.pads suite.old }
         ensures digests { S.digests suite.new ≡ S.digests suite.old }
+        ensures plan { Follows (room_plan (record { shape = self.now.shape; formulas = S.formulas_of (S.keys suite.old) })
+            (cache_at self.now.cache i) (S.tags suite.old)) (B.device board.old) (B.device board.new) (ended result (S.tags suite.new)) }
     {
         self.is_whole();
         let geo = self.geo();
@@ -162,6 +176,10 @@ fn taken<B: Board, S: Suite, W: Watch>(
     ensures keys { S.keys suite.new ≡ S.keys suite.old }
     ensures pads { S.pads suite.new ≡ S.pads suite.old }
     ensures digests { S.digests suite.new ≡ S.digests suite.old }
+    ensures plan { (chip : TreeChip) → Follows (lifted (with_read chip) (fault_of_node x)
+        (node_plan (record { shape = shape_of geo.now; formulas = S.formulas_of (S.keys suite.old) }) x version
+        (read_parts (W.watched watch.old) (S.pads suite.old) (S.tags suite.old)))) (B.device board.old) (B.device board.new)
+        (ended result (with_read chip (read_parts (W.watched watch.new) (S.pads suite.new) (S.tags suite.new)))) }
 {
     match fetch_node(geo, board, suite, watch, x, version) {
         Ok(node) => Ok(node),

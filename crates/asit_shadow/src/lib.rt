@@ -3,6 +3,7 @@
 
 mod cache;
 mod calls;
+mod determined;
 mod engine;
 mod fault;
 mod fetching;
@@ -14,6 +15,7 @@ mod seals;
 mod writing;
 
 pub use cache::CachedNode;
+pub use determined::{tree_read_is_determined, tree_write_is_determined};
 pub use engine::TreeEngine;
 pub use fault::TreeFault;
 pub use formatting::tree_format;

@@ -1,6 +1,6 @@
 //! A write: its path raised, armed with the new slot lines and their root, told to the watch, and
 //! written.
-ghost use Rattle.std.specs.Prelude.{ℕ, suc, ◌≡◌, ◌<◌, ◌≤◌, ◌*◌, ◌-◌, ◌%◌, ◌^◌, ◌==◌, ◌↔◌, false, true, List, All, length};
+ghost use Rattle.std.specs.Prelude.{ℕ, suc, ◌≡◌, ◌<◌, ◌≤◌, ◌+◌, ◌*◌, ◌-◌, ◌%◌, ◌^◌, ◌==◌, ◌↔◌, false, true, List, All, length};
 ghost use Rattle.pmem_base.specs.Counts.{risen_times};
 ghost use Rattle.pmem_recovery.specs.Parts.{suite_state};
 ghost use Rattle.pmem_base.specs.declared.lines.Line.{Line};
@@ -16,6 +16,10 @@ ghost use Rattle.asit_shadow.specs.Counts.{CountsOfWrite};
 ghost use Rattle.asit_shadow.specs.Paths.{line_path};
 ghost use Rattle.asit_shadow.specs.Steps.{KeepsOtherRegisters};
 ghost use Rattle.asit_shadow.specs.Parts.{tree_parts_of, IsWatchReady, IsTreeUsable};
+ghost use Rattle.call_plan.specs.Plans.{ended};
+ghost use Rattle.call_plan.specs.Following.{Follows};
+ghost use Rattle.asit_shadow.specs.Plans.{tree_chip_of};
+ghost use Rattle.asit_shadow.specs.WritePlans.{cached_node, raised_node, raised_path, named_all, write_line_plan};
 ghost use Rattle.asit_shadow.specs.Writing.{set_pairs, position_below, IsPathRaised, dirty_entries, armed_lines, IsTreeNamed, IsWriteTold, HasWrittenUp, pair_at};
 
 use crate::cache::CachedNode;
@@ -53,6 +57,9 @@ impl TreeEngine {
             (suite_state (S.keys suite.old) (S.pads suite.old) (S.tags suite.old) (S.digests suite.old))
             (suite_state (S.keys suite.new) (S.pads suite.new) (S.tags suite.new) (S.digests suite.new)) result }
         ensures keys { S.keys suite.new ≡ S.keys suite.old }
+        ensures plan { Follows (write_line_plan (record { shape = self.old.shape; formulas = S.formulas_of (S.keys suite.old) }) (B.device board.old).regs at line.now
+            (tree_chip_of self.old (W.watched watch.old) (S.pads suite.old) (S.tags suite.old) (S.digests suite.old))) (B.device board.old) (B.device board.new)
+            (ended result (tree_chip_of self.new (W.watched watch.new) (S.pads suite.new) (S.tags suite.new) (S.digests suite.new))) }
     {
         self.is_whole();
         if is_used_up(&self.top()) {
@@ -83,7 +90,8 @@ impl TreeEngine {
     /// position below it.
     fn raised(&self, at: u32) -> ArrayVec<(u32, Node), 7>
         requires { at < tree_lines self.now.shape }
-        ensures { IsPathRaised self.now.shape self.now.cache at result.items }
+        ensures raised { IsPathRaised self.now.shape self.now.cache at result.items }
+        ensures value { result.items ≡ raised_path self.now.shape self.now.cache at (self.now.shape.levels + 1) }
     {
         let geo = self.geo();
         geo.layout_is_one_to_one();
@@ -102,6 +110,7 @@ impl TreeEngine {
         requires { x < meta_lines self.now.shape }
         ensures cached { IsCached self.now.shape self.now.cache x → IsCachedAs self.now.shape self.now.cache x result }
         ensures version { total result < 2 ^ 64 }
+        ensures value { result ≡ cached_node self.now.shape self.now.cache x }
     {
         self.is_whole();
         match self.cached(x) {
@@ -127,6 +136,8 @@ impl TreeEngine {
         ensures root { (slots : List Line) → length slots ≡ tree_slots self.old.shape
             → IsShadowTree (S.formulas_of (S.keys suite.old)) self.old.tree.height slots self.old.tree.lines
             → IsTreeNamed (S.formulas_of (S.keys suite.old)) self.old.shape nodes.now.items self.old.tree self.new.tree result.root slots }
+        ensures named { (self.new.tree, result.root) ≡ named_all (S.formulas_of (S.keys suite.old)) self.old.shape nodes.now.items
+            (self.old.tree, regs.now.root) }
         ensures others { KeepsOtherRegisters regs.now result }
         ensures height { self.new.tree.height ≡ self.old.tree.height }
         ensures shape { self.new.shape ≡ self.old.shape }
@@ -229,6 +240,7 @@ fn raise(node: &Node, slot: u8) -> Node
     requires slot { slot < 4 }
     requires version { total node.now < 2 ^ 64 }
     ensures raised { total node.now < 2 ^ 64 - 1 → result ≡ raised node.now slot }
+    ensures value { result ≡ raised_node node.now slot }
     ensures whole { IsNode result }
     ensures version { total result < 2 ^ 64 }
 {

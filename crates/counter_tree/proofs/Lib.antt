@@ -11,3 +11,4 @@ pub mod ChipTree
 pub mod AcceptedLemmas
 pub mod DifferenceLemmas
 pub mod BookLemmas
+pub mod ReadPlans

@@ -8,3 +8,4 @@ pub mod Watch
 pub mod Accepted
 pub mod Book
 pub mod BookView
+pub mod Plans

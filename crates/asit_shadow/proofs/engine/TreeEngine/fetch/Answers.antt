@@ -1,16 +1,22 @@
 -- The levels so far and the next one, whether it is had or not.
-use Rattle.std.proofs.Common.{ℕ, suc, ◌≡◌, ◌<◌, ◌+◌, List, refl, ap, subst, subst₂, ◌∙◌, arith}
+use Rattle.std.proofs.Common.{ℕ, suc, ◌≡◌, ◌<◌, ◌+◌, List, Result, refl, sym, ap, subst, subst₂, ◌∙◌, arith}
 use Rattle.std.specs.Prelude.{slice_index}
 use Rattle.pmem_base.specs.Geo.{shape_of}
 use Rattle.pmem_base.specs.Shape.{Shape}
+use Rattle.board.specs.Device.{Device}
 use Rattle.suite.specs.Setup.{Setup}
+use Rattle.call_plan.specs.Following.{Follows}
+use Rattle.call_plan.proofs.Loops.{AreTurnsLeft, turns_start, turn_ok, turn_err, turns_end}
+use Rattle.counter_tree.specs.declared.nodes.Node.{Node}
 use Rattle.bonsai_tree.specs.Positions.{child_slot}
 use Rattle.counter_tree.specs.Nodes.{counter}
-use Rattle.asit_shadow.specs.State.{TreeState, IsCachedAs}
+use Rattle.asit_shadow.specs.State.{TreeState, IsCachedAs, top_node}
 use Rattle.asit_shadow.specs.Parts.{TreeEngineParts, tree_parts_of, AreTreeTrusted}
 use Rattle.pmem_base.specs.Counts.{risen_times}
 use Rattle.asit_shadow.specs.Counts.{level_tags, fetch_tags}
 use Rattle.asit_shadow.specs.Paths.{line_path}
+use Rattle.asit_shadow.specs.declared.fault.TreeFault.{TreeFault}
+use Rattle.asit_shadow.specs.Plans.{TreeChip, tree_chip_of, level_plan, fetch_turn, fetch_plan}
 use Rattle.asit_shadow.specs.Fetching.{HasFetchedNode, HasNoNode, IsPathFetchedTo}
 use Rattle.asit_shadow.proofs.PathSteps.{IsFetchReady, IsNextLevel, path-start, last-start, last-end, place-is, version-is, next-low, path-next, had-in}
 use Rattle.asit_shadow.proofs.FetchStops.{fetch-stopped}
@@ -25,6 +31,11 @@ at g engine board watch = tree_parts_of engine (g.B.Board.device board) (g.W.Wat
 
 abbrev under : (g : Over) → TreeState → g.row.S.Denot → Setup
 under g engine suite = record { shape = engine.shape; formulas = g.S.Suite.formulas_of (g.S.Suite.keys suite) }
+
+-- the state beside the board at a moment
+abbrev chip : (g : Over) → TreeState → g.row.W.Denot → g.row.S.Denot → TreeChip
+chip g engine watch suite =
+    tree_chip_of engine (g.W.Watch.watched watch) (g.S.Suite.pads suite) (g.S.Suite.tags suite) (g.S.Suite.digests suite)
 
 pub levels-init : goal.levels-init
 levels-init g c =
@@ -42,6 +53,12 @@ levels-init g c =
           λ trusted.
           last-start (under g c.args.self.now c.args.suite.now) c.args.at c.top-node.result (at g c.args.self.now c.args.board.now c.args.watch.now) ready
           c.top-node.ensures.value trusted;
+      reached =
+          subst (λ (node : Node). AreTurnsLeft (fetch_plan (under g c.args.self.now c.args.suite.now) c.args.at (chip g c.args.self.now c.args.watch.now c.args.suite.now))
+          (g.B.Board.device c.args.board.now) (fetch_turn (under g c.args.self.now c.args.suite.now) c.args.at) 0 c.args.self.now.shape.levels
+          (chip g c.args.self.now c.args.watch.now c.args.suite.now, node) (g.B.Board.device c.args.board.now)) (sym c.top-node.ensures.value)
+          (turns_start (fetch_turn (under g c.args.self.now c.args.suite.now) c.args.at) c.args.self.now.shape.levels
+          (chip g c.args.self.now c.args.watch.now c.args.suite.now, top_node c.args.self.now.cache) (g.B.Board.device c.args.board.now));
       tags = refl;
       pads = refl;
       keys = refl;
@@ -51,7 +68,7 @@ levels-init g c =
 -- ---- before a level
 
 module _ (g : Over) (c : After-from g) where
-  setup : Setup
+  abbrev setup : Setup
   setup = under g c.args.self.now c.args.suite.now
 
   place : slice_index c.as_slice.result.now (c.from.result + 1) ≡ slice_index (line_path c.args.self.now.shape c.args.at) (suc c.levels.level)
@@ -86,6 +103,29 @@ module _ (g : Over) (c : After-from g) where
             version-is (under g c.args.self.now c.args.suite.now) c.args.at c.levels.level (slice_index c.as_slice.result.now (c.from.result + 1)) version c.levels.node
             (at g c.levels.self c.levels.board c.levels.watch) below place is c.levels.invariant.last;
       }
+
+  -- the level's plan is the turn's
+  turn : (version : ℕ) → version ≡ counter c.levels.node (child_slot (slice_index c.as_slice.result.now (c.from.result + 1)))
+      → {new : Device} {end : Result (TreeChip × Node) (TreeChip × TreeFault)}
+      → Follows (level_plan (under g c.levels.self c.levels.suite) (slice_index c.as_slice.result.now (c.from.result + 1)) version
+      (chip g c.levels.self c.levels.watch c.levels.suite)) (g.B.Board.device c.levels.board) new end
+      → Follows (fetch_turn setup c.args.at c.levels.level (chip g c.levels.self c.levels.watch c.levels.suite, c.levels.node)) (g.B.Board.device c.levels.board) new end
+  turn version is {new = new} {end = end} it =
+      let now : TreeChip = chip g c.levels.self c.levels.watch c.levels.suite in
+      subst (λ x. Follows (level_plan setup x (counter c.levels.node (child_slot x)) now) (g.B.Board.device c.levels.board) new end) place
+      (subst (λ v. Follows (level_plan setup (slice_index c.as_slice.result.now (c.from.result + 1)) v now) (g.B.Board.device c.levels.board) new end) is
+      (subst₂ (λ (k : Shape) (keys : List ℕ). Follows (level_plan (record { shape = k; formulas = g.S.Suite.formulas_of keys }) (slice_index c.as_slice.result.now (c.from.result + 1))
+      version now) (g.B.Board.device c.levels.board) new end) c.levels.invariant.fetched.effect.shape c.levels.invariant.keys it))
+
+pub returns-in-Err-clause-plan : goal.returns-in-Err-clause-plan
+returns-in-Err-clause-plan g c =
+    let here = (goal.at.returns-in-Err-clause-plan g c).After-from in
+    turn_err c.levels.invariant.reached (below g here) (turn g here (slice_index c.levels.node.0 c.from-in-levels.result)
+    (ap (slice_index c.levels.node.0) (c.from-in-levels.ensures ∙ c.child_slot.ensures.value)) c.in-Err.ensures.plan)
+
+pub returns-clause-plan : goal.returns-clause-plan
+returns-clause-plan g c =
+    turns_end c.levels.invariant.reached (omega (arith, c.levels-test.false, c.levels-level-end.ensures, ap (λ (k : Shape). k.levels) c.geo-geo.ensures))
 
 pub child_slot-requires : goal.child_slot-requires
 child_slot-requires g c =
@@ -123,6 +163,9 @@ levels-preserved g c =
           (place g before ∙ ap (slice_index (line_path c.args.self.now.shape c.args.at)) more)
           (had-in (under g c.args.self.now c.args.suite.now) c.args.at c.levels.level (slice_index c.as_slice.result.now (c.from.result + 1)) (slice_index c.levels.node.0 c.from-in-levels.result) c.in-Ok.node
           (at g c.args.self.now c.args.board.now c.args.watch.now) (at g c.levels.self c.levels.board c.levels.watch) (at g c.node_of.new.self c.node_of.new.board c.node_of.new.watch) its had);
+      reached =
+          turn_ok c.levels.invariant.reached (below g before) (turn g before (slice_index c.levels.node.0 c.from-in-levels.result)
+          (ap (slice_index c.levels.node.0) (c.from-in-levels.ensures ∙ c.child_slot.ensures.value)) c.in-Ok.ensures.plan);
       tags =
           subst (λ n. g.S.Suite.tags c.node_of.new.suite ≡ risen_times (fetch_tags (under g c.args.self.now c.args.suite.now) c.args.self.now.cache c.args.at n) (g.S.Suite.tags c.args.suite.now)) more
           (tags-next (under g c.args.self.now c.args.suite.now) c.args.at c.levels.level (slice_index c.as_slice.result.now (c.from.result + 1)) (slice_index c.levels.node.0 c.from-in-levels.result)

@@ -7,6 +7,8 @@ use Rattle.pmem_base.specs.Counts.{risen_times}
 use Rattle.asit_shadow.specs.Counts.{fetch_tags}
 use Rattle.asit_shadow.specs.Paths.{line_path}
 use Rattle.asit_shadow.specs.Fetching.{IsPathFetchedTo}
+use Rattle.call_plan.proofs.Loops.{AreTurnsLeft}
+use Rattle.asit_shadow.specs.Plans.{tree_chip_of, fetch_turn, fetch_plan}
 use Rattle.asit_shadow.proofs.engine.TreeEngine.fetch.Given as goal
 
 abbrev pub invariant-levels : goal.invariant-levels
@@ -20,6 +22,15 @@ invariant-levels g l =
           AreTreeTrusted (record { shape = l.fn.self.shape; formulas = g.S.Suite.formulas_of (g.S.Suite.keys l.fn.suite) })
           (tree_parts_of l.self (g.B.Board.device l.board) (g.W.Watch.watched l.watch))
           → IsCachedAs l.fn.self.shape l.self.cache (slice_index (line_path l.fn.self.shape l.fn.at) l.level) l.node;
+      reached :
+          AreTurnsLeft
+          (fetch_plan (record { shape = l.fn.self.shape; formulas = g.S.Suite.formulas_of (g.S.Suite.keys l.fn.suite) }) l.fn.at
+          (tree_chip_of l.fn.self (g.W.Watch.watched l.fn.watch) (g.S.Suite.pads l.fn.suite) (g.S.Suite.tags l.fn.suite) (g.S.Suite.digests l.fn.suite)))
+          (g.B.Board.device l.fn.board)
+          (fetch_turn (record { shape = l.fn.self.shape; formulas = g.S.Suite.formulas_of (g.S.Suite.keys l.fn.suite) }) l.fn.at)
+          l.level l.fn.self.shape.levels
+          (tree_chip_of l.self (g.W.Watch.watched l.watch) (g.S.Suite.pads l.suite) (g.S.Suite.tags l.suite) (g.S.Suite.digests l.suite), l.node)
+          (g.B.Board.device l.board);
       tags : g.S.Suite.tags l.suite ≡ risen_times (fetch_tags (record { shape = l.fn.self.shape; formulas = g.S.Suite.formulas_of (g.S.Suite.keys l.fn.suite) }) l.fn.self.cache l.fn.at l.level) (g.S.Suite.tags l.fn.suite);
       pads : g.S.Suite.pads l.suite ≡ g.S.Suite.pads l.fn.suite;
       keys : g.S.Suite.keys l.suite ≡ g.S.Suite.keys l.fn.suite;

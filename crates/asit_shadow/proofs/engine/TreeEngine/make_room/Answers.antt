@@ -1,6 +1,11 @@
--- A held node's position is below 5461.
-use Rattle.std.proofs.Common.{sym, ◌∙◌, arith}
+-- A held node's position is below 5461; and the plan of making room, at each end.
+use Rattle.std.proofs.Common.{sym, ap, ◌∙◌, arith}
+use Rattle.pmem_base.specs.Shape.{Shape}
 use Rattle.pmem_base.proofs.LayoutLemmas.{meta_lines-most}
+use Rattle.counter_tree.specs.Layout.{line_of_node}
+use Rattle.counter_tree.proofs.ReadPlans.{leaving}
+use Rattle.asit_shadow.specs.State.{cache_at}
+use Rattle.asit_shadow.proofs.FetchPlans.{room_none, room_clean, room_end}
 use Rattle.asit_shadow.proofs.engine.TreeEngine.make_room.Goals as goal
 
 pub node_line-line-requires-clause-place : goal.node_line-line-requires-clause-place
@@ -10,3 +15,24 @@ node_line-line-requires-clause-place g c =
       meta_lines-most c.args.self.now.shape c.is_whole.ensures.shape.at_most_six_levels,
       (c.is_whole.ensures.engine.each_held c.args.i c.in-Some.held (sym c.held.ensures ∙ c.in-Some.is)).on_tree,
     )
+
+-- ---- the plan
+
+pub returns-in-None-clause-plan : goal.returns-in-None-clause-plan
+returns-in-None-clause-plan g c =
+    room_none (record { shape = c.args.self.now.shape; formulas = g.S.Suite.formulas_of (g.S.Suite.keys c.args.suite.now) })
+    (cache_at c.args.self.now.cache c.args.i) (g.S.Suite.tags c.args.suite.now) (g.B.Board.device c.args.board.now) (sym c.held.ensures ∙ c.in-None.is)
+
+pub returns-then-not-held-clause-plan : goal.returns-then-not-held-clause-plan
+returns-then-not-held-clause-plan g c =
+    room_clean (record { shape = c.args.self.now.shape; formulas = g.S.Suite.formulas_of (g.S.Suite.keys c.args.suite.now) })
+    (cache_at c.args.self.now.cache c.args.i) (g.S.Suite.tags c.args.suite.now) c.in-Some.held (sym c.held.ensures ∙ c.in-Some.is) (g.B.Board.device c.args.board.now) (cc)
+
+pub returns-clause-plan : goal.returns-clause-plan
+returns-clause-plan g c =
+    leaving c.write_line.result (g.S.Suite.tags c.node_line-line.new.suite) c.node_line-line.ensures.tags
+    (room_end (record { shape = c.args.self.now.shape; formulas = g.S.Suite.formulas_of (g.S.Suite.keys c.args.suite.now) })
+    (cache_at c.args.self.now.cache c.args.i) (g.S.Suite.tags c.args.suite.now) c.in-Some.held (sym c.held.ensures ∙ c.in-Some.is)
+    c.node_place.result c.node_line-line.result (g.B.Board.device c.args.board.now) (g.B.Board.device c.write_line.new.self) c.write_line.result (cc)
+    (c.node_place.ensures.value ∙ ap (λ (k : Shape). line_of_node k c.in-Some.held.x) c.geo-geo.ensures) c.node_line-line.ensures.value
+    c.write_line.ensures.ok c.write_line.ensures.cut)

@@ -13,6 +13,8 @@ use Rattle.pmem_base.specs.Layout.{meta_lines}
 use Rattle.pmem_base.proofs.LayoutLemmas.{meta_lines-most}
 use Rattle.counter_tree.proofs.HeightLemmas.{shadow_height-room}
 use Rattle.asit_shadow.specs.Writing.{armed_lines, IsTreeNamed}
+use Rattle.asit_shadow.specs.WritePlans.{named_all}
+use Rattle.asit_shadow.proofs.WritePlans.{named-none, named-step}
 use Rattle.asit_shadow.proofs.RegisterLaws.{others-emptied, others-then}
 use Rattle.asit_shadow.proofs.TagLaws.{path-digests}
 use Rattle.asit_shadow.proofs.WriteLoops.{armed-none, armed-next, named-next}
@@ -29,6 +31,9 @@ levels-init g c =
           (ap (λ (r : Regs). r.group.items) c.emptied-next.ensures) place c.tag_line.ensures c.push.ensures.items c.push-2.ensures.items;
       tree = λ slots long over. over;
       root = λ slots some long over. absurd (omega (arith, some));
+      named =
+          ap (λ (r : Regs). (c.args.self.now.tree, r.root)) c.emptied-next.ensures
+          ∙ sym (named-none (g.S.Suite.formulas_of (g.S.Suite.keys c.args.suite.now)) c.args.self.now.shape (c.args.self.now.tree, c.args.regs.now.root));
       others =
           others-then c.args.regs.now c.emptied-next.result (record c.emptied-next.result { group = c.push-2.new.self })
           (others-emptied c.args.regs.now c.emptied-next.result c.emptied-next.ensures) refl;
@@ -54,6 +59,16 @@ module _ (g : Over) (c : After-name-next g) where
       let inside : c.slot_of-i.result < tree_slots c.args.self.now.shape = subst (λ (k : Shape). c.slot_of-i.result < tree_slots k) c.geo-geo.ensures c.slot_of-i.ensures.within in
       subst (λ h. c.slot_of-i.result < 4 ^ h) (sym c.is_whole.ensures.engine.tree_height) (omega (arith, inside, room))
 
+  named_lines : c.name-next.new.self.tree.lines
+      ≡ tree_with (g.S.Suite.formulas_of (g.S.Suite.keys c.args.suite.now)) c.levels.self.tree.height c.levels.self.tree.lines c.slot_of-i.result c.slot_line-line.result
+  named_lines =
+      subst (λ (k : List ℕ). c.name-next.new.self.tree.lines ≡ tree_with (g.S.Suite.formulas_of k) c.levels.self.tree.height c.levels.self.tree.lines c.slot_of-i.result c.slot_line-line.result) c.levels.invariant.keys c.name-next.ensures.lines
+
+  named_root : c.name-next.result
+      ≡ tree_root_with (g.S.Suite.formulas_of (g.S.Suite.keys c.args.suite.now)) c.levels.self.tree.height c.levels.self.tree.lines c.slot_of-i.result c.slot_line-line.result
+  named_root =
+      subst (λ (k : List ℕ). c.name-next.result ≡ tree_root_with (g.S.Suite.formulas_of k) c.levels.self.tree.height c.levels.self.tree.lines c.slot_of-i.result c.slot_line-line.result) c.levels.invariant.keys c.name-next.ensures.root
+
   named : (slots : List Line) → length slots ≡ tree_slots c.args.self.now.shape
       → IsShadowTree (g.S.Suite.formulas_of (g.S.Suite.keys c.args.suite.now)) c.args.self.now.tree.height slots c.args.self.now.tree.lines
       → IsTreeNamed (g.S.Suite.formulas_of (g.S.Suite.keys c.args.suite.now)) c.args.self.now.shape (take (c.levels.x-index + 1) c.args.nodes.now.items) c.args.self.now.tree c.name-next.new.self.tree c.name-next.result slots
@@ -62,8 +77,7 @@ module _ (g : Over) (c : After-name-next g) where
       named-next (g.S.Suite.formulas_of (g.S.Suite.keys c.args.suite.now)) c.args.self.now.shape c.args.nodes.now.items c.as_slice-x-items.result.now c.levels.x-index c.slot_of-i.result c.slot_line-line.result (0, record { 0 = [] }) slots
       c.args.self.now.tree c.levels.self.tree c.name-next.new.self.tree c.name-next.result (g.met.S.Suite.in_range c.args.suite.now) c.as_slice-x-items.ensures.value c.levels-test.true slot c.slot_line-line.ensures leaf (omega (arith, inside, long)) c.levels.invariant.height
       (c.levels.invariant.tree slots long over)
-      (subst (λ (k : List ℕ). c.name-next.new.self.tree.lines ≡ tree_with (g.S.Suite.formulas_of k) c.levels.self.tree.height c.levels.self.tree.lines c.slot_of-i.result c.slot_line-line.result) c.levels.invariant.keys c.name-next.ensures.lines)
-      (subst (λ (k : List ℕ). c.name-next.result ≡ tree_root_with (g.S.Suite.formulas_of k) c.levels.self.tree.height c.levels.self.tree.lines c.slot_of-i.result c.slot_line-line.result) c.levels.invariant.keys c.name-next.ensures.root)
+      named_lines named_root
 
 pub slot_line-line-requires : goal.slot_line-line-requires
 slot_line-line-requires g c =
@@ -82,6 +96,11 @@ levels-preserved g c =
           (c.slot_place.ensures.value ∙ ap (λ (k : Shape). line_of_slot k c.slot_of-i.result) c.geo-geo.ensures) (slot g before) c.slot_line-line.ensures c.levels.invariant.group c.push-in-levels.ensures.items;
       tree = λ slots long over. (named g before slots long over).tree;
       root = λ slots some long over. named g before slots long over;
+      named =
+          named-step (g.S.Suite.formulas_of (g.S.Suite.keys c.args.suite.now)) c.args.self.now.shape c.args.nodes.now.items c.as_slice-x-items.result.now c.levels.x-index
+          c.slot_of-i.result c.slot_line-line.result (0, record { 0 = [] }) (c.args.self.now.tree, c.args.regs.now.root) c.levels.self.tree c.name-next.new.self.tree
+          c.levels.next.root c.name-next.result c.as_slice-x-items.ensures.value c.levels-test.true (slot g before) c.slot_line-line.ensures c.name-next.ensures.height
+          (named_lines g before) (named_root g before) c.levels.invariant.named;
       others =
           others-then c.args.regs.now c.levels.next (record c.levels.next { root = c.name-next.result; group = c.push-in-levels.new.self })
           c.levels.invariant.others refl;
@@ -108,6 +127,13 @@ returns-clause-root g c =
     let past : length c.args.nodes.now.items ≤ c.levels.x-index = subst (λ (ps : List (ℕ × Node)). length ps ≤ c.levels.x-index) c.as_slice-x-items.ensures.value c.levels-test.false in
     subst (λ (ps : List (ℕ × Node)). IsTreeNamed (g.S.Suite.formulas_of (g.S.Suite.keys c.args.suite.now)) c.args.self.now.shape ps c.args.self.now.tree c.levels.self.tree c.levels.next.root slots)
     (take_all c.levels.x-index c.args.nodes.now.items past) (c.levels.invariant.root slots (omega (arith, c.requires.some, past)) long over)
+
+pub returns-clause-named : goal.returns-clause-named
+returns-clause-named g c =
+    let past : length c.args.nodes.now.items ≤ c.levels.x-index = subst (λ (ps : List (ℕ × Node)). length ps ≤ c.levels.x-index) c.as_slice-x-items.ensures.value c.levels-test.false in
+    c.levels.invariant.named
+    ∙ ap (λ (ps : List (ℕ × Node)). named_all (g.S.Suite.formulas_of (g.S.Suite.keys c.args.suite.now)) c.args.self.now.shape ps (c.args.self.now.tree, c.args.regs.now.root))
+    (take_all c.levels.x-index c.args.nodes.now.items past)
 
 pub returns-clause-others : goal.returns-clause-others
 returns-clause-others g c = c.levels.invariant.others

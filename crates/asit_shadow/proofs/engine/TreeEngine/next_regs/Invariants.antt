@@ -7,6 +7,7 @@ use Rattle.counter_tree.specs.Layout.{tree_slots}
 use Rattle.counter_tree.specs.Shadow.{IsShadowTree}
 use Rattle.asit_shadow.specs.Steps.{KeepsOtherRegisters}
 use Rattle.asit_shadow.specs.Writing.{armed_lines, slot_entries, IsTreeNamed}
+use Rattle.asit_shadow.specs.WritePlans.{named_all}
 use Rattle.asit_shadow.proofs.engine.TreeEngine.next_regs.Given as goal
 
 abbrev pub invariant-levels : goal.invariant-levels
@@ -21,6 +22,9 @@ invariant-levels g l =
           (slots : List Line) → 1 ≤ l.x-index → length slots ≡ tree_slots l.fn.self.shape
           → IsShadowTree (g.S.Suite.formulas_of (g.S.Suite.keys l.fn.suite)) l.fn.self.tree.height slots l.fn.self.tree.lines
           → IsTreeNamed (g.S.Suite.formulas_of (g.S.Suite.keys l.fn.suite)) l.fn.self.shape (take l.x-index l.fn.nodes.items) l.fn.self.tree l.self.tree l.next.root slots;
+      named :
+          (l.self.tree, l.next.root)
+          ≡ named_all (g.S.Suite.formulas_of (g.S.Suite.keys l.fn.suite)) l.fn.self.shape (take l.x-index l.fn.nodes.items) (l.fn.self.tree, l.fn.regs.root);
       others : KeepsOtherRegisters l.fn.regs l.next;
       height : l.self.tree.height ≡ l.fn.self.tree.height;
       shape : l.self.shape ≡ l.fn.self.shape;

@@ -9,15 +9,22 @@ use Rattle.counter_tree.specs.declared.nodes.Node.{Node}
 use Rattle.counter_tree.specs.Trees.{raised}
 use Rattle.asit_shadow.specs.Paths.{path_node}
 use Rattle.asit_shadow.specs.Writing.{position_below, IsRaisedTo}
+use Rattle.asit_shadow.specs.WritePlans.{cached_node, raised_node, raised_pair, raised_path}
+use Rattle.asit_shadow.proofs.WritePlans.{raised-first, raised-step}
 use Rattle.asit_shadow.proofs.SlotPlaces.{on_path-inside}
 use Rattle.asit_shadow.proofs.RaisedPaths.{raised-none, raised-more, raised-all, node-raised, below-low}
-use Rattle.asit_shadow.proofs.engine.TreeEngine.raised.Goals.{After-from}
+use Rattle.asit_shadow.proofs.engine.TreeEngine.raised.Goals.{After-from, After-raise}
 use Rattle.asit_shadow.proofs.engine.TreeEngine.raised.Goals as goal
 
 pub levels-init : goal.levels-init
 levels-init c =
     let none : c.new-raised.result.items ≡ [] = search rules in
-    subst (λ (ps : List (ℕ × Node)). IsRaisedTo c.args.self.now.shape c.args.self.now.cache c.args.at 0 ps) (sym none) (raised-none c.args.self.now.shape c.args.self.now.cache c.args.at)
+    record {
+      done =
+          subst (λ (ps : List (ℕ × Node)). IsRaisedTo c.args.self.now.shape c.args.self.now.cache c.args.at 0 ps) (sym none)
+          (raised-none c.args.self.now.shape c.args.self.now.cache c.args.at);
+      value = none ∙ sym (raised-first c.args.self.now.shape c.args.self.now.cache c.args.at);
+    }
 
 module _ (c : After-from) where
   within : c.levels.level ≤ c.args.self.now.shape.levels
@@ -36,6 +43,17 @@ module _ (c : After-from) where
   shape : IsShape c.args.self.now.shape
   shape = subst IsShape c.geo-geo.ensures c.layout_is_one_to_one.ensures.ranges
 
+-- the pair that is pushed
+module _ (c : After-raise) where
+  pair : slice_index c.as_slice.result.now c.from.result ≡ path_node c.args.self.now.shape c.args.at c.levels.level
+      → (slice_index c.as_slice.result.now c.from.result, c.raise.result) ≡ raised_pair c.args.self.now.shape c.args.self.now.cache c.args.at c.levels.level
+  pair place =
+      let below = c.position_below-below.ensures.value ∙ ap (λ (k : Shape). position_below k c.args.at c.levels.level) c.geo-geo.ensures in
+      let node = c.node.ensures.value ∙ ap (cached_node c.args.self.now.shape c.args.self.now.cache) place in
+      let slot = c.child_slot.ensures.value ∙ ap child_slot below in
+      let made = c.raise.ensures.value ∙ (λ i. raised_node (node i) (slot i)) in
+      λ i. (place i, made i)
+
 pub node-requires : goal.node-requires
 node-requires c =
     let before = (goal.at.node-requires c).After-from in
@@ -51,15 +69,26 @@ pub levels-preserved : goal.levels-preserved
 levels-preserved c =
     let before = (goal.at.levels-preserved c).After-from in
     let below = c.position_below-below.ensures.value ∙ ap (λ (k : Shape). position_below k c.args.at c.levels.level) c.geo-geo.ensures in
-    subst (λ (ps : List (ℕ × Node)). IsRaisedTo c.args.self.now.shape c.args.self.now.cache c.args.at (c.levels.level + 1) ps) (sym c.push.ensures.items)
-    (raised-more c.args.self.now.shape c.args.self.now.cache c.args.at c.levels.level c.levels.raised.items (slice_index c.as_slice.result.now c.from.result) c.raise.result (within before) (place before)
-    (record { on_tree = omega (arith, place before, inside before); node_whole = c.raise.ensures.whole; has_version = c.raise.ensures.version })
-    (λ old cached small.
-    node-raised c.args.self.now.shape c.args.self.now.cache (slice_index c.as_slice.result.now c.from.result) c.child_slot.result c.node.result c.raise.result old c.node.ensures.cached c.raise.ensures.raised cached small
-    ∙ ap (raised old) (c.child_slot.ensures.value ∙ ap child_slot below))
-    c.levels.invariant)
+    record {
+      done =
+          subst (λ (ps : List (ℕ × Node)). IsRaisedTo c.args.self.now.shape c.args.self.now.cache c.args.at (c.levels.level + 1) ps) (sym c.push.ensures.items)
+          (raised-more c.args.self.now.shape c.args.self.now.cache c.args.at c.levels.level c.levels.raised.items (slice_index c.as_slice.result.now c.from.result) c.raise.result (within before) (place before)
+          (record { on_tree = omega (arith, place before, inside before); node_whole = c.raise.ensures.whole; has_version = c.raise.ensures.version })
+          (λ old cached small.
+          node-raised c.args.self.now.shape c.args.self.now.cache (slice_index c.as_slice.result.now c.from.result) c.child_slot.result c.node.result c.raise.result old c.node.ensures.cached c.raise.ensures.raised cached small
+          ∙ ap (raised old) (c.child_slot.ensures.value ∙ ap child_slot below))
+          c.levels.invariant.done);
+      value =
+          raised-step c.args.self.now.shape c.args.self.now.cache c.args.at c.levels.level c.levels.raised.items c.push.new.self.items
+          (slice_index c.as_slice.result.now c.from.result, c.raise.result) c.levels.invariant.value (pair (goal.at.levels-preserved c).After-raise (place before)) c.push.ensures.items;
+    }
 
-pub returns : goal.returns
-returns c =
+pub returns-clause-raised : goal.returns-clause-raised
+returns-clause-raised c =
     let all : c.levels.level ≡ c.args.self.now.shape.levels + 1 = omega (arith, ap (λ (k : Shape). k.levels) c.geo-geo.ensures) in
-    raised-all c.args.self.now.shape c.args.self.now.cache c.args.at c.levels.level c.levels.raised.items all c.levels.invariant
+    raised-all c.args.self.now.shape c.args.self.now.cache c.args.at c.levels.level c.levels.raised.items all c.levels.invariant.done
+
+pub returns-clause-value : goal.returns-clause-value
+returns-clause-value c =
+    let all : c.levels.level ≡ c.args.self.now.shape.levels + 1 = omega (arith, ap (λ (k : Shape). k.levels) c.geo-geo.ensures) in
+    c.levels.invariant.value ∙ ap (raised_path c.args.self.now.shape c.args.self.now.cache c.args.at) all

@@ -7,10 +7,17 @@ use Rattle.pmem_base.specs.Shape.{Shape}
 use Rattle.pmem_base.specs.Counts.{risen}
 use Rattle.pmem_recovery.specs.Parts.{SuiteState, suite_state}
 use Rattle.suite.specs.Setup.{Setup}
+use Rattle.call_plan.specs.Following.{Follows}
+use Rattle.counter_tree.specs.Plans.{ReadParts, read_parts, line_plan}
+use Rattle.counter_tree.proofs.ReadPlans.{leaving}
 use Rattle.counter_tree.specs.declared.accepted.FetchFault.{FetchFault}
 use Rattle.counter_tree.specs.declared.accepted.FetchFault.TheVariants as Missed
 use Rattle.counter_tree.specs.Accepted.{IsLineFetched, is_line_tagged, is_line_unsealed}
 use Rattle.counter_tree.specs.Watch.{WatchState, last_seal_of}
+use Rattle.asit_shadow.specs.declared.fault.TreeFault.{TreeFault}
+use Rattle.asit_shadow.specs.declared.fault.TreeFault.TheVariants as Fail
+use Rattle.asit_shadow.specs.Plans.{TreeChip, tree_chip_of, read_parts_of, fault_of_line, read_line_plan}
+use Rattle.asit_shadow.proofs.CalledPlans.{unfetched_read, fetched_read, refused_read}
 use Rattle.asit_shadow.specs.State.{TreeState}
 use Rattle.asit_shadow.specs.Parts.{TreeEngineParts, tree_parts_of}
 use Rattle.asit_shadow.proofs.CallCounts.{line-counts, line_cut-counts}
@@ -137,3 +144,68 @@ returns-in-Err-Shown-clause-counts g c =
           (counted g c.args.suite.now) (counted g c.fetch_line.new.suite) (c.in-Err-Shown.ensures.keys ∙ c.in-Ok.ensures.keys)
           (pads ∙ ap risen c.in-Ok.ensures.pads) c.in-Ok.ensures.tags tags (c.in-Err-Shown.ensures.digests ∙ c.in-Ok.ensures.digests),
     )
+
+-- ---- the plan
+
+-- the state beside the board at a moment
+abbrev chip : (g : Over) → TreeState → g.row.W.Denot → g.row.S.Denot → TreeChip
+chip g engine watch suite =
+    tree_chip_of engine (g.W.Watch.watched watch) (g.S.Suite.pads suite) (g.S.Suite.tags suite) (g.S.Suite.digests suite)
+
+module _ (g : Over) (c : After-fetch_line g) where
+  abbrev fetched : TreeChip
+  fetched = chip g c.fetch.new.self c.fetch.new.watch c.fetch.new.suite
+
+  abbrev after : ReadParts
+  after = read_parts (g.W.Watch.watched c.fetch_line.new.watch) (g.S.Suite.pads c.fetch_line.new.suite) (g.S.Suite.tags c.fetch_line.new.suite)
+
+  reading : {end : Result (ReadParts × Line) (ReadParts × FetchFault)}
+      → Follows (line_plan (record { shape = shape_of c.geo.result; formulas = g.S.Suite.formulas_of (g.S.Suite.keys c.fetch.new.suite) }) c.args.at
+      (slice_index c.in-Ok.node.0 (c.args.at % 4)) (read_parts_of fetched)) (g.B.Board.device c.fetch.new.board) (g.B.Board.device c.fetch_line.new.board) end
+      → Follows (line_plan (under g c.args.self.now c.args.suite.now) c.args.at (slice_index c.in-Ok.node.0 (c.args.at % 4)) (read_parts_of fetched))
+      (g.B.Board.device c.fetch.new.board) (g.B.Board.device c.fetch_line.new.board) end
+  reading {end = end} it =
+      subst₂ (λ (k : Shape) (keys : List ℕ). Follows (line_plan (record { shape = k; formulas = g.S.Suite.formulas_of keys }) c.args.at
+      (slice_index c.in-Ok.node.0 (c.args.at % 4)) (read_parts_of fetched)) (g.B.Board.device c.fetch.new.board) (g.B.Board.device c.fetch_line.new.board) end)
+      (c.geo.ensures ∙ c.in-Ok.ensures.fetched.path.effect.shape) c.in-Ok.ensures.keys it
+
+  -- a line that wasn't accepted
+  refused : (fault : FetchFault) (its : TreeFault) → fault_of_line c.args.at fault ≡ its → g.S.Suite.digests c.fetch_line.new.suite ≡ g.S.Suite.digests c.fetch.new.suite
+      → Follows (line_plan (record { shape = shape_of c.geo.result; formulas = g.S.Suite.formulas_of (g.S.Suite.keys c.fetch.new.suite) }) c.args.at
+      (slice_index c.in-Ok.node.0 (c.args.at % 4)) (read_parts_of fetched)) (g.B.Board.device c.fetch.new.board) (g.B.Board.device c.fetch_line.new.board) (Err (after, fault))
+      → Follows (read_line_plan (under g c.args.self.now c.args.suite.now) c.args.at (chip g c.args.self.now c.args.watch.now c.args.suite.now))
+      (g.B.Board.device c.args.board.now) (g.B.Board.device c.fetch_line.new.board) (Err (chip g c.fetch.new.self c.fetch_line.new.watch c.fetch_line.new.suite, its))
+  refused fault its is digests it =
+      let answer : Result Line TreeFault = Err its in
+      leaving answer (chip g c.fetch.new.self c.fetch_line.new.watch c.fetch_line.new.suite)
+      (λ i. tree_chip_of c.fetch.new.self after.watch after.pads after.tags (digests i))
+      (refused_read (under g c.args.self.now c.args.suite.now) c.args.at (chip g c.args.self.now c.args.watch.now c.args.suite.now) fetched c.in-Ok.node
+      c.in-Ok.ensures.plan after its is (reading it))
+
+pub returns-in-Err-clause-plan : goal.returns-in-Err-clause-plan
+returns-in-Err-clause-plan g c =
+    unfetched_read (under g c.args.self.now c.args.suite.now) c.args.at (chip g c.args.self.now c.args.watch.now c.args.suite.now) c.in-Err.ensures.plan
+
+pub returns-in-Ok-fetch_line-clause-plan : goal.returns-in-Ok-fetch_line-clause-plan
+returns-in-Ok-fetch_line-clause-plan g c =
+    let here = (goal.at.returns-in-Ok-fetch_line-clause-plan g c).After-fetch_line in
+    let answer : Result Line TreeFault = Ok c.in-Ok-fetch_line.plain in
+    leaving answer (chip g c.fetch.new.self c.fetch_line.new.watch c.fetch_line.new.suite)
+    (λ i. tree_chip_of c.fetch.new.self (after g here).watch (after g here).pads (after g here).tags (c.in-Ok-fetch_line.ensures.digests i))
+    (fetched_read (under g c.args.self.now c.args.suite.now) c.args.at (chip g c.args.self.now c.args.watch.now c.args.suite.now) (fetched g here) c.in-Ok.node
+    c.in-Ok.ensures.plan (after g here) c.in-Ok-fetch_line.plain (reading g here c.in-Ok-fetch_line.ensures.plan))
+
+pub returns-in-Err-Cut-clause-plan : goal.returns-in-Err-Cut-clause-plan
+returns-in-Err-Cut-clause-plan g c =
+    refused g (goal.at.returns-in-Err-Cut-clause-plan g c).After-fetch_line _ Fail.Cut (ap (fault_of_line c.args.at) c.in-Err-Cut.field-0-is)
+    c.in-Err-Cut.ensures.digests c.in-Err-Cut.ensures.plan
+
+pub returns-in-Err-Refused-clause-plan : goal.returns-in-Err-Refused-clause-plan
+returns-in-Err-Refused-clause-plan g c =
+    refused g (goal.at.returns-in-Err-Refused-clause-plan g c).After-fetch_line _ (Fail.Tag c.args.at) (ap (fault_of_line c.args.at) c.in-Err-Refused.field-0-is)
+    c.in-Err-Refused.ensures.digests c.in-Err-Refused.ensures.plan
+
+pub returns-in-Err-Shown-clause-plan : goal.returns-in-Err-Shown-clause-plan
+returns-in-Err-Shown-clause-plan g c =
+    refused g (goal.at.returns-in-Err-Shown-clause-plan g c).After-fetch_line _ Fail.Shown (ap (fault_of_line c.args.at) c.in-Err-Shown.field-0-is)
+    c.in-Err-Shown.ensures.digests c.in-Err-Shown.ensures.plan

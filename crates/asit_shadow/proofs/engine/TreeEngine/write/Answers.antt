@@ -1,10 +1,15 @@
 -- A write that was refused ends.
 use Rattle.std.proofs.Common.{sym, ap, ◌∙◌}
-use Rattle.std.specs.Prelude.{Err, not, ◌||◌}
-use Rattle.std.specs.Prelude.{ℕ}
+use Rattle.std.specs.Prelude.{ℕ, Result, Err, not, ◌||◌}
 use Rattle.suite.specs.Setup.{Setup}
 use Rattle.pmem_engine.specs.Outcomes.{is_going}
 use Rattle.pmem_recovery.specs.Parts.{suite_state}
+use Rattle.counter_tree.proofs.ReadPlans.{leaving}
+use Rattle.asit_shadow.specs.declared.fault.TreeFault.{TreeFault}
+use Rattle.asit_shadow.specs.Plans.{TreeChip, tree_chip_of, ended_engine}
+use Rattle.asit_shadow.specs.WritePlans.{write_line_plan}
+use Rattle.asit_shadow.proofs.FetchPlans.{same_engine}
+use Rattle.asit_shadow.proofs.CalledPlans.{called_down, called_ok, called_err}
 use Rattle.asit_shadow.specs.State.{TreeState}
 use Rattle.asit_shadow.specs.Parts.{TreeEngineParts, tree_parts_of}
 use Rattle.asit_shadow.specs.Calls.{outcome_of_tree_fault}
@@ -46,3 +51,33 @@ returns-in-Err-clause-counts g c =
     (suite_state (g.S.Suite.keys c.args.suite.now) (g.S.Suite.pads c.args.suite.now) (g.S.Suite.tags c.args.suite.now) (g.S.Suite.digests c.args.suite.now))
     (suite_state (g.S.Suite.keys c.write_line.new.suite) (g.S.Suite.pads c.write_line.new.suite) (g.S.Suite.tags c.write_line.new.suite) (g.S.Suite.digests c.write_line.new.suite))
     c.in-Err.fault ended c.in-Err.ensures.counts
+
+-- ---- the plan
+
+-- the state beside the board at a moment
+abbrev chip : (g : Over) → TreeState → g.row.W.Denot → g.row.S.Denot → TreeChip
+chip g engine watch suite =
+    tree_chip_of engine (g.W.Watch.watched watch) (g.S.Suite.pads suite) (g.S.Suite.tags suite) (g.S.Suite.digests suite)
+
+pub returns-then-is_down-clause-plan : goal.returns-then-is_down-clause-plan
+returns-then-is_down-clause-plan g c =
+    let was : TreeChip = chip g c.args.self.now c.args.watch.now c.args.suite.now in
+    called_down was (write_line_plan (under g c.args.self.now c.args.suite.now) (g.B.Board.device c.args.board.now).regs c.args.at c.args.line.now was)
+    (g.B.Board.device c.args.board.now) (sym c.is_down.ensures ∙ c.if-is_down.true)
+
+pub returns-in-Ok-clause-plan : goal.returns-in-Ok-clause-plan
+returns-in-Ok-clause-plan g c =
+    let was : TreeChip = chip g c.args.self.now c.args.watch.now c.args.suite.now in
+    called_ok was (write_line_plan (under g c.args.self.now c.args.suite.now) (g.B.Board.device c.args.board.now).regs c.args.at c.args.line.now was)
+    (sym c.is_down.ensures ∙ c.if-is_down.false) (chip g c.write_line.new.self c.write_line.new.watch c.write_line.new.suite) c.in-Ok.counter c.in-Ok.ensures.plan
+
+pub returns-in-Err-clause-plan : goal.returns-in-Err-clause-plan
+returns-in-Err-clause-plan g c =
+    let was : TreeChip = chip g c.args.self.now c.args.watch.now c.args.suite.now in
+    let answer : Result ℕ TreeFault = Err c.in-Err.fault in
+    let engine = same_engine c.end.new.self (ended_engine c.write_line.new.self c.in-Err.fault) c.end.ensures.shape c.end.ensures.cache c.end.ensures.tree c.end.ensures.down in
+    leaving answer (chip g c.end.new.self c.write_line.new.watch c.write_line.new.suite)
+    (λ i. tree_chip_of (engine i) (g.W.Watch.watched c.write_line.new.watch) (g.S.Suite.pads c.write_line.new.suite) (g.S.Suite.tags c.write_line.new.suite)
+    (g.S.Suite.digests c.write_line.new.suite))
+    (called_err was (write_line_plan (under g c.args.self.now c.args.suite.now) (g.B.Board.device c.args.board.now).regs c.args.at c.args.line.now was)
+    (sym c.is_down.ensures ∙ c.if-is_down.false) (chip g c.write_line.new.self c.write_line.new.watch c.write_line.new.suite) c.in-Err.fault c.in-Err.ensures.plan)

@@ -1,6 +1,10 @@
 -- A write: spent, stopped as its path is fetched, cut at the arming latch, cut after it, or done.
-use Rattle.std.proofs.Common.{ℕ, suc, ◌≡◌, ◌≢◌, ◌<◌, ◌-◌, ◌*◌, ◌%◌, ◌^◌, List, length, refl, sym, ap, subst, subst₂, inl, inr, ◌∙◌, arith}
-use Rattle.std.specs.Prelude.{All, ◌==◌, true, false, slice_index_or}
+use Rattle.std.proofs.Common.{ℕ, suc, ◌≡◌, ◌≢◌, ◌<◌, ◌+◌, ◌-◌, ◌*◌, ◌%◌, ◌^◌, List, [], length, refl, sym, ap, subst, subst₂, inl, inr, ◌∙◌, arith}
+use Rattle.std.specs.Prelude.{All, ◌==◌, true, false, slice_index_or, Result, Ok, Err}
+use Rattle.pmem_base.specs.declared.faults.Cut.{Cut}
+use Rattle.call_plan.specs.Following.{Follows}
+use Rattle.commit_regs.specs.Plans.{finish_plan}
+use Rattle.counter_tree.proofs.ReadPlans.{leaving}
 use Rattle.std.proofs.lemmas.Bool.{eqb-true, eqb-false}
 use Rattle.pmem_base.specs.declared.lines.Line.{Line}
 use Rattle.pmem_base.specs.declared.registers.Regs.{Regs}
@@ -19,6 +23,12 @@ use Rattle.counter_tree.specs.Shadow.{ChipTree, IsShadowTree, shadow_height}
 use Rattle.counter_tree.specs.Watch.{WatchState}
 use Rattle.asit_shadow.specs.State.{TreeState, IsHeldNode, top_node}
 use Rattle.asit_shadow.specs.Parts.{TreeEngineParts, tree_parts_of, AreTreeTrusted, IsWatchReady}
+use Rattle.asit_shadow.specs.declared.fault.TreeFault.{TreeFault}
+use Rattle.asit_shadow.specs.declared.fault.TreeFault.TheVariants as Fail
+use Rattle.asit_shadow.specs.Plans.{TreeChip, tree_chip_of}
+use Rattle.asit_shadow.specs.WritePlans.{raised_path, seal_of, named_all, write_armed, with_tree, with_stored, named_chip, stored_chip, seal_plan, write_line_plan}
+use Rattle.asit_shadow.proofs.FetchPlans.{same_engine}
+use Rattle.asit_shadow.proofs.WritePlans.{seal_is, told_is, armed_is, seal_cut, seal_kept, seal_done, write_spent, unfetched_write, fetched_write}
 use Rattle.asit_shadow.specs.Calls.{IsUsedUp}
 use Rattle.asit_shadow.specs.Counts.{CountsOfArming, naming_digests}
 use Rattle.asit_shadow.specs.Steps.{KeepsOtherRegisters}
@@ -95,7 +105,7 @@ module _ (g : Over) (c : After-next_regs-regs g) where
   shape = c.in-Ok.ensures.fetched.path.effect.shape
 
   raised : IsPathRaised c.args.self.now.shape c.fetch.new.self.cache c.args.at c.raised-nodes.result.items
-  raised = subst (λ (k : Shape). IsPathRaised k c.fetch.new.self.cache c.args.at c.raised-nodes.result.items) shape c.raised-nodes.ensures
+  raised = subst (λ (k : Shape). IsPathRaised k c.fetch.new.self.cache c.args.at c.raised-nodes.result.items) shape c.raised-nodes.ensures.raised
 
   sealed_as : IsSealMade (g.S.Suite.formulas_of (g.S.Suite.keys c.args.suite.now)) c.args.at c.last_counter.result c.args.line.now c.sealed-seal.result
   sealed_as =
@@ -192,15 +202,15 @@ module _ (g : Over) (c : After-next_regs-regs g) where
 
 pub last_counter-requires : goal.last_counter-requires
 last_counter-requires g c =
-    omega (arith, pairs-count c.fetch.new.self.shape c.args.at c.raised-nodes.result.items c.raised-nodes.ensures.positions)
+    omega (arith, pairs-count c.fetch.new.self.shape c.args.at c.raised-nodes.result.items c.raised-nodes.ensures.raised.positions)
 
 pub next_regs-regs-requires-clause-nodes : goal.next_regs-regs-requires-clause-nodes
 next_regs-regs-requires-clause-nodes g c =
-    λ k d inside. (c.raised-nodes.ensures.whole k d inside).on_tree
+    λ k d inside. (c.raised-nodes.ensures.raised.whole k d inside).on_tree
 
 pub next_regs-regs-requires-clause-some : goal.next_regs-regs-requires-clause-some
 next_regs-regs-requires-clause-some g c =
-    omega (arith, pairs-count c.fetch.new.self.shape c.args.at c.raised-nodes.result.items c.raised-nodes.ensures.positions)
+    omega (arith, pairs-count c.fetch.new.self.shape c.args.at c.raised-nodes.result.items c.raised-nodes.ensures.raised.positions)
 
 pub arm-requires-clause-group : goal.arm-requires-clause-group
 arm-requires-clause-group g c =
@@ -218,7 +228,7 @@ pub tell-requires-clause-nodes : goal.tell-requires-clause-nodes
 tell-requires-clause-nodes g c =
     λ k d inside.
     subst (λ (e : Shape). (slice_index_or c.raised-nodes.result.items k d).0 < meta_lines e) (sym c.next_regs-regs.ensures.shape)
-    (c.raised-nodes.ensures.whole k d inside).on_tree
+    (c.raised-nodes.ensures.raised.whole k d inside).on_tree
 
 pub tell-requires-clause-ready : goal.tell-requires-clause-ready
 tell-requires-clause-ready g c =
@@ -228,7 +238,7 @@ tell-requires-clause-ready g c =
 pub store-requires : goal.store-requires
 store-requires g c =
     subst (λ (e : Shape). All (λ (pair : ℕ × Node). IsHeldNode e (record { x = pair.0; node = pair.1; dirty = true })) c.raised-nodes.result.items) (sym c.next_regs-regs.ensures.shape)
-    c.raised-nodes.ensures.whole
+    c.raised-nodes.ensures.raised.whole
 
 -- ---- the returns
 
@@ -290,3 +300,135 @@ returns-in-Err-finish-clause-counts g c =
 
 pub returns-clause-counts : goal.returns-clause-counts
 returns-clause-counts g c = counts g ((goal.at.returns-clause-counts g c).After-next_regs-regs)
+
+-- ---- the plan
+
+-- the state beside the board at a moment
+abbrev chip : (g : Over) → TreeState → g.row.W.Denot → g.row.S.Denot → TreeChip
+chip g engine watch suite =
+    tree_chip_of engine (g.W.Watch.watched watch) (g.S.Suite.pads suite) (g.S.Suite.tags suite) (g.S.Suite.digests suite)
+
+pub returns-then-is_used_up-clause-plan : goal.returns-then-is_used_up-clause-plan
+returns-then-is_used_up-clause-plan g c =
+    let before = (goal.at.returns-then-is_used_up-clause-plan g c).After-is_used_up in
+    write_spent (under g c.args.self.now c.args.suite.now) (g.B.Board.device c.args.board.now).regs c.args.at c.args.line.now
+    (chip g c.args.self.now c.args.watch.now c.args.suite.now) (g.B.Board.device c.args.board.now) (sym (tested g before) ∙ c.if-is_used_up.true)
+
+pub returns-in-Err-clause-plan : goal.returns-in-Err-clause-plan
+returns-in-Err-clause-plan g c =
+    let before = (goal.at.returns-in-Err-clause-plan g c).After-is_used_up in
+    unfetched_write (under g c.args.self.now c.args.suite.now) (g.B.Board.device c.args.board.now).regs c.args.at c.args.line.now
+    (chip g c.args.self.now c.args.watch.now c.args.suite.now) (sym (tested g before) ∙ c.if-is_used_up.false) c.in-Err.ensures.plan
+
+module _ (g : Over) (c : After-next_regs-regs g) where
+  abbrev setup : Setup
+  setup = under g c.args.self.now c.args.suite.now
+
+  abbrev pairs : List (ℕ × Node)
+  pairs = c.raised-nodes.result.items
+
+  abbrev fetched : TreeChip
+  fetched = chip g c.fetch.new.self c.fetch.new.watch c.fetch.new.suite
+
+  abbrev was : Regs
+  was = (g.B.Board.device c.args.board.now).regs
+
+  -- the shadow tree and its root
+  named : (c.next_regs-regs.new.self.tree, c.next_regs-regs.result.root) ≡ named_all setup.formulas setup.shape pairs (c.fetch.new.self.tree, was.root)
+  named =
+      let root = ap (λ (r : Regs). r.root) (c.regs.ensures ∙ c.in-Ok.ensures.fetched.path.regs) in
+      c.next_regs-regs.ensures.named
+      ∙ (λ i. named_all (g.S.Suite.formulas_of (keys g c i)) (shape g c i) pairs (c.fetch.new.self.tree, root i))
+
+  armed_regs : c.next_regs-regs.result ≡ write_armed setup.shape c.args.at c.sealed-seal.result pairs (named_all setup.formulas setup.shape pairs (c.fetch.new.self.tree, was.root)).1 was
+  armed_regs =
+      armed_is setup.shape c.args.at c.sealed-seal.result pairs _ was c.next_regs-regs.result
+      (subst (λ (r : Regs). KeepsOtherRegisters r c.next_regs-regs.result) (c.regs.ensures ∙ c.in-Ok.ensures.fetched.path.regs) c.next_regs-regs.ensures.others)
+      (ap (λ (at : ChipTree × List ℕ). at.1) named) (group g c)
+
+  -- the chip as the group is armed
+  is_named : chip g c.next_regs-regs.new.self c.fetch.new.watch c.next_regs-regs.new.suite ≡ named_chip setup pairs was fetched
+  is_named =
+      let engine = same_engine c.next_regs-regs.new.self (with_tree c.fetch.new.self (named_all setup.formulas setup.shape pairs (c.fetch.new.self.tree, was.root)).0)
+      c.next_regs-regs.ensures.shape c.next_regs-regs.ensures.cache (ap (λ (at : ChipTree × List ℕ). at.0) named) c.next_regs-regs.ensures.down in
+      let pads = c.next_regs-regs.ensures.pads ∙ c.sealed-seal.ensures.pads in
+      let tags = c.next_regs-regs.ensures.tags ∙ c.sealed-seal.ensures.tags in
+      let digests = c.next_regs-regs.ensures.digests ∙ ap (risen_times (length pairs * suc c.fetch.new.self.tree.height)) c.sealed-seal.ensures.digests in
+      λ i. tree_chip_of (engine i) (g.W.Watch.watched c.fetch.new.watch) (pads i) (tags i) (digests i)
+
+  -- what is raised and sealed
+  its_pairs : pairs ≡ raised_path setup.shape c.fetch.new.self.cache c.args.at (suc setup.shape.levels)
+  its_pairs =
+      let more : c.args.self.now.shape.levels + 1 ≡ suc c.args.self.now.shape.levels = omega arith in
+      c.raised-nodes.ensures.value
+      ∙ (ap (λ (k : Shape). raised_path k c.fetch.new.self.cache c.args.at (k.levels + 1)) (shape g c)
+      ∙ ap (raised_path c.args.self.now.shape c.fetch.new.self.cache c.args.at) more)
+
+  its_seal : c.sealed-seal.result ≡ seal_of setup.formulas c.args.at (counter (pair_at pairs setup.shape.levels).1 (c.args.at % 4)) c.args.line.now
+  its_seal =
+      let count = pairs-count c.args.self.now.shape c.args.at pairs (raised g c).positions in
+      let last : length pairs - 1 ≡ c.args.self.now.shape.levels = omega (arith, count) in
+      seal_is setup.formulas c.args.at c.last_counter.result c.args.line.now c.sealed-seal.result (sealed_as g c)
+      ∙ ap (λ n. seal_of setup.formulas c.args.at n c.args.line.now)
+      (c.last_counter.ensures ∙ ap (λ n. counter (pair_at pairs n).1 (c.args.at % 4)) last)
+
+  -- the whole, from what is sealed on
+  whole : {new : Device} {end : Result (TreeChip × ℕ) (TreeChip × TreeFault)} → (total (top_node c.args.self.now.cache) == 2 ^ 64 - 1) ≡ false
+      → Follows (seal_plan setup c.args.at c.sealed-seal.result pairs was fetched) (g.B.Board.device c.fetch.new.board) new end
+      → Follows (write_line_plan setup was c.args.at c.args.line.now (chip g c.args.self.now c.args.watch.now c.args.suite.now)) (g.B.Board.device c.args.board.now) new end
+  whole unspent it =
+      fetched_write setup was c.args.at c.args.line.now (chip g c.args.self.now c.args.watch.now c.args.suite.now) unspent
+      fetched c.in-Ok.field-0 pairs c.sealed-seal.result its_pairs its_seal c.in-Ok.ensures.plan it
+
+  -- and once it is
+  is_stored : (engine : TreeState) (watch : WatchState)
+      → IsWriteTold c.next_regs-regs.new.self.shape c.args.at c.sealed-seal.result pairs (g.W.Watch.watched c.fetch.new.watch) watch
+      → engine.cache ≡ set_pairs (dirty_entries c.next_regs-regs.new.self.shape pairs) c.next_regs-regs.new.self.cache
+      → engine.shape ≡ c.next_regs-regs.new.self.shape → engine.tree ≡ c.next_regs-regs.new.self.tree → engine.down ≡ c.next_regs-regs.new.self.down
+      → tree_chip_of engine watch (g.S.Suite.pads c.next_regs-regs.new.suite) (g.S.Suite.tags c.next_regs-regs.new.suite) (g.S.Suite.digests c.next_regs-regs.new.suite)
+      ≡ stored_chip setup.shape c.args.at c.sealed-seal.result pairs (named_chip setup pairs was fetched)
+  is_stored engine watch told cache its_shape tree down =
+      let same = c.next_regs-regs.ensures.shape ∙ shape g c in
+      let held = same_engine engine (with_stored pairs c.next_regs-regs.new.self) its_shape cache tree down in
+      let seen = told_is setup.shape c.args.at c.sealed-seal.result pairs (g.W.Watch.watched c.fetch.new.watch) watch
+      (subst (λ (e : Shape). IsWriteTold e c.args.at c.sealed-seal.result pairs (g.W.Watch.watched c.fetch.new.watch) watch) same told) in
+      (λ i. tree_chip_of (held i) (seen i) (g.S.Suite.pads c.next_regs-regs.new.suite) (g.S.Suite.tags c.next_regs-regs.new.suite) (g.S.Suite.digests c.next_regs-regs.new.suite))
+      ∙ ap (stored_chip setup.shape c.args.at c.sealed-seal.result pairs) is_named
+
+  -- the group that is armed is the one that is finished
+  finishing : {device new : Device} {end : Result (Unit {0}) Cut} → HasLatched (g.B.Board.device c.fetch.new.board) c.next_regs-regs.result device
+      → (device.regs.group.items ≢ [] → Follows (finish_plan device.regs) device new end) → Follows (finish_plan c.next_regs-regs.result) device new end
+  finishing {device = device} {new = new} {end = end} latched it =
+      let same = ap (λ (r : Regs). r.group.items) latched.regs ∙ group g c in
+      subst (λ (r : Regs). Follows (finish_plan r) device new end) latched.regs (it (λ none. let no = sym same ∙ none in absurd (cc)))
+
+pub returns-in-Err-arm-clause-plan : goal.returns-in-Err-arm-clause-plan
+returns-in-Err-arm-clause-plan g c =
+    let first = (goal.at.returns-in-Err-arm-clause-plan g c).After-is_used_up in
+    let here = (goal.at.returns-in-Err-arm-clause-plan g c).After-next_regs-regs in
+    let cut : Result ℕ TreeFault = Err Fail.Cut in
+    leaving cut (chip g c.next_regs-regs.new.self c.fetch.new.watch c.next_regs-regs.new.suite) (is_named g here)
+    (whole g here (sym (tested g first) ∙ c.if-is_used_up.false)
+    (seal_cut (setup g here) c.args.at c.sealed-seal.result (pairs g here) (was g here) (fetched g here) c.in-Err-arm.ensures.cut))
+
+pub returns-in-Err-finish-clause-plan : goal.returns-in-Err-finish-clause-plan
+returns-in-Err-finish-clause-plan g c =
+    let first = (goal.at.returns-in-Err-finish-clause-plan g c).After-is_used_up in
+    let here = (goal.at.returns-in-Err-finish-clause-plan g c).After-next_regs-regs in
+    let cut : Result ℕ TreeFault = Err Fail.Cut in
+    leaving cut (chip g c.store.new.self c.tell.new.watch c.next_regs-regs.new.suite)
+    (is_stored g here c.store.new.self (g.W.Watch.watched c.tell.new.watch) c.tell.ensures c.store.ensures.cache c.store.ensures.shape c.store.ensures.tree c.store.ensures.down)
+    (whole g here (sym (tested g first) ∙ c.if-is_used_up.false)
+    (seal_kept (setup g here) c.args.at c.sealed-seal.result (pairs g here) (was g here) (fetched g here) c.next_regs-regs.result (armed_regs g here)
+    c.in-Ok-arm.ensures.ok _ (finishing g here c.in-Ok-arm.ensures.ok c.in-Err-finish.ensures.plan)))
+
+pub returns-clause-plan : goal.returns-clause-plan
+returns-clause-plan g c =
+    let first = (goal.at.returns-clause-plan g c).After-is_used_up in
+    let here = (goal.at.returns-clause-plan g c).After-next_regs-regs in
+    let answer : Result ℕ TreeFault = Ok c.sealed-seal.result.counter in
+    leaving answer (chip g c.store.new.self c.tell.new.watch c.next_regs-regs.new.suite)
+    (is_stored g here c.store.new.self (g.W.Watch.watched c.tell.new.watch) c.tell.ensures c.store.ensures.cache c.store.ensures.shape c.store.ensures.tree c.store.ensures.down)
+    (whole g here (sym (tested g first) ∙ c.if-is_used_up.false)
+    (seal_done (setup g here) c.args.at c.sealed-seal.result (pairs g here) (was g here) (fetched g here) c.next_regs-regs.result (armed_regs g here)
+    c.in-Ok-arm.ensures.ok c.in-Ok-finish.ensures.ok (finishing g here c.in-Ok-arm.ensures.ok c.in-Ok-finish.ensures.plan)))

@@ -1,0 +1,137 @@
+-- The plans of a fetch, at each of their ends.
+use Rattle.std.proofs.Common.{refl, inl, ◌∙◌, ◌≡◌, ℕ, true, false, Option, Some, None, Result, Ok, Err, sym, subst, subst₂}
+use Rattle.std.specs.Prelude.{OnOk, OnErr}
+use Rattle.std.proofs.lemmas.Bool.{false≢true}
+use Rattle.pmem_base.specs.declared.faults.Cut.{Cut}
+use Rattle.pmem_base.specs.declared.lines.Line.{Line}
+use Rattle.pmem_base.specs.Counts.{risen}
+use Rattle.board.specs.Device.{Device}
+use Rattle.board.specs.Steps.{HasWritten, WasCut}
+use Rattle.suite.specs.Setup.{Setup}
+use Rattle.call_plan.specs.Plans.{Plan, done, lifted, mapped_end, ended, the_cut}
+use Rattle.call_plan.specs.Following.{Follows}
+use Rattle.call_plan.proofs.Steps.{is_done, write_then, write_cut}
+use Rattle.call_plan.proofs.Bind.{bind_ok, bind_err, mapped_follows, lifted_follows}
+use Rattle.counter_tree.specs.declared.nodes.Node.{Node}
+use Rattle.counter_tree.specs.Layout.{line_of_node}
+use Rattle.counter_tree.specs.Nodes.{node_line}
+use Rattle.counter_tree.specs.Plans.{node_plan}
+use Rattle.counter_tree.specs.Slots.{slot_of}
+use Rattle.counter_tree.proofs.ReadPlans.{chosen, not_chosen}
+use Rattle.asit_shadow.specs.declared.cache.CachedNode.{CachedNode}
+use Rattle.asit_shadow.specs.declared.fault.TreeFault.{TreeFault}
+use Rattle.asit_shadow.specs.declared.fault.TreeFault.TheVariants as Fail
+use Rattle.counter_tree.specs.Watch.{WatchState}
+use Rattle.asit_shadow.specs.State.{TreeState, cache_at, IsCached}
+use Rattle.asit_shadow.specs.Parts.{tree_parts_of}
+use Rattle.asit_shadow.specs.Fetching.{IsNodeTaken, HasNoNode}
+use Rattle.asit_shadow.specs.Plans.{TreeChip, read_parts_of, with_engine, with_tags, with_read, fault_of_node, room_plan, with_clean, place_plan, node_in, level_of, level_plan}
+
+-- a part's fault, in the words of the whole
+pub lifted_err : {S P A F G : Type 0} (whole : S → P) (fault_of : F → G) {plan : Plan (S × F) (S × A)} {old new : Device} {left : S} {fault : F} (its : G)
+    → fault_of fault ≡ its → Follows plan old new (Err (left, fault)) → Follows (lifted whole fault_of plan) old new (Err (whole left, its))
+lifted_err {P = P} {A = A} {G = G} whole fault_of {plan = plan} {old = old} {new = new} {left = left} its is it =
+    subst (λ (f : G). Follows {E = P × G} {T = P × A} (lifted whole fault_of plan) old new (Err (whole left, f))) is (lifted_follows whole fault_of it)
+
+-- ---- room
+
+module _ (setup : Setup) (slot : Option CachedNode) (tags : ℕ) where
+  pub room_none : (d : Device) → slot ≡ None → Follows (room_plan setup slot tags) d d (Ok (tags, tt))
+  unfolding room_plan
+  room_none d is = subst (λ s. Follows (room_plan setup s tags) d d (Ok (tags, tt))) (sym is) (is_done (tags, tt) d)
+
+  module _ (held : CachedNode) (is : slot ≡ Some held) where
+    by_held : {old new : Device} {end : Result (ℕ × Unit {0}) (ℕ × Cut)} → Follows (room_plan setup (Some held) tags) old new end
+        → Follows (room_plan setup slot tags) old new end
+    by_held {old = old} {new = new} {end = end} it = subst (λ s. Follows (room_plan setup s tags) old new end) (sym is) it
+
+    pub room_clean : (d : Device) → held.dirty ≡ false → Follows (room_plan setup slot tags) d d (Ok (tags, tt))
+    unfolding room_plan
+    room_clean d clean = by_held (not_chosen _ clean (is_done (tags, tt) d))
+
+    module _ (old new : Device) (dirty : held.dirty ≡ true) where
+      pub room_written : HasWritten old (line_of_node setup.shape held.x) (node_line setup.formulas held.x held.node) new
+          → Follows (room_plan setup slot tags) old new (Ok (risen tags, tt))
+      unfolding room_plan
+      room_written was = by_held (chosen _ dirty (write_then (risen tags, the_cut) was (is_done (risen tags, tt) new)))
+
+      pub room_cut : WasCut old new → Follows (room_plan setup slot tags) old new (Err (risen tags, the_cut))
+      unfolding room_plan
+      room_cut was =
+          by_held (chosen _ dirty (write_cut (risen tags, the_cut) (line_of_node setup.shape held.x) (node_line setup.formulas held.x held.node)
+          (done (risen tags, tt)) was))
+
+    -- as the write answers it
+    pub room_end : (place : ℕ) (line : Line) (old new : Device) (answer : Result (Unit {0}) Cut) → held.dirty ≡ true → place ≡ line_of_node setup.shape held.x
+        → line ≡ node_line setup.formulas held.x held.node → OnOk answer (HasWritten old place line new) → OnErr answer (WasCut old new)
+        → Follows (room_plan setup slot tags) old new (ended answer (risen tags))
+    room_end place line old new (Ok value) dirty at its ok cut =
+        room_written old new dirty (subst₂ (λ p (l : Line). HasWritten old p l new) at its ok)
+    room_end place line old new (Err fault) dirty at its ok cut = room_cut old new dirty cut
+
+-- ---- a node
+
+module _ (setup : Setup) (x version : ℕ) (chip : TreeChip) where
+  abbrev slot : Option CachedNode
+  slot = cache_at chip.engine.cache (slot_of chip.engine.shape x)
+
+  abbrev taking : Plan (TreeChip × TreeFault) (TreeChip × Node)
+  taking = lifted (with_read chip) (fault_of_node x) (node_plan setup x version (read_parts_of chip))
+
+  by_slot : (found : Option Node) {old new : Device} {end : Result (TreeChip × Node) (TreeChip × TreeFault)} → node_in slot x ≡ found
+      → Follows (level_of setup x version chip found) old new end → Follows (level_plan setup x version chip) old new end
+  by_slot found {old = old} {new = new} {end = end} is it =
+      subst (λ f. Follows (level_of setup x version chip f) old new end) (sym is) it
+
+  pub level_cached : (d : Device) (node : Node) → node_in slot x ≡ Some node → Follows (level_plan setup x version chip) d d (Ok (chip, node))
+  unfolding level_of
+  level_cached d node is = by_slot (Some node) is (is_done (chip, node) d)
+
+  module _ (absent : node_in slot x ≡ None) where
+    -- its line wasn't had
+    pub level_missed : {old new : Device} {left : TreeChip × TreeFault} → Follows taking old new (Err left) → Follows (level_plan setup x version chip) old new (Err left)
+    unfolding level_of
+    level_missed it = by_slot None absent (bind_err (place_plan setup x) it)
+
+    -- it was, and room was to be made
+    pub level_placed : (read : TreeChip) (node : Node) {old mid new : Device} {end : Result (ℕ × Unit {0}) (ℕ × Cut)} → Follows taking old mid (Ok (read, node))
+        → Follows (room_plan setup (cache_at read.engine.cache (slot_of read.engine.shape x)) read.tags) mid new end
+        → Follows (level_plan setup x version chip) old new
+        (mapped_end (λ left. (with_tags read left.0, Fail.Cut))
+        (λ end. (with_engine (with_tags read end.0) (with_clean read.engine x node), node)) end)
+    unfolding level_of place_plan
+    level_placed read node first second = by_slot None absent (bind_ok (place_plan setup x) first (mapped_follows _ _ second))
+
+-- an engine is its parts
+pub same_engine : (a b : TreeState) → a.shape ≡ b.shape → a.cache ≡ b.cache → a.tree ≡ b.tree → a.down ≡ b.down → a ≡ b
+same_engine a b shape cache tree down = λ i. record { shape = shape i; cache = cache i; tree = tree i; down = down i }
+
+-- why a node that isn't cached wasn't had, by why its line wasn't accepted
+pub not_taken : (setup : Setup) (x version : ℕ) (engine : TreeState) (old new : Device) (watch after : WatchState) (tags made : ℕ) (fault : TreeFault)
+    → (IsCached setup.shape engine.cache x → ⊥) → IsNodeTaken setup x version old new watch after tags made (Err fault)
+    → HasNoNode setup x version (tree_parts_of engine old watch) (tree_parts_of engine new after) tags made fault
+not_taken setup x version engine old new watch after tags made Fail.Cut none it =
+    let on : old.live ≡ true → ⊥ = λ live. false≢true (sym it.1 ∙ live) in (
+      record {
+        uncached = none;
+        victim = λ live. absurd (on live);
+        one_read = λ live. absurd (on live);
+        between = old;
+        cut = it.0;
+        lines = refl;
+        regs = refl;
+        size = refl;
+        writes = refl;
+        latches = refl;
+        cuts = refl;
+        steady = λ steady. steady;
+        engine = refl;
+        watch = it.2;
+      },
+      inl (it.1, it.3),
+    )
+not_taken setup x version engine old new watch after tags made Fail.Down none it = absurd it
+not_taken setup x version engine old new watch after tags made (Fail.Node y) none it = (it.0, none, refl, it.1)
+not_taken setup x version engine old new watch after tags made (Fail.Tag b) none it = absurd it
+not_taken setup x version engine old new watch after tags made Fail.Spent none it = absurd it
+not_taken setup x version engine old new watch after tags made Fail.Shown none it = (none, refl, it.0, it.1)

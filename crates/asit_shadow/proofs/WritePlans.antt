@@ -1,0 +1,147 @@
+-- The plan of a write: what is raised, named and armed, level by level, and its ends.
+use Rattle.std.proofs.Common.{ℕ, suc, ◌≡◌, ◌<◌, ◌+◌, ◌-◌, ◌^◌, ◌%◌, ◌++◌, ◌∷◌, [], true, false, List, Result, Ok, Err, length, take, get_or, refl, sym, ap, subst, ◌∙◌, arith}
+use Rattle.std.specs.Prelude.{Option, ◌==◌}
+use Rattle.std.proofs.lemmas.List.{take_more}
+use Rattle.pmem_base.specs.declared.faults.Cut.{Cut}
+use Rattle.pmem_base.specs.declared.lines.Line.{Line}
+use Rattle.pmem_base.specs.declared.registers.Regs.{Regs}
+use Rattle.pmem_base.specs.Shape.{Shape}
+use Rattle.board.specs.Device.{Device}
+use Rattle.board.specs.Steps.{HasLatched, WasCut}
+use Rattle.suite.specs.Formulas.{Formulas}
+use Rattle.suite.specs.Setup.{Setup}
+use Rattle.call_plan.specs.Following.{Follows}
+use Rattle.call_plan.proofs.Steps.{is_stopped}
+use Rattle.call_plan.proofs.Bind.{bind_ok, bind_err, mapped_follows}
+use Rattle.commit_regs.specs.Groups.{HasFinished}
+use Rattle.commit_regs.specs.Plans.{finish_plan}
+use Rattle.pmem_engine.proofs.PlannedCalls.GroupPlans.{group_cut, group_end}
+use Rattle.counter_tree.specs.declared.nodes.Node.{Node}
+use Rattle.counter_tree.specs.declared.watch.LineSeal.{LineSeal}
+use Rattle.counter_tree.specs.Nodes.{counter, total, version_counter}
+use Rattle.counter_tree.specs.Shadow.{ChipTree, tree_with, tree_root_with}
+use Rattle.counter_tree.specs.Slots.{slot_of, slot_line}
+use Rattle.counter_tree.specs.Watch.{WatchState}
+use Rattle.counter_tree.proofs.ReadPlans.{chosen, not_chosen}
+use Rattle.asit_shadow.specs.declared.cache.CachedNode.{CachedNode}
+use Rattle.asit_shadow.specs.declared.fault.TreeFault.{TreeFault}
+use Rattle.asit_shadow.specs.declared.fault.TreeFault.TheVariants as Fail
+use Rattle.asit_shadow.specs.State.{top_node}
+use Rattle.asit_shadow.specs.Steps.{KeepsOtherRegisters}
+use Rattle.asit_shadow.specs.Writing.{armed_lines, pair_at, IsSealMade, IsWriteTold}
+use Rattle.asit_shadow.specs.Plans.{TreeChip, fetch_plan}
+use Rattle.asit_shadow.specs.WritePlans.{raised_pair, raised_path, seal_of, named_one, named_all, write_armed, told_write, named_chip, stored_chip, seal_plan, seal_under_plan, raise_plan, write_line_plan}
+
+-- ---- the path's nodes
+
+pub raised-first : (g : Shape) (cache : List (Option CachedNode)) (a : ℕ) → raised_path g cache a 0 ≡ []
+unfolding raised_path
+raised-first g cache a = refl
+
+-- a level more
+pub raised-step : (g : Shape) (cache : List (Option CachedNode)) (a n : ℕ) (old new : List (ℕ × Node)) (pair : ℕ × Node) → old ≡ raised_path g cache a n
+    → pair ≡ raised_pair g cache a n → new ≡ old ++ pair ∷ [] → new ≡ raised_path g cache a (n + 1)
+unfolding raised_path
+raised-step g cache a n old new pair before is step =
+    let more : suc n ≡ n + 1 = omega arith in
+    step ∙ (ap (λ (pairs : List (ℕ × Node)). pairs ++ pair ∷ []) before
+    ∙ (ap (λ (p : ℕ × Node). raised_path g cache a n ++ p ∷ []) is ∙ ap (raised_path g cache a) more))
+
+-- ---- the seal, the watch and the registers, as equations
+
+pub seal_is : (f : Formulas) (a count : ℕ) (plain : Line) (seal : LineSeal) → IsSealMade f a count plain seal → seal ≡ seal_of f a count plain
+seal_is f a count plain seal made =
+    let tag = sym made.tag ∙ ap (f.tag_of a (version_counter count)) made.cipher in
+    λ i. record { counter = made.its_counter i; cipher = made.cipher i; tag = tag i }
+
+pub told_is : (g : Shape) (a : ℕ) (seal : LineSeal) (pairs : List (ℕ × Node)) (old new : WatchState) → IsWriteTold g a seal pairs old new
+    → new ≡ told_write g a seal pairs old
+told_is g a seal pairs old new it =
+    λ i. record { setup = it.setup i; seals = it.seals i; nodes = it.nodes i; slots = it.slots i; exhibit = it.exhibit i }
+
+pub armed_is : (g : Shape) (a : ℕ) (seal : LineSeal) (pairs : List (ℕ × Node)) (root : List ℕ) (old new : Regs) → KeepsOtherRegisters old new
+    → new.root ≡ root → new.group.items ≡ armed_lines g a seal pairs → new ≡ write_armed g a seal pairs root old
+armed_is g a seal pairs root old new others its_root group =
+    others ∙ (λ i. record old { root = its_root i; group = record { items = group i } })
+
+-- ---- the shadow tree
+
+pub named-none : (f : Formulas) (g : Shape) (at : ChipTree × List ℕ) → named_all f g [] at ≡ at
+unfolding named_all
+named-none f g at = refl
+
+pub named-last : (f : Formulas) (g : Shape) (pairs : List (ℕ × Node)) (pair : ℕ × Node) (at : ChipTree × List ℕ)
+    → named_all f g (pairs ++ pair ∷ []) at ≡ named_one f g pair (named_all f g pairs at)
+unfolding named_all
+named-last f g [] pair at = refl
+named-last f g (first ∷ later) pair at = named-last f g later pair (named_one f g first at)
+
+-- a node named more, as a loop over the pairs has seen it
+pub named-step : (f : Formulas) (g : Shape) (pairs seen : List (ℕ × Node)) (i slot : ℕ) (line : Line) (d : ℕ × Node) (start : ChipTree × List ℕ)
+    (mid new : ChipTree) (was root : List ℕ) → seen ≡ pairs → i < length seen → slot ≡ slot_of g (get_or seen i d).0
+    → line ≡ slot_line (get_or seen i d).0 (get_or seen i d).1 → new.height ≡ mid.height → new.lines ≡ tree_with f mid.height mid.lines slot line
+    → root ≡ tree_root_with f mid.height mid.lines slot line → (let at : ChipTree × List ℕ = (mid, was) in at ≡ named_all f g (take i pairs) start)
+    → (let at : ChipTree × List ℕ = (new, root) in at ≡ named_all f g (take (i + 1) pairs) start)
+named-step f g pairs seen i slot line d start mid new was root same inside at is height lines its_root before =
+    let pair = get_or seen i d in
+    let one : (let end : ChipTree × List ℕ = (new, root) in end ≡ named_one f g pair (mid, was)) =
+    (λ j. (record { height = height j; lines = lines j }, its_root j)) ∙ (λ j. named_at f (at j) (is j) mid) in
+    one ∙ (ap (named_one f g pair) before
+    ∙ (sym (named-last f g (take i pairs) pair start)
+    ∙ ap (λ (ps : List (ℕ × Node)). named_all f g ps start)
+    (subst (λ (ps : List (ℕ × Node)). take i ps ++ pair ∷ [] ≡ take (i + 1) ps) same (sym (take_more seen i d inside)))))
+  where
+    named_at : Formulas → ℕ → Line → ChipTree → ChipTree × List ℕ
+    named_at f slot line mid =
+        (record { height = mid.height; lines = tree_with f mid.height mid.lines slot line }, tree_root_with f mid.height mid.lines slot line)
+
+-- ---- the ends
+
+module _ (setup : Setup) (a : ℕ) (seal : LineSeal) (pairs : List (ℕ × Node)) (regs : Regs) (chip : TreeChip) where
+  abbrev armed : Regs
+  armed = write_armed setup.shape a seal pairs (named_all setup.formulas setup.shape pairs (chip.engine.tree, regs.root)).1 regs
+
+  abbrev before : TreeChip
+  before = named_chip setup pairs regs chip
+
+  abbrev after : TreeChip
+  after = stored_chip setup.shape a seal pairs before
+
+  -- power was cut before the group was armed
+  pub seal_cut : {old new : Device} → WasCut old new → Follows (seal_plan setup a seal pairs regs chip) old new (Err (before, Fail.Cut))
+  unfolding seal_plan
+  seal_cut was = mapped_follows _ _ (group_cut armed before after was)
+
+  module _ (now : Regs) (is : now ≡ armed) {old mid new : Device} (was : HasLatched old now mid) where
+    -- amid the group
+    pub seal_kept : (cut : Cut) → Follows (finish_plan now) mid new (Err cut) → Follows (seal_plan setup a seal pairs regs chip) old new (Err (after, Fail.Cut))
+    unfolding seal_plan
+    seal_kept cut it = mapped_follows _ _ (group_end armed before after now after (Err cut) is refl was tt it)
+
+    pub seal_done : HasFinished mid new → Follows (finish_plan now) mid new (Ok tt)
+        → Follows (seal_plan setup a seal pairs regs chip) old new (Ok (after, seal.counter))
+    unfolding seal_plan
+    seal_done done it = mapped_follows _ _ (group_end armed before after now after (Ok tt) is refl was done it)
+
+module _ (setup : Setup) (regs : Regs) (a : ℕ) (plain : Line) (chip : TreeChip) where
+  pub write_spent : (d : Device) → (total (top_node chip.engine.cache) == 2 ^ 64 - 1) ≡ true
+      → Follows (write_line_plan setup regs a plain chip) d d (Err (chip, Fail.Spent))
+  unfolding write_line_plan
+  write_spent d spent = chosen _ spent (is_stopped (chip, Fail.Spent) d)
+
+  module _ (unspent : (total (top_node chip.engine.cache) == 2 ^ 64 - 1) ≡ false) where
+    pub unfetched_write : {old new : Device} {left : TreeChip × TreeFault} → Follows (fetch_plan setup a chip) old new (Err left)
+        → Follows (write_line_plan setup regs a plain chip) old new (Err left)
+    unfolding write_line_plan
+    unfetched_write it = not_chosen _ unspent (bind_err (raise_plan setup a plain regs) it)
+
+    pub fetched_write : (fetched : TreeChip) (node : Node) (pairs : List (ℕ × Node)) (seal : LineSeal) {old mid new : Device} {end : Result (TreeChip × ℕ) (TreeChip × TreeFault)}
+        → pairs ≡ raised_path setup.shape fetched.engine.cache a (suc setup.shape.levels)
+        → seal ≡ seal_of setup.formulas a (counter (pair_at pairs setup.shape.levels).1 (a % 4)) plain
+        → Follows (fetch_plan setup a chip) old mid (Ok (fetched, node)) → Follows (seal_plan setup a seal pairs regs fetched) mid new end
+        → Follows (write_line_plan setup regs a plain chip) old new end
+    unfolding write_line_plan
+    fetched_write fetched node pairs seal {mid = mid} {new = new} {end = end} its made first second =
+        not_chosen _ unspent (bind_ok (raise_plan setup a plain regs) first
+        (subst (λ ps. Follows (seal_under_plan setup a plain ps regs fetched) mid new end) its
+        (subst (λ s. Follows (seal_plan setup a s pairs regs fetched) mid new end) made second)))
