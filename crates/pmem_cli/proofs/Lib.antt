@@ -18,6 +18,8 @@ pub mod WorldTalks
 pub mod LoggedTalks
 pub mod TellingLemmas
 pub mod ReplayLemmas
+pub mod RunsAlike
+pub mod CallsAlike
 pub mod Untampering
 pub mod StepSums
 pub mod StatusLemmas

@@ -17,13 +17,13 @@ use Rattle.plain_model.specs.Grammar.{reading_of}
 use Rattle.plain_model.specs.State.{Reply}
 use Rattle.plain_model.specs.Run.{Machine, Step, line_limit, start, takes_memory, Ends}
 use Rattle.pmem_replay.specs.World.{WorldState, setup_of_world}
-use Rattle.pmem_replay.specs.Stepped.{IsNewWorld, HasStepped, AddsFewSteps}
+use Rattle.pmem_replay.specs.Stepped.{HasStepped, AddsFewSteps}
 use Rattle.pmem_replay.specs.Logged.{IsLogged}
 use Rattle.trace_text.specs.Conversations.{AnswersOne, IsTalk, AreRepliesGiven, IsShownTalk, TalkEnds}
 use Rattle.pmem_cli.specs.Printed.{Output}
 use Rattle.pmem_cli.specs.Replies.{world_protocol}
 use Rattle.pmem_cli.specs.Logged.{LoggedStep, IsTold, takes_memory_logged, GoesOnTold, EndsTold, logged_protocol, steps_logged, IsMemoryWantedLogged, LoggedEnds, LoggedEndsFrom, AreTold, IsReplayedTold, HasReplayedLogged, HasRepliedLoggedFirst}
-use Rattle.pmem_cli.specs.Standing.{standing_of, AreStepped, IsReplayed}
+use Rattle.pmem_cli.specs.Standing.{standing_of, AreStepped, IsFirstWorld, IsReplayed}
 use Rattle.pmem_cli.specs.Talked.{HasToldFirst}
 use Rattle.pmem_cli.specs.Turns.{HasStopped}
 use Rattle.pmem_cli.proofs.PrintLemmas.{Prints-nil, Prints-front}
@@ -247,9 +247,9 @@ stepped_of_told : (setup : Setup) (world last : WorldState) (xs : List LoggedSte
 stepped_of_told setup world last [] chain = chain
 stepped_of_told setup world last (x ∷ xs) (next, stepped, told, more) = (next, stepped, stepped_of_told setup next last xs more)
 
-pub replayed_plain : (setup : Setup) (xs : List LoggedStep) → IsReplayedTold setup xs → IsReplayed setup (steps_logged xs)
-replayed_plain setup xs (inl none) = inl (ap steps_logged none)
-replayed_plain setup xs (inr (first, last, new, chain)) = inr (first, last, new, stepped_of_told setup first last xs chain)
+pub replayed_plain : (setup : Setup) (stop : Stop) (xs : List LoggedStep) → IsReplayedTold setup stop xs → IsReplayed setup stop (steps_logged xs)
+replayed_plain setup stop xs (inl none) = inl (none.0, ap steps_logged none.1)
+replayed_plain setup stop xs (inr (first, last, new, chain)) = inr (first, last, new, stepped_of_told setup first last xs chain)
 
 -- ---- the whole run
 
@@ -282,26 +282,26 @@ HasReplayedLogged-memory setup trace left p = record {
   ends =
       IfSome-any trace (λ bytes. LoggedEnds setup Memory bytes left [])
       (λ bytes. record { front = IsFrontFrom-nil setup (start setup) (lines_of bytes); wanting = inl refl });
-  replayed = inl refl;
+  replayed = inl (refl, refl);
   said = record { whole = λ told. Prints-nil p; front = Prints-front p p [] (Prints-nil p) };
 }
 
 pub HasReplayedLogged-served : (f : List ℕ → Formulas) (shape : Shape) (keys : List ℕ) (world : WorldState) (stop : Stop) (trace left : Option (List ℕ)) (p q : Output)
-    → IsNewWorld (record { shape = shape; formulas = f keys }) world → world.keys ≡ keys
+    → IsFirstWorld (record { shape = shape; formulas = f keys }) world → world.keys ≡ keys
     → HasStopped (logged_protocol f) stop trace left world p q 0 → HasReplayedLogged (record { shape = shape; formulas = f keys }) stop trace left p q
 HasReplayedLogged-served f shape keys world stop trace left p q is same stopped =
     let setup : Setup = record { shape = shape; formulas = f keys } in
     let s = standing_of f world in
-    let at_setup = new_setup f shape keys world is same in
+    let at_setup = new_setup f shape keys world is.new same in
     let told = told_of_given f world stopped.replies stopped.given in
     let steps = steps_logged stopped.replies in
     let ends =
     IfSome-map trace (λ bytes. TalkEnds (logged_protocol f) world 0 stop bytes left stopped.replies) (λ bytes. LoggedEndsFrom s.setup s.machine stop bytes left steps)
-    (λ bytes some ends. ends_of_logged stop f world bytes left stopped.replies is.not_shown ends) stopped.ends in
+    (λ bytes some ends. ends_of_logged stop f world bytes left stopped.replies is.new.not_shown ends) stopped.ends in
     record {
       all = stopped.replies;
       ends =
-          subst (λ (machine : Machine). IfSome trace (λ bytes. LoggedEndsFrom setup machine stop bytes left steps)) (new_machine f setup world is)
+          subst (λ (machine : Machine). IfSome trace (λ bytes. LoggedEndsFrom setup machine stop bytes left steps)) (new_machine f setup world is.new)
           (subst (λ (u : Setup). IfSome trace (λ bytes. LoggedEndsFrom u s.machine stop bytes left steps)) at_setup ends);
       replayed = inr (world, told.0, is, subst (λ (u : Setup). AreTold u world stopped.replies told.0) at_setup told.1);
       said = record { whole = stopped.whole; front = stopped.front };

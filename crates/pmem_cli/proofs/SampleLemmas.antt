@@ -18,9 +18,8 @@ use Rattle.plain_model.specs.declared.Stop.TheVariants.{Finished, Memory, Words,
 use Rattle.plain_model.specs.Run.{Machine, Step, start, machine_after, machine_after_all, IsAnswered, AreAnswered}
 use Rattle.trace_text.specs.Samples.{sample_command, sample_trace, state_of_seed, word_at, state_after_word, commands_from}
 use Rattle.pmem_replay.specs.World.{WorldState}
-use Rattle.pmem_replay.specs.Stepped.{IsNewWorld}
 use Rattle.pmem_cli.specs.Printed.{Output, Prints}
-use Rattle.pmem_cli.specs.Standing.{Standing, standing_of, AreStepped, IsReplayed, StandingAfter}
+use Rattle.pmem_cli.specs.Standing.{Standing, standing_of, AreStepped, IsFirstWorld, IsReplayed, StandingAfter}
 use Rattle.pmem_cli.specs.Sums.{AreStepSums}
 use Rattle.pmem_cli.specs.Replies.{HasReplied}
 use Rattle.pmem_cli.specs.Sampled.{IsLastAnswer, SampleEnds, HasAnsweredFront, HasReachedAnswer, HasToldSample}
@@ -164,7 +163,7 @@ few_steps setup machine commands steps answer last short =
     omega (arith, all, short)
 
 sample_sums : (setup : Setup) (commands : List Command) (stop : Stop) (steps : List Step) (text : List ℕ) → SampleEnds setup (start setup) commands stop steps text
-    → length commands ≤ 2 ^ 40 → IsReplayed setup steps → AreStepSums setup (start setup) steps
+    → length commands ≤ 2 ^ 40 → IsReplayed setup stop steps → AreStepSums setup (start setup) steps
 sample_sums setup commands stop steps text ends short replayed =
     elim (sample_last setup (start setup) commands stop steps text ends) [
       | inl none ↦ subst (λ xs. AreStepSums setup (start setup) xs) (sym none) tt
@@ -180,16 +179,16 @@ pub HasRunSample-memory : (setup : Setup) (commands : List Command) (p : Output)
 HasRunSample-memory setup commands p = search rules
 
 pub HasRunSample-told : (f : List ℕ → Formulas) (shape : Shape) (keys : List ℕ) (world : WorldState) (commands : List Command) (stop : Stop) (p q : Output)
-    → length commands ≤ 2 ^ 40 → IsNewWorld (record { shape = shape; formulas = f keys }) world → world.keys ≡ keys → HasToldSample stop (standing_of f world) commands p q
+    → length commands ≤ 2 ^ 40 → IsFirstWorld (record { shape = shape; formulas = f keys }) world → world.keys ≡ keys → HasToldSample stop (standing_of f world) commands p q
     → HasRunSample (record { shape = shape; formulas = f keys }) commands stop p q
 HasRunSample-told f shape keys world commands stop p q short is same told =
     let setup : Setup = record { shape = shape; formulas = f keys } in
     let s = standing_of f world in
-    let at_setup = new_setup f shape keys world is same in
+    let at_setup = new_setup f shape keys world is.new same in
     let ends : SampleEnds setup (start setup) commands stop told.steps told.text =
-    subst (λ machine. SampleEnds setup machine commands stop told.steps told.text) (new_machine f setup world is)
+    subst (λ machine. SampleEnds setup machine commands stop told.steps told.text) (new_machine f setup world is.new)
     (subst (λ (u : Setup). SampleEnds u s.machine commands stop told.steps told.text) at_setup told.ends) in
-    let replayed : IsReplayed setup told.steps =
+    let replayed : IsReplayed setup stop told.steps =
     inr (world, told.leads.0, is, subst (λ (u : Setup). AreStepped u world told.steps told.leads.0) at_setup told.leads.1) in record {
       steps = told.steps;
       text = told.text;

@@ -3,6 +3,8 @@ use Rattle.std.proofs.Common.{rules, ◌≡◌, ◌∙◌, ℕ, Bool, true, fals
 use Rattle.std.specs.Prelude.{◌⊎◌}
 use Rattle.pmem_base.specs.declared.commands.Command.{Command}
 use Rattle.pmem_base.specs.declared.answers.Mark.{Mark}
+use Rattle.pmem_base.specs.Counts.{risen_times}
+use Rattle.pmem_base.specs.Layout as layout
 use Rattle.pmem_base.specs.Shape.{Shape}
 use Rattle.suite.specs.Formulas.{Formulas}
 use Rattle.suite.specs.Setup.{Setup}
@@ -12,8 +14,8 @@ use Rattle.plain_model.specs.Answers.{is_shown}
 use Rattle.plain_model.specs.Run.{Machine, Step, start, machine_after, machine_after_all}
 use Rattle.plain_model.proofs.Views.{view_after_marks-append}
 use Rattle.pmem_replay.specs.World.{WorldState, setup_of_world, view_in}
-use Rattle.pmem_replay.specs.Stepped.{IsNewWorld, HasStepped, AddsFewSteps}
-use Rattle.pmem_cli.specs.Standing.{Standing, standing_of, AreStepped, StandingAfter}
+use Rattle.pmem_replay.specs.Stepped.{HasFormatWork, IsNewWorld, HasStepped, AddsFewSteps}
+use Rattle.pmem_cli.specs.Standing.{Standing, standing_of, AreStepped, IsFirstWorld, StandingAfter}
 use Rattle.pmem_cli.specs.Replies.{HasReplied}
 
 pub machine_after_all-append : (setup : Setup) (machine : Machine) (xs ys : List Step)
@@ -89,3 +91,14 @@ pub new_machine : (f : List ℕ → Formulas) (setup : Setup) (world : WorldStat
 unfolding start
 new_machine f setup world is =
     same_machine world.state _ (view_of world.shape world.ledger.marks) _ is.state (ap (λ g. view_of g world.ledger.marks) is.its_shape ∙ is.view)
+
+-- over a suite that had made nothing
+pub first_world : (setup : Setup) (world : WorldState) (tags digests : ℕ) → IsNewWorld setup world → HasFormatWork setup.shape tags digests world
+    → (tags ≡ 0) × (digests ≡ 0) → IsFirstWorld setup world
+first_world setup world tags digests new work unused = record {
+  new = new;
+  work = record {
+    tags = work.tags ∙ ap (risen_times (layout.data_lines setup.shape)) unused.0;
+    digests = work.digests ∙ ap (risen_times (layout.meta_lines setup.shape)) unused.1;
+  };
+}

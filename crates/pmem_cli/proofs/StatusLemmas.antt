@@ -83,7 +83,7 @@ logged_done : (setup : Setup) (stop : Stop) (status : ℕ) (pull_failed : Type 0
     → HasLoggedRun setup status pull_failed trace left before after
 logged_done setup stop status pull_failed trace left before after between run read finished =
     let steps = steps_logged run.all in
-    let replayed = replayed_plain setup run.all run.replayed in
+    let replayed = replayed_plain setup stop run.all run.replayed in
     record {
       stop = stop;
       all = run.all;

@@ -72,22 +72,22 @@ sums_from setup machine world last (step ∷ steps) tail n same (next, taken, ch
     )
 
 -- so it is over a formatted world
-pub sums_run : (setup : Setup) (all steps tail : List Step) → all ≡ steps ++ tail → AreAnswered setup (start setup) all
-    → All (λ step. is_shown step.reply.answer ≡ false) steps → length tail ≤ 1 → length steps ≤ 2 ^ 40 → IsReplayed setup all → AreStepSums setup (start setup) all
+pub sums_run : {its : Stop} (setup : Setup) (all steps tail : List Step) → all ≡ steps ++ tail → AreAnswered setup (start setup) all
+    → All (λ step. is_shown step.reply.answer ≡ false) steps → length tail ≤ 1 → length steps ≤ 2 ^ 40 → IsReplayed setup its all → AreStepSums setup (start setup) all
 unfolding start start_state
-sums_run setup all steps tail is answered none one short (inl empty) = subst (λ (xs : List Step). AreStepSums setup (start setup) xs) (sym empty) tt
+sums_run setup all steps tail is answered none one short (inl empty) = subst (λ (xs : List Step). AreStepSums setup (start setup) xs) (sym empty.1) tt
 sums_run setup all steps tail is answered none one short (inr (first, last, new, chain)) =
     subst (λ (xs : List Step). AreStepSums setup (start setup) xs) (sym is)
-    (sums_from setup (start setup) first last steps tail 0 (sym new.state) (subst (λ (xs : List Step). AreStepped setup first xs last) is chain)
+    (sums_from setup (start setup) first last steps tail 0 (sym new.new.state) (subst (λ (xs : List Step). AreStepped setup first xs last) is chain)
     (subst (λ (xs : List Step). AreAnswered setup (start setup) xs) is answered) none one (omega arith) (omega (arith, short)))
 
-sums_whole : (setup : Setup) (lines : List (List ℕ)) (steps : List Step) → IsRunFrom setup (start setup) lines steps → length lines ≤ line_limit → IsReplayed setup steps
+sums_whole : {its : Stop} (setup : Setup) (lines : List (List ℕ)) (steps : List Step) → IsRunFrom setup (start setup) lines steps → length lines ≤ line_limit → IsReplayed setup its steps
     → AreStepSums setup (start setup) steps
 sums_whole setup lines steps run short replayed =
     let few = few_steps setup (start setup) lines steps run in
     sums_run setup steps steps [] (sym (append-nil steps)) run.answered run.none_shown (omega arith) (omega (arith, few, short)) replayed
 
-sums_shown : (setup : Setup) (lines : List (List ℕ)) (steps : List Step) → IsShownFrom setup (start setup) 0 lines steps → IsReplayed setup steps
+sums_shown : {its : Stop} (setup : Setup) (lines : List (List ℕ)) (steps : List Step) → IsShownFrom setup (start setup) 0 lines steps → IsReplayed setup its steps
     → AreStepSums setup (start setup) steps
 sums_shown setup lines steps ends replayed =
     let few = few_steps setup (start setup) ends.before ends.first ends.run in
@@ -100,7 +100,7 @@ wanted_within : (n : ℕ) (behind : List (List ℕ)) → IsMemoryWanted n behind
 wanted_within n [] wanted = absurd wanted
 wanted_within n (line ∷ lines) wanted = omega (arith, wanted.1)
 
-pub summed : (stop : Stop) (setup : Setup) (trace : List ℕ) (left : Option (List ℕ)) (steps : List Step) → Ends setup stop trace left steps → IsReplayed setup steps
+pub summed : {its : Stop} (stop : Stop) (setup : Setup) (trace : List ℕ) (left : Option (List ℕ)) (steps : List Step) → Ends setup stop trace left steps → IsReplayed setup its steps
     → AreStepSums setup (start setup) steps
 summed Finished setup trace left steps ends replayed = sums_whole setup (lines_of trace) steps ends.run (omega (arith, ends.counted)) replayed
 summed Memory setup trace left steps ends replayed =

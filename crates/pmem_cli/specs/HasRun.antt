@@ -39,7 +39,7 @@ pub record HasRun (setup : Setup) (status : ℕ) (pull_failed : Type 0) (trace l
   pub stop : Stop
   pub steps : List Step
   pub ends : IfSome trace (λ bytes. Ends setup stop bytes left steps)
-  pub replayed : IsReplayed setup steps
+  pub replayed : IsReplayed setup stop steps
   pub untampered : IfSome trace (λ bytes. IsUntampered setup steps)
   pub summed : IfSome trace (λ bytes. AreStepSums setup (start setup) steps)
   pub read : stop ≡ ReadFault → pull_failed
@@ -60,7 +60,7 @@ pub record HasSampled (setup : Setup) (commands : List Command) (status : ℕ) (
   pub steps : List Step
   pub text : List ℕ
   pub ends : SampleEnds setup (start setup) commands stop steps text
-  pub replayed : IsReplayed setup steps
+  pub replayed : IsReplayed setup stop steps
   pub untampered : IsUntampered setup steps
   pub summed : AreStepSums setup (start setup) steps
   pub its_status : status ≢ 4 → status ≡ status_of stop
@@ -119,7 +119,7 @@ pub record TextOutcome (stop : Stop) (from to : Output) (text : List ℕ) : Type
 pub record HasReplayed (setup : Setup) (stop : Stop) (trace left : Option (List ℕ)) (from to : Output) : Type 0 where
   pub steps : List Step
   pub ends : IfSome trace (λ bytes. Ends setup stop bytes left steps)
-  pub replayed : IsReplayed setup steps
+  pub replayed : IsReplayed setup stop steps
   pub said : HasSaidText stop from to (steps_text steps)
 
 -- commands were run to a stop, with the last answer printed
@@ -127,7 +127,7 @@ pub record HasRunSample (setup : Setup) (commands : List Command) (stop : Stop) 
   pub steps : List Step
   pub text : List ℕ
   pub ends : SampleEnds setup (start setup) commands stop steps text
-  pub replayed : IsReplayed setup steps
+  pub replayed : IsReplayed setup stop steps
   pub summed : AreStepSums setup (start setup) steps
   pub said : HasSaidText stop from to text
 

@@ -23,3 +23,4 @@ pub mod Txn
 pub mod Logged
 pub mod RepliesFirst
 pub mod HasRun
+pub mod Determined

@@ -16,7 +16,6 @@ use Rattle.plain_model.specs.Run.{Machine, Step, step_text, start, line_limit, t
 use Rattle.access_log.specs.declared.access.Access.{Access}
 use Rattle.access_log.specs.declared.access.Access.TheVariants as Did
 use Rattle.pmem_replay.specs.World.{WorldState}
-use Rattle.pmem_replay.specs.Stepped.{IsNewWorld}
 use Rattle.pmem_replay.specs.Logged.{IsLogged}
 use Rattle.trace_text.specs.Entries.{sort_of_reading}
 use Rattle.trace_text.specs.Conversations.{Protocol}
@@ -25,7 +24,7 @@ use Rattle.pmem_cli.specs.declared.ending.Ending.TheVariants.{Stopped}
 use Rattle.pmem_cli.specs.Printed.{Output, AppendsFront, PutsAtLeast}
 use Rattle.pmem_cli.specs.Replies.{GoesOn, EndsShown}
 use Rattle.pmem_cli.specs.Sampled.{HasSaidText}
-use Rattle.pmem_cli.specs.Standing.{standing_of, IsWorldStep}
+use Rattle.pmem_cli.specs.Standing.{standing_of, IsFirstWorld, IsWorldStep}
 use Rattle.pmem_cli.specs.Sums.{AreStepSums}
 use Rattle.pmem_cli.specs.Untampered.{IsUntampered}
 
@@ -138,10 +137,10 @@ AreTold setup world [] last = last ≡ world
 AreTold setup world (logged ∷ later) last =
     (next : WorldState) × IsWorldStep setup world logged.step next × IsTold world logged next × AreTold setup next later last
 
--- a formatted world answered them, or none was made and none was answered
-abbrev pub IsReplayedTold : Setup → List LoggedStep → Type 0
-IsReplayedTold setup all =
-    (all ≡ []) ⊎ ((first last : WorldState) × IsNewWorld setup first × AreTold setup first all last)
+-- a formatted world answered them, or memory was wanted for it and none was answered
+abbrev pub IsReplayedTold : Setup → Stop → List LoggedStep → Type 0
+IsReplayedTold setup stop all =
+    ((stop ≡ Memory) × (all ≡ [])) ⊎ ((first last : WorldState) × IsFirstWorld setup first × AreTold setup first all last)
 
 abbrev pub logged_texts : List LoggedStep → List ℕ
 logged_texts all = flat_map logged_text all
@@ -153,7 +152,7 @@ pub record HasLoggedRun (setup : Setup) (status : ℕ) (pull_failed : Type 0) (t
   pub stop : Stop
   pub all : List LoggedStep
   pub ends : IfSome trace (λ bytes. LoggedEnds setup stop bytes left (steps_logged all))
-  pub replayed : IsReplayedTold setup all
+  pub replayed : IsReplayedTold setup stop all
   pub untampered : IfSome trace (λ bytes. IsUntampered setup (steps_logged all))
   pub summed : IfSome trace (λ bytes. AreStepSums setup (start setup) (steps_logged all))
   pub read : stop ≡ ReadFault → pull_failed
@@ -166,7 +165,7 @@ pub record HasLoggedRun (setup : Setup) (status : ℕ) (pull_failed : Type 0) (t
 pub record HasReplayedLogged (setup : Setup) (stop : Stop) (trace left : Option (List ℕ)) (from to : Output) : Type 0 where
   pub all : List LoggedStep
   pub ends : IfSome trace (λ bytes. LoggedEnds setup stop bytes left (steps_logged all))
-  pub replayed : IsReplayedTold setup all
+  pub replayed : IsReplayedTold setup stop all
   pub said : HasSaidText stop from to (logged_texts all)
 
 -- the run of a trace came to its stop

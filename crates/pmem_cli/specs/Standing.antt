@@ -2,9 +2,11 @@
 use Rattle.std.specs.Prelude.{◌≡◌, ◌⊎◌, ℕ, false, List, [], ◌∷◌}
 use Rattle.suite.specs.Formulas.{Formulas}
 use Rattle.suite.specs.Setup.{Setup}
+use Rattle.plain_model.specs.declared.Stop.{Stop}
+use Rattle.plain_model.specs.declared.Stop.TheVariants.{Memory}
 use Rattle.plain_model.specs.Run.{Machine, Step, machine_after_all}
 use Rattle.pmem_replay.specs.World.{WorldState, setup_of_world, view_in}
-use Rattle.pmem_replay.specs.Stepped.{IsNewWorld, HasStepped, AddsFewSteps}
+use Rattle.pmem_replay.specs.Stepped.{HasFormatWork, IsNewWorld, HasStepped, AddsFewSteps}
 
 -- what stays the same through the run, the plain machine, and the world that stands for it
 pub record Standing : Type 0 where
@@ -32,10 +34,15 @@ AreStepped setup world [] last = last ≡ world
 AreStepped setup world (step ∷ steps) last =
     (next : WorldState) × IsWorldStep setup world step next × AreStepped setup next steps last
 
--- a formatted world answered them, or none was made and none was answered
-abbrev pub IsReplayed : Setup → List Step → Type 0
-IsReplayed setup steps =
-    (steps ≡ []) ⊎ ((first last : WorldState) × IsNewWorld setup first × AreStepped setup first steps last)
+-- the world that a run begins with: a formatted one, whose suite had made nothing before
+pub record IsFirstWorld (setup : Setup) (world : WorldState) : Type 0 where
+  pub new : IsNewWorld setup world
+  pub work : HasFormatWork setup.shape 0 0 world
+
+-- a formatted world answered them, or memory was wanted for it and none was answered
+abbrev pub IsReplayed : Setup → Stop → List Step → Type 0
+IsReplayed setup stop steps =
+    ((stop ≡ Memory) × (steps ≡ [])) ⊎ ((first last : WorldState) × IsFirstWorld setup first × AreStepped setup first steps last)
 
 -- the run went on by these steps
 pub record StandingAfter (before after : Standing) (steps : List Step) : Type 0 where

@@ -3,6 +3,7 @@
 #![tactic(auto)]
 
 mod checking;
+mod determined;
 mod ending;
 mod lines;
 mod logging;
@@ -22,6 +23,7 @@ mod tree;
 mod txn;
 mod wear;
 
+pub use determined::run_is_determined;
 pub use program::run;
 pub use pulls::Pulls;
 pub use sink::{MemSink, Sink, StdSink};

@@ -156,6 +156,7 @@ fn log_with<U: Counted + Drop, S: Source, K: Sink>(
     printer: &mut Printer,
     out: &mut K,
 ) -> Stop
+    requires { (U.tags suite ≡ 0) × (U.digests suite ≡ 0) }
     ensures run { HasReplayedLogged (record { shape = shape_of geo; formulas = U.formulas_of (U.keys suite) }) result (S.left trace.old) (S.left trace.new)
         (with_waiting (K.put out.old) printer.old) (with_waiting (K.put out.new) printer.new) }
     ensures cause { StopsByCause (Some result) (S.faults trace.old) (S.faults trace.new) (K.faults out.old) (K.faults out.new) }

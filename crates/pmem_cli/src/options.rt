@@ -3,7 +3,7 @@ ghost use Rattle.std.specs.Prelude.{◌≡◌, ◌≤◌, ◌∷◌, ◌++◌, [
 ghost use Rattle.std.specs.List.{position_or_len};
 ghost use Rattle.pmem_base.specs.Shape.{is_loss};
 ghost use Rattle.pmem_base.specs.Geo.{shape_of};
-ghost use Rattle.suite.specs.Suites.{aes_keys, weak_keys};
+ghost use Rattle.suite.specs.Suites.{aes_counts, aes_keys, weak_counts, weak_keys};
 ghost use Rattle.suite.specs.Weak.{blur_flag};
 ghost use Rattle.pmem_cli.specs.Keys.{chosen_key, chosen_tag_key, shape_chosen, every_chosen};
 ghost use Rattle.pmem_cli.specs.Words.{suite_named, number_where, value_of, is_up_to, choose_log, is_flag, choose_suite, choose_tree, choose_run, choose_wear, choose, no_choices, is_equals, option_parts, next_value, take_options, seed_and_count, task_of, AreChosen, HasChosen, map_some};
@@ -177,7 +177,8 @@ impl Choices {
     /// The aes suite under the chosen keys.
     pub fn aes_suite(&self) -> AesSuite
         requires { AreChosen self.now }
-        ensures { aes_keys result ≡ chosen_key self.now ++ chosen_tag_key self.now }
+        ensures keys { aes_keys result ≡ chosen_key self.now ++ chosen_tag_key self.now }
+        ensures unused { aes_counts result ≡ (0, 0, 0) }
     {
         let key = self.suite_key();
         let (count, line) = self.suite_tag_key();
@@ -187,7 +188,8 @@ impl Choices {
     /// The weak suite under the chosen keys, in its blur form or not.
     pub fn weak_suite(&self, blur: bool) -> WeakSuite
         requires { AreChosen self.now }
-        ensures { weak_keys result ≡ (chosen_key self.now ++ chosen_tag_key self.now) ++ blur_flag blur ∷ [] }
+        ensures keys { weak_keys result ≡ (chosen_key self.now ++ chosen_tag_key self.now) ++ blur_flag blur ∷ [] }
+        ensures unused { weak_counts result ≡ (0, 0, 0) }
     {
         let key = self.suite_key();
         let (count, line) = self.suite_tag_key();

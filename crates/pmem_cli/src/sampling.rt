@@ -112,6 +112,7 @@ fn sample_with<U: Counted + Drop, K: Sink>(
     printer: &mut Printer,
     out: &mut K,
 ) -> Stop
+    requires { (U.tags suite ≡ 0) × (U.digests suite ≡ 0) }
     ensures run { HasRunSample (record { shape = shape_of geo; formulas = U.formulas_of (U.keys suite) }) (sample_trace seed count) result
         (with_waiting (K.put out.old) printer.old) (with_waiting (K.put out.new) printer.new) }
     ensures cause { StopsByCause (Some result) 0 0 (K.faults out.old) (K.faults out.new) }

@@ -14,3 +14,11 @@ one_line words = do
 -- all first words but those of `post`, `part`, `drain`, `fence` and `read`
 abbrev pub later_verbs : List (Word × Verb)
 later_verbs = drop 5 verbs
+
+-- and all but `turn`, `flush`, `cut`, `off` and `on`
+abbrev pub tampering_verbs : List (Word × Verb)
+tampering_verbs = drop 10 verbs
+
+-- and all but `poke`, `flip`, `move` and `snap`: `back`, `peek`, `stat` and `loss`
+abbrev pub last_verbs : List (Word × Verb)
+last_verbs = drop 14 verbs

@@ -7,7 +7,7 @@ ghost use Rattle.collision_witness.specs.Words.{words_of, no_word};
 ghost use Rattle.collision_witness.specs.Views.{map_ok};
 ghost use Rattle.trace_text.specs.Entries.{entry_of_line};
 ghost use Rattle.plain_model.specs.Grammar.{verbs, command_among, reading_of, with_port, post_with, part_with, read_with, poke_values};
-ghost use Rattle.trace_text.specs.Lines.{later_verbs};
+ghost use Rattle.trace_text.specs.Lines.{later_verbs, tampering_verbs, last_verbs};
 ghost use Rattle.trace_text.specs.Commands.{HasPortWithin, HasPartAtFront, IsWritable};
 
 use crate::lines::read_one_line;
@@ -144,7 +144,7 @@ fn read_verb(most: u8, verb: &[u8], text: &[u8]) -> Result<Command, Kind>
     read_later_verb(most, verb, text)
 }
 
-/// The command that begins with a first word behind the five that have ports.
+/// The command that begins with a first word behind the five that have ports: of the controller and of its power.
 #[tactic(auto, unfolding(plain_model::specs::Grammar::command_among, plain_model::specs::Grammar::command_of))]
 #[inline(never)]
 fn read_later_verb(most: u8, verb: &[u8], text: &[u8]) -> Result<Command, Kind>
@@ -154,46 +154,79 @@ fn read_later_verb(most: u8, verb: &[u8], text: &[u8]) -> Result<Command, Kind>
 {
     if verb == b"turn".as_slice() {
         has_no_word(text)?;
-        Ok(Command::Turn)
-    } else if verb == b"flush".as_slice() {
-        has_no_word(text)?;
-        Ok(Command::Flush)
-    } else if verb == b"cut".as_slice() {
-        let n = read_one_number(text)?;
-        Ok(Command::Cut { n })
-    } else if verb == b"off".as_slice() {
-        has_no_word(text)?;
-        Ok(Command::Off)
-    } else if verb == b"on".as_slice() {
-        has_no_word(text)?;
-        Ok(Command::On)
-    } else if verb == b"poke".as_slice() {
-        let (at, line) = read_poke(text)?;
-        Ok(Command::Poke { at, line })
-    } else if verb == b"flip".as_slice() {
-        let (at, bit) = read_two_numbers(text)?;
-        Ok(Command::Flip { at, bit })
-    } else if verb == b"move".as_slice() {
-        let (from, to) = read_two_numbers(text)?;
-        Ok(Command::Move { from, to })
-    } else if verb == b"snap".as_slice() {
-        has_no_word(text)?;
-        Ok(Command::Snap)
-    } else if verb == b"back".as_slice() {
-        let at = read_one_number(text)?;
-        Ok(Command::Back { at })
-    } else if verb == b"peek".as_slice() {
-        let at = read_one_number(text)?;
-        Ok(Command::Peek { at })
-    } else if verb == b"stat".as_slice() {
-        has_no_word(text)?;
-        Ok(Command::Stat)
-    } else if verb == b"loss".as_slice() {
-        let n = read_one_number(text)?;
-        Ok(Command::Loss { n })
-    } else {
-        Err(Kind::Word)
+        return Ok(Command::Turn);
     }
+    if verb == b"flush".as_slice() {
+        has_no_word(text)?;
+        return Ok(Command::Flush);
+    }
+    if verb == b"cut".as_slice() {
+        let n = read_one_number(text)?;
+        return Ok(Command::Cut { n });
+    }
+    if verb == b"off".as_slice() {
+        has_no_word(text)?;
+        return Ok(Command::Off);
+    }
+    if verb == b"on".as_slice() {
+        has_no_word(text)?;
+        return Ok(Command::On);
+    }
+    read_tampering_verb(most, verb, text)
+}
+
+/// The command that begins with a first word behind those ten: of an attacker.
+#[tactic(auto, unfolding(plain_model::specs::Grammar::command_among, plain_model::specs::Grammar::command_of))]
+#[inline(never)]
+fn read_tampering_verb(most: u8, verb: &[u8], text: &[u8]) -> Result<Command, Kind>
+    ensures command { result ≡ command_among most tampering_verbs verb.now (words_of text.now) }
+    ensures port { IfOk result (HasPortWithin most) }
+    ensures part { IfOk result HasPartAtFront }
+{
+    if verb == b"poke".as_slice() {
+        let (at, line) = read_poke(text)?;
+        return Ok(Command::Poke { at, line });
+    }
+    if verb == b"flip".as_slice() {
+        let (at, bit) = read_two_numbers(text)?;
+        return Ok(Command::Flip { at, bit });
+    }
+    if verb == b"move".as_slice() {
+        let (from, to) = read_two_numbers(text)?;
+        return Ok(Command::Move { from, to });
+    }
+    if verb == b"snap".as_slice() {
+        has_no_word(text)?;
+        return Ok(Command::Snap);
+    }
+    read_last_verb(most, verb, text)
+}
+
+/// The command that begins with one of the last four first words.
+#[tactic(auto, unfolding(plain_model::specs::Grammar::command_among, plain_model::specs::Grammar::command_of))]
+#[inline(never)]
+fn read_last_verb(most: u8, verb: &[u8], text: &[u8]) -> Result<Command, Kind>
+    ensures command { result ≡ command_among most last_verbs verb.now (words_of text.now) }
+    ensures port { IfOk result (HasPortWithin most) }
+    ensures part { IfOk result HasPartAtFront }
+{
+    if verb == b"back".as_slice() {
+        let at = read_one_number(text)?;
+        return Ok(Command::Back { at });
+    }
+    if verb == b"peek".as_slice() {
+        let at = read_one_number(text)?;
+        return Ok(Command::Peek { at });
+    }
+    if verb == b"stat".as_slice() {
+        has_no_word(text)?;
+        return Ok(Command::Stat);
+    }
+    if verb == b"loss".as_slice() {
+        let n = read_one_number(text)?;
+        return Ok(Command::Loss { n });
+    }
+    Err(Kind::Word)
 }
 
 /// A law: what a trace can spell is in its ranges.

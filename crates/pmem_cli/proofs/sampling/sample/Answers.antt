@@ -13,5 +13,5 @@ returns-clause-run g c =
     (λ (setup : Setup).
     HasRunSample setup (sample_trace c.args.seed c.args.count) c.sample_with.result
     (with_waiting (g.K.Sink.put c.args.out.now) c.args.printer.now) (with_waiting (g.K.Sink.put c.sample_with.new.out) c.sample_with.new.printer))
-    (setup_defaults c.none-choices.result (shape_of c.geometry-geo.result) _ c.none-choices.ensures.choices c.geometry-geo.ensures c.aes_suite-suite.ensures)
+    (setup_defaults c.none-choices.result (shape_of c.geometry-geo.result) _ c.none-choices.ensures.choices c.geometry-geo.ensures c.aes_suite-suite.ensures.keys)
     c.sample_with.ensures.run
