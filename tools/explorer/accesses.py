@@ -15,11 +15,12 @@ LOOK, LINE, LATCHED, WORK = b"look", b"line", b"latch", b"work "
 @dataclass(frozen=True)
 class Log:
     """The log of one command: its accesses in order, each with the device line, or of a latch with the lines that the
-    commit group has after it; and the tags and digests that it made."""
+    commit group has after it; the tags and digests that it made; and how many bytes the log is."""
 
     accesses: Tuple[Tuple[bytes, int], ...]
     tags: int
     digests: int
+    size: int
 
 
 def logs_of(recording: Recording, data: bytes) -> Iterator[Log]:
@@ -44,7 +45,7 @@ def log_of(recording: Recording, accesses: bytes, work: bytes) -> Log:
         words = [line.split(b" ") for line in accesses.split(b"\n")[:-1]]
         found = tuple((word, int(number)) for word, number in words)
         _, tags, digests = work.split(b" ")
-        log = Log(found, int(tags), int(digests))
+        log = Log(found, int(tags), int(digests), len(accesses) + len(work) + 1)
     except ValueError as error:
         raise ExploreError(f"{recording.program.path} doesn't tell its accesses as docs/FORMATS.md says") from error
     if any(word not in (LOOK, LINE, LATCHED) for word, _ in found):

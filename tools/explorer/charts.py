@@ -6,6 +6,7 @@ from .accounts import PART_WORDS
 from .compare import NUMBERS, RECOVERY
 from .draw import (BLACK, BLUE, DARK_GREY, GREEN, GREY, ORANGE, PURPLE, SKY, VERMILION, label_of, load_matplotlib, picture)
 from .errors import WRONG_WORDS, ExploreError
+from .labels import add_labels
 
 Row = Dict[str, Any]
 
@@ -143,14 +144,12 @@ def trade_off(value: Dict[str, Any], title: str, kind: str) -> bytes:
     best = [point for place, point in enumerate(points) if all(point[1] < other[1] for other in points[:place])]
     axes.plot([point[0] for point in best], [point[1] for point in best], color=GREY, linewidth=1.2, zorder=1)
     names = varied(rows)
-    told: List[Tuple[str, float, float]] = []
+    told: List[Tuple[float, float, str]] = []
     for cost, recovery, row in points:
         colour, marker = DESIGN_MARKS[row["design"]]
         axes.plot([cost], [recovery], marker=marker, color=colour, linestyle="", zorder=2)
         text = ", ".join(str(row[name]) for name in names if row[name] is not None)
-        if not is_beside(told, text, cost, recovery, points[-1][0]):
-            axes.annotate(text, (cost, recovery), fontsize=6.5, textcoords="offset points", xytext=(5, 3), color=DARK_GREY)
-            told.append((text, cost, recovery))
+        told.append((cost, recovery, "" if is_beside(told, text, cost, recovery, points[-1][0]) else text))
     if names:
         axes.text(0.99, 0.98, f"at each point: {', '.join(map(label_of, names))}", transform=axes.transAxes, ha="right", va="top",
                   fontsize=7.5, color=DARK_GREY)
@@ -164,13 +163,14 @@ def trade_off(value: Dict[str, Any], title: str, kind: str) -> bytes:
                DESIGN_MARKS.items() if any(row["design"] == design for row in rows)]
     axes.legend(handles=handles, frameon=False, fontsize=8, loc="lower left")
     add_title(figure, axes, plain(title_of(rows, title)), value["heads"])
+    add_labels(axes, told, DARK_GREY)
     return picture(pyplot, figure, kind)
 
 
-def is_beside(told: Sequence[Tuple[str, float, float]], text: str, cost: float, recovery: float, widest: float) -> bool:
+def is_beside(told: Sequence[Tuple[float, float, str]], text: str, cost: float, recovery: float, widest: float) -> bool:
     """Whether a point has the label of one so near that they would lie on each other."""
     return any(other == text and abs(cost - before) < 0.06 * widest and recovery < 1.2 * value and value < 1.2 * recovery
-               for other, before, value in told)
+               for before, value, other in told)
 
 
 def points_of(row: Row, timed: bool) -> List[Tuple[float, float, Row]]:

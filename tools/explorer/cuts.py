@@ -6,8 +6,10 @@ from typing import Any, Callable, Dict, FrozenSet, Iterator, List, Optional, Seq
 
 from .errors import ExploreError
 from .layout import DATA, TAGS, Layout
+from .moments import Moment
 from .output import json_text, table_text
 from .program import MARKS, Question, Recording, Reply, replies_in, text_of
+from .shared import Shared
 from .steps import Totals, mentioned_lines, stepping_indexes, tampered_lines
 from .together import Together
 from .trace import TAMPERING_WORDS, Command, short_text
@@ -94,20 +96,6 @@ class Cut:
         if self.unread:
             texts.append(f"{len(self.unread)} can't be read")
         return ", ".join(texts) or "none"
-
-
-@dataclass(frozen=True)
-class Moment:
-    """A moment to be asked about: before a command (`kind` is `before`), a cut in it, or power off after the trace.
-    `steps` counts those of the whole trace. `since`: the command before which the last such moment was, where no command that
-    isn't asked about took steps in between."""
-
-    kind: str
-    index: int
-    number: int = 0
-    steps: int = 0
-    recovery_steps: Optional[int] = None
-    since: Optional[int] = None
 
 
 class CutFinder:
@@ -213,7 +201,14 @@ class CutFinder:
         return moments
 
     def answers(self, moments: Sequence[Moment], what: str) -> Iterator[Tuple[Moment, bytes]]:
-        """What is printed of each moment."""
+        """What is printed of each moment. Where a run of the whole trace is worth it, its log tells which cuts one recovery
+        stands for."""
+        if sum(moment.kind == "cut" for moment in moments) >= len(self.recording.commands) \
+                and self.together.library_for(self.recording, len(moments)):
+            log = self.recording.program.logged(self.recording.script, self.recording.settings)
+            if log is not None:
+                yield from Shared(self.recording, self.together, log, self.question).answers(moments, what)
+                return
         found = self.together.answers(self.recording, map(self.question, moments), len(moments), what)
         for moment, (_, data) in zip(moments, found):
             yield moment, data

@@ -6,6 +6,7 @@ from dataclasses import dataclass
 from typing import Any, Dict, List, Optional, Sequence, Tuple
 
 from .errors import WRONG_WORDS, ExploreError
+from .labels import add_labels
 from .layout import CHIP, COUNTERS, DATA, NODES, SHADOWS, TAGS, AnyLayout, Place, layout_of
 from .program import first_word
 from .settings import Settings
@@ -592,8 +593,6 @@ def trade_off(records: Sequence[Dict[str, Any]], title: str, kind: str) -> bytes
     for steps, recovery, record in points:
         axes.plot([steps], [recovery], marker="o", color=BLUE, linestyle="", zorder=2,
                   markerfacecolor="white" if record["out_of_range"] else BLUE)
-        axes.annotate(", ".join(str(record[name]) for name in names), (steps, recovery), fontsize=6.5,
-                      textcoords="offset points", xytext=(5, 3), color=DARK_GREY)
     if names:
         axes.text(0.99, 0.98, f"at each point: {', '.join(map(label_of, names))}", transform=axes.transAxes, ha="right", va="top",
                   fontsize=7.5, color=DARK_GREY)
@@ -607,6 +606,8 @@ def trade_off(records: Sequence[Dict[str, Any]], title: str, kind: str) -> bytes
     figure.tight_layout(rect=(0, 0.05 * len(notes), 1, 1))
     for place, note in enumerate(reversed(notes)):
         figure.text(0.02, 0.01 + 0.04 * place, note, fontsize=6.5, color=VERMILION)
+    add_labels(axes, [(steps, recovery, ", ".join(str(record[name]) for name in names)) for steps, recovery, record in points],
+               DARK_GREY)
     return picture(pyplot, figure, kind)
 
 

@@ -1,9 +1,10 @@
 """Traces that the program runs with its log (`--log`): what each command did to the device before its reply."""
+import copy
 import re
 import subprocess
 from collections import Counter
 from dataclasses import dataclass
-from typing import Dict, List, Optional, Tuple
+from typing import Dict, List, Optional, Sequence, Tuple
 
 from .accesses import LATCHED, LINE, LOOK
 from .errors import ExploreError
@@ -111,3 +112,13 @@ class LoggedRecording(Recording):
         self.script_ends = ends_of([len(command.text) + 1 for command in self.commands])
         self.output, self.status = output.data, output.status
         self.output_ends = ends_of([entry.size for entry in self.entries])
+
+
+def logged_again(recording: Recording, data: bytes, sizes: Sequence[int]) -> Recording:
+    """The same trace by the program with its log, which printed this of it, of each reply with its log so many bytes: it can be
+    asked as any recording, and the answers have logs too."""
+    logged = copy.copy(recording)
+    logged.program = LoggedProgram(recording.program.path)
+    logged.plain_ok = LoggedRecording.plain_ok
+    logged.output, logged.output_ends = data, ends_of(sizes)
+    return logged

@@ -23,6 +23,30 @@ class Showing:
     after: Tuple[int, ...]
 
 
+@dataclass(frozen=True)
+class Unsettled:
+    """A line as a step of a command writes it: cuts show that from the one just after the step up to one after `last` steps."""
+
+    number: int
+    line: int
+    last: int
+
+
+def cuts_within(unsettled: Sequence[Unsettled]) -> Iterator[Tuple[int, List[Tuple[int, int]]]]:
+    """The fewest cuts of a command that show all of these, each after how many steps, with the steps that it shows and their
+    lines."""
+    cut = -1
+    shown: List[Tuple[int, int]] = []
+    for each in sorted(unsettled, key=lambda each: each.last):
+        if each.number > cut:
+            if shown:
+                yield cut, shown
+            cut, shown = each.last, []
+        shown.append((each.number, each.line))
+    if shown:
+        yield cut, shown
+
+
 def written_lines(traced: Traced) -> List[int]:
     """The lines that a command writes, each once."""
     return list(dict.fromkeys(step.place.line for step in traced.steps if step.place is not None))
@@ -117,23 +141,28 @@ class SameBytes:
     def between(self) -> Dict[Tuple[int, int], Dict[int, bytes]]:
         """The lines that a command writes again later, or that can't be shown after it, as they are after a step of it, by
         the command and the step's number in it."""
-        wanted = [(each.index, number, line) for part in self.parts for each in part
-                  for number, line in self.unsettled(each.index)]
-        questions = [Question(index, (b"cut %d" % number, self.recording.commands[index].text), text_of(peeks([line])))
-                     for index, number, line in wanted]
+        wanted = [(each.index, cut, shown) for part in self.parts for each in part
+                  for cut, shown in cuts_within(self.unsettled(each.index))]
+        questions = [Question(index, (b"cut %d" % cut, self.recording.commands[index].text),
+                              text_of(peeks([line for _, line in shown]))) for index, cut, shown in wanted]
         if not questions:
             return {}
         answers = self.together.answers(self.recording, questions, len(questions), "bytes of lines written twice")
-        return {(index, number): {line: shown_in(data, len(data) - SHOWN_BYTES, 1)[0]}
-                for (index, number, line), (_, data) in zip(wanted, answers)}
+        return {(index, number): {line: data}
+                for (index, _, shown), (_, told) in zip(wanted, answers)
+                for (number, line), data in zip(shown, shown_in(told, len(told) - SHOWN_BYTES * len(shown), len(shown)))}
 
-    def unsettled(self, index: int) -> List[Tuple[int, int]]:
+    def unsettled(self, index: int) -> List[Unsettled]:
         """The steps of a command after which the line that they write has to be shown by a cut."""
         each = self.traced[index]
         writes = [(number, step.place.line) for number, step in enumerate(each.steps, 1) if step.place is not None]
-        last = {line: number for number, line in writes}
-        return [(number, line) for number, line in writes
-                if number != last[line] or each.reply.is_exhibit and number != len(each.steps)]
+        found: List[Unsettled] = []
+        next_of: Dict[int, int] = {line: len(each.steps) for _, line in writes} if each.reply.is_exhibit else {}
+        for number, line in reversed(writes):
+            if number < next_of.get(line, 0):
+                found.append(Unsettled(number, line, next_of[line] - 1))
+            next_of[line] = number
+        return found
 
     def told(self) -> List[Traced]:
         """All commands, and of each write that was looked at whether its line had these bytes."""

@@ -31,12 +31,12 @@ BEGUN, FORKED, ENDED = b"\1H\n", b"\1F\n", b"\1E"
 
 class Progress:
     """A line on standard error that tells how far long work is, and how long it will yet take; nothing where that is no
-    terminal."""
+    terminal, or the work has no name."""
 
     def __init__(self, what: str, total: Optional[int] = None) -> None:
         self.what = what
         self.total = total
-        self.shown = sys.stderr.isatty()
+        self.shown = bool(what) and sys.stderr.isatty()
         self.begun = self.told = time.monotonic()
 
     def reach(self, done: int) -> None:

@@ -72,6 +72,22 @@ class UnbuiltTest(unittest.TestCase):
             self.assertEqual(run.communicate(timeout=60), ("", "lessons/check: interrupted\n"))
         self.assertEqual(run.returncode, 130)
 
+    def test_an_interrupt_of_the_lessons_amid_their_imports(self) -> None:
+        for name in ("subprocess", "goals"):
+            text = f"""
+import os, runpy, signal, sys, time
+class Finder:
+    def find_spec(self, name, path, target=None):
+        if name == {name!r}:
+            os.kill(os.getpid(), signal.SIGINT)
+            time.sleep(0.1)
+sys.meta_path.insert(0, Finder())
+runpy.run_path("lessons/check", run_name="__main__")
+"""
+            found = subprocess.run([sys.executable, "-c", text], cwd=self.root, env=self.environment, stdin=subprocess.DEVNULL,
+                                   stdout=subprocess.PIPE, stderr=subprocess.PIPE, universal_newlines=True, check=False)
+            self.assertEqual((found.returncode, found.stdout, found.stderr), (130, "", "lessons/check: interrupted\n"), name)
+
 
 if __name__ == "__main__":
     unittest.main()
