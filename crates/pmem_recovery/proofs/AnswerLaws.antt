@@ -1,6 +1,6 @@
 -- Laws of recovery's answers: what each says of the device, of the registers and of the lines.
-use Rattle.std.proofs.Common.{rules, ℕ, ◌≡◌, ◌<◌, ◌≤◌, ◌+◌, ◌*◌, List, [], length, take, Option, Some, refl, ap, sym, subst, ◌∙◌, inl, inr, arith}
-use Rattle.std.proofs.lemmas.List.Elements.{All-nil, All-same, All-take}
+use Rattle.std.proofs.Common.{rules, ℕ, ◌≡◌, ◌≤◌, ◌+◌, List, [], length, Option, Some, refl, ap, sym, subst, ◌∙◌}
+use Rattle.std.proofs.lemmas.List.Elements.{All-nil, All-same}
 use Rattle.pmem_base.specs.declared.lines.Line.{Line}
 use Rattle.pmem_base.specs.declared.registers.Regs.{Regs}
 use Rattle.pmem_base.specs.Shape.{IsShape}
@@ -24,35 +24,10 @@ use Rattle.pmem_engine.proofs.Laws.MendableLaws.{shadow_of-zero}
 use Rattle.pmem_recovery.specs.declared.faults.RecFault.{RecFault}
 use Rattle.pmem_recovery.specs.declared.faults.RecFault.TheVariants.{NoCounter, Root, Twin}
 use Rattle.pmem_recovery.specs.Trials.{stored_block, tried_minors, IsTwinOfLastSeal}
-use Rattle.pmem_recovery.specs.Parts.{HasRoot, IsRefusal}
-use Rattle.pmem_recovery.specs.Upward.{IsMadeLine}
-use Rattle.pmem_recovery.specs.Mending.{IsPartlyMended}
+use Rattle.pmem_recovery.specs.Parts.{IsRefusal}
 use Rattle.pmem_recovery.proofs.TrialLaws.{tried_minors_some, twin_of_last_seal}
 use Rattle.pmem_recovery.proofs.UndecidedLaws.{undecided_line}
 use Rattle.pmem_recovery.proofs.FixedLaws.{found_root_true}
-use Rattle.pmem_recovery.proofs.WrittenLaws.{off_tree_same, made_on_tree, all_true_written}
-use Rattle.pmem_recovery.proofs.EndLaws.{IsMendable-written, IsMendable-zeroed_to}
-
--- ---- a partly mended device
-
--- data lines and tag lines are as they were
-pub partly-data : (setup : Setup) (lines : List Line) (regs : Regs) (now : List Line) (n : ℕ) → IsPartlyMended setup lines regs now → n < 80 * layout.pages setup.shape → line_at now n ≡ line_at lines n
-partly-data setup lines regs now n (inl same) low = ap (λ l. line_at l n) same
-partly-data setup lines regs now n (inr (inl w)) low =
-    off_tree_same setup.shape lines (take w.place w.made) now n (made_on_tree setup lines regs (take w.place w.made) (All-take (IsMadeLine setup lines regs) w.place w.made w.all_made.each)) w.are_written (inl low)
-partly-data setup lines regs now n (inr (inr z)) low =
-    z.are_zeroed.others n (inl (omega (arith, low)))
-    ∙ off_tree_same setup.shape lines z.made z.between n (made_on_tree setup lines regs z.made z.all_made.each) z.all_written (inl low)
-
--- and it can be mended still
-pub partly-mendable : (setup : Setup) (lines : List Line) (regs : Regs) (ledger : LedgerState) (now : List Line) → IsShape setup.shape → IsMendable setup lines regs ledger → IsPartlyMended setup lines regs now → IsMendable setup now regs ledger
-partly-mendable setup lines regs ledger now shape d (inl same) = subst (λ l. IsMendable setup l regs ledger) (sym same) d
-partly-mendable setup lines regs ledger now shape d (inr (inl w)) =
-    IsMendable-written setup lines regs ledger (take w.place w.made) now shape d w.root.decided (All-take (IsMadeLine setup lines regs) w.place w.made w.all_made.each) w.are_written
-partly-mendable setup lines regs ledger now shape d (inr (inr z)) =
-    IsMendable-zeroed_to setup z.between regs ledger z.zeroed now
-    (IsMendable-written setup lines regs ledger z.made z.between shape d z.root.decided z.all_made.each z.all_written)
-    (all_true_written setup lines regs ledger z.made z.between shape d z.root.decided z.all_made z.all_written) z.are_zeroed
 
 -- ---- refusals of a device that can be mended
 
@@ -86,23 +61,6 @@ true_refusal setup lines regs ledger fault shape d r = tt
 
 pub IsEmptied-without : (old new : Regs) → new ≡ without_group old → IsEmptied old new
 IsEmptied-without old new e = search rules
-
--- answers depend on the root, the re-encryption registers and the stop-loss number alone
-pub HasRoot-without : (setup : Setup) (lines : List Line) (old new : Regs) → new ≡ without_group old → HasRoot setup lines new → HasRoot setup lines old
-HasRoot-without setup lines old new e r =
-    let h : HasRoot setup lines (without_group old) = subst (HasRoot setup lines) e r in
-    record { decided = h.decided; root = h.root }
-
-pub IsRefusal-without : (setup : Setup) (lines : List Line) (old new : Regs) (fault : RecFault) → new ≡ without_group old → IsRefusal setup lines new fault → IsRefusal setup lines old fault
-IsRefusal-without setup lines old new (NoCounter at) e r =
-    subst (λ regs. IsRefusal setup lines regs (NoCounter at)) e r
-IsRefusal-without setup lines old new (Root kept found) e r =
-    let h : IsRefusal setup lines (without_group old) (Root kept found) = subst (λ regs. IsRefusal setup lines regs (Root kept found)) e r in
-    record { decided = h.decided; its_kept = h.its_kept; its_found = h.its_found; differ = h.differ }
-IsRefusal-without setup lines old new (Twin at major low high cipher tag) e r =
-    let h : IsRefusal setup lines (without_group old) (Twin at major low high cipher tag) = subst (λ regs. IsRefusal setup lines regs (Twin at major low high cipher tag)) e r in
-    (h.0, record { more = h.1.more; tried = h.1.tried; its_major = h.1.its_major; its_cipher = h.1.its_cipher; its_tag = h.1.its_tag })
-IsRefusal-without setup lines old new fault e r = tt
 
 -- ---- a new engine
 

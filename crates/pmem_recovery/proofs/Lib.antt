@@ -5,7 +5,6 @@ pub mod FixedLaws
 pub mod UpwardLaws
 pub mod UpwardSteps
 pub mod WrittenLaws
-pub mod EndLaws
 pub mod NamedLaws
 pub mod PartLaws
 pub mod WritePlans
@@ -16,12 +15,8 @@ pub mod TrialPlans
 pub mod RecoveryPlans
 pub mod TryLaws
 pub mod CounterSteps
-pub mod NodeSteps
 pub mod WriteSteps
-pub mod RecoveredLaws
-pub mod MendingLaws
 pub mod AnswerLaws
-pub mod FrontLaws
 pub mod WorkLaws
 pub mod ReadLaws
 pub mod MakingEnds
@@ -31,6 +26,8 @@ pub mod NodeEnds
 pub mod RootEnds
 pub mod WriteEnds
 pub mod MendEnds
+pub mod RedoEnds
+pub mod PlanRecovers
 pub mod RecoverLaws
 pub mod FormatSteps
 pub mod FormatPlans

@@ -1,5 +1,8 @@
 -- What is known of a board that followed recovery's plan once the group is redone, from the plan alone.
-use Rattle.std.proofs.Common.{ℕ, ◌≡◌, ◌≤◌, ◌<◌, ◌+◌, ◌*◌, ◌⊎◌, inl, inr, IsTrue, length, All, Result, Ok, Err, refl, sym, subst, ◌∙◌, arith}
+use Rattle.std.proofs.Common.{ℕ, ◌≡◌, ◌≤◌, ◌<◌, ◌+◌, ◌*◌, ◌⊎◌, inl, inr, IsTrue, List, length, All, Some, Result, Ok, Err, refl, ap, sym, subst, ◌∙◌, arith}
+use Rattle.std.specs.Prelude.{is_some}
+use Rattle.std.proofs.lemmas.Option.{same_Some}
+use Rattle.pmem_base.specs.declared.lines.Line.{Line}
 use Rattle.std.proofs.lemmas.Nat.{mul-le}
 use Rattle.pmem_base.specs.declared.faults.Cut.{Cut}
 use Rattle.pmem_base.specs.declared.registers.Regs.{Regs}
@@ -14,22 +17,23 @@ use Rattle.call_plan.proofs.Leaves.{leaves}
 use Rattle.commit_regs.specs.Groups.{RisesAtMost}
 use Rattle.shadow_tables.specs.Entries.{shadow_of}
 use Rattle.suite.specs.Setup.{Setup}
+use Rattle.pmem_engine.specs.Mendable.{IsShadowZero}
 use Rattle.pmem_engine.proofs.CallEnds.ToldLines.{whole_lines}
 use Rattle.pmem_recovery.specs.declared.faults.Work.{Work}
 use Rattle.pmem_recovery.specs.declared.faults.RecFault.{RecFault}
 use Rattle.pmem_recovery.specs.declared.faults.RecFault.TheVariants as Fault
 use Rattle.pmem_recovery.specs.Reads.{all_reads, named_reads}
 use Rattle.pmem_recovery.specs.Parts.{IfLinesTold, KeepsDevice, IsUncut, IsCutOff, StopsBy, HasRoot, IsAllWork}
-use Rattle.pmem_recovery.specs.Written.{IsRecovered}
-use Rattle.pmem_recovery.specs.Writing.{IfBothLinesTold, HasWrittenTo, HasWrittenSome, HasZeroedTo, HasZeroedSome}
-use Rattle.pmem_recovery.specs.Mending.{most_reads, HasMadeWrites, IsStoppedShort}
+use Rattle.pmem_recovery.specs.Writing.{IfBothLinesTold, HasOnlyWritten, differing, DueWrite, writes_due, count_changed, HasWrittenTo}
+use Rattle.pmem_recovery.specs.Mending.{most_reads, most_writes, IsWrittenTo, IsPartlyMended, IsRecovered, HasMadeWrites, IsStoppedShort}
 use Rattle.pmem_recovery.specs.Plans.{SuiteCounts, MadeLines, entries_plan, clear_plan, writes_plan, making_plan, mend_plan}
 use Rattle.pmem_recovery.proofs.PartLaws.{IsUncut-then, IsCutOff-after}
 use Rattle.pmem_recovery.proofs.ReadLaws.{RisesBy-as}
-use Rattle.pmem_recovery.proofs.MendingLaws.{IsMadeFor, made_writes-none, made_writes-some, made_writes-zeroed, made_writes-recovered, stopped-some, stopped-zeroed}
 use Rattle.pmem_recovery.proofs.MakingEnds.{after_work, StopsWith, IsStop, IsCutEnd, cut_end}
 use Rattle.pmem_recovery.proofs.RootEnds.{IsMade, making_ends}
-use Rattle.pmem_recovery.proofs.WriteEnds.{entries_leave, clear_leaves}
+use Rattle.pmem_recovery.proofs.WriteSteps.{HasOnlyWritten-none, differing-none, count_changed-le}
+use Rattle.pmem_recovery.proofs.WriteEnds.{IsAtWrite, IsCutAmidWrites, writes_leave}
+use Rattle.pmem_recovery.proofs.WrittenLaws.{are_due, none_changed}
 use Rattle.pmem_recovery.proofs.Reading.{HasOnlyRead, only_reads}
 
 -- ---- what is known
@@ -78,7 +82,7 @@ short_none g Fault.Memory old new valid kept = kept
 short_none g Fault.Cut old new valid kept =
     let ways = mul-le 1 1 g.sets g.ways valid.at_least_one_set valid.at_least_one_way in
     let all = mul-le 1 1 (g.levels + 1) (slots g) (omega arith) (omega (arith, ways)) in
-    record { fewer = λ below. omega (arith, kept.writes, all) }
+    λ below. omega (arith, kept.writes, all)
 short_none g (Fault.NoCounter at) old new valid kept = kept
 short_none g (Fault.Root k found) old new valid kept = kept
 short_none g (Fault.Twin at major low high cipher tag) old new valid kept = kept
@@ -105,6 +109,27 @@ module _ (setup : Setup) (regs : Regs) (first : SuiteCounts) (valid : IsShape se
       → All (λ entry. entry.at < meta_lines setup.shape) made.1.made × (length made.1.shadow ≡ shadow_lines setup.shape)
   made_ready it = let made = (made_so it).ends.1 in (made.on_tree, made.long)
 
+  -- so many lines are written after the reads
+  made_writes : (mid new : Device) (count : ℕ) → KeepsDevice old mid → RisesAtMost (most_reads g) old.reads mid.reads → count ≤ most_writes g
+      → HasOnlyWritten count mid new
+      → IfBothLinesTold old new
+      (λ lines now. length lines ≡ device_lines g
+      → IsPartlyMended setup lines regs now × (differing lines now ≡ count) × (IsShadowZero setup lines → count ≡ 0))
+      → HasMadeWrites setup regs old new
+  made_writes mid new count kept reads few s lines =
+      record {
+        size = s.size ∙ kept.size;
+        same_regs = s.regs ∙ kept.regs;
+        latches = s.latches ∙ kept.latches;
+        reads = subst (RisesAtMost (most_reads g) old.reads) (sym s.reads) reads;
+        told = s.told ∙ ap is_some kept.lines;
+        count = count;
+        few = few;
+        writes = subst (λ n. RisesBy count n new.writes) kept.writes s.writes;
+        none = λ e. s.none e ∙ kept.writes;
+        lines = lines;
+      }
+
   -- it stopped before a write
   stopped : (new : Device) (left : SuiteCounts × RecFault) → Reads new (Err left) → HasFollowedMending setup regs old new first (Err left)
   stopped new left r = by r.ends
@@ -112,7 +137,11 @@ module _ (setup : Setup) (regs : Regs) (first : SuiteCounts) (valid : IsShape se
       with_stop : StopsWith setup regs old.lines first left r.count → StopsBy left.1 old new → HasFollowedMending setup regs old new first (Err left)
       with_stop s device =
           record {
-            written = made_writes-none setup regs old new r.kept (at_most r.count (most_reads g) old.reads new.reads s.few_reads r.reads);
+            written =
+                made_writes new new 0 r.kept (at_most r.count (most_reads g) old.reads new.reads s.few_reads r.reads) (omega arith) (HasOnlyWritten-none new)
+                (λ lines told now after long.
+                let same : now ≡ lines = same_Some now lines (sym after ∙ r.kept.lines ∙ told) in
+                (inl same, ap (differing lines) same ∙ differing-none lines, λ cleared. refl));
             few_reads = λ lines its. at_most r.count (named_reads g (shadow_of g lines)) old.reads new.reads (s.over lines its).few_reads r.reads;
             ends = record { reads = r.count; its_reads = r.reads; stops = s; device = device; short = short_none g left.1 old new valid r.kept };
           }
@@ -126,23 +155,14 @@ module _ (setup : Setup) (regs : Regs) (first : SuiteCounts) (valid : IsShape se
     its : IsMade setup regs old.lines first made r.count
     its = r.ends.1
 
-    known : IsMadeFor setup regs old made.1.shadow made.1.made
-    known = record { told = λ lines told whole. ((its).over lines told).0; few = (its).few_made; long = (its).long }
-
     abbrev in_whole : Result (Unit {0}) Cut → Result (SuiteCounts × Work) (SuiteCounts × RecFault)
     in_whole end = mapped_end (λ cut. (made.0, Fault.Cut)) (λ done. (made.0, made.1.work)) end
 
-    abbrev written_ok : Unit {0} → Device → Type 0
-    written_ok t late = HasWrittenTo g made.1.made (length made.1.made) mid late × IsUncut mid late
+    abbrev due : ℕ → DueWrite
+    due = writes_due g made.1.shadow made.1.made
 
-    abbrev written_some : Cut → Device → Type 0
-    written_some left late = HasWrittenSome g made.1.made mid late × IsCutOff mid late
-
-    abbrev zeroed_ok : Device → Unit {0} → Device → Type 0
-    zeroed_ok late t new = HasZeroedTo g made.1.shadow (shadow_lines g) late new × IsUncut late new
-
-    abbrev zeroed_some : Device → Cut → Device → Type 0
-    zeroed_some late left new = HasZeroedSome g made.1.shadow late new × IsCutOff late new
+    abbrev total : ℕ
+    total = length made.1.made + shadow_lines g
 
     few_read : RisesAtMost (most_reads g) old.reads mid.reads
     few_read = at_most r.count (most_reads g) old.reads mid.reads (its).few_reads r.reads
@@ -163,81 +183,68 @@ module _ (setup : Setup) (regs : Regs) (first : SuiteCounts) (valid : IsShape se
     reads_at : (new : Device) → new.reads ≡ mid.reads → RisesBy r.count old.reads new.reads
     reads_at new same = subst (λ n. RisesBy r.count old.reads n) (sym same) r.reads
 
-    -- not all of it was written
-    unwritten : (new : Device) → HasWrittenSome g made.1.made mid new → IsCutOff mid new → HasFollowedMending setup regs old new first (Err (made.0, Fault.Cut))
-    unwritten new some cut =
+    -- the first k of the writes that are due were made
+    written_to : (new : Device) (k : ℕ) → k ≤ total → HasWrittenTo due total k mid new → (lines now : List Line) → old.lines ≡ Some lines → new.lines ≡ Some now
+        → length lines ≡ device_lines g → IsWrittenTo setup lines regs made.1.shadow made.1.made k now
+    written_to new k few w lines now told after long =
+        let all = ((its).over lines told).0 in
         record {
-          written = made_writes-some setup regs old mid new made.1.shadow made.1.made r.kept few_read known some;
-          few_reads = named_at new some.written.steps.reads;
+          all = all;
+          few = few;
+          are_written = w.lines lines (r.kept.lines ∙ told) now after (are_due setup lines regs made.1.shadow made.1.made all long);
+        }
+
+    made_to : (new : Device) (k : ℕ) → k ≤ total → HasWrittenTo due total k mid new → HasMadeWrites setup regs old new
+    made_to new k few w =
+        made_writes mid new (count_changed due k) r.kept few_read (omega (arith, count_changed-le due k, few, (its).few_made, (its).long)) w.steps
+        (λ lines told now after long.
+        let written = written_to new k few w lines now told after long in (
+          inr (made.1.shadow, made.1.made, k, written),
+          written.are_written.differ,
+          λ cleared. none_changed setup lines regs made.1.shadow made.1.made written.all cleared k few,
+        ))
+
+    -- all of them, or not
+    of_writes : (new : Device) (end : Result (Unit {0}) Cut) → Follows (bind (entries_plan g made.1.made) (λ written. clear_plan g made.1.shadow)) mid new end
+        → HasFollowedMending setup regs old new first (in_whole end)
+    of_writes new (Ok done) it =
+        let z = leaves (λ t new. IsAtWrite g made.1.shadow made.1.made mid total new) (λ left new. IsCutAmidWrites g made.1.shadow made.1.made mid new)
+        (writes_leave g made.1.shadow made.1.made mid) it in
+        let same : new.reads ≡ mid.reads = z.written.steps.reads in
+        record {
+          written = made_to new total (omega arith) z.written;
+          few_reads = named_at new same;
+          ends =
+              record {
+                goes = IsUncut-then old mid new r.ends.0 z.goes;
+                counted = (its).counted;
+                few_trials = (its).few_trials;
+                few_digests = (its).few_digests;
+                recovered = λ lines told now after long.
+                    let written = written_to new total (omega arith) z.written lines now told after long in
+                    (record { shadow = made.1.shadow; made = made.1.made; written = written }, written.all.has_root);
+                all_work = λ lines told. ((its).over lines told).1;
+                all_read = λ lines told. RisesBy-as r.count (all_reads g (shadow_of g lines) regs) old.reads new.reads ((its).over lines told).2 (reads_at new same);
+              };
+        }
+    of_writes new (Err left) it =
+        let z = leaves (λ t new. IsAtWrite g made.1.shadow made.1.made mid total new) (λ left new. IsCutAmidWrites g made.1.shadow made.1.made mid new)
+        (writes_leave g made.1.shadow made.1.made mid) it in
+        let same : new.reads ≡ mid.reads = z.written.steps.reads in
+        let writes : RisesBy (count_changed due z.place) old.writes new.writes =
+        subst (λ n. RisesBy (count_changed due z.place) n new.writes) r.kept.writes z.written.steps.writes in
+        record {
+          written = made_to new z.place (omega (arith, z.within)) z.written;
+          few_reads = named_at new same;
           ends =
               record {
                 reads = r.count;
-                its_reads = reads_at new some.written.steps.reads;
+                its_reads = reads_at new same;
                 stops = cut_then;
-                device = IsCutOff-after old mid new r.ends.0 cut;
-                short = stopped-some setup regs old mid new made.1.shadow made.1.made r.kept known some;
+                device = IsCutOff-after old mid new r.ends.0 z.off;
+                short = λ below. omega (arith, writes.exact below, count_changed-le due z.place, z.within, (its).few_made, (its).long);
               };
         }
-
-    module _ (late : Device) (written : HasWrittenTo g made.1.made (length made.1.made) mid late) (goes : IsUncut mid late) where
-      -- not all shadow lines were cleared
-      uncleared : (new : Device) → HasZeroedSome g made.1.shadow late new → IsCutOff late new → HasFollowedMending setup regs old new first (Err (made.0, Fault.Cut))
-      uncleared new some cut =
-          let same : new.reads ≡ mid.reads = some.zeroed.steps.reads ∙ written.steps.reads in
-          record {
-            written =
-                made_writes-zeroed setup regs old mid late new made.1.shadow made.1.made r.kept few_read known written some.place (omega (arith, some.within)) some.zeroed;
-            few_reads = named_at new same;
-            ends =
-                record {
-                  reads = r.count;
-                  its_reads = reads_at new same;
-                  stops = cut_then;
-                  device = IsCutOff-after old late new (IsUncut-then old mid late r.ends.0 goes) cut;
-                  short = stopped-zeroed setup regs old mid late new made.1.shadow made.1.made r.kept known written some;
-                };
-          }
-
-      mended : (new : Device) → HasZeroedTo g made.1.shadow (shadow_lines g) late new → IsUncut late new
-          → HasFollowedMending setup regs old new first (Ok (made.0, made.1.work))
-      mended new zeroed last =
-          let same : new.reads ≡ mid.reads = zeroed.steps.reads ∙ written.steps.reads in
-          record {
-            written = made_writes-zeroed setup regs old mid late new made.1.shadow made.1.made r.kept few_read known written (shadow_lines g) (omega arith) zeroed;
-            few_reads = named_at new same;
-            ends =
-                record {
-                  goes = IsUncut-then old late new (IsUncut-then old mid late r.ends.0 goes) last;
-                  counted = (its).counted;
-                  few_trials = (its).few_trials;
-                  few_digests = (its).few_digests;
-                  recovered = made_writes-recovered setup regs old mid late new made.1.shadow made.1.made r.kept known written zeroed;
-                  all_work = λ lines told. ((its).over lines told).1;
-                  all_read = λ lines told. RisesBy-as r.count (all_reads g (shadow_of g lines) regs) old.reads new.reads ((its).over lines told).2 (reads_at new same);
-                };
-          }
-
-    -- the shadow lines were cleared, or not all
-    cleared : (late new : Device) (end : Result (Unit {0}) Cut) → HasWrittenTo g made.1.made (length made.1.made) mid late → IsUncut mid late
-        → Follows (clear_plan g made.1.shadow) late new end → HasFollowedMending setup regs old new first (in_whole end)
-    cleared late new (Ok done) written goes it =
-        let z = leaves (zeroed_ok late) (zeroed_some late) (clear_leaves g late made.1.shadow (its).long) it in
-        mended late written goes new z.0 z.1
-    cleared late new (Err left) written goes it =
-        let z = leaves (zeroed_ok late) (zeroed_some late) (clear_leaves g late made.1.shadow (its).long) it in
-        uncleared late written goes new z.0 z.1
-
-    of_writes : (new : Device) (end : Result (Unit {0}) Cut) → Follows (bind (entries_plan g made.1.made) (λ written. clear_plan g made.1.shadow)) mid new end
-        → HasFollowedMending setup regs old new first (in_whole end)
-    of_writes new end it =
-        elim (parts (entries_plan g made.1.made) (λ written. clear_plan g made.1.shadow) it) [
-          | inl w ↦
-              let e = leaves written_ok written_some (entries_leave g mid made.1.made (its).on_tree) w.first in
-              cleared w.mid new end e.0 e.1 w.second
-          | inr s ↦
-              let e = leaves written_ok written_some (entries_leave g mid made.1.made (its).on_tree) s.first in
-              subst (λ r. HasFollowedMending setup regs old new first (in_whole r)) (sym s.same) (unwritten new e.0 e.1)
-        ]
 
     wrote : (new : Device) (end : Result (SuiteCounts × Work) (SuiteCounts × RecFault)) → Follows (writes_plan setup made) mid new end
         → HasFollowedMending setup regs old new first end

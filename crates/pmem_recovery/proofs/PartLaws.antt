@@ -1,7 +1,6 @@
 -- Laws of the stages: what they do to the device and to the suite's counts, one after another.
-use Rattle.std.proofs.Common.{rules, ℕ, zero, suc, ◌≡◌, ◌≤◌, ◌<◌, ◌+◌, ◌*◌, ◌∷◌, [], length, List, refl, ap, ◌∙◌, arith}
+use Rattle.std.proofs.Common.{rules, ℕ, zero, suc, ◌≡◌, ◌≤◌, ◌<◌, ◌+◌, ◌*◌, refl, ap, ◌∙◌, arith}
 use Rattle.std.proofs.lemmas.Nat.{mul-le}
-use Rattle.std.proofs.lemmas.List.{length-append}
 use Rattle.pmem_base.specs.declared.geometry.Geo.{Geo}
 use Rattle.pmem_base.specs.Geo.{shape_of}
 use Rattle.pmem_base.specs.Shape.{Shape, IsShape}
@@ -11,8 +10,7 @@ use Rattle.pmem_base.specs.Counts.{risen, risen_times}
 use Rattle.board.proofs.CountLemmas.{HasRisen-once}
 use Rattle.board.specs.Device.{Device}
 use Rattle.board.specs.Steps.{HasRead, WasCut}
-use Rattle.pmem_recovery.specs.declared.entries.Made.{Made}
-use Rattle.pmem_recovery.specs.Parts.{KeepsDevice, IsUncut, IsCutOff, SuiteState, SuiteWork, SuiteRise, AddsLine}
+use Rattle.pmem_recovery.specs.Parts.{KeepsDevice, IsUncut, IsCutOff, SuiteState, SuiteWork, SuiteRise}
 
 -- ---- the device
 
@@ -80,11 +78,6 @@ SuiteRise-as a b c d e f old new p q r x =
       its_tags = x.its_tags ∙ ap (λ n. risen_times n old.tags) q;
       its_digests = x.its_digests ∙ ap (λ n. risen_times n old.digests) r;
     }
-
--- ---- one more line
-
-pub longer : {n : ℕ} {old new : List Made} → AddsLine n old new → length new ≡ length old + 1
-longer {n} {old} {new} m = ap length m.items ∙ length-append old (m.entry ∷ [])
 
 -- ---- the exit of a `?`
 

@@ -12,10 +12,8 @@ use Rattle.pmem_base.specs.declared.registers.Regs.{Regs}
 use Rattle.pmem_base.specs.Shape.{Shape}
 use Rattle.pmem_base.specs.Layout as layout
 use Rattle.pmem_base.specs.Layout.{level_start}
-use Rattle.pmem_base.specs.Registers.{without_group}
 use Rattle.pmem_base.proofs.ListLaws.{range_with_len-append, range_more, All-into_range, filter_agree_on}
 use Rattle.board.specs.Counts.{RisesBy}
-use Rattle.board.proofs.CountLemmas.{RisesBy-then}
 use Rattle.bonsai_tree.specs.Positions.{child_position}
 use Rattle.bonsai_tree.proofs.Levels.{IsAtLevel, child-IsAtLevel, level_start-le, IsAtLevel-inner}
 use Rattle.page_reencrypt.specs.Registers.{register_held}
@@ -23,11 +21,9 @@ use Rattle.shadow_tables.specs.Entries.{shadow_of}
 use Rattle.suite.specs.Setup.{Setup}
 use Rattle.pmem_engine.specs.Invariants.{is_named}
 use Rattle.pmem_recovery.specs.declared.entries.Made.{Made}
-use Rattle.pmem_recovery.specs.declared.faults.RecFault.{RecFault}
-use Rattle.pmem_recovery.specs.declared.faults.RecFault.TheVariants.{Memory, Cut, NoCounter, Root, Twin}
 use Rattle.pmem_recovery.specs.Named.{names, count_named, IsNextAt, IsNext}
 use Rattle.pmem_recovery.specs.Upward.{line_made, is_made, IsMadeLine, AreMade, AreMadeTo, AreAllMade}
-use Rattle.pmem_recovery.specs.Reads.{sum_named, line_reads, page_reads, block_reads, unmade_reads, children_reads, unnamed_reads, node_reads, all_reads, reads_to, IsReadUntil}
+use Rattle.pmem_recovery.specs.Reads.{sum_named, line_reads, page_reads, unmade_reads, children_reads, unnamed_reads, node_reads}
 
 -- ---- counts
 
@@ -190,24 +186,3 @@ pub top_reads_are : (setup : Setup) (lines : List Line) (regs : Regs) (made : Li
 top_reads_are setup lines regs made m =
     let on_tree : 0 < layout.meta_lines setup.shape = level_start-le 1 (setup.shape.levels + 1) (omega arith) in
     made_is_named setup lines regs (λ x. level_start 0 ≤ x) made 0 m on_tree (omega arith)
-
--- ---- where the trials stop
-
--- ---- the whole
-
-pub all_read : (g : Shape) (shadow : List Line) (regs : Regs) (top a b c d e : ℕ) → top ≡ unnamed_reads g shadow 0 → RisesBy (layout.shadow_lines g) a b → RisesBy (sum_named g shadow (block_reads g regs) (level_start g.levels) (layout.meta_lines g)) b c → RisesBy (sum_named g shadow (node_reads g shadow) 0 (level_start g.levels)) c d → RisesBy top d e → RisesBy (all_reads g shadow regs) a e
-all_read g shadow regs top a b c d e same x y z w =
-    RisesBy-then _ _ a d e (RisesBy-then _ _ a c d (RisesBy-then _ _ a b c x y) z) (RisesBy-as top _ d e same w)
-
--- the armed group plays no part
-pub all_reads_without : (g : Shape) (shadow : List Line) (old new : Regs) (before after : ℕ) → new ≡ without_group old → RisesBy (all_reads g shadow new) before after → RisesBy (all_reads g shadow old) before after
-all_reads_without g shadow old new before after e r = subst (λ regs. RisesBy (all_reads g shadow regs) before after) e r
-
-pub read_until_without : (g : Shape) (shadow : List Line) (old new : Regs) (fault : RecFault) (before after : ℕ) → new ≡ without_group old → IsReadUntil g shadow new fault before after → IsReadUntil g shadow old fault before after
-read_until_without g shadow old new Memory before after e r = tt
-read_until_without g shadow old new Cut before after e r = tt
-read_until_without g shadow old new (NoCounter at) before after e r =
-    subst (λ regs. RisesBy (layout.shadow_lines g + reads_to g shadow regs at) before after) e r
-read_until_without g shadow old new (Root kept found) before after e r = all_reads_without g shadow old new before after e r
-read_until_without g shadow old new (Twin at major low high cipher tag) before after e r =
-    subst (λ regs. RisesBy (layout.shadow_lines g + reads_to g shadow regs at) before after) e r

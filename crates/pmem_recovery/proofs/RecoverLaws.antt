@@ -1,5 +1,5 @@
 -- Laws of recovery as a whole: the relation that it keeps, from those of its stages.
-use Rattle.std.proofs.Common.{rules, ℕ, ◌≡◌, ◌<◌, ◌≤◌, ◌+◌, ◌*◌, List, [], length, Some, Ok, Err, refl, ap, sym, subst, ◌∙◌, inr, arith}
+use Rattle.std.proofs.Common.{rules, ℕ, ◌≡◌, ◌<◌, ◌+◌, ◌*◌, List, [], length, Some, Ok, Err, refl, ap, sym, subst, ◌∙◌, inr, arith}
 use Rattle.std.specs.Prelude.{is_some}
 use Rattle.pmem_base.specs.declared.lines.Line.{Line}
 use Rattle.pmem_base.specs.Shape.{IsShape}
@@ -12,34 +12,30 @@ use Rattle.pmem_engine.proofs.CallEnds.ToldLines.{whole_lines, told_redone}
 use Rattle.commit_regs.specs.Groups.{redone, finishing_latches, RisesAtMost, HasFinished, IsInterrupted}
 use Rattle.suite.specs.Setup.{Setup}
 use Rattle.seal_ledger.specs.Ledger.{LedgerState}
-use Rattle.pmem_engine.specs.Invariants.{IsAnchored, IsSealStored, IsMendable, IsDurable, IsSound}
+use Rattle.pmem_engine.specs.Invariants.{IsAnchored, IsSealStored, IsMendable, IsDurable}
 use Rattle.pmem_engine.specs.Mendable.{IsShadowZero, new_engine}
 use Rattle.pmem_engine.specs.Steps.{IsEmptied}
-use Rattle.pmem_engine.proofs.Laws.MendableLaws.{IsValidRegs-emptied, IsAnchored-emptied, IsDurable-emptied, IsDurable-no_group, IsMendable-emptied, IsSealStored-same}
+use Rattle.pmem_engine.proofs.Laws.MendableLaws.{IsValidRegs-emptied, IsAnchored-emptied, IsDurable-no_group, IsMendable-emptied, IsSealStored-same, IsSound-new_engine}
 use Rattle.pmem_recovery.specs.declared.faults.Work.{Work}
 use Rattle.pmem_engine.specs.Outcomes.{TakesAtMost}
 use Rattle.pmem_recovery.specs.declared.faults.RecFault.{RecFault}
 use Rattle.pmem_recovery.specs.declared.faults.RecFault.TheVariants.{Memory, Cut, NoCounter, Root, Twin}
-use Rattle.pmem_recovery.specs.Trials.{IsTwinOfLastSeal}
-use Rattle.pmem_recovery.specs.Written.{differing}
+use Rattle.pmem_recovery.specs.Writing.{differing}
 use Rattle.pmem_recovery.specs.Parts.{IfLinesTold, KeepsDevice, IsUncut, StopsBy, SuiteState, SuiteWork, IsFaultShown, IsRefusal, StoppedWork}
 use Rattle.pmem_recovery.specs.Mending.{IsPartlyMended, most_reads, most_writes, HasMadeWrites, IsStoppedShort}
-use Rattle.pmem_recovery.specs.Recovered.{RegsAfter, PowerAfter, HasOnlyRedone, IsUnchanged, most_recovery_steps, StepsAfter, CountsAtMost, IsTwinValid, IsNoCounterUnmendable, IsMendedAs, PlanAfter, HasRecovered, IsUncounted}
+use Rattle.pmem_recovery.specs.Recovered.{RegsAfter, PowerAfter, HasOnlyRedone, IsUnchanged, most_recovery_steps, StepsAfter, IsTwinValid, IsNoCounterUnmendable, IsMendedAs, PlanAfter, HasRecovered, IsUncounted}
 use Rattle.call_plan.specs.Following.{Follows}
 use Rattle.pmem_recovery.specs.Plans.{SuiteCounts, counts_of, recover_plan}
 use Rattle.pmem_recovery.proofs.MakingEnds.{after_work}
 use Rattle.pmem_recovery.proofs.MendEnds.{IsMended, IsLeftBy}
 use Rattle.pmem_recovery.specs.Fronts.{IsFrontWritten}
 use Rattle.pmem_recovery.proofs.PartLaws.{IsUncut-then, IsCutOff-after}
-use Rattle.pmem_recovery.proofs.FrontLaws.{front_partly, front_without, fixed_recovered, fixed_without}
 use Rattle.board.specs.Counts.{RisesBy}
 use Rattle.shadow_tables.specs.Entries.{shadow_of}
 use Rattle.pmem_recovery.specs.Reads.{all_reads, named_reads, IsReadUntil}
-use Rattle.pmem_recovery.proofs.ReadLaws.{all_reads_without, read_until_without}
-use Rattle.pmem_recovery.proofs.WorkLaws.{stopped_memory, stopped_at_once, stopped_without, all_without}
-use Rattle.pmem_recovery.proofs.WrittenLaws.{top_recovered}
-use Rattle.pmem_recovery.proofs.EndLaws.{IsSound-recovered, IsShadowZero-recovered}
-use Rattle.pmem_recovery.proofs.AnswerLaws.{partly-data, partly-mendable, no_counter-caused, IsTrueRefusal, true_refusal, IsEmptied-without, HasRoot-without, IsRefusal-without, IsTrusted-fresh, IsNewEngine-fresh, redone_told-told, RisesAtMost-then}
+use Rattle.pmem_recovery.proofs.WorkLaws.{stopped_memory, stopped_at_once}
+use Rattle.pmem_recovery.proofs.WrittenLaws.{partly-data, partly-mendable, partly-front, are_fixed, true_recovered, zero_recovered, top_recovered}
+use Rattle.pmem_recovery.proofs.AnswerLaws.{no_counter-caused, IsTrueRefusal, true_refusal, IsEmptied-without, IsTrusted-fresh, IsNewEngine-fresh, redone_told-told, RisesAtMost-then}
 
 -- ---- no memory, and a cut while the group is redone
 
@@ -64,7 +60,7 @@ pub record IsRecoveryRun (setup : Setup) (old mid new : Device) : Type 0 where
   pub valid : IsValidRegs setup.shape old.regs
   pub finished : HasFinished old mid
   pub idle : old.regs.group.items ≡ [] → mid ≡ old
-  pub written : HasMadeWrites setup mid.regs mid new
+  pub written : HasMadeWrites setup old.regs mid new
   pub few_reads :
       IfLinesTold mid.lines
       (λ lines. RisesAtMost (named_reads setup.shape (shadow_of setup.shape lines)) mid.reads new.reads)
@@ -75,9 +71,6 @@ module _ (setup : Setup) (ledger : LedgerState) (old mid new : Device) (run : Is
 
   pub emptied : IsEmptied old.regs new.regs
   emptied = IsEmptied-without old.regs new.regs new_regs
-
-  mid_emptied : IsEmptied old.regs mid.regs
-  mid_emptied = IsEmptied-without old.regs mid.regs run.finished.regs
 
   pub goes_before : IsUncut old mid
   goes_before = record { cuts = run.finished.cuts; steady = run.finished.steady; live = run.finished.live }
@@ -108,7 +101,7 @@ module _ (setup : Setup) (ledger : LedgerState) (old mid new : Device) (run : Is
     pub long : length (redone old.regs.group.items lines) ≡ layout.device_lines setup.shape
     pub whole : AreLinesOf (layout.device_lines setup.shape) now
     pub mid_told : mid.lines ≡ Some (redone old.regs.group.items lines)
-    pub partly : IsPartlyMended setup (redone old.regs.group.items lines) mid.regs now
+    pub partly : IsPartlyMended setup (redone old.regs.group.items lines) old.regs now
     pub kept : redone new.regs.group.items now ≡ now
     pub count : differing (redone old.regs.group.items lines) now ≡ run.written.count
     pub no_count : IsShadowZero setup (redone old.regs.group.items lines) → run.written.count ≡ 0
@@ -144,13 +137,12 @@ module _ (setup : Setup) (ledger : LedgerState) (old mid new : Device) (run : Is
 
   pub its_data : (lines now : List Line) → AreItsLines lines now → (n : ℕ) → n < 80 * layout.pages setup.shape → line_at (redone new.regs.group.items now) n ≡ line_at (redone old.regs.group.items lines) n
   its_data lines now m n low =
-      ap (λ l. line_at l n) m.kept ∙ partly-data setup (redone old.regs.group.items lines) mid.regs now n m.partly low
+      ap (λ l. line_at l n) m.kept ∙ partly-data setup (redone old.regs.group.items lines) old.regs now n m.partly low
 
   pub its_front : (lines now : List Line) → AreItsLines lines now → IsFrontWritten setup (redone old.regs.group.items lines) old.regs (redone new.regs.group.items now)
   its_front lines now m =
       subst (IsFrontWritten setup (redone old.regs.group.items lines) old.regs) (sym m.kept)
-      (front_without setup (redone old.regs.group.items lines) old.regs mid.regs now run.finished.regs
-      (front_partly setup (redone old.regs.group.items lines) mid.regs now m.partly))
+      (partly-front setup (redone old.regs.group.items lines) old.regs now m.partly)
 
   pub its_seals : (lines now : List Line) → AreItsLines lines now → (a : ℕ) → a < layout.data_lines setup.shape → IsSealStored setup.shape (redone old.regs.group.items lines) ledger.marks a → IsSealStored setup.shape (redone new.regs.group.items now) ledger.marks a
   its_seals lines now m a inside stored =
@@ -163,17 +155,13 @@ module _ (setup : Setup) (ledger : LedgerState) (old mid new : Device) (run : Is
   its_no_steps lines now m none zero = search rules
 
   -- a durable device is durable still, with its group redone and with some lines written
-  pub mid_durable : (lines : List Line) → IsDurable setup lines old.regs ledger → IsDurable setup (redone old.regs.group.items lines) mid.regs ledger
-  mid_durable lines d = IsDurable-emptied setup lines old.regs mid.regs ledger mid_emptied d
-
-  mid_mendable : (lines : List Line) → IsDurable setup lines old.regs ledger → IsMendable setup (redone old.regs.group.items lines) mid.regs ledger
-  mid_mendable lines d = IsMendable-emptied setup (redone old.regs.group.items lines) old.regs mid.regs ledger mid_emptied d.mendable
+  its_mendable : (lines now : List Line) → AreItsLines lines now → IsDurable setup lines old.regs ledger → IsMendable setup now new.regs ledger
+  its_mendable lines now m d =
+      IsMendable-emptied setup now old.regs new.regs ledger emptied
+      (partly-mendable setup (redone old.regs.group.items lines) old.regs now ledger run.shape d.mendable m.partly)
 
   pub its_durable : (lines now : List Line) → AreItsLines lines now → IsDurable setup lines old.regs ledger → IsDurable setup now new.regs ledger
-  its_durable lines now m d =
-      IsDurable-no_group setup now new.regs ledger emptied.no_group m.whole
-      (subst (λ regs. IsMendable setup now regs ledger) (sym run.written.same_regs)
-      (partly-mendable setup (redone old.regs.group.items lines) mid.regs ledger now run.shape (mid_mendable lines d) m.partly))
+  its_durable lines now m d = IsDurable-no_group setup now new.regs ledger emptied.no_group m.whole (its_mendable lines now m d)
 
   -- ---- a fault
 
@@ -202,7 +190,7 @@ module _ (setup : Setup) (ledger : LedgerState) (old mid new : Device) (run : Is
         sum = λ below still.
             let redo = run.finished.writes.exact (omega (arith, below, run.written.writes.never_falls)) in
             let latch = run.finished.latches.exact (omega (arith, still, run.written.latches)) in
-            omega (arith, short.fewer below, redo, latch, run.written.latches);
+            omega (arith, short below, redo, latch, run.written.latches);
       }
   steps_after fault short = its_steps_in_all
 
@@ -214,11 +202,10 @@ module _ (setup : Setup) (ledger : LedgerState) (old mid new : Device) (run : Is
   no_counter_after lines (NoCounter at) r = no_counter-caused setup lines old.regs ledger at r.1
   no_counter_after lines fault r = tt
 
-  mended_after : (now : List Line) (fault : RecFault) → IsTrueRefusal mid.regs ledger fault → IsDurable setup now new.regs ledger → IsMendedAs setup old.regs new.regs ledger now (Err fault)
+  mended_after : (now : List Line) (fault : RecFault) → IsTrueRefusal old.regs ledger fault → IsDurable setup now new.regs ledger → IsMendedAs setup old.regs new.regs ledger now (Err fault)
   mended_after now (NoCounter at) r d = r
   mended_after now (Root kept found) r d = r
-  mended_after now (Twin at major low high cipher tag) r d =
-      (subst (λ n. IsTwinOfLastSeal n ledger at major low high cipher tag) mid_emptied.same_loss r, d)
+  mended_after now (Twin at major low high cipher tag) r d = (r, d)
   mended_after now fault r d = d
 
   uncounted_after : (suite_old suite_new : SuiteState) (fault : RecFault) → IsFaultShown setup.formulas fault → IsUncounted (Err fault) suite_old suite_new
@@ -237,7 +224,7 @@ module _ (setup : Setup) (ledger : LedgerState) (old mid new : Device) (run : Is
 
   pub recovered_fault : (suite_old suite_new : SuiteState) (fault : RecFault) → suite_new.keys ≡ suite_old.keys → suite_new.pads ≡ suite_old.pads
       → Follows (recover_plan setup old.regs (counts_of suite_old)) old new (Err (counts_of suite_new, fault))
-      → IsLeftBy setup mid.regs mid new (counts_of suite_old) (counts_of suite_new, fault) → HasRecovered setup ledger old new suite_old suite_new (Err fault)
+      → IsLeftBy setup old.regs mid new (counts_of suite_old) (counts_of suite_new, fault) → HasRecovered setup ledger old new suite_old suite_new (Err fault)
   recovered_fault suite_old suite_new fault keys pads plan left =
       let s = left.stops in
       let worked = suite_work s.trials s.digests suite_old suite_new keys pads s.counted in
@@ -247,10 +234,8 @@ module _ (setup : Setup) (ledger : LedgerState) (old mid new : Device) (run : Is
         reads = its_reads;
         few_reads = its_few_reads;
         exact_reads = λ lines told.
-            let at = its_mid lines told in
-            read_until_without setup.shape (shadow_of setup.shape (redone old.regs.group.items lines)) old.regs mid.regs fault old.reads new.reads run.finished.regs
-            (subst (λ n. IsReadUntil setup.shape (shadow_of setup.shape (redone old.regs.group.items lines)) mid.regs fault n new.reads) run.finished.reads
-            ((s.over (redone old.regs.group.items lines) at.0).reads mid.reads new.reads left.its_reads));
+            subst (λ n. IsReadUntil setup.shape (shadow_of setup.shape (redone old.regs.group.items lines)) old.regs fault n new.reads) run.finished.reads
+            ((s.over (redone old.regs.group.items lines) (its_mid lines told).0).reads mid.reads new.reads left.its_reads);
         regs = regs_after fault s.shown;
         valid = its_valid;
         power = power_after fault left.device;
@@ -264,13 +249,9 @@ module _ (setup : Setup) (ledger : LedgerState) (old mid new : Device) (run : Is
         digests = tt;
         uncounted = uncounted_after suite_old suite_new fault s.shown;
         work = λ lines told.
-            let at = its_mid lines told in
-            stopped_without setup.shape (redone old.regs.group.items lines) old.regs mid.regs fault suite_old suite_new run.finished.regs
-            (record { trials = s.trials; digests = s.digests; so_far = (s.over (redone old.regs.group.items lines) at.0).work; worked = worked });
+            record { trials = s.trials; digests = s.digests; so_far = (s.over (redone old.regs.group.items lines) (its_mid lines told).0).work; worked = worked };
         few_work = tt;
-        few_trials =
-            subst (λ n. CountsAtMost (64 * n * layout.slots setup.shape) suite_old.tags suite_new.tags) mid_emptied.same_loss
-            (record { calls = s.trials; few = s.few_trials; counted = worked.tags });
+        few_trials = record { calls = s.trials; few = s.few_trials; counted = worked.tags };
         few_digests = record { calls = s.digests; few = s.few_digests; counted = worked.digests };
         anchored = its_anchored;
         engine = tt;
@@ -280,16 +261,16 @@ module _ (setup : Setup) (ledger : LedgerState) (old mid new : Device) (run : Is
         lines = λ lines told now after.
             let m = its_lines lines now told after in
             let refused = (s.over (redone old.regs.group.items lines) m.mid_told).refusal in
-            let as_asked = IsRefusal-without setup (redone old.regs.group.items lines) old.regs mid.regs fault run.finished.regs refused in
             record {
-              from_durable = λ d. mended_after now fault (true_refusal setup (redone old.regs.group.items lines) mid.regs ledger fault run.shape (mid_mendable lines d) refused) (its_durable lines now m d);
+              from_durable = λ d.
+                  mended_after now fault (true_refusal setup (redone old.regs.group.items lines) old.regs ledger fault run.shape d.mendable refused) (its_durable lines now m d);
               data_same = its_data lines now m;
               seals_kept = its_seals lines now m;
               front = its_front lines now m;
               fixed = tt;
               cleared = tt;
-              decided = as_asked;
-              no_counter = no_counter_after (redone old.regs.group.items lines) fault as_asked;
+              decided = refused;
+              no_counter = no_counter_after (redone old.regs.group.items lines) fault refused;
               few_steps = its_steps lines now m;
               no_steps = its_no_steps lines now m;
             };
@@ -299,20 +280,17 @@ module _ (setup : Setup) (ledger : LedgerState) (old mid new : Device) (run : Is
 
   pub recovered_ok : (suite_old suite_new : SuiteState) (work : Work) → suite_new.keys ≡ suite_old.keys → suite_new.pads ≡ suite_old.pads
       → Follows (recover_plan setup old.regs (counts_of suite_old)) old new (Ok (counts_of suite_new, (new_engine setup.shape, work)))
-      → IsMended setup mid.regs mid new (counts_of suite_old) (counts_of suite_new) work → HasRecovered setup ledger old new suite_old suite_new (Ok (new_engine setup.shape, work))
+      → IsMended setup old.regs mid new (counts_of suite_old) (counts_of suite_new) work → HasRecovered setup ledger old new suite_old suite_new (Ok (new_engine setup.shape, work))
   recovered_ok suite_old suite_new work keys pads plan mended =
       let worked = suite_work work.trials work.digests suite_old suite_new keys pads mended.counted in
-      let few : work.trials ≤ 64 * old.regs.loss * layout.slots setup.shape = subst (λ n. work.trials ≤ 64 * n * layout.slots setup.shape) mid_emptied.same_loss mended.few_trials in
       record {
         size = run.written.size ∙ run.finished.size;
         told = its_told;
         reads = its_reads;
         few_reads = its_few_reads;
         exact_reads = λ lines told.
-            let at = its_mid lines told in
-            all_reads_without setup.shape (shadow_of setup.shape (redone old.regs.group.items lines)) old.regs mid.regs old.reads new.reads run.finished.regs
-            (subst (λ n. RisesBy (all_reads setup.shape (shadow_of setup.shape (redone old.regs.group.items lines)) mid.regs) n new.reads) run.finished.reads
-            (mended.all_read (redone old.regs.group.items lines) at.0));
+            subst (λ n. RisesBy (all_reads setup.shape (shadow_of setup.shape (redone old.regs.group.items lines)) old.regs) n new.reads) run.finished.reads
+            (mended.all_read (redone old.regs.group.items lines) (its_mid lines told).0);
         regs = new_regs;
         valid = its_valid;
         power = IsUncut-then old mid new goes_before mended.goes;
@@ -325,12 +303,9 @@ module _ (setup : Setup) (ledger : LedgerState) (old mid new : Device) (run : Is
         trials = worked.tags;
         digests = worked.digests;
         uncounted = tt;
-        work = λ lines told.
-            let at = its_mid lines told in
-            all_without setup.shape (redone old.regs.group.items lines) old.regs mid.regs work.trials work.digests run.finished.regs
-            (mended.all_work (redone old.regs.group.items lines) at.0);
-        few_work = record { trials = few; digests = mended.few_digests };
-        few_trials = record { calls = work.trials; few = few; counted = worked.tags };
+        work = λ lines told. mended.all_work (redone old.regs.group.items lines) (its_mid lines told).0;
+        few_work = record { trials = mended.few_trials; digests = mended.few_digests };
+        few_trials = record { calls = work.trials; few = mended.few_trials; counted = worked.tags };
         few_digests = record { calls = work.digests; few = mended.few_digests; counted = worked.digests };
         anchored = its_anchored;
         engine = refl;
@@ -340,23 +315,18 @@ module _ (setup : Setup) (ledger : LedgerState) (old mid new : Device) (run : Is
         lines = λ lines told now after.
             let m = its_lines lines now told after in
             let r = mended.recovered (redone old.regs.group.items lines) m.mid_told now after m.long in
-            let zero = IsShadowZero-recovered setup (redone old.regs.group.items lines) mid.regs now r.0 in
+            let before = redone old.regs.group.items lines in
+            let zero = zero_recovered setup before old.regs now r.0 in
             record {
               from_durable = λ d.
-                  subst (λ regs. IsSound setup (new_engine setup.shape) now regs ledger) (sym run.written.same_regs)
-                  (IsSound-recovered setup (new_engine setup.shape) (redone old.regs.group.items lines) mid.regs ledger now run.shape mid_emptied.no_group (mid_durable lines d) r.0 m.whole (IsNewEngine-fresh setup now m.whole zero));
+                  IsSound-new_engine setup (new_engine setup.shape) now new.regs ledger (IsNewEngine-fresh setup now m.whole zero) m.whole (its_mendable lines now m d)
+                  (true_recovered setup before old.regs now r.0 ledger run.shape d.mendable) emptied.no_group;
               data_same = its_data lines now m;
               seals_kept = its_seals lines now m;
               front = its_front lines now m;
-              fixed =
-                  fixed_without setup (redone old.regs.group.items lines) old.regs mid.regs now run.finished.regs
-                  (fixed_recovered setup (redone old.regs.group.items lines) mid.regs now r.0);
-              cleared =
-                  record {
-                    shadow_zero = zero;
-                    top = top_recovered setup (redone old.regs.group.items lines) mid.regs now r.0 ∙ r.1.root ∙ ap (λ regs. regs.root) (sym run.written.same_regs);
-                  };
-              decided = HasRoot-without setup (redone old.regs.group.items lines) old.regs mid.regs run.finished.regs r.1;
+              fixed = are_fixed setup before old.regs now r.0;
+              cleared = record { shadow_zero = zero; top = top_recovered setup before old.regs now r.0 ∙ r.1.root ∙ sym emptied.same_root };
+              decided = r.1;
               no_counter = tt;
               few_steps = its_steps lines now m;
               no_steps = its_no_steps lines now m;

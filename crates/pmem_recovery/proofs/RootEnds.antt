@@ -1,18 +1,19 @@
 -- What recovery's plan leaves once all is made: the root compared, and the whole of what only reads.
-use Rattle.std.proofs.Common.{ℕ, ◌≡◌, ◌≤◌, ◌<◌, ◌+◌, ◌*◌, Bool, true, false, IsTrue, List, [], ◌∷◌, ◌++◌, length, All, Option, Some, None, ◌-◌, refl, sym, ap, subst, ◌∙◌, inr, add-one, arith}
+use Rattle.std.proofs.Common.{ℕ, ◌≡◌, ◌≤◌, ◌<◌, ◌+◌, ◌*◌, Bool, true, false, IsTrue, List, [], ◌∷◌, ◌++◌, length, drop, All, Option, Some, None, ◌-◌, refl, sym, ap, subst, ◌∙◌, inr, add-one, arith}
 use Rattle.std.specs.Prelude.{is_some, if◌then◌else◌}
 use Rattle.std.proofs.lemmas.Bool.{false≢true}
-use Rattle.std.proofs.lemmas.List.{length-append}
+use Rattle.std.proofs.lemmas.List.{ext_get_or, length-append, length-take, length-drop}
 use Rattle.pmem_base.specs.declared.faults.Cut.{Cut}
 use Rattle.pmem_base.specs.declared.lines.Line.{Line}
 use Rattle.pmem_base.specs.declared.registers.Regs.{Regs}
-use Rattle.pmem_base.specs.Lines.{line_at, same_bytes}
+use Rattle.pmem_base.specs.Lines.{line_at, zero_line, same_bytes}
 use Rattle.pmem_base.specs.Shape.{Shape, IsShape, is_loss}
 use Rattle.pmem_base.specs.Layout.{slots, pages, meta_lines, device_lines, shadow_lines, shadow_line, level_start}
 use Rattle.pmem_base.proofs.ByteLaws.{same_bytes-true, same_bytes-from}
 use Rattle.board.specs.Steps.{Tells}
 use Rattle.bonsai_tree.proofs.Levels.{meta_lines-counters}
 use Rattle.call_plan.specs.Plans.{done, stop, mapped}
+use Rattle.pmem_engine.proofs.Laws.MendableLaws.{line_at-shadow_of}
 use Rattle.shadow_tables.specs.Entries.{shadow_of}
 use Rattle.suite.specs.Setup.{Setup}
 use Rattle.pmem_recovery.specs.declared.faults.RecFault.{RecFault}
@@ -27,7 +28,6 @@ use Rattle.pmem_recovery.specs.Mending.{most_reads, HasMadeAll}
 use Rattle.pmem_recovery.specs.Plans.{SuiteCounts, RecoveryParts, recovery_parts, after_digest, made_plan, compare_plan, root_plan, shadow_turn, shadow_plan, MadeLines, made_lines, blocks_plan, nodes_plan, after_blocks, after_shadow, making_plan}
 use Rattle.pmem_recovery.proofs.NamedLaws.{count_named-counters, count_named-nodes}
 use Rattle.pmem_recovery.proofs.ReadLaws.{RisesBy-as, top_reads_are}
-use Rattle.pmem_recovery.proofs.RecoveredLaws.{shadow_read}
 use Rattle.pmem_recovery.proofs.RecoveryPlans.{shadow_more}
 use Rattle.pmem_recovery.proofs.WorkLaws.{trials_below-none}
 use Rattle.pmem_recovery.proofs.UndecidedLaws.{none_undecided}
@@ -37,6 +37,24 @@ use Rattle.pmem_recovery.proofs.MakingEnds.{after_work, IsStop, IsCutEnd, few_re
 use Rattle.pmem_recovery.proofs.BlockEnds.{AtBlock, blocks_end}
 use Rattle.pmem_recovery.proofs.NodeEnds.{HasNodes, few_trials, all_tried, few_read, cut_after, line_ends, nodes_end}
 use Rattle.pmem_recovery.proofs.Reading.{Reading, reading_bind, reading_mapped, reading_more, reading_repeated}
+
+-- ---- the shadow lines as they are read
+
+-- as many as there are
+shadow_long : (g : Shape) (lines : List Line) → length lines ≡ device_lines g → length (shadow_of g lines) ≡ shadow_lines g
+shadow_long g lines whole =
+    let low = shadow_line g 0 in
+    let taken = length-take (device_lines g - low) (drop low lines) in
+    let rest = length-drop low lines in
+    omega (arith, taken, rest, whole)
+
+-- read one by one
+shadow_read : (g : Shape) (lines shadow : List Line) → length lines ≡ device_lines g → length shadow ≡ shadow_lines g → ((k : ℕ) → k < shadow_lines g → line_at shadow k ≡ line_at lines (shadow_line g k)) → shadow ≡ shadow_of g lines
+shadow_read g lines shadow whole long each =
+    ext_get_or zero_line shadow (shadow_of g lines) (long ∙ sym (shadow_long g lines whole))
+    (λ k inside. each k (omega (arith, inside, long)) ∙ sym (line_at-shadow_of g lines k (omega (arith, inside, long))))
+
+-- ---- the whole
 
 -- all named lines are made, and the root is right
 pub record IsMade (setup : Setup) (regs : Regs) (told : Option (List Line)) (first : SuiteCounts) (end : SuiteCounts × MadeLines) (n : ℕ) : Type 0 where

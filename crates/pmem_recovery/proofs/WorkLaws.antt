@@ -6,18 +6,15 @@ use Rattle.pmem_base.specs.declared.lines.Line.{Line}
 use Rattle.pmem_base.specs.declared.registers.Progress.{Progress}
 use Rattle.pmem_base.specs.declared.registers.Regs.{Regs}
 use Rattle.pmem_base.specs.Shape.{Shape}
-use Rattle.pmem_base.specs.Layout as layout
 use Rattle.pmem_base.specs.Layout.{page_of, index_in_page}
-use Rattle.pmem_base.specs.Registers.{without_group}
 use Rattle.bonsai_tree.specs.Positions.{counter_position}
 use Rattle.page_reencrypt.specs.Registers.{register_held}
 use Rattle.split_counters.specs.declared.Block.{Block}
 use Rattle.stop_loss.specs.Windows.{window_minors}
 use Rattle.pmem_engine.specs.Invariants.{is_named}
-use Rattle.pmem_recovery.specs.declared.faults.RecFault.{RecFault}
-use Rattle.pmem_recovery.specs.declared.faults.RecFault.TheVariants.{Memory, Cut, NoCounter, Root, Twin}
+use Rattle.pmem_recovery.specs.declared.faults.RecFault.TheVariants.{Memory, Cut}
 use Rattle.pmem_recovery.specs.Trials.{stored_block, candidates, candidates_of, trials_of, trials_below}
-use Rattle.pmem_recovery.specs.Parts.{SuiteState, IsTriedUntil, TriesUntil, IsWorkBefore, StoppedWork, IsAllWork}
+use Rattle.pmem_recovery.specs.Parts.{SuiteState, StoppedWork}
 use Rattle.pmem_recovery.proofs.PartLaws.{SuiteWork-none}
 
 -- ---- one line
@@ -73,62 +70,15 @@ trials_below-pages g lines regs page next low none =
     ∙ trials_below-gap g lines regs (64 * page) (64 * next - 64 * page)
     (λ b from to. trials_of-unnamed g lines regs b (none (page_of b) (omega (arith, from)) (omega (arith, to, same))))
 
--- the armed group plays no part
-pub trials_below-without : (g : Shape) (lines : List Line) (regs : Regs) (a : ℕ) → trials_below g lines (without_group regs) a ≡ trials_below g lines regs a
-unfolding trials_below trials_of
-trials_below-without g lines regs zero = refl
-trials_below-without g lines regs (suc a) = ap (λ n. n + trials_of g lines regs a) (trials_below-without g lines regs a)
-
--- ---- where the trials stop
-
--- a cut before any trial
-pub tries_none : (g : Shape) (lines : List Line) (regs : Regs) (from end : ℕ) (suite : SuiteState) → from ≤ end → TriesUntil g lines regs from end Cut suite suite
-tries_none g lines regs from end suite low = record { count = 0; so_many = (from, omega arith, low, omega arith); worked = SuiteWork-none suite }
-
--- ---- the whole
-
--- a stop among the trials
-pub stopped_trials : (g : Shape) (lines : List Line) (regs : Regs) (fault : RecFault) (old new : SuiteState) → TriesUntil g lines regs 0 (layout.data_lines g) fault old new → StoppedWork g lines regs fault old new
-stopped_trials g lines regs fault old new t =
-    record { trials = t.count; digests = 0; so_far = go fault t.so_many; worked = t.worked }
-  where
-    none : trials_below g lines regs 0 ≡ 0
-    none = trials_below-none g lines regs
-
-    go : (fault : RecFault) → IsTriedUntil g lines regs 0 (layout.data_lines g) fault t.count → IsWorkBefore g lines regs fault t.count 0
-    go Memory h = absurd h
-    go Cut (to, low, high, count) =
-        record { lines_tried = to; within = high; its_trials = omega (arith, count, none); few_digests = omega arith; in_order = inr refl }
-    go (NoCounter at) h = (omega (arith, h, none), refl)
-    go (Root kept found) h = absurd h
-    go (Twin at major low high cipher tag) h = (omega (arith, h, none), refl)
-
--- the armed group plays no part
-pub stopped_without : (g : Shape) (lines : List Line) (old new : Regs) (fault : RecFault) (suite_old suite_new : SuiteState) → new ≡ without_group old → StoppedWork g lines new fault suite_old suite_new → StoppedWork g lines old fault suite_old suite_new
-stopped_without g lines old new fault suite_old suite_new e s =
-    record { trials = s.trials; digests = s.digests; so_far = go fault s.so_far; worked = s.worked }
-  where
-    same : (a : ℕ) → trials_below g lines new a ≡ trials_below g lines old a
-    same a = ap (λ regs. trials_below g lines regs a) e ∙ trials_below-without g lines old a
-
-    go : (fault : RecFault) → IsWorkBefore g lines new fault s.trials s.digests → IsWorkBefore g lines old fault s.trials s.digests
-    go Memory h = h
-    go Cut h =
-        record { lines_tried = h.lines_tried; within = h.within; its_trials = h.its_trials ∙ same h.lines_tried; few_digests = h.few_digests; in_order = h.in_order }
-    go (NoCounter at) h = (h.0 ∙ same (at + 1), h.1)
-    go (Root kept found) h = (h.0 ∙ same (layout.data_lines g), h.1)
-    go (Twin at major low high cipher tag) h = (h.0 ∙ same (at + 1), h.1)
-
-pub all_without : (g : Shape) (lines : List Line) (old new : Regs) (trials digests : ℕ) → new ≡ without_group old → IsAllWork g lines new trials digests → IsAllWork g lines old trials digests
-all_without g lines old new trials digests e all =
-    record {
-      its_trials = all.its_trials ∙ ap (λ regs. trials_below g lines regs (layout.data_lines g)) e ∙ trials_below-without g lines old (layout.data_lines g);
-      its_digests = all.its_digests;
-    }
-
 -- where nothing was tried
 pub stopped_memory : (g : Shape) (lines : List Line) (regs : Regs) (suite : SuiteState) → StoppedWork g lines regs Memory suite suite
 stopped_memory g lines regs suite = record { trials = 0; digests = 0; so_far = (refl, refl); worked = SuiteWork-none suite }
 
 pub stopped_at_once : (g : Shape) (lines : List Line) (regs : Regs) (suite : SuiteState) → StoppedWork g lines regs Cut suite suite
-stopped_at_once g lines regs suite = stopped_trials g lines regs Cut suite suite (tries_none g lines regs 0 (layout.data_lines g) suite (omega arith))
+stopped_at_once g lines regs suite =
+    record {
+      trials = 0;
+      digests = 0;
+      so_far = record { lines_tried = 0; within = omega arith; its_trials = sym (trials_below-none g lines regs); few_digests = omega arith; in_order = inr refl };
+      worked = SuiteWork-none suite;
+    }

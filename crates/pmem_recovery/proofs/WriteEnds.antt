@@ -1,25 +1,23 @@
--- What recovery's plan leaves while it writes: the first lines that were made, and the first shadow lines cleared.
-use Rattle.std.proofs.Common.{ℕ, ◌≡◌, ◌≤◌, ◌<◌, ◌+◌, ◌⊎◌, inl, inr, Bool, true, false, List, [], ◌∷◌, length, drop, get_or, All, refl, sym, ap, subst, arith}
+-- What recovery's plan leaves while it writes: so many of the writes that are due are made.
+use Rattle.std.proofs.Common.{ℕ, zero, suc, ◌≡◌, ◌≤◌, ◌<◌, ◌+◌, ◌⊎◌, inl, inr, Bool, true, false, List, [], ◌∷◌, length, drop, get_or, refl, ap, subst, ◌∙◌, arith}
 use Rattle.std.proofs.lemmas.Bool.{cases_lt}
 use Rattle.std.proofs.lemmas.List.{drop_more, length-drop}
 use Rattle.std.proofs.Math.ListN.{drop_of_length-le}
 use Rattle.pmem_base.specs.declared.faults.Cut.{Cut}
 use Rattle.pmem_base.specs.declared.lines.Line.{Line}
-use Rattle.pmem_base.specs.Lines.{line_at, zero_line}
 use Rattle.pmem_base.specs.Shape.{Shape}
-use Rattle.pmem_base.specs.Layout.{meta_lines, meta_line, shadow_lines, shadow_line}
+use Rattle.pmem_base.specs.Layout.{shadow_lines}
 use Rattle.board.specs.Device.{Device}
 use Rattle.board.specs.Steps.{WasCut}
-use Rattle.call_plan.specs.Plans.{the_cut}
+use Rattle.call_plan.specs.Plans.{bind, the_cut}
 use Rattle.call_plan.specs.Bounds.{Leaves}
-use Rattle.call_plan.proofs.Leaves.{leaves_repeated, leaves_for_each, leaves_more}
+use Rattle.call_plan.proofs.Leaves.{leaves_bind, leaves_repeated, leaves_for_each, leaves_more}
 use Rattle.pmem_recovery.specs.declared.entries.Made.{Made}
 use Rattle.pmem_recovery.specs.Parts.{IsUncut, IsCutOff}
-use Rattle.pmem_recovery.specs.Upward.{is_other}
-use Rattle.pmem_recovery.specs.Writing.{HasWrittenIf, HasWrittenTo, HasWrittenSome, HasZeroedTo, HasZeroedSome}
+use Rattle.pmem_recovery.specs.Writing.{HasWrittenIf, DueWrite, due_of_made, due_zeros, writes_due, HasWrittenTo}
 use Rattle.pmem_recovery.specs.Plans.{changed_plan, entry_turn, entries_plan, clear_turn, clear_plan}
 use Rattle.pmem_recovery.proofs.PartLaws.{IsUncut-none, IsUncut-then, IsCutOff-cut, IsCutOff-after}
-use Rattle.pmem_recovery.proofs.WriteSteps.{HasWrittenTo-none, HasWrittenTo-cut, HasWrittenTo-more, HasZeroedTo-none, HasZeroedTo-cut, HasZeroedTo-more, IsUncut-written_if}
+use Rattle.pmem_recovery.proofs.WriteSteps.{HasWrittenTo-none, HasWrittenTo-cut, HasWrittenTo-more, IsUncut-written_if}
 
 -- a line that is written where it is another one
 changed_leaves : (at : ℕ) (line : Line) (changed : Bool) (ok : Unit {0} → Device → Type 0) (err : Cut → Device → Type 0) (d : Device)
@@ -29,82 +27,112 @@ unfolding changed_plan Leaves
 changed_leaves at line true ok err d cut written = (cut, λ new was. written new was)
 changed_leaves at line false ok err d cut written = written d refl
 
-module _ (g : Shape) (start : Device) where
-  -- ---- the lines made
+-- ---- which writes are due
 
-  module _ (made : List Made) (on_tree : All (λ entry. entry.at < meta_lines g) made) where
-    -- these are left to be written
-    record AreLeft (later : List Made) (now : Device) : Type 0 where
-      pub place : ℕ
-      pub few : place ≤ length made
-      pub rest : drop place made ≡ later
-      pub written : HasWrittenTo g made place start now
-      pub goes : IsUncut start now
+module _ (g : Shape) (shadow : List Line) where
+  pub due_made : (made : List Made) (k : ℕ) (d : Made) → k < length made → writes_due g shadow made k ≡ due_of_made g (get_or made k d)
+  unfolding writes_due
+  due_made [] k d low = absurd (omega arith)
+  due_made (entry ∷ made) zero d low = refl
+  due_made (entry ∷ made) (suc k) d low = due_made made k d (omega arith)
 
-    inside : (place : ℕ) (entry : Made) (later : List Made) → drop place made ≡ entry ∷ later → place < length made
-    inside place entry later rest = go (cases_lt place (length made))
-      where
-        go : (place < length made) ⊎ (length made ≤ place) → place < length made
-        go (inl less) = less
-        go (inr none) = let empty = drop_of_length-le made none in absurd (cc)
+  pub due_zero : (made : List Made) (n : ℕ) → writes_due g shadow made (length made + n) ≡ due_zeros g shadow n
+  unfolding writes_due
+  due_zero [] n = let none : 0 + n ≡ n = omega arith in ap (due_zeros g shadow) none
+  due_zero (entry ∷ made) n =
+      let next : length (entry ∷ made) + n ≡ suc (length made + n) = omega arith in
+      ap (writes_due g shadow (entry ∷ made)) next ∙ due_zero made n
 
-    first_left : (place : ℕ) (entry : Made) (later : List Made) → drop place made ≡ entry ∷ later
-        → (get_or made place entry ≡ entry) × (drop (place + 1) made ≡ later)
-    first_left place entry later rest =
-        let parts = drop_more made place entry (inside place entry later rest) in
-        (cc, cc)
+-- ---- the writes, one by one
 
-    pub entries_leave : Leaves (entries_plan g made) (λ t new. HasWrittenTo g made (length made) start new × IsUncut start new)
-        (λ left new. HasWrittenSome g made start new × IsCutOff start new) start
-    entries_leave =
-        leaves_more (λ t new. AreLeft [] new) (λ t new. HasWrittenTo g made (length made) start new × IsUncut start new)
-        (λ left new. HasWrittenSome g made start new × IsCutOff start new) (λ left new. HasWrittenSome g made start new × IsCutOff start new) (entries_plan g made) start
-        (λ t new it. (all_written new it, it.goes)) (λ left new it. it)
-        (leaves_for_each (λ later t d. AreLeft later d) (λ left new. HasWrittenSome g made start new × IsCutOff start new) (entry_turn g) made tt start
-        (λ entry later t d it.
-        let within = inside it.place entry later it.rest in
-        let here = first_left it.place entry later it.rest in
-        changed_leaves (meta_line g entry.at) entry.line entry.changed (λ t new. AreLeft later new) (λ left new. HasWrittenSome g made start new × IsCutOff start new) d
-        (λ new cut. (
-          record { place = it.place; within = within; written = HasWrittenTo-cut g made it.place start d new it.written cut },
-          IsCutOff-after start d new it.goes (IsCutOff-cut d new cut),
-        ))
-        (λ new was.
-        record {
-          place = it.place + 1;
-          few = omega (arith, within);
-          rest = here.1;
-          written =
-              HasWrittenTo-more g made it.place entry (meta_line g entry.at) entry.line entry.changed start d new within (on_tree it.place entry within)
-              (ap (λ (e : Made). meta_line g e.at) (sym here.0)) (ap (λ (e : Made). e.line) (sym here.0)) (ap (λ (e : Made). e.changed) (sym here.0)) it.written was;
-          goes = IsUncut-then start d new it.goes (IsUncut-written_if entry.changed d (meta_line g entry.at) entry.line new was);
-        }))
-        (record { place = 0; few = omega arith; rest = refl; written = HasWrittenTo-none g made start; goes = IsUncut-none start }))
-      where
-        all_written : (new : Device) → AreLeft [] new → HasWrittenTo g made (length made) start new
-        all_written new it =
-            let none : length (drop it.place made) ≡ 0 = ap length it.rest in
-            let all : it.place ≡ length made = omega (arith, none, length-drop it.place made, it.few) in
-            subst (λ i. HasWrittenTo g made i start new) all it.written
+module _ (g : Shape) (shadow : List Line) (made : List Made) (start : Device) where
+  abbrev due : ℕ → DueWrite
+  due = writes_due g shadow made
 
-  -- ---- the shadow lines
+  abbrev all : ℕ
+  all = length made + shadow_lines g
 
-  module _ (shadow : List Line) (long : length shadow ≡ shadow_lines g) where
-    pub clear_leaves : Leaves (clear_plan g shadow) (λ t new. HasZeroedTo g shadow (shadow_lines g) start new × IsUncut start new)
-        (λ left new. HasZeroedSome g shadow start new × IsCutOff start new) start
-    clear_leaves =
-        leaves_repeated (λ n t d. HasZeroedTo g shadow n start d × IsUncut start d) (λ left new. HasZeroedSome g shadow start new × IsCutOff start new)
-        (clear_turn g shadow) (shadow_lines g) 0 (shadow_lines g) tt start (omega arith)
-        (λ n t d low it.
-        let changed : Bool = is_other (line_at shadow n) zero_line in
-        changed_leaves (shadow_line g n) zero_line changed (λ t new. HasZeroedTo g shadow (n + 1) start new × IsUncut start new)
-        (λ left new. HasZeroedSome g shadow start new × IsCutOff start new) d
-        (λ new cut. (
-          record { place = n; within = low; zeroed = HasZeroedTo-cut g shadow n start d new it.0 cut },
-          IsCutOff-after start d new it.1 (IsCutOff-cut d new cut),
-        ))
-        (λ new was. (
-          HasZeroedTo-more g shadow n (shadow_line g n) zero_line changed start d new long low refl refl refl it.0 was,
-          IsUncut-then start d new it.1 (IsUncut-written_if changed d (shadow_line g n) zero_line new was),
-        )))
-        (HasZeroedTo-none g shadow start, IsUncut-none start)
+  -- the first k are made
+  pub record IsAtWrite (k : ℕ) (now : Device) : Type 0 where
+    pub written : HasWrittenTo (writes_due g shadow made) (length made + shadow_lines g) k start now
+    pub goes : IsUncut start now
+
+  -- not all of them
+  pub record IsCutAmidWrites (now : Device) : Type 0 where
+    pub place : ℕ
+    pub within : place < length made + shadow_lines g
+    pub written : HasWrittenTo (writes_due g shadow made) (length made + shadow_lines g) place start now
+    pub off : IsCutOff start now
+
+  next_leaves : (k : ℕ) (w : DueWrite) (ok : Unit {0} → Device → Type 0) (d : Device) → k < length made + shadow_lines g → writes_due g shadow made k ≡ w → IsAtWrite k d
+      → ((new : Device) → IsAtWrite (k + 1) new → ok tt new) → Leaves (changed_plan w.place w.line w.changed) ok (λ left new. IsCutAmidWrites new) d
+  next_leaves k w ok d low is it up =
+      subst (λ (w : DueWrite). Leaves (changed_plan w.place w.line w.changed) ok (λ left new. IsCutAmidWrites new) d) is
+      (changed_leaves (due k).place (due k).line (due k).changed ok (λ left new. IsCutAmidWrites new) d
+      (λ new was.
+      record {
+        place = k;
+        within = low;
+        written = HasWrittenTo-cut due all k start d new it.written was;
+        off = IsCutOff-after start d new it.goes (IsCutOff-cut d new was);
+      })
+      (λ new was. up new (record {
+        written = HasWrittenTo-more due all k start d new low it.written was;
+        goes = IsUncut-then start d new it.goes (IsUncut-written_if (due k).changed d (due k).place (due k).line new was);
+      })))
+
+  -- these of the lines made are left
+  record AreLeft (later : List Made) (now : Device) : Type 0 where
+    pub place : ℕ
+    pub few : place ≤ length made
+    pub rest : drop place made ≡ later
+    pub so_far : IsAtWrite place now
+
+  inside : (place : ℕ) (entry : Made) (later : List Made) → drop place made ≡ entry ∷ later → place < length made
+  inside place entry later rest = go (cases_lt place (length made))
+    where
+      go : (place < length made) ⊎ (length made ≤ place) → place < length made
+      go (inl less) = less
+      go (inr none) = let empty = drop_of_length-le made none in absurd (cc)
+
+  first_left : (place : ℕ) (entry : Made) (later : List Made) → drop place made ≡ entry ∷ later
+      → (get_or made place entry ≡ entry) × (drop (place + 1) made ≡ later)
+  first_left place entry later rest =
+      let parts = drop_more made place entry (inside place entry later rest) in
+      (cc, cc)
+
+  entries_leave : Leaves (entries_plan g made) (λ t new. AreLeft [] new) (λ left new. IsCutAmidWrites new) start
+  entries_leave =
+      leaves_for_each (λ later t d. AreLeft later d) (λ left new. IsCutAmidWrites new) (entry_turn g) made tt start
+      (λ entry later t d it.
+      let within = inside it.place entry later it.rest in
+      let here = first_left it.place entry later it.rest in
+      next_leaves it.place (due_of_made g entry) (λ t new. AreLeft later new) d (omega (arith, within))
+      (due_made g shadow made it.place entry within ∙ ap (due_of_made g) here.0) it.so_far
+      (λ new next. record { place = it.place + 1; few = omega (arith, within); rest = here.1; so_far = next }))
+      (record { place = 0; few = omega arith; rest = refl; so_far = record { written = HasWrittenTo-none due all start; goes = IsUncut-none start } })
+
+  clear_leaves : (d : Device) → IsAtWrite (length made) d → Leaves (clear_plan g shadow) (λ t new. IsAtWrite (length made + shadow_lines g) new) (λ left new. IsCutAmidWrites new) d
+  clear_leaves d now =
+      let none : length made ≡ length made + 0 = omega arith in
+      leaves_repeated (λ n t d. IsAtWrite (length made + n) d) (λ left new. IsCutAmidWrites new) (clear_turn g shadow) (shadow_lines g) 0 (shadow_lines g) tt d (omega arith)
+      (λ n t d low it.
+      let next : length made + n + 1 ≡ length made + (n + 1) = omega arith in
+      next_leaves (length made + n) (due_zeros g shadow n) (λ t new. IsAtWrite (length made + (n + 1)) new) d (omega (arith, low)) (due_zero g shadow made n) it
+      (λ new at. subst (λ k. IsAtWrite k new) next at))
+      (subst (λ k. IsAtWrite k d) none now)
+
+  -- the law
+  pub writes_leave : Leaves (bind (entries_plan g made) (λ written. clear_plan g shadow)) (λ t new. IsAtWrite (length made + shadow_lines g) new)
+      (λ left new. IsCutAmidWrites new) start
+  writes_leave =
+      leaves_bind (λ t new. IsAtWrite all new) (λ left new. IsCutAmidWrites new) (entries_plan g made) (λ written. clear_plan g shadow) start
+      (leaves_more (λ t new. AreLeft [] new) (λ t new. Leaves (clear_plan g shadow) (λ t new. IsAtWrite all new) (λ left new. IsCutAmidWrites new) new)
+      (λ left new. IsCutAmidWrites new) (λ left new. IsCutAmidWrites new) (entries_plan g made) start
+      (λ t new it. clear_leaves new (all_made new it)) (λ left new it. it) entries_leave)
+    where
+      all_made : (new : Device) → AreLeft [] new → IsAtWrite (length made) new
+      all_made new it =
+          let none : length (drop it.place made) ≡ 0 = ap length it.rest in
+          let last : it.place ≡ length made = omega (arith, none, length-drop it.place made, it.few) in
+          subst (λ k. IsAtWrite k new) last it.so_far

@@ -1,223 +1,322 @@
--- Laws of writing the lines made, and of zeroing the shadow lines.
-use Rattle.std.proofs.Common.{rules, ℕ, ◌≡◌, ◌≢◌, ◌<◌, ◌≤◌, ◌+◌, ◌*◌, Bool, true, false, not, cond, eqb, List, [], ◌∷◌, ◌++◌, length, get_or, take, All, None, refl, ap, sym, ◌∙◌, subst, inl, inr, ◌⊎◌, arith}
-use Rattle.std.specs.Prelude.{filter, slice_set}
-use Rattle.std.specs.List.{range_with_len, AllPairs}
-use Rattle.std.proofs.lemmas.Bool.{true≢false, eqb-true, cases_eq}
-use Rattle.std.proofs.lemmas.List.{length-set, get_or-take, length-take, get_or_default}
-use Rattle.std.proofs.lemmas.List.Elements.{All-head, All-nil, All-append, All-weaker, All-cons}
+-- What a device is on which so many of the writes that are due are made: their front, still mendable, and fixed at the end.
+use Rattle.std.proofs.Common.{ℕ, zero, ◌≡◌, ◌≢◌, ◌<◌, ◌≤◌, ◌+◌, ◌-◌, ◌*◌, Bool, true, false, eqb, List, [], ◌∷◌, length, get_or, refl, ap, sym, ◌∙◌, subst, inl, inr, ◌⊎◌, arith}
+use Rattle.std.proofs.lemmas.Bool.{false≢true, true≢false, eqb-true, cases_lt}
+use Rattle.std.proofs.lemmas.List.{get_or_default}
+use Rattle.std.proofs.lemmas.List.Elements.{All-head}
 use Rattle.std.proofs.lemmas.List.Folds.{Any-from_list_any}
 use Rattle.pmem_base.specs.declared.lines.Line.{Line}
 use Rattle.pmem_base.specs.declared.registers.Regs.{Regs}
 use Rattle.pmem_base.specs.Shape.{Shape, IsShape}
 use Rattle.pmem_base.specs.Layout as layout
-use Rattle.pmem_base.specs.Lines.{line_of, line_at, zero_line, same_bytes}
-use Rattle.pmem_base.proofs.ByteLaws.{same_bytes-refl, same_bytes-true}
-use Rattle.pmem_base.proofs.ListLaws.{All-append_left, All-append_right, length-filter_range_more}
+use Rattle.pmem_base.specs.Lines.{line_at, zero_line}
+use Rattle.bonsai_tree.specs.Positions.{level_of}
 use Rattle.bonsai_tree.proofs.Levels.{level_start-le}
-use Rattle.pmem_base.proofs.LineSets.{line_at-set_same, line_at-set_other}
 use Rattle.seal_ledger.specs.Ledger.{LedgerState}
+use Rattle.shadow_tables.specs.Entries.{shadow_of}
 use Rattle.suite.specs.Setup.{Setup}
 use Rattle.pmem_engine.specs.Invariants.{stored_meta, is_named, IsMendable}
-use Rattle.pmem_engine.specs.Mendable.{IsAllTrue}
+use Rattle.pmem_engine.specs.Mendable.{IsAllTrue, IsShadowZero}
+use Rattle.pmem_engine.proofs.Laws.MendableLaws.{is_named-zero, IsMendable-mending, line_at-shadow_of, shadow_of-same}
 use Rattle.pmem_recovery.specs.declared.entries.Made.{Made}
-use Rattle.pmem_recovery.specs.Trials.{first_undecided}
 use Rattle.pmem_recovery.specs.Fixed.{fixed_line, found_root}
-use Rattle.pmem_recovery.specs.Upward.{is_other, IsMadeLine, AreMade, AreAllMade}
-use Rattle.pmem_recovery.specs.Written.{AreWritten, AreZeroed, AreCompared, IsRecovered, differing}
+use Rattle.pmem_recovery.specs.Upward.{is_other, IsBefore, IsMadeLine, AreMade}
+use Rattle.pmem_recovery.specs.Writing.{DueWrite, due_zeros, writes_due, count_changed, AreDue}
+use Rattle.pmem_recovery.specs.Mending.{HasMadeAll, IsWrittenTo, IsPartlyMended, IsRecovered}
+use Rattle.pmem_recovery.specs.Fronts.{AreWrittenBefore, AreClearedTo, IsFrontWritten, AreFixed}
 use Rattle.pmem_recovery.proofs.FixedEquations.{fixed_line-unnamed}
 use Rattle.pmem_recovery.proofs.FixedLaws.{fixed_line_true}
+use Rattle.pmem_recovery.proofs.WriteSteps.{is_other-same, count_changed-none}
+use Rattle.pmem_recovery.proofs.WriteEnds.{due_made, due_zero}
 
--- ---- the lines made are written
+-- ---- the order
 
-pub AreWritten-none : (g : Shape) (lines : List Line) → AreWritten g lines [] lines
-AreWritten-none g lines = record { count = refl; each = All-nil (λ entry. stored_meta g lines entry.at ≡ entry.line); others = λ n all. refl }
+not_both : (la lb a b : ℕ) → (lb < la) ⊎ ((la ≡ lb) × (a < b)) → (la < lb) ⊎ ((lb ≡ la) × (b < a)) → ⊥
+not_both la lb a b (inl h) (inl k) = omega (arith, h, k)
+not_both la lb a b (inl h) (inr k) = omega (arith, h, k.0)
+not_both la lb a b (inr h) (inl k) = omega (arith, h.0, k)
+not_both la lb a b (inr h) (inr k) = omega (arith, h.1, k.1)
 
--- one more line is written, at a position not written before
-pub AreWritten-more : (g : Shape) (old : List Line) (written : List Made) (new : List Line) (entry : Made) → length old ≡ layout.device_lines g → entry.at < layout.meta_lines g → All (λ e. e.at ≢ entry.at) written → AreWritten g old written new → AreWritten g old (written ++ entry ∷ []) (slice_set new (layout.meta_line g entry.at) entry.line)
-AreWritten-more g old written new entry whole h apart w =
-    record {
-      count = length-set new (layout.meta_line g entry.at) entry.line ∙ w.count;
-      each =
-          All-append (λ e. stored_meta g after e.at ≡ e.line) written (entry ∷ [])
-          (λ k d within. line_at-set_other new (layout.meta_line g entry.at) (layout.meta_line g (get_or written k d).at) entry.line (λ e. apart k d within (omega arith)) ∙ w.each k d within)
-          (All-cons (λ e. stored_meta g after e.at ≡ e.line) entry [] here (All-nil (λ e. stored_meta g after e.at ≡ e.line)));
-      others = λ n all.
-          line_at-set_other new (layout.meta_line g entry.at) n entry.line (λ e. All-head (λ b. layout.meta_line g b.at ≢ n) entry [] (All-append_right (λ b. layout.meta_line g b.at ≢ n) written (entry ∷ []) all) (sym e))
-          ∙ w.others n (All-append_left (λ b. layout.meta_line g b.at ≢ n) written (entry ∷ []) all);
-    }
-  where
-    after : List Line
-    after = slice_set new (layout.meta_line g entry.at) entry.line
+abbrev no_entry : Made
+no_entry = record { at = 0; line = record { 0 = [] }; changed = false }
 
-    here : stored_meta g after entry.at ≡ entry.line
-    here =
-        let long : length new ≡ layout.device_lines g = w.count ∙ whole in
-        line_at-set_same new (layout.meta_line g entry.at) entry.line (omega arith)
+-- where the shadow lines are zero from the start, nothing is made
+nothing_made : (setup : Setup) (lines : List Line) (regs : Regs) (done : ℕ → Type 0) (made : List Made) → IsShadowZero setup lines → AreMade setup lines regs done made → made ≡ []
+nothing_made setup lines regs done [] z m = refl
+nothing_made setup lines regs done (entry ∷ made) z m =
+    let line = All-head (IsMadeLine setup lines regs) entry made m.each in
+    absurd (false≢true (sym (is_named-zero setup lines entry.at z) ∙ line.named))
 
--- a position that isn't written is as it was read
-pub as_read : (g : Shape) (old : List Line) (written : List Made) (new : List Line) (x : ℕ) → All (λ e. e.at ≢ x) written → AreWritten g old written new → stored_meta g new x ≡ stored_meta g old x
-as_read g old written new x apart w = search rules
+module _ (setup : Setup) (lines : List Line) (regs : Regs) (shadow : List Line) (made : List Made) (all : HasMadeAll setup lines regs shadow made) where
+  abbrev g : Shape
+  g = setup.shape
 
--- or it is the one that was read, and isn't written
-pub AreWritten-skip : (g : Shape) (old : List Line) (written : List Made) (new : List Line) (entry : Made) → All (λ e. e.at ≢ entry.at) written → stored_meta g old entry.at ≡ entry.line → AreWritten g old written new → AreWritten g old (written ++ entry ∷ []) new
-AreWritten-skip g old written new entry apart same w =
-    record {
-      count = w.count;
-      each =
-          All-append (λ e. stored_meta g new e.at ≡ e.line) written (entry ∷ []) w.each
-          (All-cons (λ e. stored_meta g new e.at ≡ e.line) entry [] (as_read g old written new entry.at apart w ∙ same) (All-nil (λ e. stored_meta g new e.at ≡ e.line)));
-      others = λ n all. w.others n (All-append_left (λ b. layout.meta_line g b.at ≢ n) written (entry ∷ []) all);
-    }
+  abbrev due : ℕ → DueWrite
+  due = writes_due setup.shape shadow made
 
--- positions that are distinct: the i-th isn't among those before it
-pub distinct_front : (made : List Made) (i : ℕ) (d : Made) → AllPairs (λ a b. a.at ≢ b.at) made → i < length made → All (λ e. e.at ≢ (get_or made i d).at) (take i made)
-distinct_front made i d pairs h k c within =
-    let short = length-take i made in
-    let less : k < i = omega arith in
-    let same : get_or (take i made) k c ≡ get_or made k d = get_or-take i made k c less ∙ get_or_default made k c d (omega arith) in
-    λ e. pairs k i d less h (ap (λ (z : Made). z.at) (sym same) ∙ e)
+  abbrev total : ℕ
+  total = length made + layout.shadow_lines setup.shape
 
--- ---- all of them written
+  -- ---- each write is a made line's, or a zero's
 
--- then each metadata line is the fixed one, on any device
-pub all_fixed : (setup : Setup) (old : List Line) (regs : Regs) (made : List Made) (new : List Line) (x : ℕ) → AreAllMade setup old regs made → AreWritten setup.shape old made new → x < layout.meta_lines setup.shape → stored_meta setup.shape new x ≡ fixed_line setup old regs x
-all_fixed setup old regs made new x m w h = go (is_named setup.shape old x) refl
-  where
-    named : is_named setup.shape old x ≡ true → stored_meta setup.shape new x ≡ fixed_line setup old regs x
-    named q =
-        let found = Any-from_list_any (λ e. eqb e.at x) made (m.every x h (omega arith) q) in
-        let k : ℕ = found.0 in
+  record IsMadeWrite (k : ℕ) : Type 0 where
+    pub inside : k < length made
+    pub place : (writes_due setup.shape shadow made k).place ≡ layout.meta_line setup.shape (get_or made k no_entry).at
+    pub line : (writes_due setup.shape shadow made k).line ≡ (get_or made k no_entry).line
+    pub changed : (writes_due setup.shape shadow made k).changed ≡ (get_or made k no_entry).changed
+    pub its : IsMadeLine setup lines regs (get_or made k no_entry)
+
+  record IsZeroWrite (k : ℕ) : Type 0 where
+    pub number : ℕ
+    pub at : k ≡ length made + number
+    pub inside : number < layout.shadow_lines setup.shape
+    pub place : (writes_due setup.shape shadow made k).place ≡ layout.shadow_line setup.shape number
+    pub line : (writes_due setup.shape shadow made k).line ≡ zero_line
+    pub changed : (writes_due setup.shape shadow made k).changed ≡ is_other (line_at lines (layout.shadow_line setup.shape number)) zero_line
+
+  of_made : (k : ℕ) → k < length made → IsMadeWrite k
+  of_made k low =
+      let same = due_made g shadow made k no_entry low in
+      record {
+        inside = low;
+        place = ap (λ (w : DueWrite). w.place) same;
+        line = ap (λ (w : DueWrite). w.line) same;
+        changed = ap (λ (w : DueWrite). w.changed) same;
+        its = all.all_made.each k no_entry low;
+      }
+
+  which : (k : ℕ) → k < total → IsMadeWrite k ⊎ IsZeroWrite k
+  which k low = go (cases_lt k (length made))
+    where
+      go : (k < length made) ⊎ (length made ≤ k) → IsMadeWrite k ⊎ IsZeroWrite k
+      go (inl less) = inl (of_made k less)
+      go (inr le) =
+          let n : ℕ = k - length made in
+          let at : k ≡ length made + n = omega (arith, le) in
+          let small : n < layout.shadow_lines g = omega (arith, low, le) in
+          let same : due k ≡ due_zeros g shadow n = ap due at ∙ due_zero g shadow made n in
+          let read : line_at shadow n ≡ line_at lines (layout.shadow_line g n) = ap (λ s. line_at s n) all.its_shadow ∙ line_at-shadow_of g lines n small in
+          inr (record {
+            number = n;
+            at = at;
+            inside = small;
+            place = ap (λ (w : DueWrite). w.place) same;
+            line = ap (λ (w : DueWrite). w.line) same;
+            changed = ap (λ (w : DueWrite). w.changed) same ∙ ap (λ l. is_other l zero_line) read;
+          })
+
+  pub are_due : length lines ≡ layout.device_lines setup.shape → AreDue (writes_due setup.shape shadow made) (length made + layout.shadow_lines setup.shape) lines
+  are_due whole =
+      record {
+        inside = λ k low. inside k (which k low);
+        distinct = λ j k less low e. apart j k less (which j (omega arith)) (which k low) e;
+        compared = λ k low. compared k (which k low);
+      }
+    where
+      inside : (k : ℕ) → IsMadeWrite k ⊎ IsZeroWrite k → (due k).place < length lines
+      inside k (inl m) = omega (arith, m.place, m.its.on_tree, whole)
+      inside k (inr z) = omega (arith, z.place, z.inside, whole)
+
+      apart : (j k : ℕ) → j < k → IsMadeWrite j ⊎ IsZeroWrite j → IsMadeWrite k ⊎ IsZeroWrite k → (due j).place ≡ (due k).place → ⊥
+      apart j k less (inl a) (inl b) e = all.all_made.distinct j k no_entry less b.inside (omega (arith, e, a.place, b.place))
+      apart j k less (inl a) (inr b) e = omega (arith, e, a.place, b.place, a.its.on_tree)
+      apart j k less (inr a) (inl b) e = omega (arith, less, a.at, b.inside)
+      apart j k less (inr a) (inr b) e = omega (arith, less, e, a.place, b.place, a.at, b.at)
+
+      compared : (k : ℕ) → IsMadeWrite k ⊎ IsZeroWrite k → (due k).changed ≡ is_other (line_at lines (due k).place) (due k).line
+      compared k (inl m) =
+          m.changed ∙ m.its.compared ∙ ap (λ n. is_other (line_at lines n) (get_or made k no_entry).line) (sym m.place)
+          ∙ ap (is_other (line_at lines (due k).place)) (sym m.line)
+      compared k (inr z) =
+          z.changed ∙ ap (λ n. is_other (line_at lines n) zero_line) (sym z.place) ∙ ap (is_other (line_at lines (due k).place)) (sym z.line)
+
+  -- where the shadow lines are zero none is made
+  pub none_changed : IsShadowZero setup lines → (k : ℕ) → k ≤ length made + layout.shadow_lines setup.shape → count_changed (writes_due setup.shape shadow made) k ≡ 0
+  none_changed cleared k few = count_changed-none due k (λ j low. same j (which j (omega (arith, low, few))))
+    where
+      empty : length made ≡ 0
+      empty = ap length (nothing_made setup lines regs (λ x. layout.level_start 0 ≤ x) made cleared all.all_made)
+
+      same : (j : ℕ) → IsMadeWrite j ⊎ IsZeroWrite j → (due j).changed ≡ false
+      same j (inl m) = absurd (omega (arith, m.inside, empty))
+      same j (inr z) = z.changed ∙ ap (λ l. is_other l zero_line) (cleared.zero_lines z.number z.inside) ∙ is_other-same zero_line
+
+  -- ---- the first k are made
+
+  module _ (k : ℕ) (now : List Line) (w : IsWrittenTo setup lines regs shadow made k now) where
+    -- data lines and tag lines are as they were
+    pub data_same : (n : ℕ) → n < 80 * layout.pages setup.shape → line_at now n ≡ line_at lines n
+    data_same n low = w.are_written.others n (λ j less e. apart j e (which j (omega (arith, less, w.few))))
+      where
+        apart : (j : ℕ) → (due j).place ≡ n → IsMadeWrite j ⊎ IsZeroWrite j → ⊥
+        apart j e (inl m) = omega (arith, e, m.place, low)
+        apart j e (inr z) = omega (arith, e, z.place, low)
+
+    -- and so is a shadow line that isn't reached
+    shadow_same : (n : ℕ) → layout.shadow_line setup.shape 0 ≤ n → k + layout.shadow_line setup.shape 0 ≤ length made + n → line_at now n ≡ line_at lines n
+    shadow_same n high before = w.are_written.others n (λ j less e. apart j less e (which j (omega (arith, less, w.few))))
+      where
+        apart : (j : ℕ) → j < k → (due j).place ≡ n → IsMadeWrite j ⊎ IsZeroWrite j → ⊥
+        apart j less e (inl m) = omega (arith, e, m.place, high, m.its.on_tree)
+        apart j less e (inr z) = omega (arith, e, z.place, z.at, less, before)
+
+    zeroed : (n : ℕ) → n < layout.shadow_lines setup.shape → length made + n < k → line_at now (layout.shadow_line setup.shape n) ≡ zero_line
+    zeroed n small less =
+        subst (λ (d : DueWrite). line_at now d.place ≡ d.line) (due_zero g shadow made n) (w.are_written.each (length made + n) less)
+
+    -- a position that none of the first ones is for is as it was
+    as_read : (x : ℕ) → x < layout.meta_lines setup.shape → ((j : ℕ) → j < k → j < length made → (get_or made j no_entry).at ≢ x)
+        → stored_meta setup.shape now x ≡ stored_meta setup.shape lines x
+    as_read x on_tree apart = w.are_written.others (layout.meta_line g x) (λ j less e. other j less e (which j (omega (arith, less, w.few))))
+      where
+        other : (j : ℕ) → j < k → (due j).place ≡ layout.meta_line g x → IsMadeWrite j ⊎ IsZeroWrite j → ⊥
+        other j less e (inl m) = apart j less m.inside (omega (arith, e, m.place))
+        other j less e (inr z) = omega (arith, e, z.place, on_tree)
+
+    as_unnamed : (x : ℕ) → x < layout.meta_lines setup.shape → is_named setup.shape lines x ≡ false → stored_meta setup.shape now x ≡ stored_meta setup.shape lines x
+    as_unnamed x on_tree none =
+        as_read x on_tree
+        (λ j less inside same. true≢false (sym (all.all_made.each j no_entry inside).named ∙ ap (is_named g lines) same ∙ none))
+
+    -- the write of a named position
+    record IsWriteOf (x j : ℕ) : Type 0 where
+      pub inside : j < length made
+      pub here : (get_or made j no_entry).at ≡ x
+
+    write_of : (x : ℕ) → x < layout.meta_lines setup.shape → is_named setup.shape lines x ≡ true → (j : ℕ) × IsWriteOf x j
+    write_of x on_tree named =
+        let found = Any-from_list_any (λ e. eqb e.at x) made (all.all_made.every x on_tree (omega arith) named) in
         let entry : Made = found.1 in
-        let here : (get_or made k entry).at ≡ x = ap (λ (z : Made). z.at) found.3 ∙ eqb-true entry.at x found.4 in
-        subst (λ z. stored_meta setup.shape new z ≡ fixed_line setup old regs z) here (w.each k entry found.2 ∙ (m.each k entry found.2).fixed)
+        let same : get_or made found.0 no_entry ≡ get_or made found.0 entry = get_or_default made found.0 no_entry entry found.2 in
+        (found.0, record { inside = found.2; here = ap (λ (z : Made). z.at) (same ∙ found.3) ∙ eqb-true entry.at x found.4 })
 
-    go : (b : Bool) → is_named setup.shape old x ≡ b → stored_meta setup.shape new x ≡ fixed_line setup old regs x
-    go true q = named q
-    go false q =
-        as_read setup.shape old made new x
-        (All-weaker (IsMadeLine setup old regs) (λ e. e.at ≢ x) (λ e l same. true≢false (sym l.named ∙ ap (is_named setup.shape old) same ∙ q)) made m.each)
-        w
-        ∙ sym (fixed_line-unnamed setup old regs x q)
+    fixed_at : (x j : ℕ) → IsWriteOf x j → j < k → stored_meta setup.shape now x ≡ fixed_line setup lines regs x
+    fixed_at x j f less =
+        let m = of_made j f.inside in
+        subst (λ z. stored_meta g now z ≡ fixed_line setup lines regs z) f.here
+        (ap (line_at now) (sym m.place) ∙ w.are_written.each j less ∙ m.line ∙ m.its.fixed)
 
--- so the top line has the found root
-pub top_written : (setup : Setup) (old : List Line) (regs : Regs) (made : List Made) (new : List Line) → AreAllMade setup old regs made → AreWritten setup.shape old made new → setup.formulas.digest_of 0 (stored_meta setup.shape new 0) ≡ found_root setup old regs
-top_written setup old regs made new m w =
-    let on_tree : 0 < layout.meta_lines setup.shape = level_start-le 1 (setup.shape.levels + 1) (omega arith) in
-    ap (setup.formulas.digest_of 0) (all_fixed setup old regs made new 0 m w on_tree)
+    -- ---- all lines made are written
 
--- and without tampering, where no line was undecided, every metadata line is true
-pub all_true_written : (setup : Setup) (old : List Line) (regs : Regs) (ledger : LedgerState) (made : List Made) (new : List Line) → IsShape setup.shape → IsMendable setup old regs ledger → first_undecided setup old regs ≡ None → AreAllMade setup old regs made → AreWritten setup.shape old made new → IsAllTrue setup new ledger
-all_true_written setup old regs ledger made new shape d decided m w =
-    record { true_lines = λ x h. all_fixed setup old regs made new x m w h ∙ fixed_line_true setup old regs ledger x shape d decided h }
+    pub all_fixed : length made ≤ k → (x : ℕ) → x < layout.meta_lines setup.shape → stored_meta setup.shape now x ≡ fixed_line setup lines regs x
+    all_fixed up x on_tree = go (is_named g lines x) refl
+      where
+        go : (b : Bool) → is_named g lines x ≡ b → stored_meta g now x ≡ fixed_line setup lines regs x
+        go true q = let f = write_of x on_tree q in fixed_at x f.0 f.1 (omega (arith, f.1.inside, up))
+        go false q = as_unnamed x on_tree q ∙ sym (fixed_line-unnamed setup lines regs x q)
 
--- ---- shadow lines are zeroed
+    pub all_true : (ledger : LedgerState) → IsShape setup.shape → IsMendable setup lines regs ledger → length made ≤ k → IsAllTrue setup now ledger
+    all_true ledger shape d up =
+        record { true_lines = λ x h. all_fixed up x h ∙ fixed_line_true setup lines regs ledger x shape d all.has_root.decided h }
 
-order : (m n : ℕ) → (m ≡ n → ⊥) → m < n + 1 → m < n
-order m n ne less = omega arith
+    -- ---- what can be mended still can
 
-pub AreZeroed-more : (g : Shape) (old : List Line) (n : ℕ) (new : List Line) → length old ≡ layout.device_lines g → n < layout.shadow_lines g → AreZeroed g old n new → AreZeroed g old (n + 1) (slice_set new (layout.shadow_line g n) zero_line)
-AreZeroed-more g old n new whole h z =
-    record {
-      count = length-set new (layout.shadow_line g n) zero_line ∙ z.count;
-      each = λ m less. at m (cases_eq m n) less;
-      others = λ d where_. outside d where_;
-    }
-  where
-    at : (m : ℕ) → (m ≡ n) ⊎ (m ≡ n → ⊥) → m < n + 1 → line_at (slice_set new (layout.shadow_line g n) zero_line) (layout.shadow_line g m) ≡ zero_line
-    at m (inl e) less =
-        let long : length new ≡ layout.device_lines g = z.count ∙ whole in
-        ap (λ k. line_at (slice_set new (layout.shadow_line g n) zero_line) (layout.shadow_line g k)) e
-        ∙ line_at-set_same new (layout.shadow_line g n) zero_line (omega arith)
-    at m (inr ne) less =
-        line_at-set_other new (layout.shadow_line g n) (layout.shadow_line g m) zero_line (λ e. ne (omega arith))
-        ∙ z.each m (order m n ne less)
+    pub still_mendable : (ledger : LedgerState) → IsShape setup.shape → IsMendable setup lines regs ledger → IsMendable setup now regs ledger
+    still_mendable ledger shape d =
+        IsMendable-mending setup lines now regs ledger
+        (record { same_data = data_same; same_or_true = λ x h. at x h (is_named g lines x) refl; same_names_or_true = names (cases_lt (length made) k) })
+        d
+      where
+        by_place : (x j : ℕ) → x < layout.meta_lines g → IsWriteOf x j → (j < k) ⊎ (k ≤ j) → (stored_meta g now x ≡ stored_meta g lines x) ⊎ (stored_meta g now x ≡ line_at ledger.truth x)
+        by_place x j h f (inl less) = inr (fixed_at x j f less ∙ fixed_line_true setup lines regs ledger x shape d all.has_root.decided h)
+        by_place x j h f (inr le) =
+            inl (as_read x h (λ i less inside same. all.all_made.distinct i j no_entry (omega arith) f.inside (same ∙ sym f.here)))
 
-    outside : (d : ℕ) → (d < layout.shadow_line g 0) ⊎ (layout.shadow_line g (n + 1) ≤ d) → line_at (slice_set new (layout.shadow_line g n) zero_line) d ≡ line_at old d
-    outside d (inl low) = line_at-set_other new (layout.shadow_line g n) d zero_line (λ e. absurd (omega arith)) ∙ z.others d (inl low)
-    outside d (inr high) = line_at-set_other new (layout.shadow_line g n) d zero_line (λ e. absurd (omega arith)) ∙ z.others d (inr (omega arith))
+        at : (x : ℕ) → x < layout.meta_lines g → (b : Bool) → is_named g lines x ≡ b → (stored_meta g now x ≡ stored_meta g lines x) ⊎ (stored_meta g now x ≡ line_at ledger.truth x)
+        at x h true q = let f = write_of x h q in by_place x f.0 h f.1 (cases_lt f.0 k)
+        at x h false q = inl (as_unnamed x h q)
 
--- or it is zero as read, and isn't written
-pub AreZeroed-skip : (g : Shape) (old : List Line) (n : ℕ) (new : List Line) → line_at new (layout.shadow_line g n) ≡ zero_line → AreZeroed g old n new → AreZeroed g old (n + 1) new
-AreZeroed-skip g old n new zero_read z =
-    record { count = z.count; each = λ m less. at m (cases_eq m n) less; others = λ d where_. outside d where_ }
-  where
-    at : (m : ℕ) → (m ≡ n) ⊎ (m ≡ n → ⊥) → m < n + 1 → line_at new (layout.shadow_line g m) ≡ zero_line
-    at m (inl e) less = ap (λ k. line_at new (layout.shadow_line g k)) e ∙ zero_read
-    at m (inr ne) less = z.each m (order m n ne less)
+        names : (length made < k) ⊎ (k ≤ length made) → (shadow_of g now ≡ shadow_of g lines) ⊎ IsAllTrue setup now ledger
+        names (inl more) = inr (all_true ledger shape d (omega arith))
+        names (inr few) = inl (shadow_of-same g lines now w.are_written.count (λ n high. shadow_same n high (omega (arith, high, few))))
 
-    outside : (d : ℕ) → (d < layout.shadow_line g 0) ⊎ (layout.shadow_line g (n + 1) ≤ d) → line_at new d ≡ line_at old d
-    outside d (inl low) = z.others d (inl low)
-    outside d (inr high) = z.others d (inr (omega arith))
+    -- ---- the front of the writes
 
--- a shadow line not reached is as it was read
-pub shadow_as_read : (g : Shape) (old : List Line) (n : ℕ) (new : List Line) → AreZeroed g old n new → line_at new (layout.shadow_line g n) ≡ line_at old (layout.shadow_line g n)
-shadow_as_read g old n new z = z.others (layout.shadow_line g n) (inr (omega arith))
+    abbrev next : ℕ
+    next = (get_or made k no_entry).at
 
--- ---- lines that differ
+    before_next : k < length made → AreWrittenBefore setup lines regs (get_or made k no_entry).at now
+    before_next less =
+        record {
+          root = all.has_root;
+          fixed = λ x h before. fixed x h before (is_named g lines x) refl;
+          others = λ x h not.
+              as_read x h (λ j low inside same. not (subst (λ a. IsBefore a next) same (all.all_made.in_order j k no_entry low less)));
+          shadow_kept = λ m small. shadow_same (layout.shadow_line g m) (omega arith) (omega arith);
+        }
+      where
+        -- a line made for a position before the next one was made before it
+        made_before : (x j : ℕ) → IsWriteOf x j → IsBefore x next → (j < k) ⊎ (k ≤ j) → j < k
+        made_before x j f before (inl low) = low
+        made_before x j f before (inr le) = absurd (late (cases_lt k j))
+          where
+            late : (k < j) ⊎ (j ≤ k) → ⊥
+            late (inl later) =
+                let after : IsBefore next x = subst (IsBefore next) f.here (all.all_made.in_order k j no_entry later f.inside) in
+                not_both (level_of x) (level_of next) x next before after
+            late (inr early) =
+                let same : j ≡ k = omega (arith, early, le) in
+                let its : next ≡ x = ap (λ i. (get_or made i no_entry).at) (sym same) ∙ f.here in
+                let itself : IsBefore x x = subst (IsBefore x) its before in
+                not_both (level_of x) (level_of x) x x itself itself
 
-pub is_other-same : (line : Line) → is_other line line ≡ false
-is_other-same line = ap not (same_bytes-refl line.0)
+        fixed : (x : ℕ) → x < layout.meta_lines g → IsBefore x next → (b : Bool) → is_named g lines x ≡ b → stored_meta g now x ≡ fixed_line setup lines regs x
+        fixed x h before true q = let f = write_of x h q in fixed_at x f.0 f.1 (made_before x f.0 f.1 before (cases_lt f.0 k))
+        fixed x h before false q = as_unnamed x h q ∙ sym (fixed_line-unnamed setup lines regs x q)
 
-pub same_from_is_other : (read line : Line) → is_other read line ≡ false → read ≡ line
-same_from_is_other read line q = ap line_of (same_bytes-true read.0 line.0 (go (same_bytes read.0 line.0) q))
-  where
-    go : (b : Bool) → not b ≡ false → b ≡ true
-    go true q = refl
-    go false q = absurd (true≢false q)
+    pub its_front : IsFrontWritten setup lines regs now
+    its_front = inr (go (cases_lt k (length made)))
+      where
+        go : (k < length made) ⊎ (length made ≤ k) → ((next : ℕ) × (is_named g lines next ≡ true) × AreWrittenBefore setup lines regs next now) ⊎ ((n : ℕ) × AreClearedTo setup lines regs n now)
+        go (inl less) = inl ((get_or made k no_entry).at, (all.all_made.each k no_entry less).named, before_next less)
+        go (inr up) =
+            inr (
+              k - length made,
+              record {
+                root = all.has_root;
+                fixed = all_fixed up;
+                zero = λ m low. zeroed m (omega (arith, low, w.few)) (omega (arith, low));
+                others = λ m from small. shadow_same (layout.shadow_line g m) (omega arith) (omega (arith, from, up));
+              },
+            )
 
-pub differing-none : (lines : List Line) → differing lines lines ≡ 0
-differing-none lines = none (range_with_len 0 (length lines))
-  where
-    test : ℕ → Bool
-    test n = is_other (line_at lines n) (line_at lines n)
+-- ---- a device that is partly mended
 
-    none : (ns : List ℕ) → length (filter test ns) ≡ 0
-    none [] = refl
-    none (n ∷ ns) =
-        ap (λ b. length (cond b (n ∷ filter test ns) (filter test ns))) (is_other-same (line_at lines n)) ∙ none ns
+module _ (setup : Setup) (lines : List Line) (regs : Regs) (now : List Line) where
+  pub partly-data : (n : ℕ) → IsPartlyMended setup lines regs now → n < 80 * layout.pages setup.shape → line_at now n ≡ line_at lines n
+  partly-data n (inl same) low = ap (λ l. line_at l n) same
+  partly-data n (inr (shadow, made, k, w)) low = data_same setup lines regs shadow made w.all k now w n low
 
--- a line that was as before becomes another one
-pub differing-more : (old new : List Line) (n : ℕ) (y : Line) → length new ≡ length old → n < length old → line_at new n ≡ line_at old n → is_other (line_at old n) y ≡ true → differing old (slice_set new n y) ≡ differing old new + 1
-differing-more old new n y long h same other =
-    length-filter_range_more
-    (λ m. is_other (line_at old m) (line_at new m))
-    (λ m. is_other (line_at old m) (line_at (slice_set new n y) m))
-    0 (length old) n (omega arith) (omega arith)
-    (λ m ne. ap (λ l. is_other (line_at old m) l) (line_at-set_other new n m y ne))
-    (ap (λ l. is_other (line_at old n) l) same ∙ is_other-same (line_at old n))
-    (ap (λ l. is_other (line_at old n) l) (line_at-set_same new n y (omega arith)) ∙ other)
+  pub partly-mendable : (ledger : LedgerState) → IsShape setup.shape → IsMendable setup lines regs ledger → IsPartlyMended setup lines regs now → IsMendable setup now regs ledger
+  partly-mendable ledger shape d (inl same) = subst (λ l. IsMendable setup l regs ledger) (sym same) d
+  partly-mendable ledger shape d (inr (shadow, made, k, w)) = still_mendable setup lines regs shadow made w.all k now w ledger shape d
 
--- a made line that differs from the one read, written: one line more differs
-pub wrote_one : (g : Shape) (old : List Line) (written : List Made) (new : List Line) (entry : Made) → length old ≡ layout.device_lines g → entry.at < layout.meta_lines g → All (λ e. e.at ≢ entry.at) written → AreWritten g old written new → is_other (stored_meta g old entry.at) entry.line ≡ true → differing old (slice_set new (layout.meta_line g entry.at) entry.line) ≡ differing old new + 1
-wrote_one g old written new entry whole h apart w other =
-    differing-more old new (layout.meta_line g entry.at) entry.line w.count (omega arith) (as_read g old written new entry.at apart w) other
+  pub partly-front : IsPartlyMended setup lines regs now → IsFrontWritten setup lines regs now
+  partly-front (inl same) = inl same
+  partly-front (inr (shadow, made, k, w)) = its_front setup lines regs shadow made w.all k now w
 
--- where made lines are on the tree, no other line is changed
-pub off_tree_same : (g : Shape) (old : List Line) (written : List Made) (new : List Line) (n : ℕ) → All (λ e. e.at < layout.meta_lines g) written → AreWritten g old written new → (n < 80 * layout.pages g) ⊎ (layout.shadow_line g 0 ≤ n) → line_at new n ≡ line_at old n
-off_tree_same g old written new n made w where_ =
-    w.others n (All-weaker (λ e. e.at < layout.meta_lines g) (λ e. layout.meta_line g e.at ≢ n) (λ e on_tree same. out e.at on_tree same where_) written made)
-  where
-    out : (x : ℕ) → x < layout.meta_lines g → layout.meta_line g x ≡ n → (n < 80 * layout.pages g) ⊎ (layout.shadow_line g 0 ≤ n) → ⊥
-    out x h e (inl low) = omega arith
-    out x h e (inr high) = omega arith
+  -- ---- and one that is recovered
 
--- a shadow line that isn't zero as read, zeroed: one line more differs
-pub zeroed_one : (g : Shape) (old : List Line) (made : List Made) (between : List Line) (n : ℕ) (new : List Line) → length old ≡ layout.device_lines g → n < layout.shadow_lines g → All (λ e. e.at < layout.meta_lines g) made → AreWritten g old made between → AreZeroed g between n new → is_other (line_at old (layout.shadow_line g n)) zero_line ≡ true → differing old (slice_set new (layout.shadow_line g n) zero_line) ≡ differing old new + 1
-zeroed_one g old made between n new whole h all w z other =
-    differing-more old new (layout.shadow_line g n) zero_line (z.count ∙ w.count) (omega arith)
-    (shadow_as_read g between n new z ∙ off_tree_same g old made between (layout.shadow_line g n) all w (inr (omega arith)))
-    other
+  module _ (r : IsRecovered setup lines regs now) where
+    fixed_recovered : (x : ℕ) → x < layout.meta_lines setup.shape → stored_meta setup.shape now x ≡ fixed_line setup lines regs x
+    fixed_recovered = all_fixed setup lines regs r.shadow r.made r.written.all (length r.made + layout.shadow_lines setup.shape) now r.written (omega arith)
 
--- the positions of lines made are on the tree
-pub made_on_tree : (setup : Setup) (lines : List Line) (regs : Regs) (made : List Made) → All (IsMadeLine setup lines regs) made → All (λ e. e.at < layout.meta_lines setup.shape) made
-made_on_tree setup lines regs made all = search rules
+    pub are_fixed : AreFixed setup lines regs now
+    are_fixed = record { named = λ x h q. fixed_recovered x h; others = λ x h q. fixed_recovered x h ∙ fixed_line-unnamed setup lines regs x q }
 
-pub AreCompared-made : (setup : Setup) (lines : List Line) (regs : Regs) (done : ℕ → Type 0) (made : List Made) → AreMade setup lines regs done made → AreCompared setup.shape lines made
-AreCompared-made setup lines regs done made m = search rules
+    pub true_recovered : (ledger : LedgerState) → IsShape setup.shape → IsMendable setup lines regs ledger → IsAllTrue setup now ledger
+    true_recovered ledger shape d =
+        all_true setup lines regs r.shadow r.made r.written.all (length r.made + layout.shadow_lines setup.shape) now r.written ledger shape d (omega arith)
 
--- and the top line has the found root
-pub top_recovered : (setup : Setup) (old : List Line) (regs : Regs) (new : List Line) → IsRecovered setup old regs new → setup.formulas.digest_of 0 (stored_meta setup.shape new 0) ≡ found_root setup old regs
-top_recovered setup old regs new r =
-    let on_tree : 0 < layout.meta_lines setup.shape = level_start-le 1 (setup.shape.levels + 1) (omega arith) in
-    ap (setup.formulas.digest_of 0) (r.all_zeroed.others (layout.meta_line setup.shape 0) (inl (omega arith)))
-    ∙ top_written setup old regs r.made r.between r.all_made r.all_written
+    -- the shadow lines are zero then, on any device
+    pub zero_recovered : IsShadowZero setup now
+    zero_recovered =
+        record {
+          zero_lines = λ n small.
+              zeroed setup lines regs r.shadow r.made r.written.all (length r.made + layout.shadow_lines setup.shape) now r.written n small (omega (arith, small));
+        }
+
+    -- and the top line has the found root
+    pub top_recovered : setup.formulas.digest_of 0 (stored_meta setup.shape now 0) ≡ found_root setup lines regs
+    top_recovered =
+        let on_tree : 0 < layout.meta_lines setup.shape = level_start-le 1 (setup.shape.levels + 1) (omega arith) in
+        ap (setup.formulas.digest_of 0) (fixed_recovered 0 on_tree)

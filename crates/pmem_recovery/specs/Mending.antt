@@ -1,5 +1,5 @@
 -- What making and writing the named lines does to the device, so far as it comes.
-use Rattle.std.specs.Prelude.{ℕ, ◌≡◌, ◌≤◌, ◌<◌, ◌+◌, ◌*◌, ◌⊎◌, List, take, length, is_some}
+use Rattle.std.specs.Prelude.{ℕ, ◌≡◌, ◌≤◌, ◌<◌, ◌+◌, ◌*◌, ◌⊎◌, List, length, is_some}
 use Rattle.pmem_base.specs.declared.lines.Line.{Line}
 use Rattle.pmem_base.specs.declared.registers.Regs.{Regs}
 use Rattle.pmem_base.specs.Counts.{last_count}
@@ -15,9 +15,8 @@ use Rattle.pmem_recovery.specs.declared.entries.Made.{Made}
 use Rattle.pmem_recovery.specs.declared.faults.RecFault.{RecFault}
 use Rattle.pmem_recovery.specs.declared.faults.RecFault.TheVariants.{Cut}
 use Rattle.pmem_recovery.specs.Upward.{AreAllMade}
-use Rattle.pmem_recovery.specs.Written.{AreWritten, AreZeroed, differing}
+use Rattle.pmem_recovery.specs.Writing.{IfBothLinesTold, AreWritten, differing, writes_due}
 use Rattle.pmem_recovery.specs.Parts.{KeepsDevice, HasRoot}
-use Rattle.pmem_recovery.specs.Writing.{IfBothLinesTold}
 
 -- all named lines are made, and the root is right
 pub record HasMadeAll (setup : Setup) (lines : List Line) (regs : Regs) (shadow : List Line)
@@ -26,29 +25,23 @@ pub record HasMadeAll (setup : Setup) (lines : List Line) (regs : Regs) (shadow 
   pub all_made : AreAllMade setup lines regs made
   pub has_root : HasRoot setup lines regs
 
--- the root is right, and the lines made before a place are written
-pub record IsPartlyWritten (setup : Setup) (lines : List Line) (regs : Regs) (now : List Line) :
-    Type 0 where
-  pub root : HasRoot setup lines regs
-  pub made : List Made
-  pub place : ℕ
-  pub all_made : AreAllMade setup lines regs made
-  pub are_written : AreWritten setup.shape lines (take place made) now
+-- the root is right, and of the writes that are due then the first k are made
+pub record IsWrittenTo (setup : Setup) (lines : List Line) (regs : Regs) (shadow : List Line)
+    (made : List Made) (k : ℕ) (now : List Line) : Type 0 where
+  pub all : HasMadeAll setup lines regs shadow made
+  pub few : k ≤ length made + layout.shadow_lines setup.shape
+  pub are_written : AreWritten (writes_due setup.shape shadow made) k lines now
 
--- all of them are, and some shadow lines are zeroed
-pub record IsPartlyZeroed (setup : Setup) (lines : List Line) (regs : Regs) (now : List Line) :
-    Type 0 where
-  pub root : HasRoot setup lines regs
-  pub made : List Made
-  pub between : List Line
-  pub zeroed : ℕ
-  pub all_made : AreAllMade setup lines regs made
-  pub all_written : AreWritten setup.shape lines made between
-  pub are_zeroed : AreZeroed setup.shape between zeroed now
-
+-- nothing is written, or so much
 abbrev pub IsPartlyMended : Setup → List Line → Regs → List Line → Type 0
 IsPartlyMended setup lines regs now =
-    (now ≡ lines) ⊎ (IsPartlyWritten setup lines regs now ⊎ IsPartlyZeroed setup lines regs now)
+    (now ≡ lines) ⊎ ((shadow : List Line) × (made : List Made) × (k : ℕ) × IsWrittenTo setup lines regs shadow made k now)
+
+-- all that is due is written
+pub record IsRecovered (setup : Setup) (lines : List Line) (regs : Regs) (now : List Line) : Type 0 where
+  pub shadow : List Line
+  pub made : List Made
+  pub written : IsWrittenTo setup lines regs shadow made (length made + layout.shadow_lines setup.shape) now
 
 -- the most lines that recovery writes after the redo: one for each slot of each level, and the shadow
 -- lines
@@ -79,11 +72,7 @@ pub record HasMadeWrites (setup : Setup) (regs : Regs) (old new : Device) : Type
       → IsPartlyMended setup lines regs now × (differing lines now ≡ count)
       × (IsShadowZero setup lines → count ≡ 0))
 
--- fewer lines than so many are written, while their count is below its end
-pub record WritesFewer (most : ℕ) (old new : Device) : Type 0 where
-  pub fewer : new.writes < last_count → new.writes < old.writes + most
-
 -- a refusal leaves the device alone, and a cut comes before all is written
 abbrev pub IsStoppedShort : Shape → RecFault → Device → Device → Type 0
-IsStoppedShort g Cut old new = WritesFewer (most_writes g) old new
+IsStoppedShort g Cut old new = new.writes < last_count → new.writes < old.writes + most_writes g
 IsStoppedShort g fault old new = KeepsDevice old new

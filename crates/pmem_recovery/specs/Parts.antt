@@ -1,5 +1,5 @@
 -- What the stages of recovery do to the device, to the suite's counts, and why they stop.
-use Rattle.std.specs.Prelude.{ℕ, ◌≡◌, ◌≢◌, ◌≤◌, ◌<◌, ◌+◌, ◌*◌, ◌⊎◌, true, false, List, [], ◌∷◌, ◌++◌, Option, Some, None, length, Result, Ok, Err, ⊤}
+use Rattle.std.specs.Prelude.{ℕ, ◌≡◌, ◌≢◌, ◌≤◌, ◌<◌, ◌+◌, ◌*◌, ◌⊎◌, true, false, List, [], ◌∷◌, Option, Some, None, length, Result, Ok, Err, ⊤}
 use Rattle.pmem_base.specs.declared.geometry.Geo.{Geo}
 use Rattle.pmem_base.specs.Geo.{shape_of}
 use Rattle.pmem_base.specs.declared.lines.Line.{Line}
@@ -17,7 +17,6 @@ use Rattle.suite.specs.Setup.{Setup}
 use Rattle.shadow_tables.specs.Entries.{shadow_of}
 use Rattle.stop_loss.specs.declared.Found.{Found}
 use Rattle.collision_witness.specs.Exhibits.{IsExhibit}
-use Rattle.pmem_recovery.specs.declared.entries.Made.{Made}
 use Rattle.pmem_recovery.specs.declared.faults.RecFault.{RecFault}
 use Rattle.pmem_recovery.specs.declared.faults.RecFault.TheVariants.{Memory, Cut, NoCounter, Root, Twin}
 use Rattle.pmem_recovery.specs.Named.{count_named}
@@ -133,12 +132,6 @@ IsCompared kept found (Ok done) = found ≡ kept
 IsCompared kept found (Err (Root k f)) = (k ≡ kept) × (f ≡ found) × (found ≢ kept)
 IsCompared kept found (Err fault) = ⊥
 
--- one more line is made, for position x
-pub record AddsLine (x : ℕ) (old new : List Made) : Type 0 where
-  pub entry : Made
-  pub items : new ≡ old ++ entry ∷ []
-  pub at : entry.at ≡ x
-
 -- ---- why it stops
 
 -- two minors or more fit line a: the least two, with the device's cipher and slot
@@ -194,24 +187,6 @@ IsRefusal setup lines regs (Twin at major low high cipher tag) =
     × IsTwinOf setup lines regs at major low high cipher tag
 
 -- ---- how much is tried before it stops
-
--- so many trials of the lines from one on and below another: up to and with the line that hasn't one minor, or to
--- where power is cut
-abbrev pub IsTriedUntil : Shape → List Line → Regs → ℕ → ℕ → RecFault → ℕ → Type 0
-IsTriedUntil g lines regs from end Cut n =
-    (to : ℕ) × (from ≤ to) × (to ≤ end)
-    × (n + trials_below g lines regs from ≡ trials_below g lines regs to)
-IsTriedUntil g lines regs from end (NoCounter at) n =
-    n + trials_below g lines regs from ≡ trials_below g lines regs (at + 1)
-IsTriedUntil g lines regs from end (Twin at major low high cipher tag) n =
-    n + trials_below g lines regs from ≡ trials_below g lines regs (at + 1)
-IsTriedUntil g lines regs from end fault n = ⊥
-
-pub record TriesUntil (g : Shape) (lines : List Line) (regs : Regs) (from end : ℕ) (fault : RecFault)
-    (old new : SuiteState) : Type 0 where
-  pub count : ℕ
-  pub so_many : IsTriedUntil g lines regs from end fault count
-  pub worked : SuiteWork count 0 old new
 
 -- all digests of a recovery: four for each named node, and the top line's
 abbrev pub all_digests : Shape → List Line → ℕ

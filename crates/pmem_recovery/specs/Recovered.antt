@@ -25,10 +25,9 @@ use Rattle.pmem_recovery.specs.declared.faults.Work.{Work}
 use Rattle.pmem_recovery.specs.declared.faults.RecFault.{RecFault}
 use Rattle.pmem_recovery.specs.declared.faults.RecFault.TheVariants.{Memory, Cut, NoCounter, Root, Twin}
 use Rattle.pmem_recovery.specs.Trials.{IsTwinOfLastSeal}
-use Rattle.pmem_recovery.specs.Written.{differing}
 use Rattle.pmem_recovery.specs.Parts.{IfLinesTold, IsUncut, IsCutOff, SuiteState, HasRoot, IsRefusal, IsAllWork, StoppedWork}
 use Rattle.pmem_recovery.specs.Reads.{all_reads, named_reads, IsReadUntil}
-use Rattle.pmem_recovery.specs.Writing.{IfBothLinesTold}
+use Rattle.pmem_recovery.specs.Writing.{IfBothLinesTold, differing}
 use Rattle.pmem_recovery.specs.Mending.{most_reads, most_writes}
 use Rattle.pmem_recovery.specs.Fronts.{IsFrontWritten, AreFixed}
 use Rattle.pmem_recovery.specs.Plans.{counts_of, recover_plan}

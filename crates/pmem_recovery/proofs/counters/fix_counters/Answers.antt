@@ -1,23 +1,20 @@
-use Rattle.std.proofs.Common.{Result, Ok, Err, refl, ◌/◌, ℕ, ◌≡◌, ◌<◌, ◌≤◌, ◌+◌, ◌-◌, ◌*◌, ◌^◌, IsTrue, List, length, sym, ap, subst, ◌∙◌, arith}
+use Rattle.std.proofs.Common.{refl, ◌/◌, ℕ, ◌≡◌, ◌<◌, ◌≤◌, ◌+◌, ◌-◌, ◌*◌, ◌^◌, IsTrue, List, length, sym, ap, subst, ◌∙◌, arith}
 use Rattle.std.proofs.lemmas.Nat.{mul-le}
 use Rattle.pmem_base.specs.declared.lines.Line.{Line}
 use Rattle.pmem_base.specs.Geo.{shape_of}
 use Rattle.pmem_base.specs.Shape.{Shape, is_loss}
-use Rattle.pmem_base.specs.Layout.{pages, meta_lines, slots, level_start}
+use Rattle.pmem_base.specs.Layout.{meta_lines, slots, level_start}
 use Rattle.bonsai_tree.proofs.Levels.{meta_lines-counters}
 use Rattle.stop_loss.proofs.Windows.{is_loss_cases}
 use Rattle.pmem_recovery.specs.Named.{names, count_named, IsNextAt}
-use Rattle.pmem_recovery.specs.Parts.{setup_of, setup_with}
-use Rattle.pmem_recovery.proofs.PartLaws.{longer, IsShape-geo, slots-small, few_and_one}
+use Rattle.pmem_recovery.specs.Parts.{setup_with}
+use Rattle.pmem_recovery.proofs.PartLaws.{IsShape-geo, slots-small, few_and_one}
 use Rattle.pmem_recovery.proofs.NamedLaws.{count_named-gap, count_named-next, count_named-le, count_named-counters}
-use Rattle.board.specs.Device.{Device}
 use Rattle.call_plan.specs.Plans.{for_each}
-use Rattle.call_plan.specs.Following.{Follows}
 use Rattle.call_plan.proofs.Steps.{ended_err}
 use Rattle.call_plan.proofs.Bind.{mapped_follows}
 use Rattle.call_plan.proofs.Loops.{HasReached, reached_start}
-use Rattle.pmem_recovery.specs.declared.faults.RecFault.{RecFault}
-use Rattle.pmem_recovery.specs.Plans.{RecoveryParts, recovery_parts, counts_at, named_positions, fixed_block_plan, block_turn, blocks_plan}
+use Rattle.pmem_recovery.specs.Plans.{RecoveryParts, recovery_parts, counts_at, named_positions, block_turn, blocks_plan}
 use Rattle.pmem_recovery.proofs.NamedPlans.{named_ok, named_err, named_end}
 use Rattle.pmem_recovery.proofs.counters.fix_counters.Given.{Over}
 use Rattle.pmem_recovery.proofs.counters.fix_counters.Goals.{In-Some}
@@ -45,14 +42,6 @@ module _ (g : Over) (c : In-Some g) where
 
   abbrev parts : RecoveryParts
   parts = recovery_parts c.positions.made.items (counts_at g.S.Suite c.positions.suite)
-
-  -- its plan, under the keys as they were first
-  block_then : (new : Device) (end : Result (RecoveryParts × ℕ) (RecoveryParts × RecFault))
-      → Follows (fixed_block_plan (setup_with g.S.Suite c.args.geo.now c.positions.suite) c.args.regs.now c.in-Some.x parts) (g.B.Board.device c.positions.board) new end
-      → Follows (fixed_block_plan (setup_with g.S.Suite c.args.geo.now c.args.suite.now) c.args.regs.now c.in-Some.x parts) (g.B.Board.device c.positions.board) new end
-  block_then new end it =
-      subst (λ keys. Follows (fixed_block_plan (setup_of c.args.geo.now (g.S.Suite.formulas_of keys)) c.args.regs.now c.in-Some.x parts)
-      (g.B.Board.device c.positions.board) new end) c.positions.invariant.keys it
 
 pub positions-init : goal.positions-init
 positions-init g c =
@@ -107,10 +96,9 @@ positions-preserved g c =
       keys = c.fix_counter.ensures.keys ∙ inv.keys;
       pads = c.fix_counter.ensures.pads ∙ inv.pads;
       reached =
-          let after : RecoveryParts = recovery_parts c.fix_counter.new.made.items (counts_at g.S.Suite c.fix_counter.new.suite) in
           named_ok (block_turn (setup_with g.S.Suite c.args.geo.now c.args.suite.now) c.args.regs.now) its_shape c.args.shadow.now c.positions.from (meta_lines its_shape)
           (parts g place, c.positions.trials) inv.reached c.in-Some.x its_next
-          (mapped_follows _ _ (block_then g place (g.B.Board.device c.fix_counter.new.board) (Ok (after, c.in_ok-trials.field-0)) ok.plan));
+          (mapped_follows _ _ (rw inv.keys at ok.plan));
       low = omega (arith, inv.low, its_next.low);
       high = omega (arith, its_next.high);
       counted = ok.longer ∙ ap (λ n. n + 1) inv.counted ∙ sym (count_named-next its_shape c.args.shadow.now (level_start its_shape.levels) c.positions.from (meta_lines its_shape) c.in-Some.x inv.low its_next);
@@ -135,12 +123,10 @@ returns-clause-few_made g c =
 pub returns-in_err-trials-clause-plan : goal.returns-in_err-trials-clause-plan
 returns-in_err-trials-clause-plan g c =
     let place = (goal.at.returns-in_err-trials-clause-plan g c).In-Some in
-    let fault = c.in_err-trials.field-0.0 in
-    let after : RecoveryParts = recovery_parts c.fix_counter.new.made.items (counts_at g.S.Suite c.fix_counter.new.suite) in
     ended_err c.from_residual.result c.from_residual.ensures.1
     (named_err (block_turn (setup_with g.S.Suite c.args.geo.now c.args.suite.now) c.args.regs.now) (shape_of c.args.geo.now) c.args.shadow.now c.positions.from
     (meta_lines (shape_of c.args.geo.now)) (parts g place, c.positions.trials) c.positions.invariant.reached c.in-Some.x (next g place)
-    (mapped_follows _ _ (block_then g place (g.B.Board.device c.fix_counter.new.board) (Err (after, fault)) c.in_err-trials.ensures.plan)))
+    (mapped_follows _ _ (rw c.positions.invariant.keys at c.in_err-trials.ensures.plan)))
 
 pub returns-clause-plan : goal.returns-clause-plan
 returns-clause-plan g c =

@@ -1,31 +1,19 @@
-use Rattle.std.proofs.Common.{ℕ, Result, Ok, Err, true, ◌≡◌, ◌≤◌, ◌+◌, ◌*◌, ap, subst, refl, ◌∙◌, arith}
+use Rattle.std.proofs.Common.{◌≡◌, ◌≤◌, ◌+◌, ◌*◌, ap, refl, ◌∙◌, arith}
 use Rattle.std.proofs.lemmas.List.Elements.{All-set}
 use Rattle.pmem_base.specs.Geo.{shape_of}
 use Rattle.pmem_base.proofs.LayoutLemmas.{pages-most}
-use Rattle.pmem_recovery.specs.Parts.{setup_of, setup_with}
-use Rattle.board.specs.Device.{Device}
-use Rattle.call_plan.specs.Following.{Follows}
+use Rattle.pmem_recovery.specs.Parts.{setup_with}
 use Rattle.call_plan.proofs.Steps.{ended_err}
 use Rattle.call_plan.proofs.Loops.{turns_start, turn_ok, turn_err, turns_end}
 use Rattle.split_counters.specs.Blocks.{with_minor}
-use Rattle.pmem_recovery.specs.declared.faults.RecFault.{RecFault}
-use Rattle.pmem_recovery.specs.Plans.{SuiteCounts, counts_at, trial_plan, minor_turn}
+use Rattle.pmem_recovery.specs.Plans.{counts_at, minor_turn}
 use Rattle.pmem_recovery.proofs.TrialPlans.{minor_done, minor_stopped}
 use Rattle.pmem_recovery.proofs.counters.fix_minors.Given.{Over}
 use Rattle.pmem_recovery.proofs.counters.fix_minors.Goals.{After-from}
 use Rattle.pmem_recovery.proofs.counters.fix_minors.Goals as goal
 
--- the plan of line i, under the keys as they were first
+-- line i
 module _ (g : Over) (c : After-from g) where
-  line_then : (new : Device) (end : Result (SuiteCounts × (ℕ × ℕ)) (SuiteCounts × RecFault))
-      → Follows (trial_plan (setup_with g.S.Suite c.args.geo.now c.lines.suite) c.args.regs.now c.args.stored.now (64 * c.args.page + c.from.result)
-      (counts_at g.S.Suite c.lines.suite)) (g.B.Board.device c.lines.board) new end
-      → Follows (trial_plan (setup_with g.S.Suite c.args.geo.now c.args.suite.now) c.args.regs.now c.args.stored.now (64 * c.args.page + c.from.result)
-      (counts_at g.S.Suite c.lines.suite)) (g.B.Board.device c.lines.board) new end
-  line_then new end it =
-      subst (λ keys. Follows (trial_plan (setup_of c.args.geo.now (g.S.Suite.formulas_of keys)) c.args.regs.now c.args.stored.now (64 * c.args.page + c.from.result)
-      (counts_at g.S.Suite c.lines.suite)) (g.B.Board.device c.lines.board) new end) c.lines.invariant.keys it
-
   its_place : 64 * c.args.page + c.from.result ≡ 64 * c.args.page + c.lines.i
   its_place = ap (λ n. 64 * c.args.page + n) c.from.ensures
 
@@ -61,7 +49,7 @@ lines-preserved g c =
           (minor_done (setup_with g.S.Suite c.args.geo.now c.args.suite.now) c.args.regs.now c.args.stored.now c.args.page c.lines.i (counts_at g.S.Suite c.lines.suite)
           c.lines.fixed c.lines.trials (its_place g here) (counts_at g.S.Suite c.try_line.new.suite) c.in_ok-minor.minor c.in_ok-minor.tries _
           (ap (λ n. with_minor c.lines.fixed n c.in_ok-minor.minor) c.from-in-lines.ensures)
-          (line_then g here (g.B.Board.device c.try_line.new.board) (Ok (counts_at g.S.Suite c.try_line.new.suite, (c.in_ok-minor.minor, c.in_ok-minor.tries))) ok.plan));
+          (rw inv.keys at ok.plan));
       few = omega (arith, inv.few, ok.few);
       small = All-set (λ m. m ≤ 127) c.lines.fixed.minors c.from-in-lines.result c.in_ok-minor.minor ok.small inv.small;
     }
@@ -76,7 +64,7 @@ returns-in_err-minor-clause-plan g c =
     (turn_err c.lines.invariant.reached c.lines-test.true
     (minor_stopped (setup_with g.S.Suite c.args.geo.now c.args.suite.now) c.args.regs.now c.args.stored.now c.args.page c.lines.i (counts_at g.S.Suite c.lines.suite)
     c.lines.fixed c.lines.trials (its_place g here) (counts_at g.S.Suite c.try_line.new.suite) fault
-    (line_then g here (g.B.Board.device c.try_line.new.board) (Err (counts_at g.S.Suite c.try_line.new.suite, fault)) c.in_err-minor.ensures.plan)))
+    (rw c.lines.invariant.keys at c.in_err-minor.ensures.plan)))
 
 pub returns-clause-plan : goal.returns-clause-plan
 returns-clause-plan g c = turns_end c.lines.invariant.reached (omega (arith, c.lines-test.false))

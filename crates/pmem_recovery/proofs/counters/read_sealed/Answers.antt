@@ -1,6 +1,4 @@
-use Rattle.std.proofs.Common.{subst}
 use Rattle.pmem_base.specs.Geo.{shape_of}
-use Rattle.board.specs.Steps.{HasRead}
 use Rattle.call_plan.proofs.Steps.{answered_err}
 use Rattle.pmem_recovery.proofs.TrialPlans.{sealed_unread, sealed_half_read, sealed_read}
 use Rattle.pmem_recovery.proofs.counters.read_sealed.Goals as goal
@@ -26,6 +24,6 @@ returns g c =
     record {
       plan =
           sealed_read (shape_of c.args.geo.now) c.args.at c.in_ok-cipher.ensures.ok c.is_whole.ensures c.tag_at.result
-          (subst (λ n. HasRead (g.B.Board.device c.read_line.new.self) n c.in_ok-tags.tags (g.B.Board.device c.read_line-2.new.self)) c.tag_line.ensures.value c.in_ok-tags.ensures.ok)
+          (rw c.tag_line.ensures.value at c.in_ok-tags.ensures.ok)
           c.is_whole-2.ensures c.tag_at.ensures;
     }

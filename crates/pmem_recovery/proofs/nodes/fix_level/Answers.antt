@@ -1,5 +1,4 @@
-use Rattle.std.proofs.Common.{ℕ, Result, Ok, Err, suc, ◌≡◌, ◌<◌, ◌≤◌, ◌+◌, List, ap, subst, false, ◌∙◌, add-one, arith}
-use Rattle.pmem_base.specs.declared.faults.Cut.{Cut}
+use Rattle.std.proofs.Common.{ℕ, suc, ◌≡◌, ◌<◌, ◌≤◌, ◌+◌, List, ap, subst, false, ◌∙◌, add-one, arith}
 use Rattle.pmem_base.specs.declared.lines.Line.{Line}
 use Rattle.pmem_base.specs.declared.geometry.Geo.{Geo}
 use Rattle.pmem_base.specs.Geo.{shape_of}
@@ -7,15 +6,12 @@ use Rattle.pmem_base.specs.Shape.{Shape}
 use Rattle.pmem_base.specs.Layout.{level_start}
 use Rattle.bonsai_tree.proofs.Levels.{level_start-le}
 use Rattle.pmem_recovery.specs.Named.{names, count_named, IsNextAt}
-use Rattle.pmem_recovery.specs.Parts.{setup_of, setup_with}
-use Rattle.pmem_recovery.proofs.PartLaws.{longer, IsShape-geo}
+use Rattle.pmem_recovery.specs.Parts.{setup_with}
+use Rattle.pmem_recovery.proofs.PartLaws.{IsShape-geo}
 use Rattle.pmem_recovery.proofs.NamedLaws.{count_named-next, count_named-last, count_named-le, count_named-small}
-use Rattle.board.specs.Device.{Device}
-use Rattle.call_plan.specs.Plans.{the_cut}
-use Rattle.call_plan.specs.Following.{Follows}
 use Rattle.call_plan.proofs.Steps.{ended_err}
 use Rattle.call_plan.proofs.Bind.{mapped_follows}
-use Rattle.pmem_recovery.specs.Plans.{RecoveryParts, recovery_parts, counts_at, fixed_node_plan, node_turn}
+use Rattle.pmem_recovery.specs.Plans.{RecoveryParts, recovery_parts, counts_at, node_turn}
 use Rattle.pmem_recovery.proofs.NamedPlans.{named_ok, named_err, named_end}
 use Rattle.pmem_recovery.proofs.nodes.fix_level.Given.{Over}
 use Rattle.pmem_recovery.proofs.nodes.fix_level.Goals.{In-Some, In_default}
@@ -60,14 +56,6 @@ module _ (g : Over) (c : In-Some g) where
   abbrev before : RecoveryParts
   before = recovery_parts c.positions.made.items (counts_at g.S.Suite c.positions.suite)
 
-  -- under the keys as they were first
-  node_then : (new : Device) (end : Result (RecoveryParts × Unit {0}) (RecoveryParts × Cut))
-      → Follows (fixed_node_plan (setup_with g.S.Suite c.args.geo.now c.positions.suite) c.in-Some.x before) (g.B.Board.device c.positions.board) new end
-      → Follows (fixed_node_plan (setup_with g.S.Suite c.args.geo.now c.args.suite.now) c.in-Some.x before) (g.B.Board.device c.positions.board) new end
-  node_then new end it =
-      subst (λ keys. Follows (fixed_node_plan (setup_of c.args.geo.now (g.S.Suite.formulas_of keys)) c.in-Some.x before) (g.B.Board.device c.positions.board) new end)
-      c.positions.invariant.keys it
-
 pub fix_node-requires-clause-node : goal.fix_node-requires-clause-node
 fix_node-requires-clause-node g c =
     (next_here g (goal.at.fix_node-requires-clause-node g c).In-Some).node
@@ -93,10 +81,9 @@ positions-preserved g c =
       pads = c.fix_node.ensures.pads ∙ inv.pads;
       reached =
           let place = (goal.at.positions-preserved g c).In-Some in
-          let after : RecoveryParts = recovery_parts c.fix_node.new.made.items (counts_at g.S.Suite c.fix_node.new.suite) in
           named_ok (node_turn (setup_with g.S.Suite c.args.geo.now c.args.suite.now)) shape c.args.shadow.now c.positions.from (level_start (c.args.level + 1))
           (before g place, c.positions.digests) inv.reached c.in-Some.x (first_here g place)
-          (mapped_follows _ _ (node_then g place (g.B.Board.device c.fix_node.new.board) (Ok (after, tt)) ok.plan));
+          (mapped_follows _ _ (rw inv.keys at ok.plan));
       low = omega (arith, inv.low, h.next.low);
       high = omega (arith, h.next.high);
       counted = ok.longer ∙ omega (arith, inv.counted, h.more);
@@ -130,11 +117,10 @@ returns-clause-counted g c =
 pub returns-in_err-fix_node-clause-plan : goal.returns-in_err-fix_node-clause-plan
 returns-in_err-fix_node-clause-plan g c =
     let place = (goal.at.returns-in_err-fix_node-clause-plan g c).In-Some in
-    let after : RecoveryParts = recovery_parts c.fix_node.new.made.items (counts_at g.S.Suite c.fix_node.new.suite) in
     ended_err c.from_residual.result c.from_residual.ensures.1
     (named_err (node_turn (setup_with g.S.Suite c.args.geo.now c.args.suite.now)) (shape_of c.args.geo.now) c.args.shadow.now c.positions.from (level_start (c.args.level + 1))
     (before g place, c.positions.digests) c.positions.invariant.reached c.in-Some.x (first_here g place)
-    (mapped_follows _ _ (node_then g place (g.B.Board.device c.fix_node.new.board) (Err (after, the_cut)) c.in_err-fix_node.ensures.plan)))
+    (mapped_follows _ _ (rw c.positions.invariant.keys at c.in_err-fix_node.ensures.plan)))
 
 pub returns-clause-plan : goal.returns-clause-plan
 returns-clause-plan g c =

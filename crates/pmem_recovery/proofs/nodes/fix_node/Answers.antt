@@ -1,13 +1,10 @@
-use Rattle.std.proofs.Common.{List, Ok, Err, refl, subst}
+use Rattle.std.proofs.Common.{refl}
 use Rattle.board.specs.Steps.{HasRead}
 use Rattle.pmem_base.specs.Layout.{meta_line}
-use Rattle.call_plan.specs.Plans.{the_cut}
-use Rattle.call_plan.specs.Following.{Follows}
 use Rattle.call_plan.proofs.Steps.{ended_err}
 use Rattle.suite.specs.Setup.{Setup}
 use Rattle.pmem_recovery.specs.Parts.{setup_with}
-use Rattle.pmem_recovery.specs.declared.entries.Made.{Made}
-use Rattle.pmem_recovery.specs.Plans.{RecoveryParts, recovery_parts, counts_at, children_plan}
+use Rattle.pmem_recovery.specs.Plans.{RecoveryParts, recovery_parts, counts_at}
 use Rattle.pmem_recovery.proofs.NodePlans.{same_made, node_unread, node_stopped, node_made_so}
 use Rattle.pmem_recovery.proofs.nodes.fix_node.Given.{Over}
 use Rattle.pmem_recovery.proofs.nodes.fix_node.Goals.{After-deref}
@@ -30,17 +27,14 @@ module _ (g : Over) (c : After-deref g) where
   before = recovery_parts c.args.made.now.items (counts_at g.S.Suite c.args.suite.now)
 
   was_read : HasRead (g.B.Board.device c.args.board.now) (meta_line setup.shape c.args.x) c.in_ok-read.read (g.B.Board.device c.read_line.new.self)
-  was_read =
-      subst (λ n. HasRead (g.B.Board.device c.args.board.now) n c.in_ok-read.read (g.B.Board.device c.read_line.new.self)) c.meta_line.ensures.value
-      c.in_ok-read.ensures.ok
+  was_read = rw c.meta_line.ensures.value at c.in_ok-read.ensures.ok
 
 pub returns-in_err-line-clause-plan : goal.returns-in_err-line-clause-plan
 returns-in_err-line-clause-plan g c =
     let here = (goal.at.returns-in_err-line-clause-plan g c).After-deref in
     ended_err c.from_residual-in_err-line.result c.from_residual-in_err-line.ensures.1
     (node_stopped (setup g here) c.args.x (before g here) (was_read g here) c.is_whole.ensures (counts_at g.S.Suite c.node_line.new.suite)
-    (subst (λ (made : List Made). Follows (children_plan (setup g here) made c.args.x (before g here).counts) (g.B.Board.device c.read_line.new.self)
-    (g.B.Board.device c.node_line.new.board) (Err (counts_at g.S.Suite c.node_line.new.suite, the_cut))) c.deref.ensures.value c.in_err-line.ensures.plan))
+    (rw c.deref.ensures.value at c.in_err-line.ensures.plan))
 
 pub returns-clause-plan : goal.returns-clause-plan
 returns-clause-plan g c =
@@ -48,5 +42,4 @@ returns-clause-plan g c =
     node_made_so (setup g here) c.args.x (before g here) (was_read g here) c.is_whole.ensures (counts_at g.S.Suite c.node_line.new.suite)
     c.in_ok-line.line c.push_reserved.new.self.items
     (same_made c.args.made.now.items c.args.x c.in_ok-read.read c.push_reserved.ensures.items refl c.is_other.ensures)
-    (subst (λ (made : List Made). Follows (children_plan (setup g here) made c.args.x (before g here).counts) (g.B.Board.device c.read_line.new.self)
-    (g.B.Board.device c.node_line.new.board) (Ok (counts_at g.S.Suite c.node_line.new.suite, c.in_ok-line.line))) c.deref.ensures.value c.in_ok-line.ensures.plan)
+    (rw c.deref.ensures.value at c.in_ok-line.ensures.plan)

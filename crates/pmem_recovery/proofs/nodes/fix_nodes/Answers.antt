@@ -1,5 +1,4 @@
-use Rattle.std.proofs.Common.{ℕ, Result, Ok, Err, suc, ◌≡◌, ◌<◌, ◌≤◌, ◌+◌, ◌-◌, List, ap, subst, ◌∙◌, arith}
-use Rattle.pmem_base.specs.declared.faults.Cut.{Cut}
+use Rattle.std.proofs.Common.{ℕ, suc, ◌≡◌, ◌<◌, ◌≤◌, ◌+◌, ◌-◌, List, ap, subst, ◌∙◌, arith}
 use Rattle.pmem_base.specs.declared.lines.Line.{Line}
 use Rattle.pmem_base.specs.declared.geometry.Geo.{Geo}
 use Rattle.pmem_base.specs.Geo.{shape_of}
@@ -7,16 +6,11 @@ use Rattle.pmem_base.specs.Shape.{Shape}
 use Rattle.pmem_base.specs.Layout.{level_start}
 use Rattle.bonsai_tree.proofs.Levels.{level_start-le}
 use Rattle.pmem_recovery.specs.Named.{count_named}
-use Rattle.pmem_recovery.specs.Parts.{setup_of, setup_with}
 use Rattle.pmem_recovery.proofs.PartLaws.{IsShape-geo}
 use Rattle.pmem_recovery.proofs.NamedLaws.{count_named-parts, count_named-within, count_named-small}
-use Rattle.board.specs.Device.{Device}
-use Rattle.call_plan.specs.Plans.{the_cut}
-use Rattle.call_plan.specs.Following.{Follows}
 use Rattle.call_plan.proofs.Steps.{ended_err}
 use Rattle.call_plan.proofs.Bind.{mapped_follows}
 use Rattle.call_plan.proofs.Loops.{turn_ok, turn_err, turns_end}
-use Rattle.pmem_recovery.specs.Plans.{RecoveryParts, recovery_parts, counts_at, fixed_level_plan}
 use Rattle.pmem_recovery.proofs.nodes.fix_nodes.Given.{Over}
 use Rattle.pmem_recovery.proofs.nodes.fix_nodes.Goals.{After-levels}
 use Rattle.pmem_recovery.proofs.nodes.fix_nodes.Goals as goal
@@ -60,23 +54,8 @@ module _ (g : Over) (c : After-levels g) where
       next_level c.args.geo.now c.args.shadow.now c.upward.above c.levels.result (c.levels.result - 1 - c.upward.above) c.levels.ensures
       (omega (arith, c.upward-test.true, c.levels.ensures, c.levels-above-end.ensures)) (omega arith)
 
-  abbrev before : RecoveryParts
-  before = recovery_parts c.upward.made.items (counts_at g.S.Suite c.upward.suite)
-
   more : c.upward.above < (shape_of c.args.geo.now).levels
   more = omega (arith, c.upward-test.true, c.levels.ensures, c.levels-above-end.ensures)
-
-  -- the level's plan, at its level and under the keys as they were first
-  level_then : (new : Device) (end : Result (RecoveryParts × ℕ) (RecoveryParts × Cut))
-      → Follows (fixed_level_plan (setup_with g.S.Suite c.args.geo.now c.upward.suite) c.args.shadow.now (c.levels.result - 1 - c.upward.above) before)
-      (g.B.Board.device c.upward.board) new end
-      → Follows (fixed_level_plan (setup_with g.S.Suite c.args.geo.now c.args.suite.now) c.args.shadow.now ((shape_of c.args.geo.now).levels - 1 - c.upward.above) before)
-      (g.B.Board.device c.upward.board) new end
-  level_then new end it =
-      subst (λ n. Follows (fixed_level_plan (setup_with g.S.Suite c.args.geo.now c.args.suite.now) c.args.shadow.now (n - 1 - c.upward.above) before)
-      (g.B.Board.device c.upward.board) new end) c.levels.ensures
-      (subst (λ keys. Follows (fixed_level_plan (setup_of c.args.geo.now (g.S.Suite.formulas_of keys)) c.args.shadow.now (c.levels.result - 1 - c.upward.above) before)
-      (g.B.Board.device c.upward.board) new end) c.upward.invariant.keys it)
 
 pub fix_level-requires-clause-room : goal.fix_level-requires-clause-room
 fix_level-requires-clause-room g c =
@@ -104,9 +83,8 @@ upward-preserved g c =
       pads = c.fix_level.ensures.pads ∙ inv.pads;
       reached =
           let place = (goal.at.upward-preserved g c).After-levels in
-          let after : RecoveryParts = recovery_parts c.fix_level.new.made.items (counts_at g.S.Suite c.fix_level.new.suite) in
           turn_ok inv.reached (more g place)
-          (mapped_follows _ _ (level_then g place (g.B.Board.device c.fix_level.new.board) (Ok (after, c.in_ok-digests.field-0)) ok.plan));
+          (mapped_follows _ _ (rw (inv.keys, c.levels.ensures) at ok.plan));
       counted = omega (arith, ok.counted, inv.counted, n.parts, count);
       done = omega (arith, ok.digests, inv.done, n.parts, count);
       capacity = c.fix_level.ensures.capacity ∙ inv.capacity;
@@ -117,10 +95,9 @@ upward-preserved g c =
 pub returns-in_err-digests-clause-plan : goal.returns-in_err-digests-clause-plan
 returns-in_err-digests-clause-plan g c =
     let place = (goal.at.returns-in_err-digests-clause-plan g c).After-levels in
-    let after : RecoveryParts = recovery_parts c.fix_level.new.made.items (counts_at g.S.Suite c.fix_level.new.suite) in
     ended_err c.from_residual.result c.from_residual.ensures.1
     (turn_err c.upward.invariant.reached (more g place)
-    (mapped_follows _ _ (level_then g place (g.B.Board.device c.fix_level.new.board) (Err (after, the_cut)) c.in_err-digests.ensures.plan)))
+    (mapped_follows _ _ (rw (c.upward.invariant.keys, c.levels.ensures) at c.in_err-digests.ensures.plan)))
 
 pub returns-clause-plan : goal.returns-clause-plan
 returns-clause-plan g c =

@@ -1,6 +1,5 @@
-use Rattle.std.proofs.Common.{sym, subst}
+use Rattle.std.proofs.Common.{sym}
 use Rattle.pmem_base.specs.Geo.{shape_of}
-use Rattle.board.specs.Steps.{HasRead}
 use Rattle.call_plan.proofs.Steps.{answered_err}
 use Rattle.pmem_recovery.proofs.NodePlans.{was_made, stored_read, stored_cut}
 use Rattle.pmem_recovery.proofs.nodes.made_or_read.Goals as goal
@@ -21,6 +20,6 @@ returns-in_ok-line-in-None g c =
     record {
       plan =
           stored_read (shape_of c.args.geo.now) c.args.made.now c.args.x (sym c.in-None.ensures) c.in_ok-line-in-None.line
-          (subst (λ n. HasRead (g.B.Board.device c.args.board.now) n c.in_ok-line-in-None.line (g.B.Board.device c.read_line.new.self)) c.meta_line.ensures.value c.in_ok-line-in-None.ensures.ok)
+          (rw c.meta_line.ensures.value at c.in_ok-line-in-None.ensures.ok)
           c.is_whole.ensures;
     }

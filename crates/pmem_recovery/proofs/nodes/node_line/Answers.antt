@@ -1,4 +1,4 @@
-use Rattle.std.proofs.Common.{rules, [], ℕ, ◌≡◌, ◌+◌, ◌*◌, List, take, set, refl, sym, ap, ◌∙◌, arith}
+use Rattle.std.proofs.Common.{rules, [], ℕ, ◌≡◌, ◌+◌, ◌*◌, List, take, set, refl, sym, ap, ◌∙◌, arith, ◌<◌, ◌≤◌}
 use Rattle.std.proofs.lemmas.List.{take_more_set, take_all}
 use Rattle.bonsai_tree.specs.Nodes.{node_of}
 use Rattle.call_plan.proofs.Steps.{ended_err}
@@ -7,7 +7,10 @@ use Rattle.pmem_recovery.specs.Parts.{setup_with}
 use Rattle.pmem_recovery.specs.Plans.{counts_at, child_turn}
 use Rattle.pmem_recovery.proofs.NodePlans.{same_counts, child_made, child_cut, children_made, children_cut}
 use Rattle.pmem_base.specs.Geo.{shape_of}
-use Rattle.pmem_recovery.proofs.NodeSteps.{node-small}
+use Rattle.pmem_base.specs.Shape.{Shape}
+use Rattle.pmem_base.specs.Layout.{level_start}
+use Rattle.pmem_base.proofs.LayoutLemmas.{pages-most}
+use Rattle.bonsai_tree.proofs.Levels.{level_start-pow}
 use Rattle.pmem_recovery.proofs.nodes.node_line.Given.{Over}
 use Rattle.pmem_recovery.proofs.nodes.node_line.Goals.{After-from}
 use Rattle.pmem_recovery.proofs.nodes.node_line.Goals as goal
@@ -47,6 +50,10 @@ children-preserved g c =
           c.in_ok-line.ensures.plan);
       long = search rules;
     }
+
+-- positions of nodes are small, and their children are on the tree
+node-small : (g : Shape) (x : ℕ) → g.levels ≤ 6 → x < level_start g.levels → x < 1365
+node-small g x six node = omega (arith, node, level_start-pow g.levels, pages-most g.levels six)
 
 pub overflow_mul-child : goal.overflow_mul-child
 overflow_mul-child g c = omega (arith, node-small (shape_of c.args.geo.now) c.args.x c.args.geo.now.has_levels.1 c.requires.node)

@@ -1,11 +1,9 @@
-use Rattle.std.proofs.Common.{[], false, get_or, Ok, Err, subst}
-use Rattle.call_plan.specs.Plans.{the_cut}
-use Rattle.call_plan.specs.Following.{Follows}
+use Rattle.std.proofs.Common.{[], false}
 use Rattle.call_plan.proofs.Steps.{answered_err}
 use Rattle.call_plan.proofs.Loops.{reached_start, item_ok, item_err, items_end}
 use Rattle.pmem_base.specs.Geo.{shape_of}
 use Rattle.pmem_recovery.specs.declared.entries.Made.{Made}
-use Rattle.pmem_recovery.specs.Plans.{changed_plan, entry_turn, entries_plan}
+use Rattle.pmem_recovery.specs.Plans.{entry_turn, entries_plan}
 use Rattle.pmem_recovery.proofs.writing.write_made.Goals as goal
 
 pub entries-init : goal.entries-init
@@ -19,8 +17,7 @@ entries-preserved g c =
     record {
       reached =
           item_ok (entry_turn (shape_of c.args.geo.now)) c.args.made.now c.entries.entry-index tt c.entries.invariant.reached no_entry c.entries-test.true
-          (subst (λ at. Follows (changed_plan at (get_or c.args.made.now c.entries.entry-index no_entry).line (get_or c.args.made.now c.entries.entry-index no_entry).changed)
-          (g.B.Board.device c.entries.board) (g.B.Board.device c.write_changed.new.board) (Ok tt)) c.meta_line.ensures.value c.in_ok-write_changed.ensures.plan);
+          (rw c.meta_line.ensures.value at c.in_ok-write_changed.ensures.plan);
     }
 
 pub returns-in_err-write_changed : goal.returns-in_err-write_changed
@@ -29,8 +26,7 @@ returns-in_err-write_changed g c =
       plan =
           answered_err c.from_residual.result c.from_residual.ensures.1
           (item_err (entry_turn (shape_of c.args.geo.now)) c.args.made.now c.entries.entry-index tt c.entries.invariant.reached no_entry c.entries-test.true
-          (subst (λ at. Follows (changed_plan at (get_or c.args.made.now c.entries.entry-index no_entry).line (get_or c.args.made.now c.entries.entry-index no_entry).changed)
-          (g.B.Board.device c.entries.board) (g.B.Board.device c.write_changed.new.board) (Err the_cut)) c.meta_line.ensures.value c.in_err-write_changed.ensures.plan));
+          (rw c.meta_line.ensures.value at c.in_err-write_changed.ensures.plan));
     }
 
 pub returns : goal.returns
