@@ -1,5 +1,5 @@
 //! Data lines over an engine, written by transactions of several lines.
-ghost use Rattle.std.specs.Prelude.{◌≡◌, ◌≢◌, ◌≤◌, ◌<◌, ◌+◌, ◌^◌, List, [], length, true, Some, None, IfOk, IfSome};
+ghost use Rattle.std.specs.Prelude.{◌≡◌, ◌≤◌, ◌<◌, ◌+◌, ◌^◌, List, [], true, Some, None, IfOk};
 ghost use Rattle.pmem_base.specs.declared.lines.Line.{Line};
 ghost use Rattle.pmem_base.specs.Layout.{data_lines};
 ghost use Rattle.pmem_base.specs.Lines.{line_at};
@@ -7,11 +7,9 @@ ghost use Rattle.pmem_engine.specs.Engine.{EngineState};
 ghost use Rattle.pmem_engine.specs.Parts.{AreTrusted, AreSound, setup_at, parts_at};
 ghost use Rattle.pmem_engine.specs.Outcomes.{LeavesTrusted, LeavesSound};
 ghost use Rattle.pmem_engine.specs.Calls.{IsUsable, HasReadLine};
-ghost use Rattle.pmem_engine.specs.Plans.{chip_at, read_plan};
-ghost use Rattle.call_plan.specs.Plans.{ended};
-ghost use Rattle.call_plan.specs.Following.{Follows};
+ghost use Rattle.pmem_engine.specs.Plans.{chip_at};
 ghost use Rattle.engine_lines.specs.Lines.{HasLines};
-ghost use Rattle.line_txn.specs.Header.{AreTargets, AreDistinctBelow};
+ghost use Rattle.line_txn.specs.Header.{AreDistinctBelow};
 ghost use Rattle.line_txn.specs.Logged.{IsLogged, targets_of};
 ghost use Rattle.seal_ledger.specs.Notes.{HasRoom};
 
@@ -210,10 +208,6 @@ impl Store {
             (served_from self.old.lines self.old.logged.items at)
             (parts_at B.Board S.Suite A.Audit self.old.engine board.old suite.old audit.old)
             (parts_at B.Board S.Suite A.Audit self.new.engine board.new suite.new audit.new) result }
-        ensures plan { Follows (read_plan (setup_at S.Suite self.old.engine suite.old) (B.device board.old).regs
-            (served_from self.old.lines self.old.logged.items at)
-            (chip_at S.Suite A.Audit self.old.engine suite.old audit.old)) (B.device board.old) (B.device board.new)
-            (ended result (chip_at S.Suite A.Audit self.new.engine suite.new audit.new)) }
         ensures logged { AreTrusted (setup_at S.Suite self.old.engine suite.old)
             (parts_at B.Board S.Suite A.Audit self.old.engine board.old suite.old audit.old)
             → (lines memory : List Line)

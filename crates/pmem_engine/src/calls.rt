@@ -1,5 +1,5 @@
 //! The engine's calls. Each ends the engine where it was cut or stopped.
-ghost use Rattle.std.specs.Prelude.{◌≡◌, ◌<◌, ◌≤◌, ◌||◌, ◌↔◌, ℕ, IsOk, true, false, not, IsTrue, IfErr, OnOk, OnErr};
+ghost use Rattle.std.specs.Prelude.{◌≡◌, ◌<◌, ◌||◌, ◌↔◌, ℕ, IsOk, true, false, not, IsTrue, IfErr, OnOk, OnErr};
 ghost use Rattle.pmem_base.specs.Shape.{is_loss};
 ghost use Rattle.pmem_base.specs.Layout.{data_lines};
 ghost use Rattle.pmem_base.specs.Ranges.{IsPosted};
@@ -8,10 +8,7 @@ ghost use Rattle.seal_ledger.specs.Ledger.{LedgerState};
 ghost use Rattle.seal_ledger.specs.Notes.{HasRoom};
 ghost use Rattle.pmem_engine.specs.declared.fault.Fault.TheVariants as Fail;
 ghost use Rattle.call_plan.specs.Plans.{ended};
-ghost use Rattle.call_plan.specs.Following.{Follows};
 ghost use Rattle.pmem_engine.specs.Parts.{parts_of, setup_at, parts_at};
-ghost use Rattle.pmem_engine.specs.Plans.{chip_at, read_plan, turn_plan, flush_plan, set_loss_plan};
-ghost use Rattle.pmem_engine.specs.WritePlans.{write_plan};
 ghost use Rattle.pmem_engine.specs.Outcomes.{of_cut, outcome_of, is_going};
 ghost use Rattle.pmem_engine.specs.Inner.{ended_by};
 ghost use Rattle.pmem_engine.specs.CallFacts.{IsReady, IsUsable, whole_write};
@@ -38,9 +35,6 @@ impl Engine {
         ensures read { HasReadLine (setup_at S.Suite self.old suite.old) at
             (parts_at B.Board S.Suite A.Audit self.old board.old suite.old audit.old)
             (parts_at B.Board S.Suite A.Audit self.new board.new suite.new audit.new) result }
-        ensures plan { Follows (read_plan (setup_at S.Suite self.old suite.old) (B.device board.old).regs at
-            (chip_at S.Suite A.Audit self.old suite.old audit.old)) (B.device board.old) (B.device board.new)
-            (ended result (chip_at S.Suite A.Audit self.new suite.new audit.new)) }
         ensures capacity { A.capacity audit.new ≡ A.capacity audit.old }
         ensures keys { S.keys suite.new ≡ S.keys suite.old }
         ensures usable { IsUsable self.old.shape self.new (B.device board.new) (A.ledger audit.new) }
@@ -67,9 +61,6 @@ impl Engine {
             (whole_write at line.now)
             (parts_at B.Board S.Suite A.Audit self.old board.old suite.old audit.old)
             (parts_at B.Board S.Suite A.Audit self.new board.new suite.new audit.new) result }
-        ensures plan { Follows (write_plan (setup_at S.Suite self.old suite.old) (B.device board.old).regs (whole_write at line.now)
-            (chip_at S.Suite A.Audit self.old suite.old audit.old)) (B.device board.old) (B.device board.new)
-            (ended result (chip_at S.Suite A.Audit self.new suite.new audit.new)) }
         ensures capacity { A.capacity audit.new ≡ A.capacity audit.old }
         ensures keys { S.keys suite.new ≡ S.keys suite.old }
         ensures usable { IsUsable self.old.shape self.new (B.device board.new) (A.ledger audit.new) }
@@ -101,9 +92,6 @@ impl Engine {
         ensures written { HasWrittenLine (setup_at S.Suite self.old suite.old) write.now
             (parts_at B.Board S.Suite A.Audit self.old board.old suite.old audit.old)
             (parts_at B.Board S.Suite A.Audit self.new board.new suite.new audit.new) result }
-        ensures plan { Follows (write_plan (setup_at S.Suite self.old suite.old) (B.device board.old).regs write.now
-            (chip_at S.Suite A.Audit self.old suite.old audit.old)) (B.device board.old) (B.device board.new)
-            (ended result (chip_at S.Suite A.Audit self.new suite.new audit.new)) }
         ensures capacity { A.capacity audit.new ≡ A.capacity audit.old }
         ensures keys { S.keys suite.new ≡ S.keys suite.old }
         ensures usable { IsUsable self.old.shape self.new (B.device board.new) (A.ledger audit.new) }
@@ -127,9 +115,6 @@ impl Engine {
         ensures turned { HasTurned (setup_at S.Suite self.old suite.old)
             (parts_at B.Board S.Suite A.Audit self.old board.old suite.old audit.old)
             (parts_at B.Board S.Suite A.Audit self.new board.new suite.new audit.new) result }
-        ensures plan { Follows (turn_plan (setup_at S.Suite self.old suite.old) (B.device board.old).regs
-            (chip_at S.Suite A.Audit self.old suite.old audit.old)) (B.device board.old) (B.device board.new)
-            (ended result (chip_at S.Suite A.Audit self.new suite.new audit.new)) }
         ensures capacity { A.capacity audit.new ≡ A.capacity audit.old }
         ensures keys { S.keys suite.new ≡ S.keys suite.old }
         ensures usable { IsUsable self.old.shape self.new (B.device board.new) (A.ledger audit.new) }
@@ -150,7 +135,6 @@ impl Engine {
         ensures flushed { (setup : Setup) (ledger : LedgerState) (tags digests : ℕ) → setup.shape ≡ self.old.shape
             → HasFlushed setup (parts_of self.old (B.device board.old) ledger tags digests)
             (parts_of self.new (B.device board.new) ledger tags digests) result }
-        ensures plan { Follows (flush_plan self.old) (B.device board.old) (B.device board.new) (ended result self.new) }
         ensures reads { (B.device board.new).reads ≡ (B.device board.old).reads }
         ensures ready { IsReady self.old.shape self.new (B.device board.new) }
         ensures shape { self.new.shape ≡ self.old.shape }
@@ -168,8 +152,6 @@ impl Engine {
         ensures set { (setup : Setup) (ledger : LedgerState) (tags digests : ℕ) → setup.shape ≡ self.old.shape
             → HasSetLoss setup n (parts_of self.old (B.device board.old) ledger tags digests)
             (parts_of self.new (B.device board.new) ledger tags digests) result }
-        ensures plan { Follows (set_loss_plan n (B.device board.old).regs self.old) (B.device board.old) (B.device board.new)
-            (ended result self.new) }
         ensures reads { (B.device board.new).reads ≡ (B.device board.old).reads }
         ensures ready { IsReady self.old.shape self.new (B.device board.new) }
         ensures shape { self.new.shape ≡ self.old.shape }

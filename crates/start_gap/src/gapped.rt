@@ -7,8 +7,7 @@ ghost use Rattle.pmem_engine.specs.Engine.{EngineState};
 ghost use Rattle.pmem_engine.specs.Parts.{AreTrusted, AreSound, setup_at, parts_at};
 ghost use Rattle.pmem_engine.specs.Outcomes.{LeavesTrusted, LeavesSound};
 ghost use Rattle.pmem_engine.specs.Calls.{IsUsable, HasReadLine};
-ghost use Rattle.pmem_engine.specs.Plans.{chip_at, ended_with, read_plan};
-ghost use Rattle.call_plan.specs.Plans.{ended};
+ghost use Rattle.pmem_engine.specs.Plans.{chip_at, ended_with};
 ghost use Rattle.call_plan.specs.Following.{Follows};
 ghost use Rattle.engine_lines.specs.Lines.{HasLines};
 ghost use Rattle.engine_lines.specs.Edits.{AreEdited};
@@ -148,10 +147,6 @@ impl Gapped {
             (place_of self.old.lines self.old.wear line)
             (parts_at B.Board S.Suite A.Audit self.old.engine board.old suite.old audit.old)
             (parts_at B.Board S.Suite A.Audit self.new.engine board.new suite.new audit.new) result }
-        ensures plan { Follows (read_plan (setup_at S.Suite self.old.engine suite.old) (B.device board.old).regs
-            (place_of self.old.lines self.old.wear line)
-            (chip_at S.Suite A.Audit self.old.engine suite.old audit.old)) (B.device board.old) (B.device board.new)
-            (ended result (chip_at S.Suite A.Audit self.new.engine suite.new audit.new)) }
         ensures levelled { AreTrusted (setup_at S.Suite self.old.engine suite.old)
             (parts_at B.Board S.Suite A.Audit self.old.engine board.old suite.old audit.old)
             → (lines memory : List Line)

@@ -31,13 +31,13 @@ pub returns-in-Err-clause-plan : goal.returns-in-Err-clause-plan
 returns-in-Err-clause-plan g c =
     edit_as (setup_at g c.args.engine.now c.args.suite.now) c.args.edit.now (Make.Copy c.in-Copy.from c.in-Copy.at) _ c.in-Copy.is
     (copy_stopped (setup_at g c.args.engine.now c.args.suite.now) (chip g c.args.engine.now c.args.suite.now c.args.audit.now) c.in-Copy.from
-    c.in-Copy.at c.in-Err.fault (chip g c.read.new.self c.read.new.suite c.read.new.audit) c.in-Err.ensures.plan)
+    c.in-Copy.at c.in-Err.fault (chip g c.read.new.self c.read.new.suite c.read.new.audit) c.in-Err.ensures.read.plan)
 
 pub returns-in-Ok-clause-plan : goal.returns-in-Ok-clause-plan
 returns-in-Ok-clause-plan g c =
     edit_as (setup_at g c.args.engine.now c.args.suite.now) c.args.edit.now (Make.Copy c.in-Copy.from c.in-Copy.at) _ c.in-Copy.is
     (copied (setup_at g c.args.engine.now c.args.suite.now) (chip g c.args.engine.now c.args.suite.now c.args.audit.now) c.in-Copy.from
     c.in-Copy.at c.in-Ok.line (chip g c.read.new.self c.read.new.suite c.read.new.audit) c.put_line-in-Ok.result
-    (chip g c.put_line-in-Ok.new.engine c.put_line-in-Ok.new.suite c.put_line-in-Ok.new.audit) c.in-Ok.ensures.plan
+    (chip g c.put_line-in-Ok.new.engine c.put_line-in-Ok.new.suite c.put_line-in-Ok.new.audit) c.in-Ok.ensures.read.plan
     (put_follows_under g.S.Suite.formulas_of c.args.engine.now.shape c.read.new.self.shape (g.S.Suite.keys c.args.suite.now) (g.S.Suite.keys c.read.new.suite)
     c.in-Ok.ensures.shape c.in-Ok.ensures.keys _ _ _ _ c.put_line-in-Ok.ensures.plan))

@@ -118,7 +118,7 @@ returns-in_default-fault-clause-opened g c =
 
 pub returns-in-Err-clause-plan : goal.returns-in-Err-clause-plan
 returns-in-Err-clause-plan g c =
-    (c.read.new.self, header_unread (setup_at g c.args.engine c.args.suite.now) (chip g c.args.engine c.args.suite.now c.args.audit.now) (c.lines-lines.result - 16) c.in-Err.fault (chip g c.read.new.self c.read.new.suite c.read.new.audit) (logged_in c.lines-lines.result (shape_of c.geo.result.now) c.args.engine.shape c.lines-lines.ensures.value c.geo.ensures) c.in-Err.ensures.plan)
+    (c.read.new.self, header_unread (setup_at g c.args.engine c.args.suite.now) (chip g c.args.engine c.args.suite.now c.args.audit.now) (c.lines-lines.result - 16) c.in-Err.fault (chip g c.read.new.self c.read.new.suite c.read.new.audit) (logged_in c.lines-lines.result (shape_of c.geo.result.now) c.args.engine.shape c.lines-lines.ensures.value c.geo.ensures) c.in-Err.ensures.read.plan)
 
 pub returns-in_default-clause-plan : goal.returns-in_default-clause-plan
 returns-in_default-clause-plan g c = (
@@ -126,7 +126,7 @@ returns-in_default-clause-plan g c = (
   header_refused (setup_at g c.args.engine c.args.suite.now) (chip g c.args.engine c.args.suite.now c.args.audit.now) (c.lines-lines.result - 16) c.in-Ok.header (chip g c.read.new.self c.read.new.suite c.read.new.audit) (logged_in c.lines-lines.result (shape_of c.geo.result.now) c.args.engine.shape c.lines-lines.ensures.value c.geo.ensures)
       (subst (λ n. header_in n c.in-Ok.header ≡ None) (logged_in c.lines-lines.result (shape_of c.geo.result.now) c.args.engine.shape c.lines-lines.ensures.value c.geo.ensures)
       (header_none (c.lines-lines.result - 16) c.in-Ok.header (λ targets its. c.in_default.ensures.none (search rules) targets its)))
-      c.in-Ok.ensures.plan,
+      c.in-Ok.ensures.read.plan,
 )
 
 pub returns-in-Ok-edit_all-clause-plan : goal.returns-in-Ok-edit_all-clause-plan
@@ -136,7 +136,7 @@ returns-in-Ok-edit_all-clause-plan g c =
           (chip g c.read.new.self c.read.new.suite c.read.new.audit) (chip g c.edit_all.new.engine c.edit_all.new.suite c.edit_all.new.audit) (Ok tt) _ (logged_in c.lines-lines.result (shape_of c.geo.result.now) c.args.engine.shape c.lines-lines.ensures.value c.geo.ensures)
           (subst (λ n. header_in n c.in-Ok.header ≡ Some c.in-Some.targets.items) (logged_in c.lines-lines.result (shape_of c.geo.result.now) c.args.engine.shape c.lines-lines.ensures.value c.geo.ensures)
           (header_found (c.lines-lines.result - 16) c.in-Ok.header c.in-Some.targets.items (omega (arith, c.lines-lines.ensures.bound)) c.in-Some.ensures.header))
-          c.in-Ok.ensures.plan
+          c.in-Ok.ensures.read.plan
           (edits_as (setup_at g c.args.engine c.args.suite.now) _ _ _
           (c.deref-2.ensures.0 ∙ c.redoing-edits.ensures ∙ ap (redoing_edits (c.lines-lines.result - 16)) c.deref.ensures.0)
           (edits_follow_under g.S.Suite.formulas_of c.args.engine.shape c.read.new.self.shape (g.S.Suite.keys c.args.suite.now) (g.S.Suite.keys c.read.new.suite)
@@ -153,7 +153,7 @@ returns-in-Spent-clause-plan g c =
           (chip g c.read.new.self c.read.new.suite c.read.new.audit) (chip g c.edit_all.new.engine c.edit_all.new.suite c.edit_all.new.audit) (Err (Fail.Spent c.in-Spent.page)) _ (logged_in c.lines-lines.result (shape_of c.geo.result.now) c.args.engine.shape c.lines-lines.ensures.value c.geo.ensures)
           (subst (λ n. header_in n c.in-Ok.header ≡ Some c.in-Some.targets.items) (logged_in c.lines-lines.result (shape_of c.geo.result.now) c.args.engine.shape c.lines-lines.ensures.value c.geo.ensures)
           (header_found (c.lines-lines.result - 16) c.in-Ok.header c.in-Some.targets.items (omega (arith, c.lines-lines.ensures.bound)) c.in-Some.ensures.header))
-          c.in-Ok.ensures.plan
+          c.in-Ok.ensures.read.plan
           (edits_as (setup_at g c.args.engine c.args.suite.now) _ _ _
           (c.deref-2.ensures.0 ∙ c.redoing-edits.ensures ∙ ap (redoing_edits (c.lines-lines.result - 16)) c.deref.ensures.0)
           (edits_follow_under g.S.Suite.formulas_of c.args.engine.shape c.read.new.self.shape (g.S.Suite.keys c.args.suite.now) (g.S.Suite.keys c.read.new.suite)
@@ -170,7 +170,7 @@ returns-in_default-fault-clause-plan g c = (
       (chip g c.read.new.self c.read.new.suite c.read.new.audit) (chip g c.edit_all.new.engine c.edit_all.new.suite c.edit_all.new.audit) (Err c.in-Err-edit_all.fault) _ (logged_in c.lines-lines.result (shape_of c.geo.result.now) c.args.engine.shape c.lines-lines.ensures.value c.geo.ensures)
       (subst (λ n. header_in n c.in-Ok.header ≡ Some c.in-Some.targets.items) (logged_in c.lines-lines.result (shape_of c.geo.result.now) c.args.engine.shape c.lines-lines.ensures.value c.geo.ensures)
       (header_found (c.lines-lines.result - 16) c.in-Ok.header c.in-Some.targets.items (omega (arith, c.lines-lines.ensures.bound)) c.in-Some.ensures.header))
-      c.in-Ok.ensures.plan
+      c.in-Ok.ensures.read.plan
       (edits_as (setup_at g c.args.engine c.args.suite.now) _ _ _
       (c.deref-2.ensures.0 ∙ c.redoing-edits.ensures ∙ ap (redoing_edits (c.lines-lines.result - 16)) c.deref.ensures.0)
       (edits_follow_under g.S.Suite.formulas_of c.args.engine.shape c.read.new.self.shape (g.S.Suite.keys c.args.suite.now) (g.S.Suite.keys c.read.new.suite)

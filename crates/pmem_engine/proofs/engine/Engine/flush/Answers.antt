@@ -1,5 +1,5 @@
 -- The flush of an engine that is up, which is down afterwards where it was cut.
-use Rattle.std.proofs.Common.{◌∙◌, Option, ℕ, Result, Err, refl, sym, ap, subst, subst₂}
+use Rattle.std.proofs.Common.{◌∙◌, Option, ℕ, Result, Err, sym, ap, subst, subst₂}
 use Rattle.pmem_base.specs.Layout.{device_lines}
 use Rattle.pmem_engine.specs.declared.fault.Fault.{Fault}
 use Rattle.pmem_engine.specs.Engine.{EngineState}
@@ -7,7 +7,6 @@ use Rattle.pmem_engine.specs.Parts.{Parts, parts_of}
 use Rattle.pmem_engine.specs.Calls.{HasFlushed}
 use Rattle.pmem_engine.proofs.BlockWrites.FlushOutcomes.{flushed, flush_down_still}
 use Rattle.pmem_engine.proofs.CallEnds.ErrorAnswers.{is_err_of}
-use Rattle.pmem_engine.proofs.CallEnds.UsableParts.{some_setup, some_ledger}
 use Rattle.pmem_engine.proofs.engine.Engine.flush.Goals as goal
 
 pub returns-clause-flushed : goal.returns-clause-flushed
@@ -30,10 +29,3 @@ returns-in_err-is_up-clause-flushed g c = λ setup ledger tags digests shape.
     subst (HasFlushed setup parts parts)
     (sym (is_err_of c.from_residual.result c.in_err-is_up.field-0.0 c.from_residual.ensures.1 ∙ ap Err c.in_err-is_up.ensures.fault))
     (flush_down_still setup parts c.in_err-is_up.ensures.down)
-
-pub returns-clause-plan : goal.returns-clause-plan
-returns-clause-plan g c = (returns-clause-flushed g c (some_setup c.args.self.now.shape) some_ledger 0 0 refl).plan
-
-pub returns-in_err-is_up-clause-plan : goal.returns-in_err-is_up-clause-plan
-returns-in_err-is_up-clause-plan g c =
-    (returns-in_err-is_up-clause-flushed g c (some_setup c.args.self.now.shape) some_ledger 0 0 refl).plan

@@ -44,9 +44,3 @@ returns-in_err-is_up-clause-read g c =
     subst (HasReadLine setup c.args.at old old)
     (sym (is_err_of c.from_residual.result c.in_err-is_up.field-0.0 c.from_residual.ensures.1 ∙ ap Err c.in_err-is_up.ensures.fault))
     (read_down setup c.args.at old c.in_err-is_up.ensures.down)
-
-pub returns-clause-plan : goal.returns-clause-plan
-returns-clause-plan g c = (returns-clause-read g c).plan
-
-pub returns-in_err-is_up-clause-plan : goal.returns-in_err-is_up-clause-plan
-returns-in_err-is_up-clause-plan g c = (returns-in_err-is_up-clause-read g c).plan

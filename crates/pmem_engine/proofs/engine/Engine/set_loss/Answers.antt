@@ -46,9 +46,3 @@ returns-in_err-is_up-clause-set g c = λ setup ledger tags digests shape.
     subst (HasSetLoss setup c.args.n parts parts)
     (sym (is_err_of c.from_residual.result c.in_err-is_up.field-0.0 c.from_residual.ensures.1 ∙ ap Err c.in_err-is_up.ensures.fault))
     (set_down setup c.args.n parts c.in_err-is_up.ensures.down)
-
-pub returns-clause-plan : goal.returns-clause-plan
-returns-clause-plan g c = (returns-clause-set g c (some_setup c.args.self.now.shape) some_ledger 0 0 refl).plan
-
-pub returns-in_err-is_up-clause-plan : goal.returns-in_err-is_up-clause-plan
-returns-in_err-is_up-clause-plan g c = (returns-in_err-is_up-clause-set g c (some_setup c.args.self.now.shape) some_ledger 0 0 refl).plan

@@ -40,12 +40,6 @@ returns-then-is_empty-clause-turned g c =
     turned_idle setup old c.in_ok-is_up.ensures.up none
     (turn_idle setup old.device.regs (chip_in old) old.device c.in_ok-is_up.ensures.up none)
 
-pub returns-in_err-is_up-clause-plan : goal.returns-in_err-is_up-clause-plan
-returns-in_err-is_up-clause-plan g c = (returns-in_err-is_up-clause-turned g c).plan
-
-pub returns-then-is_empty-clause-plan : goal.returns-then-is_empty-clause-plan
-returns-then-is_empty-clause-plan g c = (returns-then-is_empty-clause-turned g c).plan
-
 -- ---- after a line was to be sealed anew
 
 module _ (g : Over) (c : After-ended g) where
@@ -100,9 +94,3 @@ returns-clause-usable g c =
     let it = returns-clause-turned g c in
     usable_call (setup g end) it.made (old g end) (new g end) (Ok (Some c.in_ok-sealed.sealed)) it.down (λ up. (it.done up).gone)
     c.requires.usable
-
-pub returns-in_err-sealed-clause-plan : goal.returns-in_err-sealed-clause-plan
-returns-in_err-sealed-clause-plan g c = (returns-in_err-sealed-clause-turned g c).plan
-
-pub returns-clause-plan : goal.returns-clause-plan
-returns-clause-plan g c = (returns-clause-turned g c).plan

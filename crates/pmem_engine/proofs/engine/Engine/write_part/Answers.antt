@@ -44,9 +44,3 @@ returns-clause-shape g c =
     let old : Parts = parts_at g.B.Board g.S.Suite g.A.Audit c.args.self.now c.args.board.now c.args.suite.now c.args.audit.now in
     let new : Parts = parts_at g.B.Board g.S.Suite g.A.Audit c.ended.new.self c.write_posted-answer.new.board c.write_posted-answer.new.suite c.write_posted-answer.new.audit in
     shape_call setup (returns-clause-written g c).made old new c.ended.result (returns-clause-written g c).down (λ up. ((returns-clause-written g c).done up).gone)
-
-pub returns-clause-plan : goal.returns-clause-plan
-returns-clause-plan g c = (returns-clause-written g c).plan
-
-pub returns-in_err-is_up-clause-plan : goal.returns-in_err-is_up-clause-plan
-returns-in_err-is_up-clause-plan g c = (returns-in_err-is_up-clause-written g c).plan

@@ -50,7 +50,7 @@ returns-in-Err-clause-plan g c = (
   not_read (setup_at g c.args.engine c.args.suite.now) _ (chip g c.args.engine c.args.suite.now c.args.audit.now)
       (chip g c.read.new.self c.read.new.suite c.read.new.audit) (c.lines-lines.result - 2) c.in-Err.fault
       (logical_in c.lines-lines.result (shape_of c.geo.result.now) c.args.engine.shape c.lines-lines.ensures.value c.geo.ensures)
-      c.in-Err.ensures.plan,
+      c.in-Err.ensures.read.plan,
 )
 
 pub returns-in-None-clause-plan : goal.returns-in-None-clause-plan
@@ -59,7 +59,7 @@ returns-in-None-clause-plan g c = (
   no_record (setup_at g c.args.engine c.args.suite.now) _ (chip g c.args.engine c.args.suite.now c.args.audit.now)
       (chip g c.read.new.self c.read.new.suite c.read.new.audit) (c.lines-lines.result - 2) c.in-Ok.line
       (logical_in c.lines-lines.result (shape_of c.geo.result.now) c.args.engine.shape c.lines-lines.ensures.value c.geo.ensures)
-      (sym c.read_wear.ensures ∙ c.in-None.is) c.in-Ok.ensures.plan,
+      (sym c.read_wear.ensures ∙ c.in-None.is) c.in-Ok.ensures.read.plan,
 )
 
 pub returns-in-Some-clause-plan : goal.returns-in-Some-clause-plan
@@ -67,4 +67,4 @@ returns-in-Some-clause-plan g c =
     found_record (setup_at g c.args.engine c.args.suite.now) _ (chip g c.args.engine c.args.suite.now c.args.audit.now)
     (chip g c.read.new.self c.read.new.suite c.read.new.audit) (c.lines-lines.result - 2) c.in-Ok.line c.in-Some.wear
     (logical_in c.lines-lines.result (shape_of c.geo.result.now) c.args.engine.shape c.lines-lines.ensures.value c.geo.ensures)
-    (sym c.read_wear.ensures ∙ c.in-Some.is) c.in-Ok.ensures.plan
+    (sym c.read_wear.ensures ∙ c.in-Some.is) c.in-Ok.ensures.read.plan

@@ -49,14 +49,14 @@ pub returns-in-Err-clause-plan : goal.returns-in-Err-clause-plan
 returns-in-Err-clause-plan g c =
     follows_refused (setup_at g c.args.self.now.engine c.args.suite.now) c.args.line c.args.plain.now c.args.self.now _
     (chip g c.args.self.now.engine c.args.suite.now c.args.audit.now) (chip g c.write.new.self c.write.new.suite c.write.new.audit)
-    c.place-at.result c.in-Err.fault c.place-at.ensures.place c.in-Err.ensures.plan
+    c.place-at.result c.in-Err.fault c.place-at.ensures.place c.in-Err.ensures.written.plan
     (record { its_lines = refl; its_every = refl; its_wear = refl; its_count = refl })
 
 pub returns-then-self-clause-plan : goal.returns-then-self-clause-plan
 returns-then-self-clause-plan g c =
     follows_counted (setup_at g c.args.self.now.engine c.args.suite.now) c.args.line c.args.plain.now c.args.self.now _
     (chip g c.args.self.now.engine c.args.suite.now c.args.audit.now) (chip g c.write.new.self c.write.new.suite c.write.new.audit)
-    c.place-at.result c.write.result c.place-at.ensures.place c.in_default.not-Err (omega arith) c.write.ensures.plan
+    c.place-at.result c.write.result c.place-at.ensures.place c.in_default.not-Err (omega arith) c.write.ensures.written.plan
     (record { its_lines = refl; its_every = refl; its_wear = refl; its_count = refl })
 
 pub returns-clause-plan : goal.returns-clause-plan
@@ -64,7 +64,7 @@ returns-clause-plan g c =
     follows_tried (setup_at g c.args.self.now.engine c.args.suite.now) c.args.line c.args.plain.now c.args.self.now _
     (chip g c.args.self.now.engine c.args.suite.now c.args.audit.now) _
     c.place-at.result c.write.result (chip g c.write.new.self c.write.new.suite c.write.new.audit) c.move_gap-tried.result _
-    c.place-at.ensures.place c.in_default.not-Err (omega arith) c.write.ensures.plan
+    c.place-at.ensures.place c.in_default.not-Err (omega arith) c.write.ensures.written.plan
     (edits_follow_under g.S.Suite.formulas_of c.args.self.now.engine.shape c.write.new.self.shape (g.S.Suite.keys c.args.suite.now)
     (g.S.Suite.keys c.write.new.suite) c.write.ensures.shape c.write.ensures.keys _ _ c.move_gap-tried.ensures.plan)
     c.answer_of_move.ensures (wear_over _ _ c.args.self.now _ _ c.move_gap-tried.ensures.wear refl refl)
