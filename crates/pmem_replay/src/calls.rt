@@ -370,8 +370,13 @@ fn put(answer: Result<Engine, MemFault>, engine: &mut Option<Engine>) -> Result<
     requires { engine.old ≡ None }
     ensures { IfOk result (λ _. IfOk answer (λ found. engine.new ≡ Some found) × IsOk answer) }
 {
-    *engine = Some(answer?);
-    Ok(())
+    match answer {
+        Ok(found) => {
+            *engine = Some(found);
+            Ok(())
+        }
+        Err(fault) => Err(fault),
+    }
 }
 
 /// Recovers the device. Where it is done the engine is there.

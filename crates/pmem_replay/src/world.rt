@@ -1,7 +1,12 @@
 //! The world behind a run: a device with its controller, the writes that wait, and the attacker.
 ghost use Rattle.std.specs.Prelude.{◌≡◌, IfOk, false};
 ghost use Rattle.pmem_base.specs.Geo.{shape_of};
+ghost use Rattle.pmem_base.specs.Layout.{device_lines};
 ghost use Rattle.board.specs.MemBoard.{memory_of};
+ghost use Rattle.board.specs.Memory.{new_memory};
+ghost use Rattle.seal_ledger.specs.Ledger.{IsOfShape, new_ledger};
+ghost use Rattle.seal_ledger.specs.View.{ledger_of};
+ghost use Rattle.pmem_replay.specs.Flagged.{no_tampering, no_dirtying};
 ghost use Rattle.pmem_replay.specs.Stepped.{HasFormatWork, IsNewWorld};
 
 use crate::calls;
@@ -86,6 +91,33 @@ impl<S: Counted + Drop> Model for World<S> {
         })) };
 }
 
+/// What a world takes memory for: a device of zeros, a ledger with no marks, and flags of which none is set.
+#[derive(Drop)]
+struct Blank {
+    board: MemBoard,
+    ledger: Ledger,
+    tampered: Tampered,
+    dirtied: Dirtied,
+}
+
+impl Blank {
+    /// That of a geometry. The one error is want of memory.
+    fn new(alloc: Global, geo: &Geo) -> Result<Blank, MemFault>
+        ensures board { IfOk result (λ blank. memory_of blank.board ≡ new_memory (device_lines (shape_of geo.now))) }
+        ensures ledger { IfOk result (λ blank. ledger_of blank.ledger ≡ new_ledger (shape_of geo.now)) }
+        ensures its_shape { IfOk result (λ blank. IsOfShape (shape_of geo.now) (ledger_of blank.ledger)) }
+        ensures tampered { IfOk result (λ blank. blank.tampered ≡ no_tampering (shape_of geo.now)) }
+        ensures dirtied { IfOk result (λ blank. blank.dirtied ≡ no_dirtying (shape_of geo.now)) }
+    {
+        Ok(Blank {
+            board: MemBoard::new(alloc, geo.size())?,
+            ledger: Ledger::new(alloc, geo)?,
+            tampered: Tampered::new(alloc, geo)?,
+            dirtied: Dirtied::new(alloc, geo)?,
+        })
+    }
+}
+
 impl<S: Counted + Drop> World<S> {
     /// A formatted device with power on, on which nothing was done. The one error is want of memory.
     pub fn new(alloc: Global, geo: Geo, suite: S) -> Result<World<S>, MemFault>
@@ -95,29 +127,26 @@ impl<S: Counted + Drop> World<S> {
     {
         geo.layout_is_one_to_one();
         let mut suite = suite;
-        let mut board = MemBoard::new(alloc, geo.size())?;
-        let mut ledger = Ledger::new(alloc, &geo)?;
-        let tampered = Tampered::new(alloc, &geo)?;
-        let dirtied = Dirtied::new(alloc, &geo)?;
+        let mut blank = Blank::new(alloc, &geo)?;
         let mut engine = None;
         calls::format(
             alloc,
             &geo,
-            &mut board,
+            &mut blank.board,
             &mut suite,
-            &mut ledger,
+            &mut blank.ledger,
             &mut engine,
         )?;
-        let start = counts_of(&board, &suite);
+        let start = counts_of(&blank.board, &suite);
         Ok(World {
             geo,
             suite,
-            board,
-            ledger,
+            board: blank.board,
+            ledger: blank.ledger,
             engine,
             ports: Ports::new(),
-            tampered,
-            dirtied,
+            tampered: blank.tampered,
+            dirtied: blank.dirtied,
             steps: 0,
             start,
             shown: false,

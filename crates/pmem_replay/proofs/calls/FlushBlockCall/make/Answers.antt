@@ -12,4 +12,4 @@ returns-clause-made g c =
     (ledger_of c.args.ledger.now) (g.S.Suite.tags c.args.suite.now) (g.S.Suite.digests c.args.suite.now) refl in
     let chip : Chip =
     chip_of c.args.engine.now (ledger_of c.args.ledger.now) (g.S.Suite.tags c.args.suite.now) (g.S.Suite.digests c.args.suite.now) in
-    record { related = record { related = related; follows = of_engine chip c.flush.new.self c.flush.result c.flush.ensures.plan }; lawful = λ memory begun. flush_lawful _ memory _ _ _ related begun }
+    record { related = record { related = related; follows = of_engine chip c.flush.new.self c.flush.result related.plan }; lawful = λ memory begun. flush_lawful _ memory _ _ _ related begun }

@@ -4,4 +4,4 @@ use Rattle.pmem_replay.proofs.calls.ReadLineCall.make.Goals as goal
 
 pub returns-clause-made : goal.returns-clause-made
 returns-clause-made g c =
-    record { related = record { related = c.read.ensures.read; follows = c.read.ensures.plan }; lawful = λ memory begun. read_lawful _ c.args.self.now.at memory _ _ _ c.read.ensures.read begun }
+    record { related = record { related = c.read.ensures.read; follows = c.read.ensures.read.plan }; lawful = λ memory begun. read_lawful _ c.args.self.now.at memory _ _ _ c.read.ensures.read begun }

@@ -12,4 +12,4 @@ returns-clause-made g c =
     (ledger_of c.args.ledger.now) (g.S.Suite.tags c.args.suite.now) (g.S.Suite.digests c.args.suite.now) refl in
     let chip : Chip =
     chip_of c.args.engine.now (ledger_of c.args.ledger.now) (g.S.Suite.tags c.args.suite.now) (g.S.Suite.digests c.args.suite.now) in
-    record { related = record { related = related; follows = of_engine chip c.set_loss.new.self c.set_loss.result c.set_loss.ensures.plan }; lawful = λ memory begun. loss_lawful _ c.args.self.now.n memory _ _ _ related begun }
+    record { related = record { related = related; follows = of_engine chip c.set_loss.new.self c.set_loss.result related.plan }; lawful = λ memory begun. loss_lawful _ c.args.self.now.n memory _ _ _ related begun }
