@@ -37,14 +37,6 @@ drained_and_steps words =
     (λ found. Ok (Some found.0, found.1))
     (one_number words >>= λ steps. Ok (None, steps))
 
-abbrev pub three_numbers : List Word → Result (ℕ × ℕ × ℕ) Kind
-three_numbers words = do
-  found ← three_words words
-  first ← number_of found.0
-  second ← number_of found.1
-  third ← number_of found.2
-  Ok (first, second, third)
-
 -- ---- the answers that begin with these words
 
 abbrev pub lone_answer : Answer → List Word → Result Answer Kind
@@ -122,6 +114,15 @@ got_of words = do
   steps ← number_of found.1
   Ok (Say.Got line steps)
 
+-- `on`
+abbrev pub recovered_of : List Word → Result Answer Kind
+recovered_of words = do
+  found ← three_words words
+  trials ← number_of found.0
+  digests ← number_of found.1
+  steps ← number_of found.2
+  Ok (Say.Recovered trials digests steps)
+
 -- `raw`
 abbrev pub raw_of : List Word → Result Answer Kind
 raw_of words = do
@@ -141,6 +142,15 @@ stat_of (first ∷ words) = do
   digests ← number_of found.3
   Ok (Say.Counts (record { reads = reads; writes = writes; latches = latches; tags = tags; digests = digests }))
 
+-- a word that is an answer by itself and none of `full`, `empty`, `idle` and `clean`
+abbrev pub later_plain_of : Word → Result Answer Kind
+later_plain_of name =
+    if bytes_eq name (codes "off") then Ok Say.Off
+    else if bytes_eq name (codes "already") then Ok Say.Already
+    else if bytes_eq name (codes "range") then Ok Say.Range
+    else if bytes_eq name (codes "none") then Ok Say.NoSnap
+    else Err Kind.Word
+
 -- a word that is an answer by itself
 abbrev pub plain_of : Word → Result Answer Kind
 plain_of name =
@@ -148,17 +158,22 @@ plain_of name =
     else if bytes_eq name (codes "empty") then Ok Say.Empty
     else if bytes_eq name (codes "idle") then Ok Say.Idle
     else if bytes_eq name (codes "clean") then Ok Say.Clean
-    else if bytes_eq name (codes "off") then Ok Say.Off
-    else if bytes_eq name (codes "already") then Ok Say.Already
-    else if bytes_eq name (codes "range") then Ok Say.Range
-    else if bytes_eq name (codes "none") then Ok Say.NoSnap
-    else Err Kind.Word
+    else later_plain_of name
 
 -- an exhibit's line
 abbrev pub shown_of : List ℕ → Result Answer Kind
 shown_of line = exhibit_of_line line >>= λ shown. Ok (Say.Shown shown)
 
 -- ---- a line
+
+-- by its first word, where that is none of `ok`, `cut`, `refused` and `spent`
+abbrev pub later_answer_of : List ℕ → Word → List Word → Result Answer Kind
+later_answer_of line name words =
+    if bytes_eq name (codes "line") then got_of words
+    else if bytes_eq name (codes "on") then recovered_of words
+    else if bytes_eq name (codes "raw") then raw_of words
+    else if bytes_eq name (codes "stat") then stat_of words
+    else or_else (plain_of name) (λ answer. lone_answer answer words) (shown_of line)
 
 unfoldable pub answer_of_words : Command → List ℕ → List Word → Result Answer Kind
 answer_of_words command line [] = Err Kind.Word
@@ -167,12 +182,7 @@ answer_of_words command line (name ∷ words) =
     else if bytes_eq name (codes "cut") then cut_of words
     else if bytes_eq name (codes "refused") then refused_of words
     else if bytes_eq name (codes "spent") then spent_of words
-    else if bytes_eq name (codes "line") then got_of words
-    else if bytes_eq name (codes "on")
-    then (three_numbers words >>= λ found. Ok (Say.Recovered found.0 found.1 found.2))
-    else if bytes_eq name (codes "raw") then raw_of words
-    else if bytes_eq name (codes "stat") then stat_of words
-    else or_else (plain_of name) (λ answer. lone_answer answer words) (shown_of line)
+    else later_answer_of line name words
 
 -- the answer of a line
 abbrev pub loose_answer_of : Command → List ℕ → Result Answer Kind

@@ -6,11 +6,11 @@ ghost use Rattle.collision_witness.specs.Words.{words_of};
 ghost use Rattle.collision_witness.specs.Reading.{short_number_of};
 ghost use Rattle.plain_model.specs.Texts.{IsAnswerText};
 ghost use Rattle.trace_text.specs.Answers.{HasExhibitValue};
-ghost use Rattle.trace_text.specs.Loose.{count_and_steps, drained_and_steps, three_numbers, ok_of, cut_of, refused_at, wrong_root_of, long_refusal, refused_of, spent_after, spent_of, got_of, raw_of, stat_of, plain_of, shown_of, lone_answer, answer_of_words, loose_answer_of};
+ghost use Rattle.trace_text.specs.Loose.{count_and_steps, drained_and_steps, ok_of, cut_of, refused_at, wrong_root_of, long_refusal, refused_of, spent_after, spent_of, got_of, raw_of, stat_of, recovered_of, plain_of, later_plain_of, shown_of, lone_answer, later_answer_of, answer_of_words, loose_answer_of};
 
 use crate::listing::is_listed;
 use crate::ranges::{is_drained, is_place, is_stat};
-use crate::reading::has_no_word;
+use crate::reading::{has_no_word, is_word};
 use crate::values::read_one_number;
 use crate::writing::push_answer;
 use arrayvec::ArrayVec;
@@ -43,17 +43,6 @@ fn read_drained_and_steps(text: &[u8]) -> Result<(Option<u8>, u64), Kind>
             Ok((None, steps))
         }
     }
-}
-
-/// Three numbers.
-fn read_three_numbers(text: &[u8]) -> Result<(u64, u64, u64), Kind>
-    ensures { result ≡ three_numbers (words_of text.now) }
-{
-    let (first, second, third) = three_words(text)?;
-    let first = read_number(first)?;
-    let second = read_number(second)?;
-    let third = read_number(third)?;
-    Ok((first, second, third))
 }
 
 /// The answer behind `ok`, which the command tells apart.
@@ -117,10 +106,10 @@ fn read_cut(text: &[u8]) -> Result<Answer, Kind>
     let Some((how, rest)) = next_word(text) else {
         return Err(Kind::Count);
     };
-    if how == b"kept".as_slice() {
+    if is_word(how, b"kept") {
         let (drained, steps) = read_drained_and_steps(rest)?;
         Ok(Answer::CutKept { drained, steps })
-    } else if how == b"lost".as_slice() {
+    } else if is_word(how, b"lost") {
         let (drained, steps) = read_drained_and_steps(rest)?;
         Ok(Answer::CutLost { drained, steps })
     } else {
@@ -148,21 +137,21 @@ fn read_refused_at(
 {
     let at = read_short_number(at)?;
     let steps = read_number(steps)?;
-    if name == b"data".as_slice() {
+    if is_word(name, b"data") {
         let place = Place::Line { at };
         Ok(Answer::Refused {
             drained,
             place,
             steps,
         })
-    } else if name == b"meta".as_slice() {
+    } else if is_word(name, b"meta") {
         let place = Place::Meta { x: at };
         Ok(Answer::Refused {
             drained,
             place,
             steps,
         })
-    } else if name == b"counter".as_slice() {
+    } else if is_word(name, b"counter") {
         Ok(Answer::NoCounter { at, steps })
     } else {
         Err(Kind::Word)
@@ -189,7 +178,7 @@ fn read_refused(text: &[u8]) -> Result<Answer, Kind>
         return read_refused_at(None, name, at, steps);
     }
     let (first, second, third, steps) = four_words(text)?;
-    if first == b"root".as_slice() {
+    if is_word(first, b"root") {
         return read_wrong_root(second, third, steps);
     }
     let drained = read_number_up_to(255, first)? as u8;
@@ -234,6 +223,22 @@ fn read_got(text: &[u8]) -> Result<Answer, Kind>
     Ok(Answer::Got { line, steps })
 }
 
+/// The answer behind `on`.
+fn read_recovered(text: &[u8]) -> Result<Answer, Kind>
+    ensures answer { result ≡ recovered_of (words_of text.now) }
+    ensures shown { IfOk result HasExhibitValue }
+{
+    let (trials, digests, steps) = three_words(text)?;
+    let trials = read_number(trials)?;
+    let digests = read_number(digests)?;
+    let steps = read_number(steps)?;
+    Ok(Answer::Recovered {
+        trials,
+        digests,
+        steps,
+    })
+}
+
 /// The answer behind `raw`.
 fn read_raw(text: &[u8]) -> Result<Answer, Kind>
     ensures answer { result ≡ raw_of (words_of text.now) }
@@ -271,25 +276,39 @@ fn read_plain(name: &[u8]) -> Result<Answer, Kind>
     ensures answer { result ≡ plain_of name.now }
     ensures shown { IfOk result HasExhibitValue }
 {
-    if name == b"full".as_slice() {
-        Ok(Answer::Full)
-    } else if name == b"empty".as_slice() {
-        Ok(Answer::Empty)
-    } else if name == b"idle".as_slice() {
-        Ok(Answer::Idle)
-    } else if name == b"clean".as_slice() {
-        Ok(Answer::Clean)
-    } else if name == b"off".as_slice() {
-        Ok(Answer::Off)
-    } else if name == b"already".as_slice() {
-        Ok(Answer::Already)
-    } else if name == b"range".as_slice() {
-        Ok(Answer::Range)
-    } else if name == b"none".as_slice() {
-        Ok(Answer::NoSnap)
-    } else {
-        Err(Kind::Word)
+    if is_word(name, b"full") {
+        return Ok(Answer::Full);
     }
+    if is_word(name, b"empty") {
+        return Ok(Answer::Empty);
+    }
+    if is_word(name, b"idle") {
+        return Ok(Answer::Idle);
+    }
+    if is_word(name, b"clean") {
+        return Ok(Answer::Clean);
+    }
+    read_later_plain(name)
+}
+
+/// The answer that a word is by itself, where it isn't `full`, `empty`, `idle` or `clean`.
+fn read_later_plain(name: &[u8]) -> Result<Answer, Kind>
+    ensures answer { result ≡ later_plain_of name.now }
+    ensures shown { IfOk result HasExhibitValue }
+{
+    if is_word(name, b"off") {
+        return Ok(Answer::Off);
+    }
+    if is_word(name, b"already") {
+        return Ok(Answer::Already);
+    }
+    if is_word(name, b"range") {
+        return Ok(Answer::Range);
+    }
+    if is_word(name, b"none") {
+        return Ok(Answer::NoSnap);
+    }
+    Err(Kind::Word)
 }
 
 /// The answer that an exhibit's line is.
@@ -311,32 +330,41 @@ fn read_loosely(command: &Command, line: &[u8]) -> Result<Answer, Kind>
     let Some((name, rest)) = next_word(line) else {
         return Err(Kind::Word);
     };
-    if name == b"ok".as_slice() {
-        read_ok(command, rest)
-    } else if name == b"cut".as_slice() {
-        read_cut(rest)
-    } else if name == b"refused".as_slice() {
-        read_refused(rest)
-    } else if name == b"spent".as_slice() {
-        read_spent(rest)
-    } else if name == b"line".as_slice() {
-        read_got(rest)
-    } else if name == b"on".as_slice() {
-        let (trials, digests, steps) = read_three_numbers(rest)?;
-        Ok(Answer::Recovered {
-            trials,
-            digests,
-            steps,
-        })
-    } else if name == b"raw".as_slice() {
-        read_raw(rest)
-    } else if name == b"stat".as_slice() {
-        read_stat(rest)
-    } else {
-        match read_plain(name) {
-            Ok(answer) => read_alone(answer, rest),
-            Err(_) => read_exhibit(line),
-        }
+    if is_word(name, b"ok") {
+        return read_ok(command, rest);
+    }
+    if is_word(name, b"cut") {
+        return read_cut(rest);
+    }
+    if is_word(name, b"refused") {
+        return read_refused(rest);
+    }
+    if is_word(name, b"spent") {
+        return read_spent(rest);
+    }
+    read_later_answer(line, name, rest)
+}
+
+/// The answer of a line by its first word, which isn't `ok`, `cut`, `refused` or `spent`, and the text behind it.
+fn read_later_answer(line: &[u8], name: &[u8], text: &[u8]) -> Result<Answer, Kind>
+    ensures answer { result ≡ later_answer_of line.now name.now (words_of text.now) }
+    ensures shown { IfOk result HasExhibitValue }
+{
+    if is_word(name, b"line") {
+        return read_got(text);
+    }
+    if is_word(name, b"on") {
+        return read_recovered(text);
+    }
+    if is_word(name, b"raw") {
+        return read_raw(text);
+    }
+    if is_word(name, b"stat") {
+        return read_stat(text);
+    }
+    match read_plain(name) {
+        Ok(answer) => read_alone(answer, text),
+        Err(_) => read_exhibit(line),
     }
 }
 

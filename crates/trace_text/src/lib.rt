@@ -8,6 +8,7 @@ mod listing;
 mod ranges;
 mod reading;
 mod samples;
+mod sentences;
 mod spelling;
 mod talk;
 mod values;

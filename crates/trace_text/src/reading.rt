@@ -1,5 +1,6 @@
 //! What a line of a trace asks for.
 ghost use Rattle.std.specs.Prelude.{◌≡◌, [], Ok, None, Some, Err, IfOk, IfSome, option_map};
+ghost use Rattle.std.specs.Str.{bytes_eq};
 ghost use Rattle.pmem_base.specs.declared.commands.Kind.TheVariants as Kind;
 ghost use Rattle.pmem_base.specs.declared.commands.Command.TheVariants as Do;
 ghost use Rattle.pmem_base.specs.Ranges.{IsCommand};
@@ -27,6 +28,14 @@ pub fn has_no_word(text: &[u8]) -> Result<(), Kind>
         None => Ok(()),
         Some(_) => Err(Kind::Count),
     }
+}
+
+/// Whether a word of a line is this one.
+#[inline]
+pub fn is_word(word: &[u8], name: &[u8]) -> bool
+    ensures { result ≡ bytes_eq word.now name.now }
+{
+    word == name
 }
 
 /// What `post` asks for: a port, a number and a line are behind it.
@@ -126,19 +135,19 @@ fn read_verb(most: u8, verb: &[u8], text: &[u8]) -> Result<Command, Kind>
     ensures port { IfOk result (HasPortWithin most) }
     ensures part { IfOk result HasPartAtFront }
 {
-    if verb == b"post".as_slice() {
+    if is_word(verb, b"post") {
         return read_post(most, text);
     }
-    if verb == b"part".as_slice() {
+    if is_word(verb, b"part") {
         return read_posted_part(most, text);
     }
-    if verb == b"drain".as_slice() {
+    if is_word(verb, b"drain") {
         return read_drain(most, text);
     }
-    if verb == b"fence".as_slice() {
+    if is_word(verb, b"fence") {
         return read_fence(most, text);
     }
-    if verb == b"read".as_slice() {
+    if is_word(verb, b"read") {
         return read_read(most, text);
     }
     read_later_verb(most, verb, text)
@@ -152,23 +161,23 @@ fn read_later_verb(most: u8, verb: &[u8], text: &[u8]) -> Result<Command, Kind>
     ensures port { IfOk result (HasPortWithin most) }
     ensures part { IfOk result HasPartAtFront }
 {
-    if verb == b"turn".as_slice() {
+    if is_word(verb, b"turn") {
         has_no_word(text)?;
         return Ok(Command::Turn);
     }
-    if verb == b"flush".as_slice() {
+    if is_word(verb, b"flush") {
         has_no_word(text)?;
         return Ok(Command::Flush);
     }
-    if verb == b"cut".as_slice() {
+    if is_word(verb, b"cut") {
         let n = read_one_number(text)?;
         return Ok(Command::Cut { n });
     }
-    if verb == b"off".as_slice() {
+    if is_word(verb, b"off") {
         has_no_word(text)?;
         return Ok(Command::Off);
     }
-    if verb == b"on".as_slice() {
+    if is_word(verb, b"on") {
         has_no_word(text)?;
         return Ok(Command::On);
     }
@@ -183,19 +192,19 @@ fn read_tampering_verb(most: u8, verb: &[u8], text: &[u8]) -> Result<Command, Ki
     ensures port { IfOk result (HasPortWithin most) }
     ensures part { IfOk result HasPartAtFront }
 {
-    if verb == b"poke".as_slice() {
+    if is_word(verb, b"poke") {
         let (at, line) = read_poke(text)?;
         return Ok(Command::Poke { at, line });
     }
-    if verb == b"flip".as_slice() {
+    if is_word(verb, b"flip") {
         let (at, bit) = read_two_numbers(text)?;
         return Ok(Command::Flip { at, bit });
     }
-    if verb == b"move".as_slice() {
+    if is_word(verb, b"move") {
         let (from, to) = read_two_numbers(text)?;
         return Ok(Command::Move { from, to });
     }
-    if verb == b"snap".as_slice() {
+    if is_word(verb, b"snap") {
         has_no_word(text)?;
         return Ok(Command::Snap);
     }
@@ -210,19 +219,19 @@ fn read_last_verb(most: u8, verb: &[u8], text: &[u8]) -> Result<Command, Kind>
     ensures port { IfOk result (HasPortWithin most) }
     ensures part { IfOk result HasPartAtFront }
 {
-    if verb == b"back".as_slice() {
+    if is_word(verb, b"back") {
         let at = read_one_number(text)?;
         return Ok(Command::Back { at });
     }
-    if verb == b"peek".as_slice() {
+    if is_word(verb, b"peek") {
         let at = read_one_number(text)?;
         return Ok(Command::Peek { at });
     }
-    if verb == b"stat".as_slice() {
+    if is_word(verb, b"stat") {
         has_no_word(text)?;
         return Ok(Command::Stat);
     }
-    if verb == b"loss".as_slice() {
+    if is_word(verb, b"loss") {
         let n = read_one_number(text)?;
         return Ok(Command::Loss { n });
     }

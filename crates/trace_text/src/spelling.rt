@@ -1,22 +1,36 @@
 //! The texts of commands.
-ghost use Rattle.std.specs.Prelude.{◌≡◌, ◌<◌, ◌≤◌, ◌+◌, ◌*◌, ◌∷◌, ◌++◌, [], length, take, map, decimal, Ok, Some};
+ghost use Rattle.std.specs.Prelude.{◌≡◌, ◌<◌, ◌≤◌, ◌+◌, ◌*◌, ◌∷◌, ◌++◌, [], length, take, codes, decimal, Ok, Some};
 ghost use Rattle.collision_witness.specs.Texts.{hex_text, line_text, sentence};
 ghost use Rattle.plain_model.specs.Grammar.{reading_of};
 ghost use Rattle.plain_model.specs.Texts.{command_text};
 ghost use Rattle.trace_text.specs.Commands.{IsWritable, HasPartAtFront};
 
 use crate::reading::is_in_range;
+use crate::sentences::{push_with_number, push_with_three, push_with_two};
 use arrayvec::ArrayVec;
-use collision_witness::{push_bytes, push_counts, push_line};
+use collision_witness::{push_bytes, push_line};
 use pmem_base::{Command, Line};
 
-/// Appends a word, numbers and a line.
-fn push_with_line(text: &mut ArrayVec<u8, 512>, word: &[u8], numbers: &[u64], line: &Line)
-    requires { length text.old.items + length word.now + 21 * length numbers.now + 129 ≤ 512 }
-    ensures text { text.new.items ≡ text.old.items ++ sentence (word.now ∷ map decimal numbers.now) ++ 32 ∷ line_text line.now }
-    ensures length { length text.new.items ≤ length text.old.items + length word.now + 21 * length numbers.now + 129 }
+/// Appends what asks for a post.
+fn push_post(text: &mut ArrayVec<u8, 512>, port: u8, at: u64, line: &Line)
+    requires { length text.old.items ≤ 300 }
+    ensures text { text.new.items ≡ text.old.items
+        ++ sentence (codes "post" ∷ decimal port ∷ decimal at ∷ line_text line.now ∷ []) }
+    ensures length { length text.new.items ≤ length text.old.items + 175 }
 {
-    push_counts(text, word, numbers);
+    push_with_two(text, b"post", u64::from(port), at);
+    push_bytes(text, b" ");
+    push_line(text, line);
+}
+
+/// Appends what asks for a poke.
+fn push_poke(text: &mut ArrayVec<u8, 512>, at: u64, line: &Line)
+    requires { length text.old.items ≤ 300 }
+    ensures text { text.new.items ≡ text.old.items
+        ++ sentence (codes "poke" ∷ decimal at ∷ line_text line.now ∷ []) }
+    ensures length { length text.new.items ≤ length text.old.items + 154 }
+{
+    push_with_number(text, b"poke", at);
     push_bytes(text, b" ");
     push_line(text, line);
 }
@@ -44,9 +58,7 @@ fn push_command(text: &mut ArrayVec<u8, 512>, command: &Command)
     ensures length { length text.new.items < 512 }
 {
     match *command {
-        Command::Post { port, at, ref line } => {
-            push_with_line(text, b"post", &[u64::from(port), at], line);
-        }
+        Command::Post { port, at, ref line } => push_post(text, port, at, line),
         Command::Part {
             port,
             at,
@@ -54,26 +66,26 @@ fn push_command(text: &mut ArrayVec<u8, 512>, command: &Command)
             count,
             ref line,
         } => {
-            push_counts(text, b"part", &[u64::from(port), at, from]);
+            push_with_three(text, b"part", u64::from(port), at, from);
             push_bytes(text, b" ");
             push_front(text, line, count);
         }
-        Command::Drain { port } => push_counts(text, b"drain", &[u64::from(port)]),
-        Command::Fence { port } => push_counts(text, b"fence", &[u64::from(port)]),
-        Command::Read { port, at } => push_counts(text, b"read", &[u64::from(port), at]),
+        Command::Drain { port } => push_with_number(text, b"drain", u64::from(port)),
+        Command::Fence { port } => push_with_number(text, b"fence", u64::from(port)),
+        Command::Read { port, at } => push_with_two(text, b"read", u64::from(port), at),
         Command::Turn => push_bytes(text, b"turn"),
         Command::Flush => push_bytes(text, b"flush"),
-        Command::Cut { n } => push_counts(text, b"cut", &[n]),
+        Command::Cut { n } => push_with_number(text, b"cut", n),
         Command::Off => push_bytes(text, b"off"),
         Command::On => push_bytes(text, b"on"),
-        Command::Poke { at, ref line } => push_with_line(text, b"poke", &[at], line),
-        Command::Flip { at, bit } => push_counts(text, b"flip", &[at, bit]),
-        Command::Move { from, to } => push_counts(text, b"move", &[from, to]),
+        Command::Poke { at, ref line } => push_poke(text, at, line),
+        Command::Flip { at, bit } => push_with_two(text, b"flip", at, bit),
+        Command::Move { from, to } => push_with_two(text, b"move", from, to),
         Command::Snap => push_bytes(text, b"snap"),
-        Command::Back { at } => push_counts(text, b"back", &[at]),
-        Command::Peek { at } => push_counts(text, b"peek", &[at]),
+        Command::Back { at } => push_with_number(text, b"back", at),
+        Command::Peek { at } => push_with_number(text, b"peek", at),
         Command::Stat => push_bytes(text, b"stat"),
-        Command::Loss { n } => push_counts(text, b"loss", &[n]),
+        Command::Loss { n } => push_with_number(text, b"loss", n),
     }
 }
 

@@ -3,15 +3,16 @@ ghost use Rattle.std.specs.Prelude.{◌≡◌, ◌<◌, ◌≤◌, ◌+◌, ◌�
 ghost use Rattle.plain_model.specs.Answers.{is_answer_to};
 ghost use Rattle.trace_text.specs.Answers.{HasSmallMinors, HasExhibitValue};
 ghost use Rattle.pmem_base.specs.declared.answers.Answer.TheVariants as Say;
-ghost use Rattle.collision_witness.specs.Texts.{sentence, hex_text};
+ghost use Rattle.collision_witness.specs.Texts.{sentence, hex_text, line_text};
 ghost use Rattle.plain_model.specs.Texts.{IsAnswerText, answer_text, mark_text, drained_words, place_words};
 
 use crate::answers::is_in_range;
+use crate::sentences::{push_with_number, push_with_three, push_with_two};
 use arrayvec::ArrayVec;
 use collision_witness::{
     push_bytes, push_count, push_counts, push_line, push_number, push_shown, push_tag,
 };
-use pmem_base::{Answer, Command, Mark, Place, Stat, Tag};
+use pmem_base::{Answer, Command, Line, Mark, Place, Stat, Tag};
 
 /// Puts the text of a mark into an empty text, without its LF, as `write_mark` does for a new one.
 #[tactic(auto, unfolding(plain_model::specs::Texts::mark_text))]
@@ -107,6 +108,28 @@ fn push_wrong_root(text: &mut ArrayVec<u8, 512>, kept: &Tag, found: &Tag, steps:
     push_count(text, steps);
 }
 
+/// Appends a read's answer, by its line.
+fn push_got(text: &mut ArrayVec<u8, 512>, line: &Line, steps: u64)
+    requires room { length text.old.items ≤ 300 }
+    ensures text { text.new.items ≡ text.old.items
+        ++ sentence (codes "line" ∷ line_text line.now ∷ decimal steps ∷ []) }
+    ensures length { length text.new.items ≤ length text.old.items + 154 }
+{
+    push_bytes(text, b"line ");
+    push_line(text, line);
+    push_count(text, steps);
+}
+
+/// Appends a device line as it is.
+fn push_raw(text: &mut ArrayVec<u8, 512>, line: &Line)
+    requires room { length text.old.items ≤ 300 }
+    ensures text { text.new.items ≡ text.old.items ++ sentence (codes "raw" ∷ line_text line.now ∷ []) }
+    ensures length { length text.new.items ≡ length text.old.items + 132 }
+{
+    push_bytes(text, b"raw ");
+    push_line(text, line);
+}
+
 /// Appends the five counts.
 #[tactic(auto, unfolding(plain_model::specs::Texts::answer_text))]
 fn push_stat(text: &mut ArrayVec<u8, 512>, stat: &Stat)
@@ -138,18 +161,14 @@ pub fn push_answer(text: &mut ArrayVec<u8, 512>, answer: &Answer)
 {
     match *answer {
         Answer::Ok => push_bytes(text, b"ok"),
-        Answer::Drained { steps } => push_counts(text, b"ok", &[steps]),
-        Answer::Fenced { drained, steps } => push_counts(text, b"ok", &[u64::from(drained), steps]),
-        Answer::Turned { left, steps } => push_counts(text, b"ok", &[u64::from(left), steps]),
-        Answer::Flushed { x, steps } => push_counts(text, b"ok", &[u64::from(x), steps]),
-        Answer::Got { ref line, steps } => {
-            push_bytes(text, b"line ");
-            push_line(text, line);
-            push_count(text, steps);
-        }
+        Answer::Drained { steps } => push_with_number(text, b"ok", steps),
+        Answer::Fenced { drained, steps } => push_with_two(text, b"ok", u64::from(drained), steps),
+        Answer::Turned { left, steps } => push_with_two(text, b"ok", u64::from(left), steps),
+        Answer::Flushed { x, steps } => push_with_two(text, b"ok", u64::from(x), steps),
+        Answer::Got { ref line, steps } => push_got(text, line, steps),
         Answer::CutKept { drained, steps } => push_cut(text, b"kept", drained, steps),
         Answer::CutLost { drained, steps } => push_cut(text, b"lost", drained, steps),
-        Answer::Cut { steps } => push_counts(text, b"cut", &[steps]),
+        Answer::Cut { steps } => push_with_number(text, b"cut", steps),
         Answer::Refused {
             drained,
             place,
@@ -164,23 +183,21 @@ pub fn push_answer(text: &mut ArrayVec<u8, 512>, answer: &Answer)
             trials,
             digests,
             steps,
-        } => push_counts(text, b"on", &[trials, digests, steps]),
-        Answer::NoCounter { at, steps } => push_counts(
+        } => push_with_three(text, b"on", trials, digests, steps),
+        Answer::NoCounter { at, steps } => push_with_two(
             text,
             b"refused counter",
-            &[u64::from(at), steps],
+            u64::from(at),
+            steps,
         ),
         Answer::WrongRoot {
             ref kept,
             ref found,
             steps,
         } => push_wrong_root(text, kept, found, steps),
-        Answer::Raw { ref line } => {
-            push_bytes(text, b"raw ");
-            push_line(text, line);
-        }
+        Answer::Raw { ref line } => push_raw(text, line),
         Answer::Counts(ref stat) => push_stat(text, stat),
-        Answer::LossSet { steps } => push_counts(text, b"ok", &[steps]),
+        Answer::LossSet { steps } => push_with_number(text, b"ok", steps),
         Answer::Full => push_bytes(text, b"full"),
         Answer::Empty => push_bytes(text, b"empty"),
         Answer::Idle => push_bytes(text, b"idle"),
