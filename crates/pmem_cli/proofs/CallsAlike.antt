@@ -1,192 +1,25 @@
--- Two calls of `run` for one trace put one text, with one status.
-use Rattle.std.proofs.Common.{◌≡◌, ◌≢◌, ◌∙◌, ◌+◌, ◌<◌, ◌≤◌, ℕ, false, List, [], ◌∷◌, ◌++◌, length, refl, sym, ap, ap₂, subst, inl, inr, arith, append-nil}
-use Rattle.std.specs.Prelude.{◌⊎◌, All, IfSome, IsOk, map, Option, None, Some, Ok, Err}
+-- Two calls of `run` with the same words for one trace put one text, with one status.
+use Rattle.std.proofs.Common.{◌≡◌, ◌≢◌, ◌∙◌, ℕ, List, ◌++◌, refl, sym, ap, ap₂, subst, inl, inr}
+use Rattle.std.specs.Prelude.{IfSome, IsNone, Option, None, Some}
 use Rattle.std.specs.Io.KnownBytes.{Appends}
-use Rattle.std.proofs.lemmas.List.{length-map, map-append}
-use Rattle.std.proofs.lemmas.List.Elements.{All-head, All-tail, All-cons, All-nil}
-use Rattle.pmem_base.specs.declared.commands.Command.{Command}
-use Rattle.pmem_base.specs.declared.commands.Kind.{Kind}
-use Rattle.suite.specs.Setup.{Setup}
+use Rattle.collision_witness.specs.Words.{Word}
+use Rattle.plain_model.specs.Defaults.{default_setup}
 use Rattle.plain_model.specs.declared.Stop.{Stop}
-use Rattle.plain_model.specs.declared.Stop.TheVariants.{Finished, Words, Memory, ReadFault, WriteFault, Refused, Shown, TooManyLines}
-use Rattle.plain_model.specs.Answers.{is_shown}
-use Rattle.plain_model.specs.Grammar.{Reading, reading_of}
-use Rattle.plain_model.specs.Lines.{lines_of}
-use Rattle.plain_model.specs.Run.{Machine, Step, start, line_limit, status_of, output_of, commands_of, commands_asked, IsRunFrom, IsFinishedFrom, IsRefusedFrom, IsShownFrom, IsCutOffFrom, Ends}
-use Rattle.plain_model.specs.State.{Reply}
-use Rattle.pmem_replay.specs.World.{WorldState, IsWorld}
-use Rattle.pmem_replay.specs.Determined.{AreAlike}
-use Rattle.pmem_replay.proofs.SameSteps.NewWorldsAlike.{new_worlds_alike}
-use Rattle.pmem_replay.proofs.SameSteps.StepsAlike.{steps_alike}
+use Rattle.plain_model.specs.declared.Stop.TheVariants.{Words}
+use Rattle.plain_model.specs.Run.{Step, status_of, output_of, stop_text, Ends}
+use Rattle.trace_text.specs.Samples.{sample_trace, commands_text}
 use Rattle.pmem_cli.specs.declared.options.Choices.{Choices}
 use Rattle.pmem_cli.specs.declared.options.Task.{Task}
 use Rattle.pmem_cli.specs.Causes.{Rose}
-use Rattle.pmem_cli.specs.Determined.{Call, IsCallFor, IsUndisturbed, AreAnsweredAlike}
-use Rattle.pmem_cli.specs.HasRun.{HasRun}
+use Rattle.pmem_cli.specs.Determined.{Call, IsCallWith, IsSettled, IsUndisturbed, AreAnsweredAlike}
+use Rattle.pmem_cli.specs.HasRun.{HasRun, HasTextPut, HasSampled, TaskOutcome, AreRefusedWords}
 use Rattle.pmem_cli.specs.Keys.{setup_chosen}
-use Rattle.pmem_cli.specs.Standing.{IsFirstWorld, IsWorldStep, AreStepped, IsReplayed}
-use Rattle.pmem_cli.proofs.RunsAlike as runs
+use Rattle.pmem_cli.specs.Words.{task_of}
+use Rattle.pmem_cli.proofs.ReplaysAlike.{IsOfTrace, replays_alike}
+use Rattle.pmem_cli.proofs.SamplesAlike.{samples_alike}
 
--- ---- lines, as they are read
-
-abbrev read_all : List (List ℕ) → List Reading
-read_all lines = map reading_of lines
-
-read_commands : (lines : List (List ℕ)) → commands_of lines ≡ runs.asked_by (read_all lines)
-read_commands [] = refl
-read_commands (line ∷ lines) = ap (λ (cs : List Command). commands_asked (reading_of line) ++ cs) (read_commands lines)
-
-all_read : (lines : List (List ℕ)) → All (λ line. IsOk (reading_of line)) lines → All IsOk (read_all lines)
-all_read [] ok = All-nil IsOk
-all_read (line ∷ lines) ok =
-    All-cons IsOk (reading_of line) (read_all lines) (All-head (λ line. IsOk (reading_of line)) line lines ok)
-    (all_read lines (All-tail (λ line. IsOk (reading_of line)) line lines ok))
-
--- ---- how a run of a world stops
-
--- neither was memory wanted, nor did a pull or a push fail
-pub record IsOfTrace (stop : Stop) : Type 0 where
-  pub had_memory : stop ≢ Memory
-  pub pulled : stop ≢ ReadFault
-  pub pushed : stop ≢ WriteFault
-
-module _ (setup : Setup) where
-  -- the world answers a command
-  abbrev answers : WorldState → Command → Reply → WorldState → Type 0
-  answers world command reply next = IsWorldStep setup world (runs.told command reply) next
-
-  abbrev StopsBy : WorldState → ℕ → List Reading → Stop → List Step → Type 0
-  StopsBy world served readings stop xs = runs.Stops answers line_limit world served readings stop xs
-
-  chain_of : (world last : WorldState) (xs : List Step) → AreStepped setup world xs last → runs.Chain answers line_limit world xs last
-  chain_of world last [] chain = chain
-  chain_of world last (x ∷ xs) (next, stepped, more) = (next, stepped, chain_of next last xs more)
-
-  run_of : (world last : WorldState) (lines : List (List ℕ)) (xs : List Step) → IsRunFrom setup (start setup) lines xs
-      → AreStepped setup world xs last → runs.AreRun answers line_limit world (runs.asked_by (read_all lines)) xs last
-  run_of world last lines xs run chain =
-      record {
-        in_order = run.commands_in_order ∙ read_commands lines;
-        hidden = run.none_shown;
-        chain = chain_of world last xs chain;
-      }
-
-  -- a front of the lines is run, and then the run stops
-  past : (world last : WorldState) (lines before behind : List (List ℕ)) (xs tail : List Step) (stop : Stop) → lines ≡ before ++ behind
-      → length before ≤ line_limit → IsRunFrom setup (start setup) before xs → AreStepped setup world xs last
-      → StopsBy last (length before) (read_all behind) stop tail → StopsBy world 0 (read_all lines) stop (xs ++ tail)
-  past world last lines before behind xs tail stop cut within run chain stops =
-      subst (λ rs. StopsBy world 0 rs stop (xs ++ tail)) (sym (ap read_all cut ∙ map-append reading_of before behind))
-      (runs.past_front answers line_limit world last 0 (length before) (read_all before) (read_all behind) xs tail stop
-      (omega (arith, length-map before reading_of)) within (all_read before run.in_grammar) (run_of world last before xs run chain) stops)
-
-  -- the chain of a front, and of what follows it
-  chain_cut : (world last : WorldState) (xs ys : List Step) → AreStepped setup world (xs ++ ys) last
-      → (middle : WorldState) × AreStepped setup world xs middle × AreStepped setup middle ys last
-  chain_cut world last [] ys chain = (world, refl, chain)
-  chain_cut world last (x ∷ xs) ys (next, stepped, more) =
-      let rest = chain_cut next last xs ys more in
-      (rest.0, (next, stepped, rest.1), rest.2)
-
-  stops_finished : (world last : WorldState) (lines : List (List ℕ)) (xs : List Step) → IsFinishedFrom setup (start setup) 0 lines xs
-      → AreStepped setup world xs last → StopsBy world 0 (read_all lines) Finished xs
-  stops_finished world last lines xs ends chain =
-      subst (λ (ys : List Step). StopsBy world 0 (read_all lines) Finished ys) (append-nil xs)
-      (past world last lines lines [] xs [] Finished (sym (append-nil lines)) (omega (arith, ends.counted)) ends.run chain (refl, refl))
-
-  stops_refused : (world last : WorldState) (lines : List (List ℕ)) (xs : List Step) (number : ℕ) (kind : Kind)
-      → IsRefusedFrom setup (start setup) 0 lines xs number kind → AreStepped setup world xs last
-      → StopsBy world 0 (read_all lines) (Refused number kind) xs
-  stops_refused world last lines xs number kind ends chain =
-      let now = length ends.before in
-      let within : now < line_limit = omega (arith, ends.numbered, ends.counted) in
-      subst (λ (ys : List Step). StopsBy world 0 (read_all lines) (Refused number kind) ys) (append-nil xs)
-      (past world last lines ends.before (ends.line ∷ ends.behind) xs [] (Refused number kind) ends.cut (omega (arith, within)) ends.run chain
-      (runs.refused_here answers line_limit last now number (reading_of ends.line) (read_all ends.behind) kind ends.refused
-      (omega (arith, ends.numbered)) within))
-
-  stops_shown : (world last : WorldState) (lines : List (List ℕ)) (xs : List Step) → IsShownFrom setup (start setup) 0 lines xs
-      → AreStepped setup world xs last → StopsBy world 0 (read_all lines) Shown xs
-  stops_shown world last lines xs ends chain =
-      let now = length ends.before in
-      let within : now < line_limit = omega (arith, ends.counted) in
-      let cut = chain_cut world last ends.first (ends.last ∷ []) (subst (λ (ys : List Step). AreStepped setup world ys last) ends.all chain) in
-      subst (λ (ys : List Step). StopsBy world 0 (read_all lines) Shown ys) (sym ends.all)
-      (past world cut.0 lines ends.before (ends.line ∷ ends.behind) ends.first (ends.last ∷ []) Shown ends.cut (omega (arith, within)) ends.run cut.1
-      (runs.shown_here answers line_limit cut.0 cut.2.0 now (reading_of ends.line) (read_all ends.behind) ends.last ends.asked cut.2.1
-      (ap is_shown ends.shown) within))
-
-  stops_cut_off : (world last : WorldState) (lines : List (List ℕ)) (xs : List Step) → IsCutOffFrom setup (start setup) 0 lines xs
-      → AreStepped setup world xs last → StopsBy world 0 (read_all lines) TooManyLines xs
-  stops_cut_off world last lines xs ends chain =
-      let front = ends.front in
-      let now = length front.before in
-      subst (λ (ys : List Step). StopsBy world 0 (read_all lines) TooManyLines ys) (append-nil xs)
-      (past world last lines front.before front.behind xs [] TooManyLines front.cut (omega (arith, ends.counted)) front.run chain
-      (runs.cut_off_here answers line_limit last now (read_all front.behind) (omega (arith, ends.counted))
-      (omega (arith, ends.more, length-map front.behind reading_of))))
-
-  stops_by : (world last : WorldState) (stop : Stop) (trace : List ℕ) (left : Option (List ℕ)) (xs : List Step) → IsOfTrace stop
-      → Ends setup stop trace left xs → AreStepped setup world xs last → StopsBy world 0 (read_all (lines_of trace)) stop xs
-  stops_by world last Finished trace left xs calm ends chain = stops_finished world last (lines_of trace) xs ends chain
-  stops_by world last Memory trace left xs calm ends chain = absurd (calm.had_memory refl)
-  stops_by world last Words trace left xs calm ends chain = absurd ends
-  stops_by world last ReadFault trace left xs calm ends chain = absurd (calm.pulled refl)
-  stops_by world last WriteFault trace left xs calm ends chain = absurd (calm.pushed refl)
-  stops_by world last (Refused number kind) trace left xs calm ends chain = stops_refused world last (lines_of trace) xs number kind ends chain
-  stops_by world last Shown trace left xs calm ends chain = stops_shown world last (lines_of trace) xs ends chain
-  stops_by world last TooManyLines trace left xs calm ends chain = stops_cut_off world last (lines_of trace) xs ends chain
-
-  -- ---- two runs
-
-  -- worlds from which a command has one reply
-  pub record AreRunning (a b : WorldState) : Type 0 where
-    pub whole : IsWorld setup a
-    pub alike : AreAlike a b
-    pub unshown : a.shown ≡ false
-
-  one_reply : (a b next after : WorldState) (command : Command) (reply another : Reply) → AreRunning a b → answers a command reply next
-      → answers b command another after → (reply ≡ another) × (is_shown reply.answer ≡ false → AreRunning next after)
-  one_reply a b next after command reply another same went gone =
-      let both = steps_alike setup a b next after command reply another same.whole same.alike (same.alike.state same.unshown) went.stepped gone.stepped in (
-        both.0,
-        λ hidden. record { whole = went.stepped.holds hidden; alike = both.1; unshown = went.stepped.shown ∙ hidden },
-      )
-
-  -- the world that answered, as memory for it was had
-  first_of : (stop : Stop) (xs : List Step) → stop ≢ Memory → IsReplayed setup stop xs
-      → (first last : WorldState) × IsFirstWorld setup first × AreStepped setup first xs last
-  first_of stop xs had (inl none) = absurd (had none.0)
-  first_of stop xs had (inr found) = found
-
-  -- runs of one trace come to one stop by the same steps
-  pub replays_alike : (trace : List ℕ) (stop other : Stop) (left rest : Option (List ℕ)) (xs ys : List Step) → IsOfTrace stop → IsOfTrace other
-      → Ends setup stop trace left xs → Ends setup other trace rest ys → IsReplayed setup stop xs → IsReplayed setup other ys
-      → (stop ≡ other) × (xs ≡ ys)
-  replays_alike trace stop other left rest xs ys calm quiet ends finishes replayed run =
-      let a = first_of stop xs calm.had_memory replayed in
-      let b = first_of other ys quiet.had_memory run in
-      let first = a.2 in
-      let second = b.2 in
-      let same =
-      new_worlds_alike setup a.0 b.0 first.new second.new (first.work.tags ∙ sym second.work.tags) (first.work.digests ∙ sym second.work.digests) in
-      runs.stops_alike answers line_limit AreRunning one_reply 0 (read_all (lines_of trace)) a.0 b.0 stop other xs ys
-      (record { whole = first.new.holds; alike = same; unshown = first.new.not_shown })
-      (stops_by a.0 a.1 stop trace left xs calm ends a.3) (stops_by b.0 b.1 other trace rest ys quiet finishes b.3)
-
--- ---- two calls
-
-module _ (choices : Choices) (trace put : List ℕ) where
-  -- what one call tells of its run
-  pub record HasToldRun (call : Call) : Type 0 where
-    pub stop : Stop
-    pub steps : List Step
-    pub left : Option (List ℕ)
-    pub calm : IsOfTrace stop
-    pub ends : Ends (setup_chosen choices) stop trace left steps
-    pub replayed : IsReplayed (setup_chosen choices) stop steps
-    pub status : call.status ≡ status_of stop
-    pub text : call.put_after ≡ Some (put ++ output_of steps stop)
+module _ (trace put : List ℕ) where
+  -- ---- one call
 
   appended_to : (after : Option (List ℕ)) (text : List ℕ) → Appends (Some put) after text → after ≡ Some (put ++ text)
   appended_to None text all = absurd all
@@ -195,38 +28,95 @@ module _ (choices : Choices) (trace put : List ℕ) where
   appended : (before after : Option (List ℕ)) (text : List ℕ) → before ≡ Some put → Appends before after text → after ≡ Some (put ++ text)
   appended before after text is all = appended_to after text (subst (λ (o : Option (List ℕ)). Appends o after text) is all)
 
-  told_run : (call : Call) → IsCallFor (Task.Run choices) call → IsUndisturbed trace put call → HasToldRun call
-  told_run call it calm =
-      let run : HasRun (setup_chosen choices) call.status (Rose call.pulls_before call.pulls_after) call.trace call.left call.put_before call.put_after = it.told in
-      let pushed : call.status ≢ 4 = λ is. calm.pushed (it.write is) in
-      let status : call.status ≡ status_of run.stop = run.its_status pushed in
+  -- what is said of a call that asks for this, without what its words are
+  abbrev Said : Task → Call → Type 0
+  Said task call =
+      TaskOutcome task call.status (Rose call.pulls_before call.pulls_after) call.trace call.left call.put_before call.put_after
+
+  -- one text and one status for both
+  put_alike : (a b : Call) (status : ℕ) (text : List ℕ) → a.status ≡ status → b.status ≡ status → a.put_after ≡ Some (put ++ text)
+      → b.put_after ≡ Some (put ++ text) → AreAnsweredAlike put a b
+  put_alike a b status text first second one other =
+      record { status = first ∙ sym second; text = text; first = one; second = other }
+
+  -- a stop of a call in which nothing failed
+  calm_stop : (call : Call) (stop : Stop) → IsUndisturbed trace put call → call.status ≡ status_of stop → call.status ≢ 4 → call.status ≢ 3
+      → IsOfTrace stop
+  calm_stop call stop calm status pushed pulled =
       record {
-        stop = run.stop;
-        steps = run.steps;
-        left = call.left;
-        calm =
-            record {
-              had_memory = λ is. calm.had_memory (status ∙ ap status_of is);
-              pulled = λ is. calm.pulled (run.read is);
-              pushed = λ is. pushed (status ∙ ap status_of is);
-            };
-        ends = subst (λ (o : Option (List ℕ)). IfSome o (λ bytes. Ends (setup_chosen choices) run.stop bytes call.left run.steps)) calm.trace_told run.ends;
-        replayed = run.replayed;
-        status = status;
-        text = appended call.put_before call.put_after (output_of run.steps run.stop) calm.put_told (run.whole pushed);
+        had_memory = λ is. calm.had_memory (status ∙ ap status_of is);
+        pulled = λ is. pulled (status ∙ ap status_of is);
+        pushed = λ is. pushed (status ∙ ap status_of is);
       }
 
-  pub calls_alike : (a b : Call) → IsCallFor (Task.Run choices) a → IsCallFor (Task.Run choices) b → IsUndisturbed trace put a → IsUndisturbed trace put b
-      → AreAnsweredAlike put a b
-  calls_alike a b it its calm quiet =
-      let one = told_run a it calm in
-      let other = told_run b its quiet in
-      let same =
-      replays_alike (setup_chosen choices) trace one.stop other.stop one.left other.left one.steps other.steps one.calm other.calm one.ends other.ends
-      one.replayed other.replayed in
-      record {
-        status = one.status ∙ ap status_of same.0 ∙ sym other.status;
-        text = output_of one.steps one.stop;
-        first = one.text;
-        second = other.text ∙ ap₂ (λ (xs : List Step) (s : Stop). Some (put ++ output_of xs s)) (sym same.1) (sym same.0);
-      }
+  module _ (a b : Call) (calm : IsUndisturbed trace put a) (quiet : IsUndisturbed trace put b) (pushed : a.status ≢ 4) (pushed_too : b.status ≢ 4)
+      (pulled : a.status ≢ 3) (pulled_too : b.status ≢ 3) where
+    -- ---- two calls for one task
+
+    runs_alike : (choices : Choices) → Said (Task.Run choices) a → Said (Task.Run choices) b → AreAnsweredAlike put a b
+    runs_alike choices it its =
+        let run : HasRun (setup_chosen choices) a.status (Rose a.pulls_before a.pulls_after) a.trace a.left a.put_before a.put_after = it in
+        let other : HasRun (setup_chosen choices) b.status (Rose b.pulls_before b.pulls_after) b.trace b.left b.put_before b.put_after = its in
+        let status : a.status ≡ status_of run.stop = run.its_status pushed in
+        let its_status : b.status ≡ status_of other.stop = other.its_status pushed_too in
+        let same =
+        replays_alike (setup_chosen choices) trace run.stop other.stop a.left b.left run.steps other.steps (calm_stop a run.stop calm status pushed pulled)
+        (calm_stop b other.stop quiet its_status pushed_too pulled_too)
+        (subst (λ (o : Option (List ℕ)). IfSome o (λ bytes. Ends (setup_chosen choices) run.stop bytes a.left run.steps)) calm.trace_told run.ends)
+        (subst (λ (o : Option (List ℕ)). IfSome o (λ bytes. Ends (setup_chosen choices) other.stop bytes b.left other.steps)) quiet.trace_told other.ends)
+        run.replayed other.replayed in
+        put_alike a b (status_of run.stop) (output_of run.steps run.stop) status (its_status ∙ ap status_of (sym same.0))
+        (appended a.put_before a.put_after (output_of run.steps run.stop) calm.put_told (run.whole pushed))
+        (appended b.put_before b.put_after (output_of other.steps other.stop) quiet.put_told (other.whole pushed_too)
+        ∙ ap₂ (λ (xs : List Step) (s : Stop). Some (put ++ output_of xs s)) (sym same.1) (sym same.0))
+
+    texts_alike : (text : List ℕ) → HasTextPut text a.status a.put_before a.put_after → HasTextPut text b.status b.put_before b.put_after
+        → AreAnsweredAlike put a b
+    texts_alike text it its =
+        put_alike a b 0 text (it.its_status pushed) (its.its_status pushed_too) (appended a.put_before a.put_after text calm.put_told (it.whole pushed))
+        (appended b.put_before b.put_after text quiet.put_told (its.whole pushed_too))
+
+    sampled_alike : (seed count : ℕ) → HasSampled default_setup (sample_trace seed count) a.status a.put_before a.put_after
+        → HasSampled default_setup (sample_trace seed count) b.status b.put_before b.put_after → AreAnsweredAlike put a b
+    sampled_alike seed count it its =
+        let status : a.status ≡ status_of it.stop = it.its_status pushed in
+        let its_status : b.status ≡ status_of its.stop = its.its_status pushed_too in
+        let same =
+        samples_alike default_setup (sample_trace seed count) it.stop its.stop it.steps its.steps it.text its.text
+        (calm_stop a it.stop calm status pushed pulled) (calm_stop b its.stop quiet its_status pushed_too pulled_too) it.ends its.ends it.replayed
+        its.replayed in
+        put_alike a b (status_of it.stop) (it.text ++ stop_text it.stop) status (its_status ∙ ap status_of (sym same.0))
+        (appended a.put_before a.put_after (it.text ++ stop_text it.stop) calm.put_told (it.whole pushed))
+        (appended b.put_before b.put_after (its.text ++ stop_text its.stop) quiet.put_told (its.whole pushed_too)
+        ∙ ap₂ (λ (text : List ℕ) (s : Stop). Some (put ++ (text ++ stop_text s))) (sym same.1) (sym same.0))
+
+    -- ---- by what the words ask for
+
+    tasks_alike : (task : Option Task) → IsSettled task → IfSome task (λ its. Said its a) → IfSome task (λ its. Said its b)
+        → (IsNone task → AreAnsweredAlike put a b) → AreAnsweredAlike put a b
+    tasks_alike None settled it its none = none refl
+    tasks_alike (Some (Task.Run choices)) settled it its none = runs_alike choices it its
+    tasks_alike (Some (Task.Make seed count)) settled it its none = texts_alike (commands_text (sample_trace seed count)) it its
+    tasks_alike (Some (Task.Sample seed count)) settled it its none = sampled_alike seed count it its
+    tasks_alike (Some (Task.Log choices)) settled it its none = absurd settled
+    tasks_alike (Some (Task.Check choices)) settled it its none = absurd settled
+    tasks_alike (Some (Task.Wear choices)) settled it its none = absurd settled
+    tasks_alike (Some (Task.Tree choices)) settled it its none = absurd settled
+    tasks_alike (Some (Task.Txn choices)) settled it its none = absurd settled
+
+  -- faulty words are told in full, as no push failed
+  refused : (call : Call) → IsUndisturbed trace put call → AreRefusedWords call.put_before call.put_after call.pushes_before call.pushes_after
+      → call.put_after ≡ Some (put ++ stop_text Words)
+  refused call calm (inl whole) = appended call.put_before call.put_after (stop_text Words) calm.put_told whole
+  refused call calm (inr failed) = absurd (calm.pushed failed.1)
+
+pub calls_alike : (words : List Word) (trace put : List ℕ) (a b : Call) → IsSettled (task_of words) → IsCallWith words a → IsCallWith words b
+    → IsUndisturbed trace put a → IsUndisturbed trace put b → AreAnsweredAlike put a b
+calls_alike words trace put a b settled it its calm quiet =
+    tasks_alike trace put a b calm quiet (λ is. calm.pushed (it.write is)) (λ is. quiet.pushed (its.write is)) (λ is. calm.pulled (it.read is))
+    (λ is. quiet.pulled (its.read is)) (task_of words) settled it.told its.told
+    (λ none.
+    let first : a.status ≡ 2 = it.faulty.1 none in
+    let second : b.status ≡ 2 = its.faulty.1 none in
+    put_alike trace put a b 2 (stop_text Words) first second (refused trace put a calm (it.refused first))
+    (refused trace put b quiet (its.refused second)))

@@ -1,6 +1,6 @@
 -- The lines of a check, one after the other.
-use Rattle.std.proofs.Common.{rules, ◌≡◌, ◌∙◌, ◌+◌, ◌<◌, ◌≤◌, ℕ, List, [], ◌∷◌, ◌++◌, length, refl, ap, subst, arith, append_assoc, length-append, lt-ltb}
-use Rattle.std.specs.Prelude.{Option, None, Some, IfSome, Ok, Err}
+use Rattle.std.proofs.Common.{rules, ◌≡◌, ◌∙◌, ◌+◌, ◌<◌, ◌≤◌, ℕ, List, [], ◌∷◌, ◌++◌, length, refl, sym, ap, subst, arith, append_assoc, length-append, lt-ltb, inl, inr}
+use Rattle.std.specs.Prelude.{◌⊎◌, Option, None, Some, IfSome, Ok, Err}
 use Rattle.std.specs.List.{flat_map}
 use Rattle.std.specs.Io.KnownBytes.{Consumes, Keeps, IsAtEnd, prepend_known}
 use Rattle.std.proofs.KnownBytes.{Consumes-trans, Consumes-whole}
@@ -13,7 +13,8 @@ use Rattle.plain_model.specs.declared.Stop.{Stop}
 use Rattle.plain_model.specs.declared.Stop.TheVariants.{Finished, ReadFault, Refused, TooManyLines}
 use Rattle.plain_model.specs.Lines.{lines_of, ended, IsWithin}
 use Rattle.plain_model.specs.Run.{line_limit}
-use Rattle.pmem_cli.specs.Checked.{is_skipped, found_with, found_on, found_in_lines, IsRefusedIn, IsBrokenOff, LooksTo, HasCheckedLines, ChecksLine, ChecksNext}
+use Rattle.pmem_cli.specs.Checked.{is_skipped, found_with, found_on, found_in_lines, IsRefusedIn, IsBrokenOff, LooksTo, HasCheckedLines, HasLookedFirst, ChecksLine, ChecksNext}
+use Rattle.pmem_cli.specs.Pulling.{IsUndecided, PullsUndecided}
 use Rattle.pmem_cli.proofs.LineLemmas.{lines_ahead, lines_of-last, lines_of-begins, lines_of-some}
 use Rattle.pmem_cli.proofs.TurnLemmas.{IfSome-ahead, all_unread}
 
@@ -201,3 +202,42 @@ pub HasCheckedLines-kept : (stop : Stop) (a b left : Option (List ℕ)) (found a
 HasCheckedLines-kept stop None b left found after served kept looked = (looked.0, looked.1, tt)
 HasCheckedLines-kept stop (Some x) None left found after served kept looked = absurd kept
 HasCheckedLines-kept stop (Some x) (Some y) left found after served kept looked = (looked.0, looked.1, subst (λ bytes. LooksTo found served stop bytes left after) kept looked.2)
+
+-- ---- before a pull
+
+undecided_at : (k n : ℕ) (part : List ℕ) → k ≡ n → IsUndecided k part → IsUndecided n part
+undecided_at k n part same undecided = subst (λ m. IsUndecided m part) same undecided
+
+pub HasLookedFirst-here : (f : Option Exhibit) (served : ℕ) (ahead told : Option (List ℕ)) → PullsUndecided served ahead told → HasLookedFirst f served ahead told
+HasLookedFirst-here f served None told pulled = tt
+HasLookedFirst-here f served (Some bytes) None pulled = tt
+HasLookedFirst-here f served (Some bytes) (Some behind) (part, taken, undecided) =
+    (part, taken, record { lines = []; part = part; cut = refl; whole = All-nil IsWithin; undecided = undecided_at served (served + 0) part (omega arith) undecided; after = f; read = refl })
+
+pub HasLookedFirst-after : (f g : Option Exhibit) (served : ℕ) (ahead behind told : Option (List ℕ)) (line : List ℕ)
+    → Consumes ahead behind (ended line) → IsWithin line → found_with f line ≡ Ok g → HasLookedFirst g (served + 1) behind told → HasLookedFirst f served ahead told
+HasLookedFirst-after f g served None behind told line taken within first looked = tt
+HasLookedFirst-after f g served (Some bytes) None told line taken within first looked = absurd taken
+HasLookedFirst-after f g served (Some bytes) (Some rest) None line taken within first looked = tt
+HasLookedFirst-after f g served (Some bytes) (Some rest) (Some left) line taken within first (given, cut, looked) = (
+  ended line ++ given,
+  taken ∙ ap (λ l. ended line ++ l) cut ∙ sym (append_assoc (ended line) given left),
+  record {
+    lines = line ∷ looked.lines;
+    part = looked.part;
+    cut = ap (λ l. ended line ++ l) looked.cut ∙ sym (append_assoc (ended line) (flat_map ended looked.lines) looked.part);
+    whole = All-cons IsWithin line looked.lines within looked.whole;
+    undecided = undecided_at (served + 1 + length looked.lines) (served + length (line ∷ looked.lines)) looked.part (omega arith) looked.undecided;
+    after = looked.after;
+    read = found_in_lines-cons f g line looked.lines looked.after first looked.read;
+  },
+)
+
+-- after one more look
+pub looked_on : {T : Type 0} (first mid last : T) (remembered : T → Option (List ℕ)) (f g : Option Exhibit) (served : ℕ) (a b : Option (List ℕ))
+    → ((told : Option (List ℕ)) → HasLookedFirst g served b told → HasLookedFirst f 0 a told)
+    → (mid ≡ first) ⊎ HasLookedFirst f 0 a (remembered mid) → (last ≡ mid) ⊎ PullsUndecided served b (remembered last)
+    → (last ≡ first) ⊎ HasLookedFirst f 0 a (remembered last)
+looked_on first mid last remembered f g served a b on (inl kept) (inl same) = inl (same ∙ kept)
+looked_on first mid last remembered f g served a b on (inr before) (inl same) = inr (rw same before)
+looked_on first mid last remembered f g served a b on before (inr pulled) = inr (on (remembered last) (HasLookedFirst-here g served b (remembered last) pulled))

@@ -214,7 +214,7 @@ module _ {S X Y : Type 0} (p : Protocol S X) (q : Protocol S Y) (I : S → Type 
           part = are.part;
           cut = are.cut;
           whole = are.whole;
-          unfinished = are.unfinished;
+          undecided = are.undecided;
           replies = talk.0;
           last = are.last;
           talk = talk.1;

@@ -19,10 +19,13 @@ pub mod LoggedTalks
 pub mod TellingLemmas
 pub mod ReplayLemmas
 pub mod RunsAlike
+pub mod ReplaysAlike
+pub mod SamplesAlike
 pub mod CallsAlike
 pub mod Untampering
 pub mod StepSums
 pub mod StatusLemmas
+pub mod PullLemmas
 pub mod ReplyLemmas
 pub mod Completing
 pub mod Following

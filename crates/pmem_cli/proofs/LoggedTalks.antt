@@ -14,22 +14,22 @@ use Rattle.plain_model.specs.declared.Stop.TheVariants.{Finished, Words, Memory,
 use Rattle.plain_model.specs.Lines.{lines_of}
 use Rattle.plain_model.specs.Answers.{is_shown}
 use Rattle.plain_model.specs.Grammar.{reading_of}
-use Rattle.plain_model.specs.State.{Reply}
-use Rattle.plain_model.specs.Run.{Machine, Step, line_limit, start, takes_memory, Ends}
+use Rattle.plain_model.specs.State.{PlainState, Reply}
+use Rattle.plain_model.specs.Run.{Machine, Step, line_limit, start, machine_after_all, Ends}
 use Rattle.pmem_replay.specs.World.{WorldState, setup_of_world}
 use Rattle.pmem_replay.specs.Stepped.{HasStepped, AddsFewSteps}
 use Rattle.pmem_replay.specs.Logged.{IsLogged}
 use Rattle.trace_text.specs.Conversations.{AnswersOne, IsTalk, AreRepliesGiven, IsShownTalk, TalkEnds}
 use Rattle.pmem_cli.specs.Printed.{Output}
 use Rattle.pmem_cli.specs.Replies.{world_protocol}
-use Rattle.pmem_cli.specs.Logged.{LoggedStep, IsTold, takes_memory_logged, GoesOnTold, EndsTold, logged_protocol, steps_logged, IsMemoryWantedLogged, LoggedEnds, LoggedEndsFrom, AreTold, IsReplayedTold, HasReplayedLogged, HasRepliedLoggedFirst}
+use Rattle.pmem_cli.specs.Logged.{LoggedStep, IsTold, may_access, GoesOnTold, EndsTold, logged_protocol, steps_logged, IsMemoryWantedLogged, LoggedEnds, LoggedEndsFrom, AreTold, IsReplayedTold, HasReplayedLogged, HasRepliedLoggedFirst}
 use Rattle.pmem_cli.specs.Standing.{standing_of, AreStepped, IsFirstWorld, IsReplayed}
 use Rattle.pmem_cli.specs.Talked.{HasToldFirst}
 use Rattle.pmem_cli.specs.Turns.{HasStopped}
 use Rattle.pmem_cli.proofs.PrintLemmas.{Prints-nil, Prints-front}
 use Rattle.pmem_cli.proofs.RunLemmas.{IsFrontFrom-nil}
 use Rattle.pmem_cli.proofs.StandingLemmas.{StandingAfter-step, HasReplied-step, new_setup, new_machine}
-use Rattle.pmem_cli.proofs.TurnLemmas.{IfSome-any, IfSome-map}
+use Rattle.pmem_cli.proofs.TurnLemmas.{IfSome-is, IfSome-map}
 use Rattle.pmem_cli.proofs.WorldTalks.{run_of_talk, ends_of_talk}
 
 -- ---- one command
@@ -98,8 +98,8 @@ told_either true f old new line command reply accesses tags digests shown is ste
 told_either false f old new line command reply accesses tags digests hidden is stepped few told =
     inl (told_goes f old new line command reply accesses tags digests is stepped few told hidden)
 
--- memory for a log is wanted only by a command that may want it
-pub lost_wants : (command : Command) (log : Option (List Access)) (old new : BoardMemory) → log ≡ None → IsLogged command (Some []) old log new → IsTrue (takes_memory_logged command)
+-- memory for a log is wanted only by a command whose accesses are logged
+pub lost_wants : (command : Command) (log : Option (List Access)) (old new : BoardMemory) → log ≡ None → IsLogged command (Some []) old log new → IsTrue (may_access command)
 lost_wants (Do.Drain port) log old new lost logged = refl
 lost_wants (Do.Fence port) log old new lost logged = refl
 lost_wants (Do.Read port at) log old new lost logged = refl
@@ -108,13 +108,6 @@ lost_wants Do.Flush log old new lost logged = refl
 lost_wants (Do.Loss n) log old new lost logged = refl
 lost_wants Do.On log old new lost logged = refl
 lost_wants command log old new lost logged = absurd cc
-
--- so is memory for the answer
-pub wants_more : (command : Command) → IsTrue (takes_memory command) → IsTrue (takes_memory_logged command)
-wants_more (Do.Read port at) wants = refl
-wants_more Do.Flush wants = refl
-wants_more (Do.Loss n) wants = refl
-wants_more command wants = wants
 
 -- ---- without the logs
 
@@ -170,7 +163,10 @@ ends_of_logged Memory f world trace left xs running ends =
         run =
             (run_of_talk f world ends.last ends.before (steps_logged xs) running (plain_talk f world ends.last ends.before xs ends.talk)).run;
       };
-      wanting = inr (ends.wanted, omega (arith, ends.counted));
+      wanting =
+          inr (subst (λ (m : Machine). IsMemoryWantedLogged m.state (length ends.before) (ends.line ∷ ends.behind))
+          (run_of_talk f world ends.last ends.before (steps_logged xs) running (plain_talk f world ends.last ends.before xs ends.talk)).on.machine
+          (ends.wanted, omega (arith, ends.counted)));
     }
 ends_of_logged Words f world trace left xs running ends = ends
 ends_of_logged ReadFault f world trace left xs running ends =
@@ -253,9 +249,9 @@ replayed_plain setup stop xs (inr (first, last, new, chain)) = inr (first, last,
 
 -- ---- the whole run
 
-wanted_within : (n : ℕ) (behind : List (List ℕ)) → IsMemoryWantedLogged n behind → n ≤ line_limit
-wanted_within n [] wanted = absurd wanted
-wanted_within n (line ∷ lines) wanted = omega (arith, wanted.1)
+wanted_within : (state : PlainState) (n : ℕ) (behind : List (List ℕ)) → IsMemoryWantedLogged state n behind → n ≤ line_limit
+wanted_within state n [] wanted = absurd wanted
+wanted_within state n (line ∷ lines) wanted = omega (arith, wanted.1)
 
 -- so much is said of the steps without the log, whatever stopped it
 pub ends_plain : (setup : Setup) (stop : Stop) (trace : List ℕ) (left : Option (List ℕ)) (steps : List Step) → LoggedEnds setup stop trace left steps
@@ -263,8 +259,8 @@ pub ends_plain : (setup : Setup) (stop : Stop) (trace : List ℕ) (left : Option
 ends_plain setup Memory trace left steps ends =
     let short : length ends.front.before ≤ line_limit =
     elim ends.wanting [
-      | inl none ↦ omega (arith, none)
-      | inr wanted ↦ wanted_within (length ends.front.before) ends.front.behind wanted
+      | inl none ↦ omega (arith, none.0)
+      | inr wanted ↦ wanted_within (machine_after_all setup (start setup) steps).state (length ends.front.before) ends.front.behind wanted
     ] in
     (WriteFault, inl (record { front = ends.front; counted = omega (arith, short) }))
 ends_plain setup Finished trace left steps ends = (Finished, ends)
@@ -276,12 +272,12 @@ ends_plain setup Shown trace left steps ends = (Shown, ends)
 ends_plain setup TooManyLines trace left steps ends = (TooManyLines, ends)
 
 -- memory was wanted before the first line
-pub HasReplayedLogged-memory : (setup : Setup) (trace left : Option (List ℕ)) (p : Output) → HasReplayedLogged setup Memory trace left p p
-HasReplayedLogged-memory setup trace left p = record {
+pub HasReplayedLogged-memory : (setup : Setup) (trace : Option (List ℕ)) (p : Output) → HasReplayedLogged setup Memory trace trace p p
+HasReplayedLogged-memory setup trace p = record {
   all = [];
   ends =
-      IfSome-any trace (λ bytes. LoggedEnds setup Memory bytes left [])
-      (λ bytes. record { front = IsFrontFrom-nil setup (start setup) (lines_of bytes); wanting = inl refl });
+      IfSome-is trace (λ bytes. LoggedEnds setup Memory bytes trace [])
+      (λ bytes is. record { front = IsFrontFrom-nil setup (start setup) (lines_of bytes); wanting = inl (refl, is) });
   replayed = inl (refl, refl);
   said = record { whole = λ told. Prints-nil p; front = Prints-front p p [] (Prints-nil p) };
 }
@@ -321,7 +317,7 @@ replied_of_logged f world (Some bytes) (Some behind) o put running (given, cut, 
     part = are.part;
     cut = are.cut;
     whole = are.whole;
-    unfinished = are.unfinished;
+    undecided = are.undecided;
     all = are.replies;
     run = (run_of_talk f world are.last are.lines (steps_logged are.replies) running (plain_talk f world are.last are.lines are.replies are.talk)).run;
     replied = are.told;

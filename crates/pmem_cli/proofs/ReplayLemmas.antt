@@ -15,19 +15,23 @@ use Rattle.pmem_cli.specs.Replies.{world_protocol}
 use Rattle.pmem_cli.specs.Standing.{standing_of, IsFirstWorld, AreStepped}
 use Rattle.pmem_cli.specs.Turns.{HasStopped}
 use Rattle.pmem_cli.specs.HasRun.{HasReplayed}
+use Rattle.pmem_cli.specs.Wanting.{IsStarvedIn}
 use Rattle.pmem_cli.proofs.PrintLemmas.{Prints-nil, Prints-front}
 use Rattle.pmem_cli.proofs.RunLemmas.{IsFrontFrom-nil}
-use Rattle.pmem_cli.proofs.TurnLemmas.{IfSome-any, IfSome-map}
+use Rattle.pmem_cli.proofs.TurnLemmas.{IfSome-any, IfSome-is, IfSome-map}
 use Rattle.pmem_cli.proofs.StandingLemmas.{new_setup, new_machine}
-use Rattle.pmem_cli.proofs.WorldTalks.{stepped_of_given, ends_of_talk}
+use Rattle.pmem_cli.proofs.WorldTalks.{stepped_of_given, ends_of_talk, wanted_of_talk}
 
 -- memory was wanted before the first line
-pub HasReplayed-memory : (setup : Setup) (trace left : Option (List ℕ)) (p : Output) → HasReplayed setup Memory trace left p p
-HasReplayed-memory setup trace left p = record {
+pub HasReplayed-memory : (setup : Setup) (trace : Option (List ℕ)) (p : Output) → HasReplayed setup Memory trace trace p p
+HasReplayed-memory setup trace p = record {
   steps = [];
   ends =
-      IfSome-any trace (λ bytes. Ends setup Memory bytes left [])
+      IfSome-any trace (λ bytes. Ends setup Memory bytes trace [])
       (λ bytes. record { front = IsFrontFrom-nil setup (start setup) (lines_of bytes); wanting = inl refl });
+  wanted = λ same.
+      IfSome-is trace (λ bytes. IsStarvedIn setup (start setup) 0 bytes trace [])
+      (λ bytes is. record { front = IsFrontFrom-nil setup (start setup) (lines_of bytes); wanting = inl (refl, is) });
   replayed = inl (refl, refl);
   said = record { whole = λ told. Prints-nil p; front = Prints-front p p [] (Prints-nil p) };
 }
@@ -48,6 +52,11 @@ HasReplayed-served f shape keys world stop trace left p q is same stopped =
       ends =
           subst (λ machine. IfSome trace (λ bytes. EndsFrom setup machine 0 stop bytes left stopped.replies)) (new_machine f setup world is.new)
           (subst (λ (u : Setup). IfSome trace (λ bytes. EndsFrom u s.machine 0 stop bytes left stopped.replies)) at_setup ends);
+      wanted = λ memory.
+          subst (λ machine. IfSome trace (λ bytes. IsStarvedIn setup machine 0 bytes left stopped.replies)) (new_machine f setup world is.new)
+          (subst (λ (u : Setup). IfSome trace (λ bytes. IsStarvedIn u s.machine 0 bytes left stopped.replies)) at_setup
+          (IfSome-map trace (λ bytes. TalkEnds (world_protocol f) world 0 stop bytes left stopped.replies) (λ bytes. IsStarvedIn s.setup s.machine 0 bytes left stopped.replies)
+          (λ bytes some ends. wanted_of_talk stop f world 0 bytes left stopped.replies is.new.not_shown ends memory) stopped.ends));
       replayed = inr (world, stepped.0, is, subst (λ (u : Setup). AreStepped u world stopped.replies stepped.0) at_setup stepped.1);
       said = record { whole = stopped.whole; front = stopped.front };
     }

@@ -1,15 +1,15 @@
 -- Replies that were put before the source was pulled.
 use Rattle.std.proofs.Common.{rules, ◌≡◌, ◌≢◌, ◌∙◌, ℕ, List, [], ◌++◌, refl, sym, ap, subst, append_assoc, append-nil, inl, inr, Bool}
-use Rattle.std.specs.Prelude.{◌⊎◌, Option, None, Some, Contains}
+use Rattle.std.specs.Prelude.{◌⊎◌, length, Option, None, Some}
 use Rattle.std.specs.List.{flat_map}
-use Rattle.std.specs.Io.KnownBytes.{Appends, Consumes, prepend_known}
+use Rattle.std.specs.Io.KnownBytes.{Appends}
 use Rattle.std.proofs.KnownBytes.{Appends-trans}
 use Rattle.pmem_base.specs.Shape.{Shape}
 use Rattle.suite.specs.Formulas.{Formulas}
 use Rattle.suite.specs.Setup.{Setup}
 use Rattle.plain_model.specs.declared.Stop.{Stop}
 use Rattle.plain_model.specs.declared.Stop.TheVariants.{WriteFault}
-use Rattle.plain_model.specs.Lines.{IsWithin, ended}
+use Rattle.plain_model.specs.Lines.{ended}
 use Rattle.plain_model.specs.Run.{Machine, start, steps_text}
 use Rattle.trace_text.specs.Conversations.{Protocol, texts_of}
 use Rattle.pmem_replay.specs.World.{WorldState}
@@ -20,9 +20,9 @@ use Rattle.pmem_cli.specs.declared.options.Task.{Task}
 use Rattle.pmem_cli.specs.Endings.{ending_text}
 use Rattle.pmem_cli.specs.Keys.{setup_chosen}
 use Rattle.pmem_cli.specs.Printed.{Output, Prints, PrintsFront, PutsAtLeast, with_waiting}
-use Rattle.pmem_cli.specs.RepliesFirst.{PullsWithinLine, HasRepliedFirst, TaskRepliesFirst}
+use Rattle.pmem_cli.specs.Pulling.{PullsUndecided}
+use Rattle.pmem_cli.specs.RepliesFirst.{HasRepliedFirst, TaskRepliesFirst}
 use Rattle.pmem_cli.specs.Logged.{logged_protocol, logged_texts, HasRepliedLoggedFirst}
-use Rattle.pmem_cli.specs.Pulling.{RemembersLeft}
 use Rattle.pmem_cli.specs.Standing.{standing_of}
 use Rattle.pmem_cli.specs.Replies.{world_protocol}
 use Rattle.pmem_cli.specs.Sessions.{Session, telling, HasSaidFirst}
@@ -34,21 +34,6 @@ use Rattle.pmem_cli.specs.Wear.{wear_chosen}
 use Rattle.pmem_cli.proofs.StandingLemmas.{new_setup, new_machine}
 use Rattle.pmem_cli.proofs.WorldTalks.{replied_of_told}
 use Rattle.pmem_cli.proofs.LoggedTalks.{replied_of_logged}
-
--- ---- pulls
-
--- a pull after a part of a line
-pub pulled_within_line : {T : Type 0} (first mid last : T) (left remembered : T → Option (List ℕ)) (ahead : Option (List ℕ)) (at_hand part : List ℕ)
-    → Consumes ahead (prepend_known at_hand (left mid)) part → IsWithin part → (mid ≡ first) ⊎ PullsWithinLine ahead (remembered mid)
-    → (last ≡ mid) ⊎ ((at_hand ≡ []) × RemembersLeft (remembered last) (left mid)) → (last ≡ first) ⊎ PullsWithinLine ahead (remembered last)
-pulled_within_line first mid last left remembered ahead at_hand part taken within v10 v11 = search rules
-
--- where a pull may be made, nothing waits
-pub pulled_quietly : {T : Type 0} (before now : T) (at_hand waiting : List ℕ) (P : Type 0) → Contains at_hand 10 ⊎ (waiting ≡ []) → (Contains at_hand 10 → now ≡ before)
-    → (now ≡ before) ⊎ P → (now ≡ before) ⊎ ((waiting ≡ []) × P)
-pulled_quietly before now at_hand waiting P (inl line) kept pulled = inl (kept line)
-pulled_quietly before now at_hand waiting P (inr none) kept (inl same) = inl same
-pulled_quietly before now at_hand waiting P (inr none) kept (inr pulled) = inr (none, pulled)
 
 -- ---- what is put
 
@@ -95,11 +80,11 @@ pulled_flushed w before now stop a b left s t p q r k P printed turn (inr pulled
 
 -- the lines before a pull were answered, and what waited was put
 told_here : {S X : Type 0} (w : Protocol S X) (a b told : Option (List ℕ)) (s t : S) (p q : Output) (put : Option (List ℕ)) (ls : List (List ℕ)) (xs : List X)
-    → HasServed w a b s t p q ls xs → PutsAtLeast q put [] → PullsWithinLine b told → HasToldFirst w s a told p put
+    → HasServed w a b s t p q ls xs → PutsAtLeast q put [] → PullsUndecided (length ls) b told → HasToldFirst w s a told p put
 told_here w None b told s t p q put ls xs served puts pulled = tt
 told_here w (Some bytes) b None s t p q put ls xs served puts pulled = tt
 told_here w (Some bytes) None (Some behind) s t p q put ls xs served puts pulled = absurd served.taken
-told_here w (Some bytes) (Some rest) (Some behind) s t p q put ls xs served puts (part, taken, within) = (
+told_here w (Some bytes) (Some rest) (Some behind) s t p q put ls xs served puts (part, taken, undecided) = (
   flat_map ended ls ++ part,
   served.taken ∙ ap (λ l. flat_map ended ls ++ l) taken ∙ sym (append_assoc (flat_map ended ls) part behind),
   record {
@@ -107,7 +92,7 @@ told_here w (Some bytes) (Some rest) (Some behind) s t p q put ls xs served puts
     part = part;
     cut = refl;
     whole = served.within;
-    unfinished = within;
+    undecided = undecided;
     replies = xs;
     last = t;
     talk = served.talk;
@@ -128,7 +113,7 @@ told_more w s (Some bytes) (Some behind) p put later more (given, cut, are) grow
     part = are.part;
     cut = are.cut;
     whole = are.whole;
-    unfinished = are.unfinished;
+    undecided = are.undecided;
     replies = are.replies;
     last = are.last;
     talk = are.talk;
@@ -150,7 +135,7 @@ told_more_since w first last s a told p put later more (inr before) grown = inr 
 -- after one more turn
 pub told_turn : {S X T : Type 0} (w : Protocol S X) (first mid last : T) (remembered : T → Option (List ℕ)) (a b : Option (List ℕ)) (s t : S) (p q : Output) (put : Option (List ℕ))
     (ls : List (List ℕ)) (xs : List X) → HasServed w a b s t p q ls xs → (mid ≡ first) ⊎ HasToldFirst w s a (remembered mid) p q.put
-    → (last ≡ mid) ⊎ (PutsAtLeast q put [] × PullsWithinLine b (remembered last)) → (more : List ℕ) × Appends q.put put more
+    → (last ≡ mid) ⊎ (PutsAtLeast q put [] × PullsUndecided (length ls) b (remembered last)) → (more : List ℕ) × Appends q.put put more
     → (last ≡ first) ⊎ HasToldFirst w s a (remembered last) p put
 told_turn w first mid last remembered a b s t p q put ls xs served (inl kept) (inl same) grown = inl (same ∙ kept)
 told_turn w first mid last remembered a b s t p q put ls xs served (inr before) (inl same) grown =
@@ -173,7 +158,7 @@ replied_more setup machine (Some bytes) (Some behind) p put later more (given, c
     part = are.part;
     cut = are.cut;
     whole = are.whole;
-    unfinished = are.unfinished;
+    undecided = are.undecided;
     steps = are.steps;
     run = are.run;
     replied = puts_more p put later (steps_text are.steps) more are.replied grown;
@@ -205,7 +190,7 @@ replied_logged_more setup machine (Some bytes) (Some behind) p put later more (g
     part = are.part;
     cut = are.cut;
     whole = are.whole;
-    unfinished = are.unfinished;
+    undecided = are.undecided;
     all = are.all;
     run = are.run;
     replied = puts_more p put later (logged_texts are.all) more are.replied grown;
@@ -230,6 +215,7 @@ task_replied_more (Task.Run c) a left told p put later more replies grown =
     λ given. replied_more (setup_chosen c) (start (setup_chosen c)) a told p put later more (replies given) grown
 task_replied_more (Task.Log c) a left told p put later more replies grown =
     λ given. replied_logged_more (setup_chosen c) (start (setup_chosen c)) a told p put later more (replies given) grown
+task_replied_more (Task.Check c) a left told p put later more replies grown = replies
 task_replied_more (Task.Wear c) a left told p put later more replies grown = λ given. said_more (wear_chosen c) c.log a told p put later more (replies given) grown
 task_replied_more (Task.Tree c) a left told p put later more replies grown = λ given. said_more (tree_chosen c) c.log a told p put later more (replies given) grown
 task_replied_more (Task.Txn c) a left told p put later more replies grown = λ given. said_more (txn_chosen c) c.log a told p put later more (replies given) grown

@@ -1,7 +1,7 @@
 -- Two runs of the same commands from states that are alike come to one stop, by the same steps, where a command has one
 -- reply in states that are alike and leaves such states.
 use Rattle.std.proofs.Common.{◌≡◌, ◌∙◌, ◌+◌, ◌<◌, ◌≤◌, ℕ, true, false, List, [], ◌∷◌, ◌++◌, length, refl, sym, ap, ap₂, subst, inl, inr, arith}
-use Rattle.std.specs.Prelude.{◌⊎◌, All, IsOk, map, Option, None, Some, Ok, Err}
+use Rattle.std.specs.Prelude.{◌⊎◌, All, IsOk, map, None, Some, Ok, Err}
 use Rattle.std.specs.List.{flat_map}
 use Rattle.std.proofs.lemmas.Bool.{true≢false}
 use Rattle.std.proofs.lemmas.List.Elements.{All-head, All-tail}

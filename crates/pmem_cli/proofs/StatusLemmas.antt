@@ -64,6 +64,7 @@ run_done setup stop status pull_failed trace left before after between run read 
   stop = stop;
   steps = run.steps;
   ends = run.ends;
+  wanted = run.wanted;
   replayed = run.replayed;
   untampered =
       IfSome-map trace (λ bytes. Ends setup stop bytes left run.steps) (λ bytes. IsUntampered setup run.steps)

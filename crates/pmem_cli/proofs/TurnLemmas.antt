@@ -29,6 +29,11 @@ pub IfSome-any : {T : Type 0} (a : Option T) (P : T → Type 0) → ((x : T) →
 IfSome-any None P holds = tt
 IfSome-any (Some x) P holds = holds x
 
+-- what holds of what is there
+pub IfSome-is : {T : Type 0} (a : Option T) (P : T → Type 0) → ((x : T) → a ≡ Some x → P x) → IfSome a P
+IfSome-is None P holds = tt
+IfSome-is (Some x) P holds = holds x refl
+
 -- what follows from a fact of what there is
 pub IfSome-map : {T : Type 0} (a : Option T) (P Q : T → Type 0) → ((x : T) → a ≡ Some x → P x → Q x) → IfSome a P → IfSome a Q
 IfSome-map None P Q follows holds = tt

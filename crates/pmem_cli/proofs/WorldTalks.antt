@@ -1,8 +1,9 @@
 -- What a world's replies to the lines of a trace say of the plain machine.
-use Rattle.std.proofs.Common.{◌≡◌, ◌∙◌, ℕ, List, [], ◌∷◌, ◌++◌, length, refl, sym, ap, subst, Bool, true, false, inl, inr}
-use Rattle.std.specs.Prelude.{◌⊎◌, Option, None, Some, Ok, Err, nat_lt, if◌then◌else◌}
+use Rattle.std.proofs.Common.{◌≡◌, ◌∙◌, ◌+◌, ℕ, List, [], ◌∷◌, ◌++◌, length, refl, sym, ap, subst, Bool, true, false, inl, inr}
+use Rattle.std.specs.Prelude.{◌⊎◌, Option, None, Some, Ok, Err, IsTrue, nat_lt, if◌then◌else◌}
 use Rattle.std.proofs.lemmas.Bool.{true≢false}
 use Rattle.pmem_base.specs.declared.commands.Command.{Command}
+use Rattle.pmem_base.specs.declared.commands.Command.TheVariants as Do
 use Rattle.pmem_base.specs.declared.commands.Kind.{Kind}
 use Rattle.pmem_base.specs.declared.commands.Kind.TheVariants.{Long}
 use Rattle.suite.specs.Formulas.{Formulas}
@@ -10,14 +11,16 @@ use Rattle.suite.specs.Setup.{Setup}
 use Rattle.collision_witness.specs.Words.{words_of, without_return}
 use Rattle.plain_model.specs.declared.Stop.{Stop}
 use Rattle.plain_model.specs.declared.Stop.TheVariants.{Finished, Words, Memory, ReadFault, WriteFault, Refused, Shown, TooManyLines}
+use Rattle.plain_model.specs.State.{PlainState}
 use Rattle.plain_model.specs.Lines.{lines_of}
 use Rattle.plain_model.specs.Words.{last_port}
 use Rattle.plain_model.specs.Answers.{is_shown}
 use Rattle.plain_model.specs.Grammar.{Reading, verbs, reading_of, reading_among, reading_of_words}
-use Rattle.plain_model.specs.Run.{Machine, Step, machine_after_all, IsAnswered, IsRunFrom, IsShownFrom, EndsFrom}
+use Rattle.plain_model.specs.Run.{Machine, Step, machine_after_all, IsAnswered, IsRunFrom, IsShownFrom, WantsMemory, takes_memory, EndsFrom}
 use Rattle.pmem_replay.specs.World.{WorldState}
+use Rattle.pmem_replay.specs.Stepped.{CanWantMemory}
 use Rattle.trace_text.specs.Talks.{skipped, faulty}
-use Rattle.trace_text.specs.Conversations.{line_sort, AnswersOne, IsTalk, AreRepliesGiven, IsShownTalk, TalkEnds}
+use Rattle.trace_text.specs.Conversations.{line_sort, AnswersOne, IsTalk, AreRepliesGiven, IsShownTalk, IsStarvedTalk, TalkEnds}
 use Rattle.pmem_cli.specs.Printed.{Output}
 use Rattle.pmem_cli.specs.Standing.{Standing, standing_of, AreStepped, StandingAfter}
 use Rattle.trace_text.specs.Entries.{sort_of_reading}
@@ -25,6 +28,7 @@ use Rattle.pmem_cli.specs.Replies.{AnswersCommand, IsReplyTo, GoesOn, EndsShown,
 use Rattle.pmem_cli.specs.RepliesFirst.{HasRepliedFirst}
 use Rattle.pmem_cli.specs.Talked.{HasToldFirst}
 use Rattle.pmem_cli.specs.Turns.{AnswersLine}
+use Rattle.pmem_cli.specs.Wanting.{WantsMemoryIn, IsMemoryWantedIn, IsStarvedIn}
 use Rattle.pmem_cli.proofs.RunLemmas.{IsRunFrom-append, IsRunFrom-nil, IsRunFrom-skipped, IsRunFrom-step}
 use Rattle.pmem_cli.proofs.ShownLemmas.{exhibit_of, legal_exhibit}
 use Rattle.pmem_cli.proofs.StandingLemmas.{StandingAfter-nil, StandingAfter-trans, AreStepped-after}
@@ -146,6 +150,36 @@ stepped_of_given f world (step ∷ xs) (line, its_sort, inr (ends, none)) =
 
 -- ---- stops
 
+-- a command that takes memory in a state is one that may want it
+takes : (state : PlainState) (command : Command) → CanWantMemory state command → IsTrue (takes_memory command)
+takes state (Do.Drain port) wants = refl
+takes state (Do.Fence port) wants = refl
+takes state Do.Turn wants = refl
+takes state Do.On wants = refl
+takes state Do.Snap wants = refl
+takes state command wants = absurd wants
+
+wants_takes : (state : PlainState) (r : Reading) → WantsMemoryIn state r → WantsMemory r
+wants_takes state (Ok (Some command)) wants = takes state command wants
+wants_takes state (Ok None) wants = wants
+wants_takes state (Err kind) wants = wants
+
+starved_of_talk : (f : List ℕ → Formulas) (world : WorldState) (served : ℕ) (trace : List ℕ) (left : Option (List ℕ)) (xs : List Step) → world.shown ≡ false
+    → IsStarvedTalk (world_protocol f) world served (lines_of trace) xs → IsStarvedIn (standing_of f world).setup (standing_of f world).machine served trace left xs
+starved_of_talk f world served trace left xs running ends =
+    let ran = run_of_talk f world ends.last ends.before xs running ends.talk in
+    record {
+      front = record { before = ends.before; behind = ends.line ∷ ends.behind; cut = ends.cut; run = ran.run };
+      wanting =
+          inr (subst (λ (m : Machine). IsMemoryWantedIn m.state (served + length ends.before) (ends.line ∷ ends.behind)) ran.on.machine (ends.wanted, ends.counted));
+    }
+
+pub wanted_of_talk : (stop : Stop) (f : List ℕ → Formulas) (world : WorldState) (served : ℕ) (trace : List ℕ) (left : Option (List ℕ)) (xs : List Step) → world.shown ≡ false
+    → TalkEnds (world_protocol f) world served stop trace left xs → stop ≡ Memory
+    → IsStarvedIn (standing_of f world).setup (standing_of f world).machine served trace left xs
+wanted_of_talk Memory f world served trace left xs running ends same = starved_of_talk f world served trace left xs running ends
+wanted_of_talk stop f world served trace left xs running ends same = cc
+
 shown_of_talk : (f : List ℕ → Formulas) (world : WorldState) (served : ℕ) (lines : List (List ℕ)) (xs : List Step) → world.shown ≡ false
     → IsShownTalk (world_protocol f) world served lines xs → IsShownFrom (standing_of f world).setup (standing_of f world).machine served lines xs
 shown_of_talk f world served lines xs running ends =
@@ -181,7 +215,7 @@ ends_of_talk Finished f world served trace left xs running ends =
 ends_of_talk Memory f world served trace left xs running ends =
     record {
       front = record { before = ends.before; behind = ends.line ∷ ends.behind; cut = ends.cut; run = (run_of_talk f world ends.last ends.before xs running ends.talk).run };
-      wanting = inr (ends.wanted, ends.counted);
+      wanting = inr (wants_takes ends.last.state (reading_of ends.line) ends.wanted, ends.counted);
     }
 ends_of_talk Words f world served trace left xs running ends = ends
 ends_of_talk ReadFault f world served trace left xs running ends =
@@ -247,7 +281,7 @@ replied_of_told f world (Some bytes) (Some behind) o put running (given, cut, ar
     part = are.part;
     cut = are.cut;
     whole = are.whole;
-    unfinished = are.unfinished;
+    undecided = are.undecided;
     steps = are.replies;
     run = (run_of_talk f world are.last are.lines are.replies running are.talk).run;
     replied = are.told;

@@ -15,6 +15,7 @@ use Rattle.plain_model.specs.Grammar.{is_comment}
 use Rattle.plain_model.specs.Run.{line_limit}
 use Rattle.pmem_cli.specs.declared.ending.Ending.{Ending}
 use Rattle.pmem_cli.specs.declared.ending.Ending.TheVariants.{Stopped, Holds, Fails}
+use Rattle.pmem_cli.specs.Pulling.{IsUndecided}
 
 -- ---- lines
 
@@ -148,3 +149,20 @@ IsChecked formulas (Stopped (Refused number kind)) bytes left =
     IsRefusedIn None 0 (lines_of bytes) number kind ⊎ IsMissing bytes number kind
 IsChecked formulas (Stopped TooManyLines) bytes left =
     (after : Option Exhibit) × IsPastLimit None 0 (lines_of bytes) after
+
+-- ---- before a pull, from what was found before and after so many lines
+
+-- The whole lines of these bytes were read, none is refused, and what was given of the next line decides no stop.
+pub record IsLookedThrough (found : Option Exhibit) (served : ℕ) (given : List ℕ) : Type 0 where
+  pub lines : List (List ℕ)
+  pub part : List ℕ
+  pub cut : given ≡ flat_map ended lines ++ part
+  pub whole : All IsWithin lines
+  pub undecided : IsUndecided (served + length lines) part
+  pub after : Option Exhibit
+  pub read : found_in_lines found lines ≡ Ok after
+
+-- So it is of the bytes that the source had given before its last pull.
+abbrev pub HasLookedFirst : Option Exhibit → ℕ → Option (List ℕ) → Option (List ℕ) → Type 0
+HasLookedFirst found served trace left_before =
+    IfSome trace (λ bytes. IfSome left_before (λ behind. (given : List ℕ) × (bytes ≡ given ++ behind) × IsLookedThrough found served given))

@@ -1,10 +1,11 @@
--- That a run of a trace leaves nothing open: what the clauses of `run` allow to be put and answered for one geometry,
--- suite and trace, where no pull and no push failed and memory could be had, is one text with one status.
-use Rattle.std.specs.Prelude.{◌≡◌, ◌≢◌, ◌++◌, ℕ, List, Option, Some}
-use Rattle.pmem_cli.specs.declared.options.Choices.{Choices}
+-- That a run of a trace leaves nothing open: what the clauses of `run` allow to be put and answered for the same words
+-- and the same trace, where no pull and no push failed and memory could be had, is one text with one status.
+use Rattle.std.specs.Prelude.{◌≡◌, ◌≢◌, ◌↔◌, ◌++◌, ⊤, ℕ, List, Option, Some, None, IfSome, IsNone}
+use Rattle.collision_witness.specs.Words.{Word}
 use Rattle.pmem_cli.specs.declared.options.Task.{Task}
 use Rattle.pmem_cli.specs.Causes.{Rose}
-use Rattle.pmem_cli.specs.HasRun.{TaskOutcome}
+use Rattle.pmem_cli.specs.HasRun.{TaskOutcome, AreRefusedWords}
+use Rattle.pmem_cli.specs.Words.{task_of}
 
 -- What is seen of a call of `run`: its status, how many pulls and pushes had failed before and after it, the bytes that
 -- the source had left, and those that the sink had put, where they are told.
@@ -19,13 +20,24 @@ pub record Call : Type 0 where
   pub put_before : Option (List ℕ)
   pub put_after : Option (List ℕ)
 
--- what the clauses told, read and write of `run` say of a call that asks for this
-pub record IsCallFor (task : Task) (call : Call) : Type 0 where
+-- what the clauses words, words_told, told, read and write of `run` say of a call with these words
+pub record IsCallWith (words : List Word) (call : Call) : Type 0 where
+  pub faulty : (call.status ≡ 2) ↔ IsNone (task_of words)
+  pub refused : call.status ≡ 2 → AreRefusedWords call.put_before call.put_after call.pushes_before call.pushes_after
   pub told :
+      IfSome (task_of words) (λ task.
       TaskOutcome task call.status (Rose call.pulls_before call.pulls_after) call.trace call.left call.put_before
-      call.put_after
+      call.put_after)
   pub read : call.status ≡ 3 → Rose call.pulls_before call.pulls_after
   pub write : call.status ≡ 4 → Rose call.pushes_before call.pushes_after
+
+-- What the words ask for is of those of which this is said: a run without its log, a sample trace, and faulty words.
+abbrev pub IsSettled : Option Task → Type 0
+IsSettled None = ⊤
+IsSettled (Some (Task.Run c)) = ⊤
+IsSettled (Some (Task.Make seed count)) = ⊤
+IsSettled (Some (Task.Sample seed count)) = ⊤
+IsSettled (Some task) = ⊥
 
 -- the source told this trace and the sink what it had put, no pull and no push failed, and memory could be had
 pub record IsUndisturbed (trace put : List ℕ) (call : Call) : Type 0 where
@@ -44,5 +56,5 @@ pub record AreAnsweredAlike (put : List ℕ) (a b : Call) : Type 0 where
 
 abbrev pub RunIsDetermined : Type 0
 RunIsDetermined =
-    (choices : Choices) (trace put : List ℕ) (a b : Call) → IsCallFor (Task.Run choices) a → IsCallFor (Task.Run choices) b
+    (words : List Word) (trace put : List ℕ) (a b : Call) → IsSettled (task_of words) → IsCallWith words a → IsCallWith words b
     → IsUndisturbed trace put a → IsUndisturbed trace put b → AreAnsweredAlike put a b

@@ -5,7 +5,7 @@ use Rattle.pmem_base.specs.declared.commands.Command.{Command}
 use Rattle.suite.specs.Setup.{Setup}
 use Rattle.plain_model.specs.Defaults.{default_setup}
 use Rattle.plain_model.specs.declared.Stop.{Stop}
-use Rattle.plain_model.specs.declared.Stop.TheVariants.{Finished, ReadFault, WriteFault, Words}
+use Rattle.plain_model.specs.declared.Stop.TheVariants.{Finished, Memory, ReadFault, WriteFault, Words}
 use Rattle.plain_model.specs.Lines.{lines_of}
 use Rattle.plain_model.specs.Grammar.{reading_of}
 use Rattle.plain_model.specs.Run.{line_limit, Step, start, Ends, steps_text, output_of, stop_text, status_of}
@@ -28,17 +28,20 @@ use Rattle.pmem_cli.specs.Talked.{IsRunThrough, IsTalkComplete}
 use Rattle.pmem_cli.specs.Tree.{tree_chosen}
 use Rattle.pmem_cli.specs.Txn.{txn_chosen}
 use Rattle.pmem_cli.specs.Untampered.{IsUntampered}
+use Rattle.pmem_cli.specs.Wanting.{IsStarvedIn}
 use Rattle.pmem_cli.specs.Wear.{wear_chosen}
 
 -- ---- at the end of the program
 
 -- The trace ends by a stop, and its steps and the stop's line were put: the whole of them, with the
 -- stop's own status, or a front of them, with status 4. Whatever the status, the stop is a failed pull only
--- where one failed.
+-- where one failed, and want of memory only where the next command takes memory in that state, or before the first
+-- line, of which then nothing was taken.
 pub record HasRun (setup : Setup) (status : ℕ) (pull_failed : Type 0) (trace left put_before put_after : Option (List ℕ)) : Type 0 where
   pub stop : Stop
   pub steps : List Step
   pub ends : IfSome trace (λ bytes. Ends setup stop bytes left steps)
+  pub wanted : stop ≡ Memory → IfSome trace (λ bytes. IsStarvedIn setup (start setup) 0 bytes left steps)
   pub replayed : IsReplayed setup stop steps
   pub untampered : IfSome trace (λ bytes. IsUntampered setup steps)
   pub summed : IfSome trace (λ bytes. AreStepSums setup (start setup) steps)
@@ -119,6 +122,7 @@ pub record TextOutcome (stop : Stop) (from to : Output) (text : List ℕ) : Type
 pub record HasReplayed (setup : Setup) (stop : Stop) (trace left : Option (List ℕ)) (from to : Output) : Type 0 where
   pub steps : List Step
   pub ends : IfSome trace (λ bytes. Ends setup stop bytes left steps)
+  pub wanted : stop ≡ Memory → IfSome trace (λ bytes. IsStarvedIn setup (start setup) 0 bytes left steps)
   pub replayed : IsReplayed setup stop steps
   pub said : HasSaidText stop from to (steps_text steps)
 

@@ -8,6 +8,7 @@ pub mod Words
 pub mod Keys
 pub mod Endings
 pub mod Standing
+pub mod Wanting
 pub mod Replies
 pub mod Turns
 pub mod Checked

@@ -12,16 +12,19 @@ use Rattle.plain_model.specs.declared.Stop.TheVariants.{Memory, ReadFault}
 use Rattle.plain_model.specs.Lines.{lines_of, ended, IsWithin}
 use Rattle.plain_model.specs.Grammar.{Reading, reading_of}
 use Rattle.plain_model.specs.Texts.{as_line}
-use Rattle.plain_model.specs.Run.{Machine, Step, step_text, start, line_limit, takes_memory, stop_text, status_of, IsRunFrom, IsFrontFrom, EndsFrom}
+use Rattle.plain_model.specs.State.{PlainState}
+use Rattle.plain_model.specs.Run.{Machine, Step, step_text, start, line_limit, machine_after_all, stop_text, status_of, IsRunFrom, IsFrontFrom, EndsFrom}
 use Rattle.access_log.specs.declared.access.Access.{Access}
 use Rattle.access_log.specs.declared.access.Access.TheVariants as Did
 use Rattle.pmem_replay.specs.World.{WorldState}
+use Rattle.pmem_replay.specs.Stepped.{CanWantMemory}
 use Rattle.pmem_replay.specs.Logged.{IsLogged}
 use Rattle.trace_text.specs.Entries.{sort_of_reading}
 use Rattle.trace_text.specs.Conversations.{Protocol}
 use Rattle.pmem_cli.specs.declared.ending.Ending.{Ending}
 use Rattle.pmem_cli.specs.declared.ending.Ending.TheVariants.{Stopped}
 use Rattle.pmem_cli.specs.Printed.{Output, AppendsFront, PutsAtLeast}
+use Rattle.pmem_cli.specs.Pulling.{IsUndecided}
 use Rattle.pmem_cli.specs.Replies.{GoesOn, EndsShown}
 use Rattle.pmem_cli.specs.Sampled.{HasSaidText}
 use Rattle.pmem_cli.specs.Standing.{standing_of, IsFirstWorld, IsWorldStep}
@@ -68,18 +71,22 @@ pub record IsTold (old : WorldState) (logged : LoggedStep) (new : WorldState) : 
 
 -- ---- want of memory
 
--- whether the reply to the command, with its log, may want memory
-abbrev pub takes_memory_logged : Command → Bool
-takes_memory_logged (Do.Read port at) = true
-takes_memory_logged Do.Flush = true
-takes_memory_logged (Do.Loss n) = true
-takes_memory_logged command = takes_memory command
+-- whether the command may access the board by the engine or by recovery, which its log then tells
+abbrev pub may_access : Command → Bool
+may_access (Do.Drain port) = true
+may_access (Do.Fence port) = true
+may_access (Do.Read port at) = true
+may_access Do.Turn = true
+may_access Do.Flush = true
+may_access (Do.Loss n) = true
+may_access Do.On = true
+may_access command = false
 
--- the reply to a line that reads so, with its log, may want memory
-abbrev pub WantsMemoryLogged : Reading → Type 0
-WantsMemoryLogged (Ok (Some command)) = IsTrue (takes_memory_logged command)
-WantsMemoryLogged (Ok None) = ⊥
-WantsMemoryLogged (Err kind) = ⊥
+-- the reply to a line that reads so, with its log, may want memory: for the reply, or for an access that is logged
+abbrev pub WantsMemoryLogged : PlainState → Reading → Type 0
+WantsMemoryLogged state (Ok (Some command)) = CanWantMemory state command ⊎ IsTrue (may_access command)
+WantsMemoryLogged state (Ok None) = ⊥
+WantsMemoryLogged state (Err kind) = ⊥
 
 -- ---- the lines of a trace
 
@@ -104,7 +111,7 @@ logged_protocol formulas_of =
       answers = GoesOnTold formulas_of;
       shows = EndsTold formulas_of;
       text_of = logged_text;
-      wants_memory = λ old line. WantsMemoryLogged (reading_of line);
+      wants_memory = λ old line. WantsMemoryLogged old.state (reading_of line);
       runs = λ world. world.shown ≡ false;
     }
 
@@ -114,18 +121,22 @@ abbrev pub steps_logged : List LoggedStep → List Step
 steps_logged all = map (λ logged. logged.step) all
 
 -- memory was wanted for the reply to the first of these lines or for its log, and the line isn't past the limit
-abbrev pub IsMemoryWantedLogged : ℕ → List (List ℕ) → Type 0
-IsMemoryWantedLogged served [] = ⊥
-IsMemoryWantedLogged served (line ∷ lines) = WantsMemoryLogged (reading_of line) × (served < line_limit)
+abbrev pub IsMemoryWantedLogged : PlainState → ℕ → List (List ℕ) → Type 0
+IsMemoryWantedLogged state served [] = ⊥
+IsMemoryWantedLogged state served (line ∷ lines) = WantsMemoryLogged state (reading_of line) × (served < line_limit)
 
-pub record IsStarvedLogged (setup : Setup) (machine : Machine) (lines : List (List ℕ)) (steps : List Step) : Type 0 where
-  pub front : IsFrontFrom setup machine lines steps
-  pub wanting : (length front.before ≡ 0) ⊎ IsMemoryWantedLogged (length front.before) front.behind
+-- A front of the lines is run, and memory was wanted for the reply to the next line's command or for its log; or it was
+-- wanted before the first line, and no byte was taken.
+pub record IsStarvedLogged (setup : Setup) (machine : Machine) (trace : List ℕ) (left : Option (List ℕ)) (steps : List Step) : Type 0 where
+  pub front : IsFrontFrom setup machine (lines_of trace) steps
+  pub wanting :
+      ((length front.before ≡ 0) × (left ≡ Some trace))
+      ⊎ IsMemoryWantedLogged (machine_after_all setup machine steps).state (length front.before) front.behind
 
 -- What a stop says of a trace, of what is left of it, and of the steps: as without a log, but for want of memory,
 -- which may be for the log.
 abbrev pub LoggedEndsFrom : Setup → Machine → Stop → List ℕ → Option (List ℕ) → List Step → Type 0
-LoggedEndsFrom setup machine Memory trace left steps = IsStarvedLogged setup machine (lines_of trace) steps
+LoggedEndsFrom setup machine Memory trace left steps = IsStarvedLogged setup machine trace left steps
 LoggedEndsFrom setup machine stop trace left steps = EndsFrom setup machine 0 stop trace left steps
 
 abbrev pub LoggedEnds : Setup → Stop → List ℕ → Option (List ℕ) → List Step → Type 0
@@ -176,13 +187,14 @@ pub record LoggedRunEnds (setup : Setup) (ending : Ending) (trace left : Option 
 
 -- ---- replies before a pull
 
--- The whole lines of these bytes were answered, and all their replies were put, each with its log.
+-- The whole lines of these bytes were answered, and all their replies were put, each with its log; what was given of the
+-- next line decides no stop.
 pub record AreRepliedLogged (setup : Setup) (machine : Machine) (given : List ℕ) (from : Output) (put : Option (List ℕ)) : Type 0 where
   pub lines : List (List ℕ)
   pub part : List ℕ
   pub cut : given ≡ flat_map ended lines ++ part
   pub whole : All IsWithin lines
-  pub unfinished : IsWithin part
+  pub undecided : IsUndecided (length lines) part
   pub all : List LoggedStep
   pub run : IsRunFrom setup machine lines (steps_logged all)
   pub replied : PutsAtLeast from put (logged_texts all)

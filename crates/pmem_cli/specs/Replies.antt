@@ -1,5 +1,5 @@
 -- What the world's replies to the lines of a trace mean.
-use Rattle.std.specs.Prelude.{◌≡◌, ◌⊎◌, ℕ, true, false, List, [], ◌∷◌, IsTrue, Option, Some, None, Ok, Err}
+use Rattle.std.specs.Prelude.{◌≡◌, ◌⊎◌, ℕ, true, false, List, [], ◌∷◌, Option, Some, None, Ok, Err}
 use Rattle.pmem_base.specs.declared.commands.Command.{Command}
 use Rattle.pmem_base.specs.declared.answers.Answer.{Answer}
 use Rattle.suite.specs.Formulas.{Formulas}
@@ -7,12 +7,14 @@ use Rattle.plain_model.specs.declared.Stop.{Stop}
 use Rattle.plain_model.specs.declared.Stop.TheVariants.{Finished, Memory, Words, ReadFault, WriteFault, Refused, Shown, TooManyLines}
 use Rattle.plain_model.specs.Grammar.{Reading, reading_of}
 use Rattle.plain_model.specs.Answers.{is_shown}
-use Rattle.plain_model.specs.Run.{Step, step_text, takes_memory, IsAnswered, WantsMemory}
+use Rattle.plain_model.specs.Run.{Step, step_text, IsAnswered}
 use Rattle.pmem_replay.specs.World.{WorldState}
+use Rattle.pmem_replay.specs.Stepped.{CanWantMemory}
 use Rattle.trace_text.specs.Entries.{sort_of_reading}
 use Rattle.trace_text.specs.Conversations.{Protocol}
 use Rattle.pmem_cli.specs.Printed.{Output, Prints, PrintsFront}
 use Rattle.pmem_cli.specs.Standing.{Standing, standing_of, IsWorldStep, StandingAfter}
+use Rattle.pmem_cli.specs.Wanting.{WantsMemoryIn}
 
 -- ---- one command
 
@@ -35,7 +37,7 @@ abbrev pub AnswersCommand : Option Stop → Command → Standing → Standing �
 AnswersCommand None command before after from to =
     (step : Step) × HasReplied before command step × (is_shown step.reply.answer ≡ false)
     × StandingAfter before after (step ∷ []) × Prints from to (step_text step)
-AnswersCommand (Some Memory) command before after from to = IsTrue (takes_memory command) × (to ≡ from)
+AnswersCommand (Some Memory) command before after from to = CanWantMemory before.machine.state command × (to ≡ from)
 AnswersCommand (Some WriteFault) command before after from to =
     (step : Step) × HasReplied before command step × ((is_shown step.reply.answer ≡ true) ⊎ StandingAfter before after (step ∷ []))
     × PrintsFront from to (step_text step)
@@ -74,6 +76,6 @@ world_protocol formulas_of =
       answers = GoesOn formulas_of;
       shows = EndsShown formulas_of;
       text_of = step_text;
-      wants_memory = λ old line. WantsMemory (reading_of line);
+      wants_memory = λ old line. WantsMemoryIn old.state (reading_of line);
       runs = λ world. world.shown ≡ false;
     }

@@ -1,31 +1,28 @@
 -- Replies that are put before the source is pulled for more of the trace.
-use Rattle.std.specs.Prelude.{◌≡◌, ◌≢◌, ◌++◌, ⊤, ℕ, List, All, Option, Some, IfSome}
+use Rattle.std.specs.Prelude.{◌≡◌, ◌≢◌, ◌++◌, ⊤, ℕ, List, length, All, Option, None, IfSome}
 use Rattle.std.specs.List.{flat_map}
-use Rattle.std.specs.Io.KnownBytes.{Consumes}
 use Rattle.suite.specs.Setup.{Setup}
 use Rattle.plain_model.specs.Lines.{IsWithin, ended}
 use Rattle.plain_model.specs.Run.{Machine, Step, start, steps_text, IsRunFrom}
 use Rattle.pmem_cli.specs.declared.options.Task.{Task}
+use Rattle.pmem_cli.specs.Checked.{HasLookedFirst}
 use Rattle.pmem_cli.specs.Keys.{setup_chosen}
 use Rattle.pmem_cli.specs.Logged.{HasRepliedLoggedFirst}
 use Rattle.pmem_cli.specs.Printed.{Output, PutsAtLeast}
+use Rattle.pmem_cli.specs.Pulling.{IsUndecided}
 use Rattle.pmem_cli.specs.Sessions.{HasSaidFirst}
 use Rattle.pmem_cli.specs.Tree.{tree_chosen}
 use Rattle.pmem_cli.specs.Txn.{txn_chosen}
 use Rattle.pmem_cli.specs.Wear.{wear_chosen}
 
--- Before the last pull no more than a part of a line had been taken of what was ahead. The source may not
--- remember what was left then.
-abbrev pub PullsWithinLine : Option (List ℕ) → Option (List ℕ) → Type 0
-PullsWithinLine ahead left_before = IfSome left_before (λ behind. (part : List ℕ) × Consumes ahead (Some behind) part × IsWithin part)
-
--- The whole lines of these bytes were answered, and all their replies were put.
+-- The whole lines of these bytes were answered, and all their replies were put; what was given of the next line decides
+-- no stop.
 pub record AreReplied (setup : Setup) (machine : Machine) (given : List ℕ) (from : Output) (put : Option (List ℕ)) : Type 0 where
   pub lines : List (List ℕ)
   pub part : List ℕ
   pub cut : given ≡ flat_map ended lines ++ part
   pub whole : All IsWithin lines
-  pub unfinished : IsWithin part
+  pub undecided : IsUndecided (length lines) part
   pub steps : List Step
   pub run : IsRunFrom setup machine lines steps
   pub replied : PutsAtLeast from put (steps_text steps)
@@ -35,10 +32,11 @@ abbrev pub HasRepliedFirst : Setup → Machine → Option (List ℕ) → Option 
 HasRepliedFirst setup machine trace left_before from put =
     IfSome trace (λ bytes. IfSome left_before (λ behind. (given : List ℕ) × (bytes ≡ given ++ behind) × AreReplied setup machine given from put))
 
--- A run that was given any byte is so, whatever its status.
+-- A run that was given any byte is so, whatever its status; a check was given nothing before that decides its end.
 abbrev pub TaskRepliesFirst : Task → Option (List ℕ) → Option (List ℕ) → Option (List ℕ) → Output → Option (List ℕ) → Type 0
 TaskRepliesFirst (Task.Run c) trace left left_before from put = left ≢ trace → HasRepliedFirst (setup_chosen c) (start (setup_chosen c)) trace left_before from put
 TaskRepliesFirst (Task.Log c) trace left left_before from put = left ≢ trace → HasRepliedLoggedFirst (setup_chosen c) (start (setup_chosen c)) trace left_before from put
+TaskRepliesFirst (Task.Check c) trace left left_before from put = left ≢ trace → HasLookedFirst None 0 trace left_before
 TaskRepliesFirst (Task.Wear c) trace left left_before from put = left ≢ trace → HasSaidFirst (wear_chosen c) c.log trace left_before from put
 TaskRepliesFirst (Task.Tree c) trace left left_before from put = left ≢ trace → HasSaidFirst (tree_chosen c) c.log trace left_before from put
 TaskRepliesFirst (Task.Txn c) trace left left_before from put = left ≢ trace → HasSaidFirst (txn_chosen c) c.log trace left_before from put

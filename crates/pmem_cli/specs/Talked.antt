@@ -9,6 +9,7 @@ use Rattle.plain_model.specs.Run.{line_limit, stop_text, status_of}
 use Rattle.trace_text.specs.Talks.{Sort, skipped, asked, faulty}
 use Rattle.trace_text.specs.Conversations.{Protocol, line_sort, texts_of, IsTalk, AreRepliesGiven, TalkEnds}
 use Rattle.pmem_cli.specs.Printed.{Output, AppendsFront, PutsAtLeast}
+use Rattle.pmem_cli.specs.Pulling.{IsUndecided}
 
 -- The trace ends by a stop, and its replies and the stop's line were put: the whole of them, with the
 -- stop's own status, or a front of them, with status 4. Whatever the status, the stop is a failed pull only
@@ -45,13 +46,14 @@ IsTalkComplete protocol status trace fault = IfSome trace (λ bytes. IsInLanguag
 
 -- ---- replies before a pull
 
--- The whole lines of these bytes were answered, and all replies to them were put.
+-- The whole lines of these bytes were answered, and all replies to them were put; what was given of the next line
+-- decides no stop.
 pub record AreRepliesTold {S X : Type 0} (protocol : Protocol S X) (first : S) (given : List ℕ) (from : Output) (put : Option (List ℕ)) : Type 0 where
   pub lines : List (List ℕ)
   pub part : List ℕ
   pub cut : given ≡ flat_map ended lines ++ part
   pub whole : All IsWithin lines
-  pub unfinished : IsWithin part
+  pub undecided : IsUndecided (length lines) part
   pub replies : List X
   pub last : S
   pub talk : IsTalk protocol first lines replies last

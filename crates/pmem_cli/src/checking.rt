@@ -1,14 +1,14 @@
 //! Exhibits, read from a line and tried.
-ghost use Rattle.std.specs.Prelude.{◌≡◌, ◌<◌, ◌≤◌, ◌≢◌, ◌↔◌, IsTrue, IfSome, Some, None};
+ghost use Rattle.std.specs.Prelude.{◌≡◌, ◌<◌, ◌≤◌, ◌≢◌, ◌⊎◌, ◌↔◌, IsTrue, IfSome, Some, None};
 ghost use Rattle.std.specs.Io.KnownBytes.{prepend_known};
 ghost use Rattle.plain_model.specs.declared.Stop.TheVariants as Stop;
 ghost use Rattle.collision_witness.specs.Exhibits.{IsExhibit};
 ghost use Rattle.pmem_cli.specs.Causes.{CountsFault};
-ghost use Rattle.pmem_cli.specs.Pulling.{IsInTime, PullsInTime};
+ghost use Rattle.pmem_cli.specs.Pulling.{IsInTime, PullsInTime, PullsUndecided};
 ghost use Rattle.pmem_cli.specs.declared.ending.Ending.TheVariants.{Stopped};
 ghost use Rattle.pmem_cli.specs.Words.{AreChosen};
 ghost use Rattle.pmem_cli.specs.Keys.{formulas_of};
-ghost use Rattle.pmem_cli.specs.Checked.{is_skipped, found_with, ChecksLine, ChecksNext, HasCheckedLines, IsChecked};
+ghost use Rattle.pmem_cli.specs.Checked.{is_skipped, found_with, ChecksLine, ChecksNext, HasCheckedLines, HasLookedFirst, IsChecked};
 
 use crate::ending::Ending;
 use crate::lines::{Found, LINE_BYTES, LineReader};
@@ -75,6 +75,7 @@ fn check_next<S: Source>(
         (S.left trace.new) found.old found.new served }
     ensures reads { CountsFault (result ≡ Some Stop.ReadFault) (S.faults trace.old) (S.faults trace.new) }
     ensures pulls { PullsInTime result (S.pulls trace.old) (S.pulls trace.new) }
+    ensures last_pull { (trace.new ≡ trace.old) ⊎ PullsUndecided served (prepend_known reader.old (S.left trace.old)) (S.left_before trace.new) }
 {
     let number = served + 1;
     match reader.next_line(trace, line) {
@@ -97,6 +98,7 @@ fn look<S: Source>(found: &mut Option<Exhibit>, trace: &mut S) -> Stop
     ensures looked { HasCheckedLines result (S.left trace.old) (S.left trace.new) found.old found.new 0 }
     ensures reads { CountsFault (result ≡ Stop.ReadFault) (S.faults trace.old) (S.faults trace.new) }
     ensures in_time { IsInTime (S.pulls trace.old) (S.pulls trace.new) }
+    ensures looked_first { (trace.new ≡ trace.old) ⊎ HasLookedFirst found.old 0 (S.left trace.old) (S.left_before trace.new) }
 {
     let mut reader = LineReader::new();
     let mut line = ArrayVec::new();
@@ -132,6 +134,7 @@ pub(crate) fn check<S: Source>(choices: &Choices, trace: &mut S) -> Ending
     ensures write { result ≢ Stopped Stop.WriteFault }
     ensures reads { CountsFault (result ≡ Stopped Stop.ReadFault) (S.faults trace.old) (S.faults trace.new) }
     ensures in_time { IsInTime (S.pulls trace.old) (S.pulls trace.new) }
+    ensures looked_first { (trace.new ≡ trace.old) ⊎ HasLookedFirst None 0 (S.left trace.old) (S.left_before trace.new) }
 {
     let mut found = None;
     match look(&mut found, trace) {

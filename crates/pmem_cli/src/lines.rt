@@ -4,8 +4,7 @@ ghost use Rattle.std.specs.List.{position_or_len};
 ghost use Rattle.std.specs.Io.KnownBytes.{Keeps, IsAtEnd, prepend_known};
 ghost use Rattle.plain_model.specs.Lines.{is_line_end};
 ghost use Rattle.pmem_cli.specs.Causes.{HasCause};
-ghost use Rattle.pmem_cli.specs.Pulling.{is_last, pulls_after, StaysOpen, IsInTime, RemembersLeft};
-ghost use Rattle.pmem_cli.specs.RepliesFirst.{PullsWithinLine};
+ghost use Rattle.pmem_cli.specs.Pulling.{is_last, pulls_after, StaysOpen, IsInTime, RemembersLeft, PullsWithinLine};
 
 use crate::source::{Failed, Source};
 use arrayvec::ArrayVec;

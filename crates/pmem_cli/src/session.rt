@@ -4,9 +4,8 @@ ghost use Rattle.std.specs.Io.KnownBytes.{prepend_known};
 ghost use Rattle.pmem_cli.specs.declared.lines.Found.TheVariants.{Line};
 ghost use Rattle.pmem_cli.specs.Causes.{HasCause};
 ghost use Rattle.pmem_cli.specs.Pieces.{Finds};
-ghost use Rattle.pmem_cli.specs.Pulling.{IsInTime, PullsInTime};
+ghost use Rattle.pmem_cli.specs.Pulling.{IsInTime, PullsInTime, PullsUndecided};
 ghost use Rattle.pmem_cli.specs.Printed.{Prints, PrintsFront, PutsAtLeast, with_waiting};
-ghost use Rattle.pmem_cli.specs.RepliesFirst.{PullsWithinLine};
 ghost use Rattle.pmem_cli.specs.Talked.{HasToldFirst};
 ghost use Rattle.pmem_cli.specs.Turns.{Turns, HasStopped, StopsByCause};
 
@@ -78,7 +77,7 @@ fn answer_next<W: Serve, S: Source, K: Sink>(
     ensures cause { StopsByCause result (S.faults trace.old) (S.faults trace.new) (K.faults out.old) (K.faults out.new) }
     ensures pulls { PullsInTime result (S.pulls trace.old) (S.pulls trace.new) }
     ensures last_pull { (trace.new ≡ trace.old) ⊎ ((printer.old ≡ [])
-        × PullsWithinLine (prepend_known reader.old (S.left trace.old)) (S.left_before trace.new)) }
+        × PullsUndecided served (prepend_known reader.old (S.left trace.old)) (S.left_before trace.new)) }
     ensures within_limit { result ≡ None → served < 1000000 }
 {
     if served == LINE_LIMIT {
@@ -130,7 +129,7 @@ fn serve_next<W: Serve, S: Source, K: Sink>(
     ensures cause { StopsByCause result (S.faults trace.old) (S.faults trace.new) (K.faults out.old) (K.faults out.new) }
     ensures pulls { PullsInTime result (S.pulls trace.old) (S.pulls trace.new) }
     ensures last_pull { (trace.new ≡ trace.old) ⊎ (PutsAtLeast (with_waiting (K.put out.old) printer.old) (K.put out.new) []
-        × PullsWithinLine (prepend_known reader.old (S.left trace.old)) (S.left_before trace.new)) }
+        × PullsUndecided served (prepend_known reader.old (S.left trace.old)) (S.left_before trace.new)) }
     ensures within_limit { result ≡ None → served < 1000000 }
 {
     match flush_before_pull(reader, printer, out) {

@@ -2,6 +2,7 @@ use Rattle.std.proofs.Common.{rules, ◌≡◌, refl, arith}
 use Rattle.plain_model.specs.declared.Stop.TheVariants.{ReadFault}
 use Rattle.pmem_cli.proofs.CheckLemmas.{ChecksNext-line, HasCheckedLines-last, HasCheckedLines-at_last, HasCheckedLines-long, HasCheckedLines-end, HasCheckedLines-fault}
 use Rattle.pmem_cli.proofs.FaultLemmas.{CountsFault-none, CountsFault-err}
+use Rattle.pmem_cli.proofs.PullLemmas.{pulled_undecided}
 use Rattle.pmem_cli.proofs.checking.check_next.Goals as goal
 
 pub returns-in-Err-clause-turn : goal.returns-in-Err-clause-turn
@@ -60,3 +61,21 @@ returns-in-Some-clause-reads g c =
 
 pub returns-in-Ok-Line-clause-pulls : goal.returns-in-Ok-Line-clause-pulls
 returns-in-Ok-Line-clause-pulls g c = search rules
+
+pub returns-in-Err-clause-last_pull : goal.returns-in-Err-clause-last_pull
+returns-in-Err-clause-last_pull g c = pulled_undecided _ _ _ _ _ c.requires c.in-Err.ensures.last_pull
+
+pub returns-in-Ok-End-clause-last_pull : goal.returns-in-Ok-End-clause-last_pull
+returns-in-Ok-End-clause-last_pull g c = pulled_undecided _ _ _ _ _ c.requires c.in-Ok-End.ensures.last_pull
+
+pub returns-in-Ok-Long-clause-last_pull : goal.returns-in-Ok-Long-clause-last_pull
+returns-in-Ok-Long-clause-last_pull g c = pulled_undecided _ _ _ _ _ c.requires c.in-Ok-Long.ensures.last_pull
+
+pub returns-in-Ok-Line-clause-last_pull : goal.returns-in-Ok-Line-clause-last_pull
+returns-in-Ok-Line-clause-last_pull g c = pulled_undecided _ _ _ _ _ c.requires c.in-Ok-Line.ensures.last_pull
+
+pub returns-in-None-clause-last_pull : goal.returns-in-None-clause-last_pull
+returns-in-None-clause-last_pull g c = pulled_undecided _ _ _ _ _ c.requires c.in-Ok-Last.ensures.last_pull
+
+pub returns-in-Some-clause-last_pull : goal.returns-in-Some-clause-last_pull
+returns-in-Some-clause-last_pull g c = pulled_undecided _ _ _ _ _ c.requires c.in-Ok-Last.ensures.last_pull

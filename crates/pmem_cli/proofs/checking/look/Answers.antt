@@ -6,7 +6,8 @@ use Rattle.std.proofs.lemmas.List.Elements.{All-nil}
 use Rattle.plain_model.specs.declared.Stop.TheVariants.{Finished, ReadFault, TooManyLines}
 use Rattle.plain_model.specs.Lines.{is_line_end}
 use Rattle.pmem_cli.proofs.FaultLemmas.{CountsFault-none, CountsFault-err, CountsFault-map}
-use Rattle.pmem_cli.proofs.CheckLemmas.{HasCheckedLines-after, HasCheckedLines-fault, HasCheckedLines-end, HasCheckedLines-limit, HasCheckedLines-kept}
+use Rattle.pmem_cli.proofs.CheckLemmas.{HasCheckedLines-after, HasCheckedLines-fault, HasCheckedLines-end, HasCheckedLines-limit, HasCheckedLines-kept, HasLookedFirst-after, looked_on}
+use Rattle.pmem_cli.proofs.PullLemmas.{pulled_at_hand}
 use Rattle.pmem_cli.proofs.checking.look.Goals as goal
 
 pub lines-init : goal.lines-init
@@ -35,6 +36,12 @@ lines-preserved g c =
           c.lines.invariant.looks stop left after
           (HasCheckedLines-after stop c.lines.found c.check_next.new.found c.lines.served (prepend_known c.lines.reader (g.S.Source.left c.lines.trace))
           (prepend_known c.check_next.new.reader (g.S.Source.left c.check_next.new.trace)) left line after taken within checked looked);
+      looks_first = λ told looked.
+          c.lines.invariant.looks_first told
+          (HasLookedFirst-after c.lines.found c.check_next.new.found c.lines.served (prepend_known c.lines.reader (g.S.Source.left c.lines.trace))
+          (prepend_known c.check_next.new.reader (g.S.Source.left c.check_next.new.trace)) told line taken within checked looked);
+      looked_first =
+          looked_on _ _ _ g.S.Source.left_before _ _ _ _ _ c.lines.invariant.looks_first c.lines.invariant.looked_first c.check_next.ensures.last_pull;
       kept = c.check_next.ensures.reads.kept (λ same. cc (c.in_default.is, same)) ∙ c.lines.invariant.kept;
       may_pull = λ held. c.check_next.ensures.pulls.may_pull c.in_default.is (c.lines.invariant.may_pull held);
     }
@@ -64,3 +71,24 @@ returns-in-Ok-false-clause-looked g c =
     c.lines.invariant.looks TooManyLines left c.lines.found
     (HasCheckedLines-kept TooManyLines ahead now left c.lines.found c.lines.found c.lines.served c.is_ended.ensures.ahead
     (HasCheckedLines-limit left left c.is_ended.new.self c.lines.found c.lines.served (c.in-Ok-false.ensures.more c.in-Ok-false.field-0-test) (omega arith)))
+
+-- ---- before a pull
+
+pub returns-in-Some-clause-looked_first : goal.returns-in-Some-clause-looked_first
+returns-in-Some-clause-looked_first g c =
+    looked_on _ _ _ g.S.Source.left_before _ _ _ _ _ c.lines.invariant.looks_first c.lines.invariant.looked_first c.in-Some.ensures.last_pull
+
+pub returns-in-Err-clause-looked_first : goal.returns-in-Err-clause-looked_first
+returns-in-Err-clause-looked_first g c =
+    looked_on _ _ _ g.S.Source.left_before _ _ _ _ _ c.lines.invariant.looks_first c.lines.invariant.looked_first
+    (pulled_at_hand _ _ g.S.Source.left g.S.Source.left_before c.lines.served _ (omega arith) c.in-Err.ensures.last_pull)
+
+pub returns-in-Ok-true-clause-looked_first : goal.returns-in-Ok-true-clause-looked_first
+returns-in-Ok-true-clause-looked_first g c =
+    looked_on _ _ _ g.S.Source.left_before _ _ _ _ _ c.lines.invariant.looks_first c.lines.invariant.looked_first
+    (pulled_at_hand _ _ g.S.Source.left g.S.Source.left_before c.lines.served _ (omega arith) c.in-Ok-true.ensures.last_pull)
+
+pub returns-in-Ok-false-clause-looked_first : goal.returns-in-Ok-false-clause-looked_first
+returns-in-Ok-false-clause-looked_first g c =
+    looked_on _ _ _ g.S.Source.left_before _ _ _ _ _ c.lines.invariant.looks_first c.lines.invariant.looked_first
+    (pulled_at_hand _ _ g.S.Source.left g.S.Source.left_before c.lines.served _ (omega arith) c.in-Ok-false.ensures.last_pull)

@@ -1,9 +1,9 @@
 use Rattle.std.proofs.Common.{◌≡◌, ℕ, List}
-use Rattle.std.specs.Prelude.{Option}
+use Rattle.std.specs.Prelude.{◌⊎◌, Option}
 use Rattle.std.specs.Io.KnownBytes.{prepend_known}
 use Rattle.pmem_base.specs.declared.answers.Exhibit.{Exhibit}
 use Rattle.plain_model.specs.declared.Stop.{Stop}
-use Rattle.pmem_cli.specs.Checked.{HasCheckedLines}
+use Rattle.pmem_cli.specs.Checked.{HasCheckedLines, HasLookedFirst}
 use Rattle.pmem_cli.specs.Pulling.{StaysOpen}
 use Rattle.pmem_cli.proofs.checking.look.Given as goal
 
@@ -14,6 +14,11 @@ invariant-lines g l =
           (stop : Stop) (left : Option (List ℕ)) (after : Option Exhibit)
           → HasCheckedLines stop (prepend_known l.reader (g.S.Source.left l.trace)) left l.found after l.served
           → HasCheckedLines stop (g.S.Source.left l.initial.trace) left l.initial.found after 0;
+      looks_first :
+          (told : Option (List ℕ)) → HasLookedFirst l.found l.served (prepend_known l.reader (g.S.Source.left l.trace)) told
+          → HasLookedFirst l.initial.found 0 (g.S.Source.left l.initial.trace) told;
+      looked_first :
+          (l.trace ≡ l.initial.trace) ⊎ HasLookedFirst l.initial.found 0 (g.S.Source.left l.initial.trace) (g.S.Source.left_before l.trace);
       kept : g.S.Source.faults l.trace ≡ g.S.Source.faults l.initial.trace;
       may_pull : StaysOpen (g.S.Source.pulls l.initial.trace) (g.S.Source.pulls l.trace);
     }

@@ -4,7 +4,7 @@ use Rattle.pmem_cli.proofs.StandingLemmas.{first_world}
 use Rattle.pmem_cli.proofs.logging.log_with.Goals as goal
 
 pub returns-in-Err-clause-run : goal.returns-in-Err-clause-run
-returns-in-Err-clause-run g c = HasReplayedLogged-memory _ _ _ _
+returns-in-Err-clause-run g c = HasReplayedLogged-memory _ _ _
 
 pub returns-in-Ok-clause-run : goal.returns-in-Ok-clause-run
 returns-in-Ok-clause-run g c =

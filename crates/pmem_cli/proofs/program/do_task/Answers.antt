@@ -67,3 +67,33 @@ returns-in-Txn-clause-writes g c = CountsFault-map _ _ _ _ _ (λ same. cc) (λ s
 pub returns-in-Txn-clause-replies_first : goal.returns-in-Txn-clause-replies_first
 returns-in-Txn-clause-replies_first g c =
     rw c.in-Txn.is (λ given. elim c.txn_trace.ensures.replies_first [ inl same ↦ absurd (given (ap g.S.Source.left same)) | inr replied ↦ replied ])
+
+pub returns-in-Check-clause-replies_first : goal.returns-in-Check-clause-replies_first
+returns-in-Check-clause-replies_first g c =
+    rw c.in-Check.is (λ given. elim c.check.ensures.looked_first [ inl same ↦ absurd (given (ap g.S.Source.left same)) | inr looked ↦ looked ])
+
+-- ---- what was done
+
+pub returns-in-Run-clause-ended : goal.returns-in-Run-clause-ended
+returns-in-Run-clause-ended g c = rw c.in-Run.is (record { stop = c.run_trace.result; its_stop = refl; run = c.run_trace.ensures.run })
+
+pub returns-in-Log-clause-ended : goal.returns-in-Log-clause-ended
+returns-in-Log-clause-ended g c = rw c.in-Log.is (record { stop = c.log_trace.result; its_stop = refl; run = c.log_trace.ensures.run })
+
+pub returns-in-Make-clause-ended : goal.returns-in-Make-clause-ended
+returns-in-Make-clause-ended g c = rw c.in-Make.is (record { stop = c.make.result; its_stop = refl; made = c.make.ensures.made })
+
+pub returns-in-Sample-clause-ended : goal.returns-in-Sample-clause-ended
+returns-in-Sample-clause-ended g c = rw c.in-Sample.is (record { stop = c.sample.result; its_stop = refl; run = c.sample.ensures.run })
+
+pub returns-in-Wear-clause-ended : goal.returns-in-Wear-clause-ended
+returns-in-Wear-clause-ended g c = rw c.in-Wear.is (record { stop = c.wear_trace.result; its_stop = refl; conversed = c.wear_trace.ensures.talked })
+
+pub returns-in-Tree-clause-ended : goal.returns-in-Tree-clause-ended
+returns-in-Tree-clause-ended g c = rw c.in-Tree.is (record { stop = c.tree_trace.result; its_stop = refl; conversed = c.tree_trace.ensures.talked })
+
+pub returns-in-Txn-clause-ended : goal.returns-in-Txn-clause-ended
+returns-in-Txn-clause-ended g c = rw c.in-Txn.is (record { stop = c.txn_trace.result; its_stop = refl; conversed = c.txn_trace.ensures.talked })
+
+pub returns-in-Check-clause-ended : goal.returns-in-Check-clause-ended
+returns-in-Check-clause-ended g c = rw c.in-Check.is (record { checked = c.check.ensures.checked; write = c.check.ensures.write; kept = refl })

@@ -4,7 +4,7 @@ use Rattle.pmem_cli.proofs.StandingLemmas.{first_world}
 use Rattle.pmem_cli.proofs.program.run_with.Goals as goal
 
 pub returns-in-Err-clause-run : goal.returns-in-Err-clause-run
-returns-in-Err-clause-run g c = HasReplayed-memory _ _ _ _
+returns-in-Err-clause-run g c = HasReplayed-memory _ _ _
 
 pub returns-in-Ok-clause-run : goal.returns-in-Ok-clause-run
 returns-in-Ok-clause-run g c =

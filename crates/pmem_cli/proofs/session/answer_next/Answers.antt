@@ -1,7 +1,7 @@
-use Rattle.std.proofs.Common.{[], arith, refl, inl}
+use Rattle.std.proofs.Common.{[], arith, refl}
 use Rattle.std.proofs.KnownBytes.{Consumes-nil, Consumes-kept}
 use Rattle.std.proofs.lemmas.List.Elements.{All-nil}
-use Rattle.pmem_cli.proofs.ReplyLemmas.{pulled_within_line, pulled_quietly}
+use Rattle.pmem_cli.proofs.PullLemmas.{pulled_undecided, pulled_at_hand, pulled_quietly}
 use Rattle.pmem_cli.proofs.TurnLemmas.{HasStopped-fault, HasStopped-limit, HasStopped-end}
 use Rattle.pmem_cli.proofs.FaultLemmas.{stops_unfailed, stops_unread, stops_after}
 use Rattle.pmem_cli.proofs.session.answer_next.Goals as goal
@@ -53,20 +53,22 @@ returns-in-Ok-clause-pulls g c = record { may_pull = λ same. c.in-Ok.ensures.ma
 pub returns-in-Err-clause-last_pull : goal.returns-in-Err-clause-last_pull
 returns-in-Err-clause-last_pull g c =
     pulled_quietly _ _ _ _ _ c.requires.pushed (λ line. c.in-Err.ensures.unpulled (omega (arith, line.1)))
-    (pulled_within_line _ _ _ g.S.Source.left g.S.Source.left_before _ _ [] (Consumes-nil _) (All-nil _) (inl refl) c.in-Err.ensures.last_pull)
+    (pulled_at_hand _ _ g.S.Source.left g.S.Source.left_before c.args.served _ c.requires.within c.in-Err.ensures.last_pull)
 
 pub returns-in-Ok-true-clause-last_pull : goal.returns-in-Ok-true-clause-last_pull
 returns-in-Ok-true-clause-last_pull g c =
     pulled_quietly _ _ _ _ _ c.requires.pushed (λ line. c.in-Ok-true.ensures.unpulled (omega (arith, line.1)))
-    (pulled_within_line _ _ _ g.S.Source.left g.S.Source.left_before _ _ [] (Consumes-nil _) (All-nil _) (inl refl) c.in-Ok-true.ensures.last_pull)
+    (pulled_at_hand _ _ g.S.Source.left g.S.Source.left_before c.args.served _ c.requires.within c.in-Ok-true.ensures.last_pull)
 
 pub returns-in-Ok-false-clause-last_pull : goal.returns-in-Ok-false-clause-last_pull
 returns-in-Ok-false-clause-last_pull g c =
     pulled_quietly _ _ _ _ _ c.requires.pushed (λ line. c.in-Ok-false.ensures.unpulled (omega (arith, line.1)))
-    (pulled_within_line _ _ _ g.S.Source.left g.S.Source.left_before _ _ [] (Consumes-nil _) (All-nil _) (inl refl) c.in-Ok-false.ensures.last_pull)
+    (pulled_at_hand _ _ g.S.Source.left g.S.Source.left_before c.args.served _ c.requires.within c.in-Ok-false.ensures.last_pull)
 
 pub returns-in-Err-next_line-clause-last_pull : goal.returns-in-Err-next_line-clause-last_pull
-returns-in-Err-next_line-clause-last_pull g c = pulled_quietly _ _ _ _ _ c.requires.pushed c.in-Err-next_line.ensures.unpulled c.in-Err-next_line.ensures.last_pull
+returns-in-Err-next_line-clause-last_pull g c = pulled_quietly _ _ _ _ _ c.requires.pushed c.in-Err-next_line.ensures.unpulled
+    (pulled_undecided _ _ c.args.served _ _ (omega (arith, c.requires.within)) c.in-Err-next_line.ensures.last_pull)
 
 pub returns-in-Ok-clause-last_pull : goal.returns-in-Ok-clause-last_pull
-returns-in-Ok-clause-last_pull g c = pulled_quietly _ _ _ _ _ c.requires.pushed c.in-Ok.ensures.unpulled c.in-Ok.ensures.last_pull
+returns-in-Ok-clause-last_pull g c = pulled_quietly _ _ _ _ _ c.requires.pushed c.in-Ok.ensures.unpulled
+    (pulled_undecided _ _ c.args.served _ _ (omega (arith, c.requires.within)) c.in-Ok.ensures.last_pull)

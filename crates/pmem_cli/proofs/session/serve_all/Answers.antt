@@ -1,4 +1,4 @@
-use Rattle.std.proofs.Common.{◌≡◌, ◌+◌, ◌++◌, ◌∷◌, ◌∙◌, [], length, refl, arith, length-append, inl}
+use Rattle.std.proofs.Common.{◌≡◌, ◌+◌, ◌++◌, ◌∷◌, ◌∙◌, [], length, refl, sym, arith, length-append, inl}
 use Rattle.std.proofs.KnownBytes.{prepend_known-nil}
 use Rattle.pmem_cli.proofs.ReplyLemmas.{told_turn}
 use Rattle.pmem_cli.proofs.TurnLemmas.{HasServed-nil, HasServed-trans, HasStopped-after}
@@ -32,8 +32,8 @@ lines-preserved g c =
       writes = c.serve_next.ensures.cause.writes.kept (λ same. cc (c.in_default.is, same)) ∙ before.writes;
       may_pull = λ held. c.serve_next.ensures.pulls.may_pull c.in_default.is (before.may_pull held);
       replies_first =
-          told_turn g.W.Serve.protocol _ _ _ g.S.Source.left_before _ _ _ _ _ _ _ _ _ before.so_far before.replies_first c.serve_next.ensures.last_pull
-          (turn.printed.done, turn.printed.appended);
+          told_turn g.W.Serve.protocol _ _ _ g.S.Source.left_before _ _ _ _ _ _ _ _ _ before.so_far before.replies_first
+          (rw (sym before.counted) at c.serve_next.ensures.last_pull) (turn.printed.done, turn.printed.appended);
     }
 
 pub returns-in-Some-clause-stopped : goal.returns-in-Some-clause-stopped
@@ -45,8 +45,8 @@ returns-in-Some-clause-stopped g c =
 pub returns-in-Some-clause-replies_first : goal.returns-in-Some-clause-replies_first
 returns-in-Some-clause-replies_first g c =
     let front = c.in-Some.ensures.turn.front in
-    told_turn g.W.Serve.protocol _ _ _ g.S.Source.left_before _ _ _ _ _ _ _ _ _ c.lines.invariant.so_far c.lines.invariant.replies_first c.in-Some.ensures.last_pull
-    (front.done, front.appended)
+    told_turn g.W.Serve.protocol _ _ _ g.S.Source.left_before _ _ _ _ _ _ _ _ _ c.lines.invariant.so_far c.lines.invariant.replies_first
+    (rw (sym c.lines.invariant.counted) at c.in-Some.ensures.last_pull) (front.done, front.appended)
 
 -- ---- faults
 

@@ -5,7 +5,7 @@ use Rattle.std.proofs.lemmas.List.Elements.{All-append}
 use Rattle.std.proofs.lemmas.Grind.{common_steps}
 use Rattle.plain_model.specs.Lines.{is_line_end, ended}
 use Rattle.pmem_cli.proofs.PieceLemmas.{Consumes-front, no_end_within}
-use Rattle.pmem_cli.proofs.ReplyLemmas.{pulled_within_line}
+use Rattle.pmem_cli.proofs.PullLemmas.{pulled_within_line}
 use Rattle.pmem_cli.proofs.lines.LineReader.next_line.Goals as goal
 
 pub returns-in-TooLong-clause-found : goal.returns-in-TooLong-clause-found
@@ -49,7 +49,7 @@ pieces-preserved g c =
           absurd (no_end_within unread within (rw (kept, same) end));
       unpulled = λ end. is_ended.unpulled (rw (before.at_hand end) (omega (arith, end.1))) ∙ before.unpulled end;
       last_pull = pulled_within_line c.args.source.now c.pieces.source c.is_ended.new.source g.S.Source.left g.S.Source.left_before
-          (prepend_known c.args.self.now (g.S.Source.left c.args.source.now)) c.pieces.self c.pieces.line.items before.taken before.within before.last_pull is_ended.last_pull;
+          (prepend_known c.args.self.now (g.S.Source.left c.args.source.now)) c.pieces.self c.pieces.line.items before.taken before.within before.short before.last_pull is_ended.last_pull;
     }
 
 pub returns-in-Ended-clause-found : goal.returns-in-Ended-clause-found
@@ -82,7 +82,7 @@ pub returns-in_err-is_ended-clause-last_pull : goal.returns-in_err-is_ended-clau
 returns-in_err-is_ended-clause-last_pull g c =
     let before = c.pieces.invariant in
     pulled_within_line c.args.source.now c.pieces.source c.is_ended.new.source g.S.Source.left g.S.Source.left_before
-    (prepend_known c.args.self.now (g.S.Source.left c.args.source.now)) c.pieces.self c.pieces.line.items before.taken before.within before.last_pull c.in_err-is_ended.ensures.last_pull
+    (prepend_known c.args.self.now (g.S.Source.left c.args.source.now)) c.pieces.self c.pieces.line.items before.taken before.within before.short before.last_pull c.in_err-is_ended.ensures.last_pull
 
 pub returns-then-is_empty-clause-unpulled : goal.returns-then-is_empty-clause-unpulled
 returns-then-is_empty-clause-unpulled g c = λ end. c.in_ok-is_ended.ensures.unpulled (rw (c.pieces.invariant.at_hand end) (omega (arith, end.1))) ∙ c.pieces.invariant.unpulled end
@@ -94,7 +94,7 @@ pub returns-then-is_empty-clause-last_pull : goal.returns-then-is_empty-clause-l
 returns-then-is_empty-clause-last_pull g c =
     let before = c.pieces.invariant in
     pulled_within_line c.args.source.now c.pieces.source c.is_ended.new.source g.S.Source.left g.S.Source.left_before
-    (prepend_known c.args.self.now (g.S.Source.left c.args.source.now)) c.pieces.self c.pieces.line.items before.taken before.within before.last_pull c.in_ok-is_ended.ensures.last_pull
+    (prepend_known c.args.self.now (g.S.Source.left c.args.source.now)) c.pieces.self c.pieces.line.items before.taken before.within before.short before.last_pull c.in_ok-is_ended.ensures.last_pull
 
 pub returns-else-is_empty-clause-unpulled : goal.returns-else-is_empty-clause-unpulled
 returns-else-is_empty-clause-unpulled g c = λ end. c.in_ok-is_ended.ensures.unpulled (rw (c.pieces.invariant.at_hand end) (omega (arith, end.1))) ∙ c.pieces.invariant.unpulled end
@@ -106,7 +106,7 @@ pub returns-else-is_empty-clause-last_pull : goal.returns-else-is_empty-clause-l
 returns-else-is_empty-clause-last_pull g c =
     let before = c.pieces.invariant in
     pulled_within_line c.args.source.now c.pieces.source c.is_ended.new.source g.S.Source.left g.S.Source.left_before
-    (prepend_known c.args.self.now (g.S.Source.left c.args.source.now)) c.pieces.self c.pieces.line.items before.taken before.within before.last_pull c.in_ok-is_ended.ensures.last_pull
+    (prepend_known c.args.self.now (g.S.Source.left c.args.source.now)) c.pieces.self c.pieces.line.items before.taken before.within before.short before.last_pull c.in_ok-is_ended.ensures.last_pull
 
 pub returns-in-Ended-clause-unpulled : goal.returns-in-Ended-clause-unpulled
 returns-in-Ended-clause-unpulled g c = λ end. c.in_ok-is_ended.ensures.unpulled (rw (c.pieces.invariant.at_hand end) (omega (arith, end.1))) ∙ c.pieces.invariant.unpulled end
@@ -118,7 +118,7 @@ pub returns-in-Ended-clause-last_pull : goal.returns-in-Ended-clause-last_pull
 returns-in-Ended-clause-last_pull g c =
     let before = c.pieces.invariant in
     pulled_within_line c.args.source.now c.pieces.source c.is_ended.new.source g.S.Source.left g.S.Source.left_before
-    (prepend_known c.args.self.now (g.S.Source.left c.args.source.now)) c.pieces.self c.pieces.line.items before.taken before.within before.last_pull c.in_ok-is_ended.ensures.last_pull
+    (prepend_known c.args.self.now (g.S.Source.left c.args.source.now)) c.pieces.self c.pieces.line.items before.taken before.within before.short before.last_pull c.in_ok-is_ended.ensures.last_pull
 
 pub returns-in-TooLong-clause-unpulled : goal.returns-in-TooLong-clause-unpulled
 returns-in-TooLong-clause-unpulled g c = λ end. c.in_ok-is_ended.ensures.unpulled (rw (c.pieces.invariant.at_hand end) (omega (arith, end.1))) ∙ c.pieces.invariant.unpulled end
@@ -130,7 +130,7 @@ pub returns-in-TooLong-clause-last_pull : goal.returns-in-TooLong-clause-last_pu
 returns-in-TooLong-clause-last_pull g c =
     let before = c.pieces.invariant in
     pulled_within_line c.args.source.now c.pieces.source c.is_ended.new.source g.S.Source.left g.S.Source.left_before
-    (prepend_known c.args.self.now (g.S.Source.left c.args.source.now)) c.pieces.self c.pieces.line.items before.taken before.within before.last_pull c.in_ok-is_ended.ensures.last_pull
+    (prepend_known c.args.self.now (g.S.Source.left c.args.source.now)) c.pieces.self c.pieces.line.items before.taken before.within before.short before.last_pull c.in_ok-is_ended.ensures.last_pull
 
 -- ---- causes
 

@@ -2,8 +2,7 @@ use Rattle.std.proofs.Common.{◌≡◌, ◌≤◌, ◌-◌, length}
 use Rattle.std.specs.Prelude.{◌⊎◌, Contains}
 use Rattle.std.specs.Io.KnownBytes.{Consumes, prepend_known}
 use Rattle.plain_model.specs.Lines.{IsWithin}
-use Rattle.pmem_cli.specs.RepliesFirst.{PullsWithinLine}
-use Rattle.pmem_cli.specs.Pulling.{StaysOpen}
+use Rattle.pmem_cli.specs.Pulling.{StaysOpen, PullsWithinLine}
 use Rattle.pmem_cli.proofs.lines.LineReader.next_line.Given as goal
 
 abbrev pub invariant-pieces : goal.invariant-pieces
