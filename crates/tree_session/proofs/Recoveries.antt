@@ -35,7 +35,7 @@ use Rattle.tree_session.specs.declared.commands.TreeCommand.TheVariants as Do
 use Rattle.tree_session.specs.declared.answers.TreeAnswer.{TreeAnswer}
 use Rattle.tree_session.specs.declared.answers.TreeAnswer.TheVariants as Say
 use Rattle.tree_session.specs.World.{TreeParts, plain_of_parts, state_of, IsTreeWorld, IsTreeOff, IsTreeOpen}
-use Rattle.tree_session.specs.Answered.{IsTreeAnswered, IsRooted, IsEngineShown, IsTreeMemoryWanted, SaysOfOn, AnswersWith, IsSlotTampered, IsShadowRefusal, IsShadowExhibit, IsGroupDone, group_steps, board_redone, tree_recovery_bound}
+use Rattle.tree_session.specs.Answered.{IsTreeAnswered, IsRooted, IsEngineShown, IsTreeMemoryWanted, SaysOfOn, HasTrueSlots, AnswersWith, IsSlotTampered, IsShadowRefusal, IsShadowExhibit, IsGroupDone, group_steps, board_redone, tree_recovery_bound}
 use Rattle.tree_session.proofs.BoardSteps.{goes_on, cut_off, from_dark, cut_from_dark, then_rests, taken-exact, untouched}
 use Rattle.tree_session.proofs.PlainStates.{plain_is, plain-kept, true_slots-is}
 use Rattle.tree_session.proofs.Held.{IsFrame, opened, ended, open_in, off_in, usable_on, usable_off, rooted_on, rooted_off, rooted_open}
@@ -235,6 +235,15 @@ module _ (c : TreeRecoveryCall) where
               };
         })
 
+    -- the slot lines that it read were the true ones
+    slots_made : HasTrueSlots c.setup (plain_of_parts c.setup (left_with c.board (Some engine)))
+    slots_made =
+        sym (read_are it.answered.0.slots it.size it.answered.0.read)
+        ∙ (it.answered.0.true_slots
+        ∙ (ap (λ (w : WatchState). w.slots) (sym same_made)
+        ∙ sym (true_slots-is c.setup c.watch c.board.regs c.world.whole_shape trusted_made.anchored (plain_of_parts c.setup (left_with c.board (Some engine)))
+        (plain_is c.setup (left_with c.board (Some engine)) c.board.regs c.world.whole_shape trusted_made.anchored))))
+
     pub recovered_done : IsTreeAnswered c.setup (state_of c.setup c.parts) Do.On (Say.Recovered work.digests (steps_in c.taken)) (state_of c.setup (left_with c.board (Some engine)))
     recovered_done =
         answered (Say.Recovered work.digests (steps_in c.taken)) (left_with c.board (Some engine)) refl (ap (λ (w : WatchState). w.exhibit) same_made ∙ c.none)
@@ -245,6 +254,7 @@ module _ (c : TreeRecoveryCall) where
           finished_steps it.group,
           few_steps (finished_steps it.group),
           plain_same (left_with c.board (Some engine)) refl same_made refl refl,
+          slots_made,
         )
 
   -- ---- power is off afterwards, and the watch knows what it knew

@@ -317,6 +317,10 @@ SaysOfRead setup before a after (Say.RefusedNode x s) =
     × IsBoardSpilled setup before after
 SaysOfRead setup before a after answer = ⊥
 
+-- the device has the true slot lines
+abbrev pub HasTrueSlots : Setup → PlainTree → Type 0
+HasTrueSlots setup after = slots_read setup.shape after.board.lines ≡ true_slots setup.shape after
+
 abbrev pub SaysOfOn : Setup → PlainTree → PlainTree → TreeAnswer → Type 0
 SaysOfOn setup before after (Say.Recovered digests s) =
     (digests ≡ shadow_digests setup.shape)
@@ -325,6 +329,7 @@ SaysOfOn setup before after (Say.Recovered digests s) =
     × (s ≡ group_steps before.board)
     × (s ≤ tree_recovery_bound setup.shape)
     × IsPlainKept before after
+    × HasTrueSlots setup after
 SaysOfOn setup before after (Say.Cut s) =
     IsTreeCutAt s before.board after.board
     × (board_redone after.board ≡ board_redone before.board)
