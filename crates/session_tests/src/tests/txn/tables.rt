@@ -29,7 +29,10 @@ const EACH_ANSWER: &str =
     off: ok / cut 0: ok / on: cut 0 / on: on 0 4 / read 100: line [10] 0 / cut 5: ok / on: already / \
     cut 0: ok / begin: ok / put 239 [99]: ok / commit: cut lost 0 / on: on 0 0 / read 239: line [00] 0 / \
     begin: ok / cut 0: ok / commit: ok 0 / read 0: line [01] 0 / put 0 [12]: closed / read 0: line [01] 0 / \
-    commit: closed";
+    commit: closed / cut 18446744073709551615: ok / begin: ok / put 5 [99]: ok / commit: ok 23 / begin: ok / \
+    put 5 [98]: ok / commit: ok 20 / begin: ok / put 6 [66]: ok / cut 0: ok / read 6: line [66] 0 / \
+    read 140: cut 0 / read 6: off / put 6 [67]: off / on: on 0 4 / commit: closed / read 6: line [07] 0 / \
+    read 5: line [98] 0 / read 140: line [00] 0";
 
 // Two lines are committed.
 #[test]
