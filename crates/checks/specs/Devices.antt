@@ -3,13 +3,23 @@ use Rattle.std.specs.Prelude.{ℕ, ◌+◌, ◌*◌, List, [], ◌∷◌, ◌++�
 use Rattle.std.specs.List.{range_with_len}
 use Rattle.pmem_base.specs.declared.lines.Line.{Line}
 use Rattle.pmem_base.specs.declared.registers.Regs.{Regs}
-use Rattle.pmem_base.specs.Lines.{line_of, line_at, zero_line}
+use Rattle.pmem_base.specs.Lines.{line_of, line_at, filled_line, zero_line}
 use Rattle.suite.specs.Setup.{Setup}
 use Rattle.plain_model.specs.State.{start_state}
 use Rattle.plain_model.specs.View.{DeviceView, start_view, view_after_marks, true_lines, true_line}
 use Rattle.plain_model.specs.Fits.{sealed_line, sealed_tags}
 use Rattle.plain_model.specs.Asked.{seal_mark}
 use Rattle.checks.specs.Samples.{small_shape, weak, blur, ctr}
+
+-- a group that writes line 1, line 0 and line 1 again, and the lines of a device of three before and after it
+abbrev pub line_1_twice : List (ℕ × Line)
+line_1_twice = (1, filled_line 7) ∷ (0, filled_line 8) ∷ (1, filled_line 9) ∷ []
+
+abbrev pub three_lines : List Line
+three_lines = replicate 3 zero_line
+
+abbrev pub three_lines_after : List Line
+three_lines_after = filled_line 8 ∷ filled_line 9 ∷ zero_line ∷ []
 
 abbrev pub small_weak : Setup
 small_weak = record { shape = small_shape; formulas = weak }

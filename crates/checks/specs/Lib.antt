@@ -1,4 +1,6 @@
 pub mod Samples
+pub mod Vectors
+pub mod Positions
 pub mod Rows
 pub mod Chains
 pub mod Traces

@@ -1,5 +1,5 @@
 -- Traces with their replies, as lists of commands and replies.
-use Rattle.std.specs.Prelude.{[], ◌∷◌}
+use Rattle.std.specs.Prelude.{List, [], ◌∷◌}
 use Rattle.pmem_base.specs.declared.commands.Command.{Command}
 use Rattle.pmem_base.specs.declared.commands.Command.TheVariants as Do
 use Rattle.pmem_base.specs.declared.answers.Mark.{Mark}
@@ -23,6 +23,10 @@ blur_setup = record { shape = record default_shape { loss = 2 }; formulas = blur
 -- a reply without marks
 abbrev pub plain : Answer → Reply
 plain answer = record { marks = []; answer = answer }
+
+-- a reply with these marks
+abbrev pub marked : List Mark → Answer → Reply
+marked marks answer = record { marks = marks; answer = answer }
 
 -- the first seal of line 0 with 64 zero bytes, and of line 0 with 64 bytes 11
 abbrev pub zero_seal : Mark

@@ -59,6 +59,10 @@ answered_with command marks answer = (command, record { marks = marks; answer = 
 abbrev pub weak_seal : ℕ → Ctr → Line → Mark
 weak_seal at ctr plain = seal_mark weak at ctr plain
 
+-- the marks of a drain that begins page 0 again and seals each of its lines
+abbrev pub whole_page_seals : List Mark
+whole_page_seals = Begin 0 ∷ weak_seal 0 (ctr 1 1) zero_line ∷ map (λ i. weak_seal i (ctr 1 0) zero_line) (range_with_len 1 63)
+
 -- what lies on the device before and after one write
 abbrev pub peeks : Trace
 peeks =

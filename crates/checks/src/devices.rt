@@ -9,7 +9,7 @@ ghost use Rattle.pmem_engine.specs.Invariants.{is_named};
 ghost use Rattle.pmem_recovery.specs.Trials.{tried_minors, lines_tried, first_undecided};
 ghost use Rattle.pmem_recovery.specs.Fixed.{fixed_line, found_root};
 ghost use Rattle.checks.specs.Samples.{small_shape, weak, short_tag};
-ghost use Rattle.checks.specs.Devices.{small_weak, small_blur, view_sealed, device_sealed, regs_sealed, device_wrong_tag, device_unnamed};
+ghost use Rattle.checks.specs.Devices.{line_1_twice, three_lines, three_lines_after, small_weak, small_blur, view_sealed, device_sealed, regs_sealed, device_wrong_tag, device_unnamed};
 
 /// What recovery finds after one seal: the block and the top are named, and are made anew.
 pub fn recovered_device()
@@ -40,5 +40,5 @@ pub fn refused_devices()
 pub fn group_redone()
     ensures again { (group : List (ℕ × Line)) (lines : List Line) → redone group (redone group lines) ≡ redone group lines }
     ensures after_a_part { (group : List (ℕ × Line)) (n : ℕ) (lines : List Line) → redone group (redone (take n group) lines) ≡ redone group lines }
-    ensures in_order { redone ((1, filled_line 7) ∷ (0, filled_line 8) ∷ (1, filled_line 9) ∷ []) (zero_line ∷ zero_line ∷ zero_line ∷ []) ≡ filled_line 8 ∷ filled_line 9 ∷ zero_line ∷ [] }
+    ensures in_order { redone line_1_twice three_lines ≡ three_lines_after }
 {}

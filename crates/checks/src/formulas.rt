@@ -8,6 +8,7 @@ ghost use Rattle.suite.specs.Formulas.{cipher_of};
 ghost use Rattle.split_counters.specs.Blocks.{packed, unpacked};
 ghost use Rattle.bonsai_tree.specs.Positions.{path_of, level_of, parent, child_slot, is_on_path};
 ghost use Rattle.plain_model.specs.Defaults.{default_shape};
+ghost use Rattle.checks.specs.Positions.{position_over};
 ghost use Rattle.checks.specs.Samples.{small_shape, three_levels, weak, blur, ctr, counting_line, short_tag, one_byte_line};
 
 /// The weak suite's pad, tag and digest of the written examples, and blur's tag.
@@ -42,7 +43,7 @@ pub fn path_examples()
 /// A position on a page's path lies as far into its level as there are whole subtrees of that level before the page.
 pub fn path_positions()
     ensures { (shape : Shape) (page x : ℕ) → shape.levels ≤ 6 → page < layout.pages shape → is_on_path shape page x ≡ true
-        → x ≡ layout.level_start (level_of x) + page / 4 ^ (shape.levels - level_of x) }
+        → x ≡ position_over shape page (level_of x) }
 {}
 
 /// The default device: its parts and its size.

@@ -1,10 +1,10 @@
 //! The examples of FIPS 197.
 #![tactic(auto, unfolding(aes_block::specs::Field::times_x, aes_block::specs::Field::product_of_terms, aes_block::specs::Field::product, aes_block::specs::Field::inverse, aes_block::specs::Field::affine, aes_block::specs::Field::sub_byte,))]
 
-ghost use Rattle.std.specs.Prelude.{ℕ, ◌≡◌, ◌+◌, ◌*◌, ◌-◌, ◌^◌, List, [], ◌∷◌, ◌++◌, codes, replicate, map};
-ghost use Rattle.std.specs.List.{range_with_len};
+ghost use Rattle.std.specs.Prelude.{◌≡◌};
 ghost use Rattle.aes_block.specs.Field.{product, inverse, sub_byte};
 ghost use Rattle.aes_block.specs.Cipher.{aes128_of};
+ghost use Rattle.checks.specs.Vectors.{example_key, example_plain, example_cipher};
 
 /// Products and SubBytes of FIPS 197's examples.
 pub fn field_examples()
@@ -16,5 +16,5 @@ pub fn field_examples()
 
 /// The example vector of FIPS 197, appendix C.1.
 pub fn aes_vector()
-    ensures { aes128_of (range_with_len 0 16) (map (λ i. 0x11 * i) (range_with_len 0 16)) ≡ 0x69 ∷ 0xc4 ∷ 0xe0 ∷ 0xd8 ∷ 0x6a ∷ 0x7b ∷ 0x04 ∷ 0x30 ∷ 0xd8 ∷ 0xcd ∷ 0xb7 ∷ 0x80 ∷ 0x70 ∷ 0xb4 ∷ 0xc5 ∷ 0x5a ∷ [] }
+    ensures { aes128_of example_key example_plain ≡ example_cipher }
 {}

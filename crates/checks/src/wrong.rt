@@ -10,8 +10,8 @@ ghost use Rattle.pmem_base.specs.declared.commands.Command.TheVariants as Do;
 ghost use Rattle.plain_model.specs.Fits.{Fits};
 ghost use Rattle.plain_model.specs.Shown.{IsLegal};
 ghost use Rattle.checks.specs.Samples.{weak, short_tag, ctr, counting_line};
-ghost use Rattle.checks.specs.Rows.{weak_setup, formatted, formatted_view, one_waiting, zero_post, zero_seal, plain, flipped_state, blur_setup, blur_off, off_state, node_flipped_state, page_open_view, one_drained, all_clean, one_drained_view};
-ghost use Rattle.checks.specs.Traces.{weak_seal, view_at_end};
+ghost use Rattle.checks.specs.Rows.{weak_setup, formatted, formatted_view, one_waiting, zero_post, zero_seal, plain, marked, flipped_state, blur_setup, blur_off, off_state, node_flipped_state, page_open_view, one_drained, all_clean, one_drained_view};
+ghost use Rattle.checks.specs.Traces.{weak_seal, whole_page_seals, view_at_end};
 
 /// A read that prints another line is not legal.
 pub fn wrong_line()
@@ -45,7 +45,7 @@ pub fn spoiled_line()
 
 /// A seal under the old counter doesn't fit.
 pub fn old_counter()
-    ensures { ¬ Fits weak_setup one_waiting formatted_view (Do.Drain 0) (record { marks = weak_seal 0 (ctr 0 0) zero_line ∷ []; answer = Say.Drained 7 }) }
+    ensures { ¬ Fits weak_setup one_waiting formatted_view (Do.Drain 0) (marked (weak_seal 0 (ctr 0 0) zero_line ∷ []) (Say.Drained 7)) }
 {}
 
 /// Nor does a drain without its seal.
@@ -55,7 +55,7 @@ pub fn no_seal()
 
 /// Nor one with too many steps.
 pub fn too_many_steps()
-    ensures { ¬ Fits weak_setup one_waiting formatted_view (Do.Drain 0) (record { marks = zero_seal ∷ []; answer = Say.Drained 12 }) }
+    ensures { ¬ Fits weak_setup one_waiting formatted_view (Do.Drain 0) (marked (zero_seal ∷ []) (Say.Drained 12)) }
 {}
 
 /// A peek that shows a line in the clear doesn't fit.
@@ -75,23 +75,23 @@ pub fn equal_clash()
 
 /// An overflow that keeps the major doesn't fit.
 pub fn kept_major()
-    ensures { ¬ Fits weak_setup one_waiting (view_at_end (0 ∷ [])) (Do.Drain 0) (record { marks = Begin 0 ∷ weak_seal 0 (ctr 0 1) zero_line ∷ []; answer = Say.Drained 7 }) }
+    ensures { ¬ Fits weak_setup one_waiting (view_at_end (0 ∷ [])) (Do.Drain 0) (marked (Begin 0 ∷ weak_seal 0 (ctr 0 1) zero_line ∷ []) (Say.Drained 7)) }
 {}
 
 /// Nor does one that seals the whole page within the drain.
 pub fn whole_page_sealed()
-    ensures { ¬ Fits weak_setup one_waiting (view_at_end (0 ∷ [])) (Do.Drain 0) (record { marks = Begin 0 ∷ weak_seal 0 (ctr 1 1) zero_line ∷ map (λ i. weak_seal i (ctr 1 0) zero_line) (range_with_len 1 63); answer = Say.Drained 259 }) }
+    ensures { ¬ Fits weak_setup one_waiting (view_at_end (0 ∷ [])) (Do.Drain 0) (marked whole_page_seals (Say.Drained 259)) }
 {}
 
 /// Nor one without its begin.
 pub fn no_begin()
-    ensures { ¬ Fits weak_setup one_waiting (view_at_end (0 ∷ [])) (Do.Drain 0) (record { marks = weak_seal 0 (ctr 1 1) zero_line ∷ []; answer = Say.Drained 7 }) }
+    ensures { ¬ Fits weak_setup one_waiting (view_at_end (0 ∷ [])) (Do.Drain 0) (marked (weak_seal 0 (ctr 1 1) zero_line ∷ []) (Say.Drained 7)) }
 {}
 
 /// A drain that was cut and lost may show its begin, and nothing more.
 pub fn lost_after_begin()
-    ensures begun { Fits weak_setup one_waiting (view_at_end (0 ∷ [])) (Do.Drain 0) (record { marks = Begin 0 ∷ []; answer = Say.CutLost None 4 }) }
-    ensures sealed { ¬ Fits weak_setup one_waiting (view_at_end (0 ∷ [])) (Do.Drain 0) (record { marks = Begin 0 ∷ weak_seal 0 (ctr 1 1) zero_line ∷ []; answer = Say.CutLost None 4 }) }
+    ensures begun { Fits weak_setup one_waiting (view_at_end (0 ∷ [])) (Do.Drain 0) (marked (Begin 0 ∷ []) (Say.CutLost None 4)) }
+    ensures sealed { ¬ Fits weak_setup one_waiting (view_at_end (0 ∷ [])) (Do.Drain 0) (marked (Begin 0 ∷ weak_seal 0 (ctr 1 1) zero_line ∷ []) (Say.CutLost None 4)) }
 {}
 
 /// A page that can be re-encrypted is not spent.
@@ -102,7 +102,7 @@ pub fn not_spent()
 /// No `idle` while a page is open, and no turn while none is.
 pub fn wrong_turns()
     ensures idle { ¬ Fits weak_setup formatted page_open_view Do.Turn (plain Say.Idle) }
-    ensures turned { ¬ Fits weak_setup formatted formatted_view Do.Turn (record { marks = weak_seal 1 (ctr 1 0) zero_line ∷ []; answer = Say.Turned 62 4 }) }
+    ensures turned { ¬ Fits weak_setup formatted formatted_view Do.Turn (marked (weak_seal 1 (ctr 1 0) zero_line ∷ []) (Say.Turned 62 4)) }
     ensures cut { ¬ Fits weak_setup formatted formatted_view Do.Turn (plain (Say.Cut 0)) }
 {}
 
