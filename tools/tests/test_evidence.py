@@ -11,7 +11,7 @@ from .test_outputs import SESSIONS, read_session, spelled
 
 EVIDENCE = Path(__file__).resolve().parents[1] / "evidence"
 TRACES = Path(__file__).resolve().parent / "traces"
-SPECS = Path(__file__).resolve().parents[2] / "crates" / "checks" / "specs"
+SPECS = Path(__file__).resolve().parents[2] / "crates" / "evidence" / "specs"
 
 
 class EvidenceTest(unittest.TestCase):

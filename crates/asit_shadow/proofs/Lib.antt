@@ -30,7 +30,7 @@ pub mod RecoverEnds
 pub mod EngineLemmas
 pub mod WriteLoops
 pub mod WriteEnds
-pub mod WriteDone
+pub mod WriteOutcomes
 pub mod WriteCalls
 pub mod CallCounts
 pub mod FormatSteps

@@ -11,7 +11,7 @@ use Rattle.call_plan.proofs.DeterminedCalls.{call_is_determined}
 use Rattle.pmem_engine.specs.Engine.{EngineState}
 use Rattle.pmem_engine.specs.Plans.{Chip}
 use Rattle.line_session.specs.State.{LineSession, chip_in}
-use Rattle.line_session.specs.Called.{CallPlan, HasCalled}
+use Rattle.line_session.specs.StoreCalls.{CallPlan, HasCalledStore}
 use Rattle.line_session.specs.declared.starts.StartFault.{StartFault}
 use Rattle.line_session.specs.Started.{HasStarted}
 
@@ -41,7 +41,7 @@ same_after a b x y kept its shape keys board chip =
     (ap (λ (c : Chip). c.ledger) chip) (ap (λ (c : Chip). c.tags) chip) (ap (λ (c : Chip). c.digests) chip)
 
 pub call_determined : {F A : Type 0} (plan : CallPlan F A) (steps more : ℕ) (end other : Result A F) (old a b : LineSession)
-    → old.board.powered ≡ true → HasCalled plan steps end old a → HasCalled plan more other old b
+    → old.board.powered ≡ true → HasCalledStore plan steps end old a → HasCalledStore plan more other old b
     → (end ≡ other) × (steps ≡ more) × (a ≡ b)
 call_determined plan steps more end other old a b on it its =
     let engine : its.engine ≡ it.engine = same_Some its.engine it.engine (sym its.was_on ∙ it.was_on) in

@@ -13,7 +13,7 @@ use Rattle.pmem_recovery.specs.declared.faults.RecFault.{RecFault}
 use Rattle.pmem_recovery.specs.Plans.{SuiteCounts, recover_plan}
 use Rattle.engine_lines.proofs.RegisterPlans.{done_with_regs, stopped_with_regs}
 use Rattle.line_session.specs.declared.starts.StartFault.TheVariants.{Recovery, Opening}
-use Rattle.line_session.specs.Called.{CallPlan}
+use Rattle.line_session.specs.StoreCalls.{CallPlan}
 use Rattle.line_session.specs.During.{started_as}
 use Rattle.line_session.specs.Started.{chip_with, opening_end, start_plan}
 

@@ -2,14 +2,14 @@
 use Rattle.std.specs.Prelude.{ℕ, ◌≡◌, true, Result}
 use Rattle.suite.specs.Setup.{Setup}
 use Rattle.line_session.specs.State.{LineSession}
-use Rattle.line_session.specs.Called.{CallPlan, HasCalled}
+use Rattle.line_session.specs.StoreCalls.{CallPlan, HasCalledStore}
 use Rattle.line_session.specs.declared.starts.StartFault.{StartFault}
 use Rattle.line_session.specs.Started.{HasStarted}
 
 abbrev pub CallsAreDetermined : Type 0 → Type 0 → Type 0
 CallsAreDetermined F A =
     (plan : CallPlan F A) (steps more : ℕ) (end other : Result A F) (old a b : LineSession) → old.board.powered ≡ true
-    → HasCalled plan steps end old a → HasCalled plan more other old b → (end ≡ other) × (steps ≡ more) × (a ≡ b)
+    → HasCalledStore plan steps end old a → HasCalledStore plan more other old b → (end ≡ other) × (steps ≡ more) × (a ≡ b)
 
 abbrev pub StartsAreDetermined : Type 0 → Type 0 → Type 0
 StartsAreDetermined F A =

@@ -1,6 +1,6 @@
 pub mod State
 pub mod Steps
-pub mod Called
+pub mod StoreCalls
 pub mod Started
 pub mod During
 pub mod Determined

@@ -16,7 +16,7 @@ use Rattle.engine_lines.specs.Plans.{with_regs}
 use Rattle.line_session.specs.declared.starts.StartFault.{StartFault}
 use Rattle.line_session.specs.declared.starts.StartFault.TheVariants.{Recovery, Opening}
 use Rattle.line_session.specs.State.{LineSession, chip_in, with_power}
-use Rattle.line_session.specs.Called.{CallPlan}
+use Rattle.line_session.specs.StoreCalls.{CallPlan}
 
 -- a chip with a new engine, before anything is told of it but the counts
 abbrev pub chip_with : Setup → LedgerState → SuiteCounts → Chip

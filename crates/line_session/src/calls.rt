@@ -20,7 +20,7 @@ use watched_board::{Left, Start, Taken};
 
 /// A call's answer, and the steps that it took.
 #[derive(Drop)]
-pub struct Done<T> {
+pub struct CallEnd<T> {
     pub taken: Taken,
     pub answer: T,
 }
@@ -69,7 +69,7 @@ pub fn call<C: StoreCall, S: Suite>(
     suite: &mut S,
     ledger: &mut Ledger,
     log: &mut AccessLog,
-) -> Done<Result<C::Value, C::Fault>>
+) -> CallEnd<Result<C::Value, C::Fault>>
     requires can { C.can call.now store.old (ledger_of ledger.old) (capacity_of ledger.old) }
     requires on { (memory_of board.old).powered ≡ true }
     requires usable { IsUsable (C.engine_of store.old).shape (C.engine_of store.old) (device_during (memory_of board.old) none_taken) (ledger_of ledger.old) }
@@ -91,7 +91,7 @@ pub fn call<C: StoreCall, S: Suite>(
         ..
     } = left;
     match outcome {
-        Some(answer) => Done { taken, answer },
+        Some(answer) => CallEnd { taken, answer },
         None => unreachable!(),
     }
 }

@@ -16,7 +16,7 @@ ghost use Rattle.watched_board.specs.Watching.{IsWatched, device_during, none_ta
 ghost use Rattle.access_log.specs.Traced.{GoesOn};
 ghost use Rattle.line_session.specs.During.{HasStartedBy};
 
-use crate::calls::Done;
+use crate::calls::CallEnd;
 use access_log::{AccessLog, Entry, Logged};
 use board::{Board, MemBoard};
 use pmem_base::Geo;
@@ -80,7 +80,7 @@ pub fn start<O: StoreOpening, S: Suite>(
     suite: &mut S,
     ledger: &mut Ledger,
     log: &mut AccessLog,
-) -> Done<Result<O::Opened, StartFault<O::Fault>>>
+) -> CallEnd<Result<O::Opened, StartFault<O::Fault>>>
     requires can { O.can opening.now (ledger_of ledger.old) (capacity_of ledger.old) }
     requires size { length (memory_of board.old).lines ≡ device_lines (shape_of geo.now) }
     requires on { (memory_of board.old).powered ≡ true }
@@ -116,7 +116,7 @@ pub fn start<O: StoreOpening, S: Suite>(
         ..
     } = left;
     match outcome {
-        Some(answer) => Done { taken, answer },
+        Some(answer) => CallEnd { taken, answer },
         None => unreachable!(),
     }
 }

@@ -16,8 +16,8 @@ use Rattle.pmem_engine.specs.Outcomes.{LeavesTrusted, LeavesSound}
 use Rattle.engine_lines.specs.Lines.{HasLines, IsUnspent}
 use Rattle.engine_lines.specs.Edits.{AreEdited, IsEditOf, all_edited}
 use Rattle.line_txn.specs.declared.store.Store.{Store}
-use Rattle.line_txn.specs.declared.store.Done.{Done}
-use Rattle.line_txn.specs.declared.store.Done.TheVariants as Do
+use Rattle.line_txn.specs.declared.store.Committed.{Committed}
+use Rattle.line_txn.specs.declared.store.Committed.TheVariants as Do
 use Rattle.line_txn.specs.declared.store.CommitFault.{CommitFault}
 use Rattle.engine_lines.specs.declared.edits.Edit.{Edit}
 use Rattle.engine_lines.specs.declared.edits.Edit.TheVariants as Make
@@ -46,10 +46,10 @@ module _ (setup : Setup) (n : ℕ) (txn : List (ℕ × Line)) (lines : List Line
   small : data_lines setup.shape ≤ 2 ^ 32
   small = let size = its.size in let low = its.low in omega (arith, size, low)
 
-  abbrev Left : Parts → Result Done CommitFault → Type 0
+  abbrev Left : Parts → Result Committed CommitFault → Type 0
   Left to answer = IsLeftLogged setup txn n lines to answer
 
-  left_at : (stage : CommitStage) (to : Parts) (answer : Result Done CommitFault) → IsCommitEnd answer txn stage
+  left_at : (stage : CommitStage) (to : Parts) (answer : Result Committed CommitFault) → IsCommitEnd answer txn stage
       → HasLines setup (commit_lines_at stage n txn lines) to → Left to answer
   left_at stage to answer end holds =
       record {
@@ -126,7 +126,7 @@ module _ (setup : Setup) (n : ℕ) (txn : List (ℕ × Line)) (lines : List Line
                 ∙ ap (slice_set (put_lines txn (lines_decided n txn lines)) n) (sym zero_header)) put.2)
           ]
 
-  decided_left : (old new : Store) (from to : Parts) (answer : Result Done CommitFault) → old.lines ≡ n
+  decided_left : (old new : Store) (from to : Parts) (answer : Result Committed CommitFault) → old.lines ≡ n
       → HasLines setup lines from → AreTrusted setup from → HasDecided setup txn old new from to answer → Left to answer
   decided_left old new from to answer same had trusted it =
       go it.made (subst (λ m. AreEdited setup (deciding_edits m txn) from it.between it.made) same it.was_made) it.then
@@ -163,7 +163,7 @@ no_txn =
     }
 
 pub left_logged : (setup : Setup) (txn : List (ℕ × Line)) (lines : List Line) (old new : Store) (from to : Parts)
-    (answer : Result Done CommitFault) → IsTxnOf setup old.lines txn → HasLines setup lines from → AreTrusted setup from
+    (answer : Result Committed CommitFault) → IsTxnOf setup old.lines txn → HasLines setup lines from → AreTrusted setup from
     → HasStoreCommitted setup txn old new from to answer → IsLeftLogged setup txn old.lines lines to answer
 left_logged setup [] lines old new from to answer its had trusted it =
     subst (IsLeftLogged setup [] old.lines lines to) (sym it.its_answer)
@@ -174,7 +174,7 @@ left_logged setup (entry ∷ txn) lines old new from to answer its had trusted i
 -- ---- trusted and sound
 
 -- what holds after a commit: P, or what E says of the fault
-abbrev pub AfterCommit : (Parts → Type 0) → (Fault → Parts → Type 0) → Result Done CommitFault → Parts → Type 0
+abbrev pub AfterCommit : (Parts → Type 0) → (Fault → Parts → Type 0) → Result Committed CommitFault → Parts → Type 0
 AfterCommit P E (Ok Do.Applied) to = P to
 AfterCommit P E (Ok (Do.Stuck page)) to = E (Fail.Spent page) to
 AfterCommit P E (Err fault) to = E fault.fault to
@@ -182,7 +182,7 @@ AfterCommit P E (Err fault) to = E fault.fault to
 -- where changes leave that, so does a commit
 pub commit_ends : (setup : Setup) (P : Parts → Type 0) (E : Fault → Parts → Type 0)
     → ((edits : List Edit) (old new : Parts) (answer : Result (Unit {0}) Fault) → AreEdited setup edits old new answer → P old → AfterEdits P E answer new)
-    → (txn : List (ℕ × Line)) (old new : Store) (from to : Parts) (answer : Result Done CommitFault) → P from
+    → (txn : List (ℕ × Line)) (old new : Store) (from to : Parts) (answer : Result Committed CommitFault) → P from
     → HasStoreCommitted setup txn old new from to answer → AfterCommit P E answer to
 commit_ends setup P E by_edits [] old new from to answer had it =
     subst (λ r. AfterCommit P E r to) (sym it.its_answer) (subst P (sym it.nothing_done) had)
@@ -208,24 +208,24 @@ commit_ends setup P E by_edits (entry ∷ txn) old new from to answer had it = g
         subst (λ r. AfterCommit P E r to) (sym then.its_answer)
         (subst (E fault) (sym then.nothing_else) (by_edits (deciding_edits old.lines (entry ∷ txn)) from it.between (Err fault) was had))
 
-pub commit_trusted : (setup : Setup) (txn : List (ℕ × Line)) (old new : Store) (from to : Parts) (answer : Result Done CommitFault)
+pub commit_trusted : (setup : Setup) (txn : List (ℕ × Line)) (old new : Store) (from to : Parts) (answer : Result Committed CommitFault)
     → HasStoreCommitted setup txn old new from to answer → AreTrusted setup from → LeavesTrusted setup (commit_outcome_by answer) to
 commit_trusted setup txn old new from to answer it trusted =
     go answer
     (commit_ends setup (AreTrusted setup) (LeftTrusted setup) (trusted_after_edits setup) txn old new from to answer trusted it)
   where
-    go : (answer : Result Done CommitFault) → AfterCommit (AreTrusted setup) (LeftTrusted setup) answer to → LeavesTrusted setup (commit_outcome_by answer) to
+    go : (answer : Result Committed CommitFault) → AfterCommit (AreTrusted setup) (LeftTrusted setup) answer to → LeavesTrusted setup (commit_outcome_by answer) to
     go (Ok Do.Applied) is = is
     go (Ok (Do.Stuck page)) is = is
     go (Err fault) is = is
 
-pub commit_sound : (setup : Setup) (txn : List (ℕ × Line)) (old new : Store) (from to : Parts) (answer : Result Done CommitFault)
+pub commit_sound : (setup : Setup) (txn : List (ℕ × Line)) (old new : Store) (from to : Parts) (answer : Result Committed CommitFault)
     → HasStoreCommitted setup txn old new from to answer → AreSound setup from → LeavesSound setup (commit_outcome_by answer) to × IsSoundCommitAnswer answer
 commit_sound setup txn old new from to answer it sound =
     go answer
     (commit_ends setup (AreSound setup) (LeftSound setup) (sound_after_edits setup) txn old new from to answer sound it)
   where
-    go : (answer : Result Done CommitFault) → AfterCommit (AreSound setup) (LeftSound setup) answer to
+    go : (answer : Result Committed CommitFault) → AfterCommit (AreSound setup) (LeftSound setup) answer to
         → LeavesSound setup (commit_outcome_by answer) to × IsSoundCommitAnswer answer
     go (Ok Do.Applied) is = (is, tt)
     go (Ok (Do.Stuck page)) is = (is.0, tt)
@@ -242,7 +242,7 @@ spent_answer (Err (Fail.Meta x)) = λ e. tt
 spent_answer (Err (Fail.Tag at)) = λ e. tt
 spent_answer (Err Fail.Shown) = λ e. tt
 
-pub spent_undecided : (setup : Setup) (txn : List (ℕ × Line)) (old new : Store) (from to : Parts) (answer : Result Done CommitFault)
+pub spent_undecided : (setup : Setup) (txn : List (ℕ × Line)) (old new : Store) (from to : Parts) (answer : Result Committed CommitFault)
     → HasStoreCommitted setup txn old new from to answer → IsSpentUndecided answer
 spent_undecided setup [] old new from to answer it = subst IsSpentUndecided (sym it.its_answer) tt
 spent_undecided setup (entry ∷ txn) old new from to answer it = go it.made it.then
@@ -260,7 +260,7 @@ empty_list (x ∷ xs) e = absurd (omega (arith, eqb-true (suc (length xs)) 0 e))
 pub some_list : {X : Type 0} (xs : List X) → eqb (length xs) 0 ≡ false → xs ≡ [] → ⊥
 some_list xs other none = eqb-false (length xs) 0 other (ap length none)
 
-pub decided_by : (setup : Setup) (txn : List (ℕ × Line)) (old new : Store) (from to : Parts) (answer : Result Done CommitFault)
+pub decided_by : (setup : Setup) (txn : List (ℕ × Line)) (old new : Store) (from to : Parts) (answer : Result Committed CommitFault)
     → (txn ≡ [] → ⊥) → HasDecided setup txn old new from to answer → HasStoreCommitted setup txn old new from to answer
 decided_by setup [] old new from to answer some it = absurd (some refl)
 decided_by setup (entry ∷ txn) old new from to answer some it = it
@@ -278,7 +278,7 @@ refused_by setup txn old new from to fault some made served =
     })
 
 pub applied_by : (setup : Setup) (txn : List (ℕ × Line)) (old new : Store) (from between to : Parts) (applied : Result (Unit {0}) Fault)
-    (answer : Result Done CommitFault) → (txn ≡ [] → ⊥) → AreEdited setup (deciding_edits old.lines txn) from between (Ok tt)
+    (answer : Result Committed CommitFault) → (txn ≡ [] → ⊥) → AreEdited setup (deciding_edits old.lines txn) from between (Ok tt)
     → AreEdited setup (applying_edits old.lines txn) between to applied → answer ≡ commit_answer_by applied → IsServedBy applied txn old new
     → HasStoreCommitted setup txn old new from to answer
 applied_by setup txn old new from between to applied answer some made was its_answer served =

@@ -4,6 +4,6 @@ pub mod EditLists
 pub mod EditStages
 pub mod Commits
 pub mod Openings
-pub mod Served
+pub mod ServedReads
 pub mod HeaderReads
 pub mod StorePlans

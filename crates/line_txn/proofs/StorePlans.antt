@@ -15,8 +15,8 @@ use Rattle.engine_lines.specs.declared.edits.Edit.{Edit}
 use Rattle.engine_lines.specs.Plans.{edits_plan}
 use Rattle.engine_lines.proofs.RegisterPlans.{done_with_regs, stopped_with_regs}
 use Rattle.line_txn.specs.declared.store.Store.{Store}
-use Rattle.line_txn.specs.declared.store.Done.{Done}
-use Rattle.line_txn.specs.declared.store.Done.TheVariants as Do
+use Rattle.line_txn.specs.declared.store.Committed.{Committed}
+use Rattle.line_txn.specs.declared.store.Committed.TheVariants as Do
 use Rattle.line_txn.specs.declared.store.CommitFault.{CommitFault}
 use Rattle.line_txn.specs.declared.store.TxnFault.{TxnFault}
 use Rattle.line_txn.specs.declared.store.TxnFault.TheVariants as Txn
@@ -165,7 +165,7 @@ module _ (setup : Setup) (old new : Store) (chip after : Chip) {before : Device}
 
   -- it was, and then the rest, up to a fault
   pub decided_then : (txn : List (ℕ × Line)) (decided : Chip) {mid now : Device} (applied : Result (Unit {0}) Fault)
-      (answer : Result Done CommitFault) → (txn ≡ [] → ⊥)
+      (answer : Result Committed CommitFault) → (txn ≡ [] → ⊥)
       → Follows (edits_plan setup (deciding_edits old.lines txn) (chip, before.regs)) before mid (Ok (decided, mid.regs))
       → Follows (edits_plan setup (applying_edits old.lines txn) (decided, mid.regs)) mid now (ended_with applied after now.regs)
       → answer ≡ commit_answer_by applied → IsServedBy applied txn old new

@@ -9,7 +9,7 @@ use Rattle.call_plan.specs.Runs.{IsRunOn}
 use Rattle.suite.specs.Setup.{Setup}
 use Rattle.pmem_engine.specs.Plans.{Chip}
 use Rattle.line_txn.specs.declared.store.Store.{Store}
-use Rattle.line_txn.specs.declared.store.Done.{Done}
+use Rattle.line_txn.specs.declared.store.Committed.{Committed}
 use Rattle.line_txn.specs.declared.store.CommitFault.{CommitFault}
 use Rattle.line_txn.specs.declared.store.TxnFault.{TxnFault}
 use Rattle.line_txn.specs.Plans.{Serving, FollowsOpening, FollowsCommit}
@@ -31,7 +31,7 @@ OpeningIsDetermined =
 
 -- a commit on a watched board
 pub record IsCommitOn (setup : Setup) (txn : List (ℕ × Line)) (store after : Store) (from to : Chip) (old new : BoardMemory) (taken : Taken)
-    (answer : Result Done CommitFault) : Type 0 where
+    (answer : Result Committed CommitFault) : Type 0 where
   pub run : IsRunOn old new taken
   pub follows :
       FollowsCommit setup txn store after old.regs from to (device_during old none_taken) (device_during new taken) answer
@@ -39,6 +39,6 @@ pub record IsCommitOn (setup : Setup) (txn : List (ℕ × Line)) (store after : 
 abbrev pub CommitIsDetermined : Type 0
 CommitIsDetermined =
     (setup : Setup) (txn : List (ℕ × Line)) (store one other : Store) (from to there : Chip) (old a b : BoardMemory) (x y : Taken)
-    (first second : Result Done CommitFault) → old.powered ≡ true
+    (first second : Result Committed CommitFault) → old.powered ≡ true
     → IsCommitOn setup txn store one from to old a x first → IsCommitOn setup txn store other from there old b y second
     → AreSameEnds first second to there a b x y

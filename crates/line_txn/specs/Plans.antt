@@ -14,8 +14,8 @@ use Rattle.pmem_engine.specs.Plans.{Chip, read_plan}
 use Rattle.engine_lines.specs.Plans.{with_regs, edits_plan}
 use Rattle.line_txn.specs.declared.store.Store.{Store}
 use Rattle.line_txn.specs.declared.store.Opened.{Opened}
-use Rattle.line_txn.specs.declared.store.Done.{Done}
-use Rattle.line_txn.specs.declared.store.Done.TheVariants as Do
+use Rattle.line_txn.specs.declared.store.Committed.{Committed}
+use Rattle.line_txn.specs.declared.store.Committed.TheVariants as Do
 use Rattle.line_txn.specs.declared.store.CommitFault.{CommitFault}
 use Rattle.line_txn.specs.declared.store.TxnFault.{TxnFault}
 use Rattle.line_txn.specs.declared.store.TxnFault.TheVariants as Txn
@@ -96,22 +96,22 @@ commit_plan setup n (entry ∷ txn) chip regs =
     (λ decided. lifted (λ now. now) (commit_fault true) (edits_plan setup (applying_edits n (entry ∷ txn)) decided))
 
 -- once it is committed, a spent line leaves the store stuck
-abbrev pub stuck_as : Bool → Fault → Result Done CommitFault
+abbrev pub stuck_as : Bool → Fault → Result Committed CommitFault
 stuck_as true (Fail.Spent page) = Ok (Do.Stuck page)
 stuck_as committed fault = Err (commit_fault committed fault)
 
-abbrev pub commit_answer_of : Result Regs CommitFault → Result Done CommitFault
+abbrev pub commit_answer_of : Result Regs CommitFault → Result Committed CommitFault
 commit_answer_of (Ok regs) = Ok Do.Applied
 commit_answer_of (Err fault) = stuck_as fault.committed fault.fault
 
 -- what the store serves by that answer
-abbrev pub IsServedAfter : Result Done CommitFault → List (ℕ × Line) → Store → Store → Type 0
+abbrev pub IsServedAfter : Result Committed CommitFault → List (ℕ × Line) → Store → Store → Type 0
 IsServedAfter (Ok (Do.Stuck page)) txn old new = IsServedAs (targets_of txn) (Some page) old new
 IsServedAfter answer txn old new = IsServedAs old.logged.items old.stuck old new
 
 -- the board went along a commit's plan, and the rest is by its end
 pub record FollowsCommit (setup : Setup) (txn : List (ℕ × Line)) (old new : Store) (regs : Regs) (from to : Chip) (before after : Device)
-    (answer : Result Done CommitFault) : Type 0 where
+    (answer : Result Committed CommitFault) : Type 0 where
   pub end : Result Regs CommitFault
   pub follows : Follows (commit_plan setup old.lines txn from regs) before after (ended end to)
   pub its_answer : answer ≡ commit_answer_of end

@@ -16,8 +16,8 @@ use Rattle.engine_lines.specs.Lines.{HasLines, IsUnspent, IsCutOrSpent}
 use Rattle.engine_lines.specs.Edits.{AreEdited}
 use Rattle.line_txn.specs.declared.store.Store.{Store}
 use Rattle.line_txn.specs.declared.store.Opened.{Opened}
-use Rattle.line_txn.specs.declared.store.Done.{Done}
-use Rattle.line_txn.specs.declared.store.Done.TheVariants as Do
+use Rattle.line_txn.specs.declared.store.Committed.{Committed}
+use Rattle.line_txn.specs.declared.store.Committed.TheVariants as Do
 use Rattle.line_txn.specs.declared.store.CommitFault.{CommitFault}
 use Rattle.line_txn.specs.declared.store.TxnFault.{TxnFault}
 use Rattle.line_txn.specs.declared.store.TxnFault.TheVariants as Txn
@@ -128,7 +128,7 @@ LeavesOpenedSound setup now (Err (Txn.Header line)) = (dropped : EngineState) ×
 -- ---- the calls of a commit
 
 -- the answer of a commit that was decided, by that of what follows
-abbrev pub commit_answer_by : Result (Unit {0}) Fault → Result Done CommitFault
+abbrev pub commit_answer_by : Result (Unit {0}) Fault → Result Committed CommitFault
 commit_answer_by (Ok done) = Ok Do.Applied
 commit_answer_by (Err (Fail.Spent page)) = Ok (Do.Stuck page)
 commit_answer_by (Err fault) = Err (record { fault = fault; committed = true })
@@ -140,14 +140,14 @@ IsServedBy answer txn old new = IsServedAs old.logged.items old.stuck old new
 
 -- the targets and the zero header are written
 pub record HasApplied (setup : Setup) (txn : List (ℕ × Line)) (old new : Store) (from to : Parts)
-    (answer : Result Done CommitFault) : Type 0 where
+    (answer : Result Committed CommitFault) : Type 0 where
   pub applied : Result (Unit {0}) Fault
   pub was_applied : AreEdited setup (applying_edits old.lines txn) from to applied
   pub its_answer : answer ≡ commit_answer_by applied
   pub served : IsServedBy applied txn old new
 
 -- the header wasn't written, and nothing else was done
-pub record HasCommitRefused (fault : Fault) (old new : Store) (from to : Parts) (answer : Result Done CommitFault) :
+pub record HasCommitRefused (fault : Fault) (old new : Store) (from to : Parts) (answer : Result Committed CommitFault) :
     Type 0 where
   pub its_answer : answer ≡ Err (record { fault = fault; committed = false })
   pub served : IsServedAs old.logged.items old.stuck old new
@@ -155,26 +155,26 @@ pub record HasCommitRefused (fault : Fault) (old new : Store) (from to : Parts) 
 
 -- what follows the bodies and the header
 abbrev pub HasCommitGoneOn :
-    Result (Unit {0}) Fault → Setup → List (ℕ × Line) → Store → Store → Parts → Parts → Result Done CommitFault
+    Result (Unit {0}) Fault → Setup → List (ℕ × Line) → Store → Store → Parts → Parts → Result Committed CommitFault
     → Type 0
 HasCommitGoneOn (Ok done) setup txn old new from to answer = HasApplied setup txn old new from to answer
 HasCommitGoneOn (Err fault) setup txn old new from to answer = HasCommitRefused fault old new from to answer
 
 pub record HasDecided (setup : Setup) (txn : List (ℕ × Line)) (old new : Store) (from to : Parts)
-    (answer : Result Done CommitFault) : Type 0 where
+    (answer : Result Committed CommitFault) : Type 0 where
   pub made : Result (Unit {0}) Fault
   pub between : Parts
   pub was_made : AreEdited setup (deciding_edits old.lines txn) from between made
   pub then : HasCommitGoneOn made setup txn old new between to answer
 
 -- without lines nothing is done
-pub record HasNothingToDo (old new : Store) (from to : Parts) (answer : Result Done CommitFault) : Type 0 where
+pub record HasNothingToDo (old new : Store) (from to : Parts) (answer : Result Committed CommitFault) : Type 0 where
   pub its_answer : answer ≡ Ok Do.Applied
   pub served : IsServedAs old.logged.items old.stuck old new
   pub nothing_done : to ≡ from
 
 abbrev pub HasStoreCommitted :
-    Setup → List (ℕ × Line) → Store → Store → Parts → Parts → Result Done CommitFault → Type 0
+    Setup → List (ℕ × Line) → Store → Store → Parts → Parts → Result Committed CommitFault → Type 0
 HasStoreCommitted setup [] old new from to answer = HasNothingToDo old new from to answer
 HasStoreCommitted setup (entry ∷ txn) old new from to answer =
     HasDecided setup (entry ∷ txn) old new from to answer
@@ -182,7 +182,7 @@ HasStoreCommitted setup (entry ∷ txn) old new from to answer =
 -- ---- what becomes of memory in a commit
 
 -- the stages at which a commit may end, by its answer; a spent line isn't written
-abbrev pub IsCommitEnd : Result Done CommitFault → List (ℕ × Line) → CommitStage → Type 0
+abbrev pub IsCommitEnd : Result Committed CommitFault → List (ℕ × Line) → CommitStage → Type 0
 IsCommitEnd (Ok Do.Applied) txn (logged k) = txn ≡ []
 IsCommitEnd (Ok Do.Applied) txn cleared = ⊤
 IsCommitEnd (Ok (Do.Stuck page)) txn (decided k) = k ≤ length txn
@@ -195,7 +195,7 @@ IsCommitEnd answer txn stage = ⊥
 -- Where the lines were these, they are at a stage of the commit now. And where they held a memory with no
 -- transaction in force, they hold it without this one or with the whole of it.
 pub record IsLeftLogged (setup : Setup) (txn : List (ℕ × Line)) (n : ℕ) (lines : List Line) (to : Parts)
-    (answer : Result Done CommitFault) : Type 0 where
+    (answer : Result Committed CommitFault) : Type 0 where
   pub stage : CommitStage
   pub ended : IsCommitEnd answer txn stage
   pub its_lines : HasLines setup (commit_lines_at stage n txn lines) to
@@ -204,16 +204,16 @@ pub record IsLeftLogged (setup : Setup) (txn : List (ℕ × Line)) (n : ℕ) (li
       → IsLogged n (commit_lines_at stage n txn lines) (targets_at stage txn) (commit_memory_at stage txn memory)
 
 -- how the engine stands after a commit
-abbrev pub commit_outcome_by : Result Done CommitFault → Outcome
+abbrev pub commit_outcome_by : Result Committed CommitFault → Outcome
 commit_outcome_by (Ok what) = going
 commit_outcome_by (Err fault) = outcome_of_fault fault.fault
 
 -- over a sound device a commit is done, or cut, or a line is spent before its header is written
-abbrev pub IsSoundCommitAnswer : Result Done CommitFault → Type 0
+abbrev pub IsSoundCommitAnswer : Result Committed CommitFault → Type 0
 IsSoundCommitAnswer (Ok what) = ⊤
 IsSoundCommitAnswer (Err fault) = IsCutOrSpent fault.fault
 
 -- once its header is written, a commit isn't spent: the store is stuck
-abbrev pub IsSpentUndecided : Result Done CommitFault → Type 0
+abbrev pub IsSpentUndecided : Result Committed CommitFault → Type 0
 IsSpentUndecided (Ok what) = ⊤
 IsSpentUndecided (Err fault) = fault.committed ≡ true → IsUnspent fault.fault

@@ -12,4 +12,4 @@ pub use laws::{
     commit_is_determined, headers_name_one_list, opening_is_determined, transactions_are_whole,
     zero_lines_are_logged,
 };
-pub use store::{CommitFault, Done, Opened, Store, TxnFault};
+pub use store::{CommitFault, Committed, Opened, Store, TxnFault};

@@ -25,7 +25,7 @@ use suite::Suite;
 
 /// What became of a transaction that was decided.
 #[derive(Clone, Copy, Debug, PartialEq, Eq)]
-pub enum Done {
+pub enum Committed {
     /// Each of its lines was written to its place.
     Applied,
     /// A target or the header is spent: from now on the log serves the targets.
@@ -249,7 +249,7 @@ impl Store {
         suite: &mut S,
         audit: &mut A,
         txn: &ArrayVec<(u32, Line), 15>,
-    ) -> Result<Done, CommitFault>
+    ) -> Result<Committed, CommitFault>
         requires targets { AreDistinctBelow self.old.lines (targets_of txn.now.items) }
         requires free { self.old.stuck ≡ None }
         requires room { HasRoom (A.ledger audit.old) (A.capacity audit.old) 2112 }
@@ -296,7 +296,7 @@ impl Store {
         suite: &mut S,
         audit: &mut A,
         txn: &ArrayVec<(u32, Line), 15>,
-    ) -> Result<Done, CommitFault>
+    ) -> Result<Committed, CommitFault>
         requires targets { AreDistinctBelow self.old.lines (targets_of txn.now.items) }
         requires room { HasRoom (A.ledger audit.old) (A.capacity audit.old) 2112 }
         requires usable { IsUsable self.old.engine.shape self.old.engine (B.device board.old) (A.ledger audit.old) }
@@ -315,7 +315,7 @@ impl Store {
         ensures shape { self.new.engine.shape ≡ self.old.engine.shape }
     {
         if txn.is_empty() {
-            return Ok(Done::Applied);
+            return Ok(Committed::Applied);
         }
         let edits = deciding(self.lines, txn);
         if let Err(fault) = edit_all(&mut self.engine, board, suite, audit, &edits) {
@@ -326,12 +326,12 @@ impl Store {
         }
         let edits = applying(self.lines, txn);
         match edit_all(&mut self.engine, board, suite, audit, &edits) {
-            Ok(()) => Ok(Done::Applied),
+            Ok(()) => Ok(Committed::Applied),
             Err(fault) => match fault {
                 Fault::Spent { page } => {
                     self.logged = targets_in(txn);
                     self.stuck = Some(page);
-                    Ok(Done::Stuck { page })
+                    Ok(Committed::Stuck { page })
                 }
                 _ => Err(CommitFault {
                     fault,

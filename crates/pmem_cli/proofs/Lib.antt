@@ -22,13 +22,13 @@ pub mod RunsAlike
 pub mod ReplaysAlike
 pub mod SamplesAlike
 pub mod CallsAlike
-pub mod Untampering
+pub mod UntamperedRuns
 pub mod StepSums
 pub mod StatusLemmas
 pub mod PullLemmas
 pub mod ReplyLemmas
-pub mod Completing
-pub mod Following
+pub mod CompleteRuns
+pub mod FollowedTalks
 pub mod SessionLemmas
 pub mod WearLemmas
 pub mod TreeLemmas

@@ -14,7 +14,7 @@ use Rattle.pmem_cli.specs.Sessions.{Session, Said, session_protocol, telling, Ha
 use Rattle.pmem_cli.specs.Talked.{HasToldFirst}
 use Rattle.pmem_cli.specs.Telling.{voice}
 use Rattle.pmem_cli.specs.Turns.{HasStopped}
-use Rattle.pmem_cli.proofs.Following.{Follows, follow_all, follow_told, follows_voiced, said_given}
+use Rattle.pmem_cli.proofs.FollowedTalks.{Follows, follow_all, follow_told, follows_voiced, said_given}
 use Rattle.pmem_cli.proofs.KeyLemmas.{setup_same}
 use Rattle.pmem_cli.proofs.PrintLemmas.{Prints-nil, Prints-front}
 

@@ -35,7 +35,7 @@ use Rattle.pmem_cli.proofs.SampleLemmas.{sample_answered}
 use Rattle.pmem_cli.proofs.StepSums.{summed}
 use Rattle.pmem_cli.proofs.RunLemmas.{ends_answered}
 use Rattle.pmem_cli.proofs.TurnLemmas.{IfSome-map}
-use Rattle.pmem_cli.proofs.Untampering.{untampered}
+use Rattle.pmem_cli.proofs.UntamperedRuns.{untampered}
 
 -- ---- what was asked for, finished by the last line
 

@@ -16,7 +16,7 @@ use Rattle.tree_session.specs.Guarantees.{TreeReply, AreTreeAnswered, IsTreeSess
 use Rattle.tree_session.specs.State.{SessionState, IsNewTree, tree_setup_in}
 use Rattle.pmem_cli.specs.Sessions.{Said, reply, exhibit, session_protocol, replies_among, exhibits_among}
 use Rattle.pmem_cli.specs.Tree.{IsShownAfter, counter_tree_session}
-use Rattle.pmem_cli.proofs.Following.{Follows}
+use Rattle.pmem_cli.proofs.FollowedTalks.{Follows}
 use Rattle.pmem_cli.proofs.SessionLemmas.{KeepsPromise}
 
 -- ---- states in a run

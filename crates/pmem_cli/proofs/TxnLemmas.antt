@@ -19,7 +19,7 @@ use Rattle.plain_model.specs.Texts.{as_line}
 use Rattle.trace_text.specs.Conversations.{Protocol, talk_protocol, AreRepliesGiven}
 use Rattle.pmem_cli.specs.Sessions.{Said, reply, exhibit, session_protocol, replies_among}
 use Rattle.pmem_cli.specs.Txn.{transactions_session}
-use Rattle.pmem_cli.proofs.Following.{Follows}
+use Rattle.pmem_cli.proofs.FollowedTalks.{Follows}
 use Rattle.pmem_cli.proofs.SessionLemmas.{KeepsPromise}
 
 -- ---- geometry and keys stay

@@ -21,7 +21,7 @@ use Rattle.start_gap.specs.declared.wear.Wear.{Wear}
 use Rattle.trace_text.specs.Conversations.{Protocol, talk_protocol, AreRepliesGiven}
 use Rattle.pmem_cli.specs.Sessions.{Said, reply, exhibit, session_protocol, replies_among}
 use Rattle.pmem_cli.specs.Wear.{levelled_session}
-use Rattle.pmem_cli.proofs.Following.{Follows}
+use Rattle.pmem_cli.proofs.FollowedTalks.{Follows}
 use Rattle.pmem_cli.proofs.SessionLemmas.{KeepsPromise}
 
 -- ---- geometry and keys stay

@@ -77,16 +77,16 @@ one_first (x ∷ xs) a some first =
 
 -- ---- an option taken, or the word at which that fails
 
-abbrev Taken : Type 0
-Taken = Option Choices
+abbrev TakenChoices : Type 0
+TakenChoices = Option Choices
 
-pub taken-no_parts : (allowed : Allowed) (c : Choices) (word : Word) (words : List Word) → is_flag allowed word ≡ false → None ≡ option_parts word → ◌≡◌ {A = Taken} (take_options allowed c (word ∷ words)) None
+pub taken-no_parts : (allowed : Allowed) (c : Choices) (word : Word) (words : List Word) → is_flag allowed word ≡ false → None ≡ option_parts word → ◌≡◌ {A = TakenChoices} (take_options allowed c (word ∷ words)) None
 taken-no_parts allowed c word words valued split =
     options-step allowed c word words valued
     ∙ sym (ap (λ (found : Option (Word × Option Word)). found >>= λ its. next_value its.1 words >>= λ found. choose allowed c its.0 found.0 >>= λ more. take_options allowed more found.1) split)
 
 pub taken-no_value : (allowed : Allowed) (c : Choices) (word : Word) (words : List Word) (name : Word) (own : Option Word)
-    → is_flag allowed word ≡ false → Some (name, own) ≡ option_parts word → None ≡ next_value own words → ◌≡◌ {A = Taken} (take_options allowed c (word ∷ words)) None
+    → is_flag allowed word ≡ false → Some (name, own) ≡ option_parts word → None ≡ next_value own words → ◌≡◌ {A = TakenChoices} (take_options allowed c (word ∷ words)) None
 taken-no_value allowed c word words name own valued split value =
     options-step allowed c word words valued
     ∙ sym (ap (λ (found : Option (Word × Option Word)). found >>= λ its. next_value its.1 words >>= λ found. choose allowed c its.0 found.0 >>= λ more. take_options allowed more found.1) split)

@@ -16,7 +16,7 @@ use Rattle.split_counters.specs.Blocks.{packed, unpacked}
 use Rattle.split_counters.proofs.Packing.{unpacked-IsBlock}
 use Rattle.suite.specs.Setup.{Setup}
 use Rattle.pmem_engine.specs.Invariants.{stored_meta, is_named}
-use Rattle.pmem_recovery.specs.declared.entries.Made.{Made}
+use Rattle.pmem_recovery.specs.declared.entries.MadeEntry.{MadeEntry}
 use Rattle.pmem_recovery.specs.declared.faults.RecFault.{RecFault}
 use Rattle.pmem_recovery.specs.Named.{names, count_named, IsNextAt}
 use Rattle.pmem_recovery.specs.Trials.{trials_below}
@@ -31,7 +31,7 @@ use Rattle.pmem_recovery.proofs.WorkLaws.{trials_below-none, trials_below-pages}
 use Rattle.pmem_recovery.proofs.CounterSteps.{AreBlocksTo, AreBlocksTo-none, AreBlocksTo-gap, AreBlocksTo-next}
 use Rattle.pmem_recovery.proofs.MakingEnds.{after_work, IsStop, IsCutEnd}
 use Rattle.pmem_recovery.proofs.TrialEnds.{AtLine, named_in, cut_at, page_ends}
-use Rattle.pmem_recovery.proofs.Reading.{Reading, reading_mapped, reading_more, reading_positions}
+use Rattle.pmem_recovery.proofs.ReadOnlyPlans.{Reading, reading_mapped, reading_more, reading_positions}
 
 -- ---- how far the trials have come
 
@@ -112,7 +112,7 @@ module _ (setup : Setup) (regs : Regs) (told : Option (List Line)) (shadow : Lis
           let sum_there = ap (sum_named g shadow (block_reads g regs) start) place in
           let same_page : x - counter_position g 0 ≡ page = omega arith in
           let of_page = ap (λ p. page_reads regs.progress.items p 64) same_page in
-          let entry : Made = made_over x line (packed end.1.0) in
+          let entry : MadeEntry = made_over x line (packed end.1.0) in
           record {
             counted = it.0.counted;
             few = subst (λ c. trials + end.1.1 ≤ c * (64 * regs.loss)) (sym more)
@@ -120,8 +120,8 @@ module _ (setup : Setup) (regs : Regs) (told : Option (List Line)) (shadow : Lis
             reads = omega (arith, it.0.reads, sum, sum_there, of_page);
             many = length-append parts.made (entry ∷ []) ∙ omega (arith, so_far.many, more);
             on_tree =
-                All-append (λ (entry : Made). entry.at < meta_lines g) parts.made (entry ∷ []) so_far.on_tree
-                (All-cons (λ (entry : Made). entry.at < meta_lines g) entry [] inside (All-nil (λ (entry : Made). entry.at < meta_lines g)));
+                All-append (λ (entry : MadeEntry). entry.at < meta_lines g) parts.made (entry ∷ []) so_far.on_tree
+                (All-cons (λ (entry : MadeEntry). entry.at < meta_lines g) entry [] inside (All-nil (λ (entry : MadeEntry). entry.at < meta_lines g)));
             over = λ lines its.
                 let o = so_far.over lines its in
                 let t = it.0.over lines its in
@@ -131,7 +131,7 @@ module _ (setup : Setup) (regs : Regs) (told : Option (List Line)) (shadow : Lis
                 let up : page + 1 ≡ x + 1 - start = omega (arith, low) in
                 let all : 64 * page + 64 ≡ 64 * (x + 1 - start) = omega (arith, low) in (
                   subst (λ p. AreBlocksTo setup lines regs p (parts.made ++ entry ∷ [])) up
-                      (subst (λ (e : Made). AreBlocksTo setup lines regs (page + 1) (parts.made ++ e ∷ [])) (sym same)
+                      (subst (λ (e : MadeEntry). AreBlocksTo setup lines regs (page + 1) (parts.made ++ e ∷ [])) (sym same)
                       (AreBlocksTo-next setup lines regs page parts.made valid in_page (named_in setup regs told shadow first valid loss its_shadow page in_page named_there lines its) t.ones o.0)),
                   t.tried ∙ ap (trials_below g lines regs) all,
                 );
@@ -187,7 +187,7 @@ module _ (setup : Setup) (regs : Regs) (told : Option (List Line)) (shadow : Lis
           few = omega arith;
           reads = omega (arith, is, sum_named-none g shadow (block_reads g regs) start start refl);
           many = sym (count_named-gap g shadow start start (λ x low high. absurd (omega (arith, low, high))));
-          on_tree = All-nil (λ (entry : Made). entry.at < meta_lines g);
+          on_tree = All-nil (λ (entry : MadeEntry). entry.at < meta_lines g);
           over = λ lines its.
               let none : start - start ≡ 0 = omega arith in
               let first_line : 0 ≡ 64 * (start - start) = omega arith in

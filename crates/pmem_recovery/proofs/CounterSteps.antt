@@ -10,7 +10,7 @@ use Rattle.bonsai_tree.specs.Positions.{counter_position}
 use Rattle.bonsai_tree.proofs.Levels.{meta_lines-level}
 use Rattle.suite.specs.Setup.{Setup}
 use Rattle.pmem_engine.specs.Invariants.{is_named}
-use Rattle.pmem_recovery.specs.declared.entries.Made.{Made}
+use Rattle.pmem_recovery.specs.declared.entries.MadeEntry.{MadeEntry}
 use Rattle.pmem_recovery.specs.declared.faults.RecFault.{RecFault}
 use Rattle.pmem_recovery.specs.declared.faults.RecFault.TheVariants.{NoCounter, Root, Twin}
 use Rattle.pmem_recovery.specs.Trials.{tried_minors, AreDecided}
@@ -20,7 +20,7 @@ use Rattle.pmem_recovery.proofs.UndecidedLaws.{AreDecided-more, first_undecided_
 use Rattle.pmem_recovery.proofs.UpwardSteps.{AreMadeTo-upto, AreMadeTo-block}
 
 -- so far as the counter blocks below a position
-pub record AreBlocksTo (setup : Setup) (lines : List Line) (regs : Regs) (page : ℕ) (made : List Made) : Type 0 where
+pub record AreBlocksTo (setup : Setup) (lines : List Line) (regs : Regs) (page : ℕ) (made : List MadeEntry) : Type 0 where
   pub decided : AreDecided setup lines regs page
   pub blocks : AreMadeTo setup lines regs setup.shape.levels (counter_position setup.shape page) made
 
@@ -54,7 +54,7 @@ decided_gap setup lines regs page (suc n) none d =
     (decided_gap setup lines regs (page + 1) n (λ p low high. none p (omega arith) (omega arith))
     (AreDecided-more setup lines regs page d (λ named i small. absurd (true≢false (sym named ∙ none page (omega arith) (omega arith))))))
 
-pub AreBlocksTo-gap : (setup : Setup) (lines : List Line) (regs : Regs) (page next : ℕ) (made : List Made) → page ≤ next → ((p : ℕ) → page ≤ p → p < next → is_named setup.shape lines (counter_position setup.shape p) ≡ false) → AreBlocksTo setup lines regs page made → AreBlocksTo setup lines regs next made
+pub AreBlocksTo-gap : (setup : Setup) (lines : List Line) (regs : Regs) (page next : ℕ) (made : List MadeEntry) → page ≤ next → ((p : ℕ) → page ≤ p → p < next → is_named setup.shape lines (counter_position setup.shape p) ≡ false) → AreBlocksTo setup lines regs page made → AreBlocksTo setup lines regs next made
 AreBlocksTo-gap setup lines regs page next made low none b =
     let g = setup.shape in
     let same : page + (next - page) ≡ next = omega (arith, low) in
@@ -71,7 +71,7 @@ AreBlocksTo-gap setup lines regs page next made low none b =
     }
 
 -- the next named page, made
-pub AreBlocksTo-next : (setup : Setup) (lines : List Line) (regs : Regs) (page : ℕ) (made : List Made) → IsShape setup.shape → page < pages setup.shape → is_named setup.shape lines (counter_position setup.shape page) ≡ true → AreOneTried setup lines regs page → AreBlocksTo setup lines regs page made → AreBlocksTo setup lines regs (page + 1) (made ++ block_made setup lines regs page ∷ [])
+pub AreBlocksTo-next : (setup : Setup) (lines : List Line) (regs : Regs) (page : ℕ) (made : List MadeEntry) → IsShape setup.shape → page < pages setup.shape → is_named setup.shape lines (counter_position setup.shape page) ≡ true → AreOneTried setup lines regs page → AreBlocksTo setup lines regs page made → AreBlocksTo setup lines regs (page + 1) (made ++ block_made setup lines regs page ∷ [])
 AreBlocksTo-next setup lines regs page made shape inside named one b =
     let more : counter_position setup.shape page + 1 ≡ counter_position setup.shape (page + 1) = omega arith in
     record {

@@ -8,7 +8,7 @@ pub mod WrittenLaws
 pub mod NamedLaws
 pub mod PartLaws
 pub mod WritePlans
-pub mod Reading
+pub mod ReadOnlyPlans
 pub mod NamedPlans
 pub mod NodePlans
 pub mod TrialPlans

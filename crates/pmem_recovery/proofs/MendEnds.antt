@@ -34,7 +34,7 @@ use Rattle.pmem_recovery.proofs.RootEnds.{IsMade, making_ends}
 use Rattle.pmem_recovery.proofs.WriteSteps.{HasOnlyWritten-none, differing-none, count_changed-le}
 use Rattle.pmem_recovery.proofs.WriteEnds.{IsAtWrite, IsCutAmidWrites, writes_leave}
 use Rattle.pmem_recovery.proofs.WrittenLaws.{are_due, none_changed}
-use Rattle.pmem_recovery.proofs.Reading.{HasOnlyRead, only_reads}
+use Rattle.pmem_recovery.proofs.ReadOnlyPlans.{HasOnlyRead, only_reads}
 
 -- ---- what is known
 

@@ -18,7 +18,7 @@ use Rattle.call_plan.specs.Plans.{repeated, for_each, the_cut}
 use Rattle.shadow_tables.specs.Entries.{shadow_of}
 use Rattle.suite.specs.Setup.{Setup}
 use Rattle.pmem_engine.specs.Invariants.{stored_meta}
-use Rattle.pmem_recovery.specs.declared.entries.Made.{Made}
+use Rattle.pmem_recovery.specs.declared.entries.MadeEntry.{MadeEntry}
 use Rattle.pmem_recovery.specs.declared.faults.RecFault.TheVariants as Fault
 use Rattle.pmem_recovery.specs.Named.{names, count_named, IsNextAt}
 use Rattle.pmem_recovery.specs.Trials.{trials_below}
@@ -32,7 +32,7 @@ use Rattle.pmem_recovery.proofs.ReadLaws.{page_reads-le, children_reads-none, ch
 use Rattle.pmem_recovery.proofs.UpwardSteps.{AreMadeTo-upto, AreMadeTo-node, AreMadeTo-next}
 use Rattle.pmem_recovery.proofs.MakingEnds.{after_work, IsStop, IsCutEnd, few_reads, cut_end}
 use Rattle.pmem_recovery.proofs.BlockEnds.{AtBlock}
-use Rattle.pmem_recovery.proofs.Reading.{Reading, reading_mapped, reading_more, reading_repeated, reading_positions}
+use Rattle.pmem_recovery.proofs.ReadOnlyPlans.{Reading, reading_mapped, reading_more, reading_repeated, reading_positions}
 
 module _ (setup : Setup) (regs : Regs) (told : Option (List Line)) (shadow : List Line) (first : SuiteCounts) (valid : IsShape setup.shape)
     (its_shadow : IfLinesTold told (λ lines. shadow ≡ shadow_of setup.shape lines)) (blocks : RecoveryParts) (trials start : ℕ)
@@ -97,7 +97,7 @@ module _ (setup : Setup) (regs : Regs) (told : Option (List Line)) (shadow : Lis
 
   -- ---- a line that was made, or is read
 
-  pub line_ends : (err cut : Cut → ℕ → Type 0) (made : List Made) (x n : ℕ) → cut the_cut n
+  pub line_ends : (err cut : Cut → ℕ → Type 0) (made : List MadeEntry) (x n : ℕ) → cut the_cut n
       → Reading told (λ line m. (m ≡ n + unmade_reads made x) × IfLinesTold told (λ lines. line ≡ made_or_stored setup.shape lines made x)) err cut
       (made_plan setup.shape made x) n
   unfolding line_made_or Reading
@@ -150,7 +150,7 @@ module _ (setup : Setup) (regs : Regs) (told : Option (List Line)) (shadow : Lis
         one_more : (d i : ℕ) → suc (d + i) ≡ d + (i + 1)
         one_more d i = omega arith
 
-        one_at_most : (made : List Made) (y : ℕ) → unmade_reads made y ≤ 1
+        one_at_most : (made : List MadeEntry) (y : ℕ) → unmade_reads made y ≤ 1
         one_at_most made y = few (line_made made y)
           where
             few : (o : Option Line) → (if is_some o then 0 else 1) ≤ 1
@@ -196,15 +196,15 @@ module _ (setup : Setup) (regs : Regs) (told : Option (List Line)) (shadow : Lis
             → HasNodes (nodes + 1) (sum + node_reads g shadow x) (IsDoneTo level (x + 1))
             (recovery_parts (parts.made ++ made_over x line (node_of children) ∷ []) counts) (digests + 4) m
         made_so line tells counts children m it =
-            let entry : Made = made_over x line (node_of children) in
+            let entry : MadeEntry = made_over x line (node_of children) in
             record {
               counted = it.counted;
               its_digests = omega (arith, so_far.its_digests);
               few = omega (arith, it.few, so_far.few);
               many = length-append parts.made (entry ∷ []) ∙ omega (arith, so_far.many);
               on_tree =
-                  All-append (λ (entry : Made). entry.at < meta_lines g) parts.made (entry ∷ []) so_far.on_tree
-                  (All-cons (λ (entry : Made). entry.at < meta_lines g) entry [] inside (All-nil (λ (entry : Made). entry.at < meta_lines g)));
+                  All-append (λ (entry : MadeEntry). entry.at < meta_lines g) parts.made (entry ∷ []) so_far.on_tree
+                  (All-cons (λ (entry : MadeEntry). entry.at < meta_lines g) entry [] inside (All-nil (λ (entry : MadeEntry). entry.at < meta_lines g)));
               over = λ lines its.
                   let o = so_far.over lines its in
                   let c = it.over lines its in
@@ -212,7 +212,7 @@ module _ (setup : Setup) (regs : Regs) (told : Option (List Line)) (shadow : Lis
                   let same : entry ≡ node_made setup lines parts.made x = ap₂ (λ l ds. made_over x l (node_of ds)) its_line c.1 in
                   let reads = node_reads_are setup lines regs level x x parts.made above at o.0 in
                   let shadows = ap (λ s. node_reads g s x) (its_shadow lines its) in (
-                    subst (λ (e : Made). AreMadeTo setup lines regs level (x + 1) (parts.made ++ e ∷ [])) (sym same)
+                    subst (λ (e : MadeEntry). AreMadeTo setup lines regs level (x + 1) (parts.made ++ e ∷ [])) (sym same)
                         (AreMadeTo-node setup lines regs level x parts.made valid above at (subst (λ s. names g s x ≡ true) (its_shadow lines its) named) o.0),
                     omega (arith, c.0, o.1, reads, shadows),
                   );

@@ -16,7 +16,7 @@ use Rattle.call_plan.proofs.Steps.{is_done, is_stopped, read_then, read_cut}
 use Rattle.call_plan.proofs.Bind.{bind_ok, bind_err, mapped_follows}
 use Rattle.bonsai_tree.specs.Nodes.{node_of}
 use Rattle.suite.specs.Setup.{Setup}
-use Rattle.pmem_recovery.specs.declared.entries.Made.{Made}
+use Rattle.pmem_recovery.specs.declared.entries.MadeEntry.{MadeEntry}
 use Rattle.pmem_recovery.specs.declared.faults.RecFault.{RecFault}
 use Rattle.pmem_recovery.specs.declared.faults.RecFault.TheVariants as Fault
 use Rattle.pmem_recovery.specs.Upward.{line_made, is_other}
@@ -28,7 +28,7 @@ pub same_counts : {tags more digests last : ℕ} → tags ≡ more → digests �
 same_counts t d = ap₂ suite_counts t d
 
 -- one more line made, of this position, line and test
-pub same_made : (made : List Made) (x : ℕ) (stored : Line) {new : List Made} {line next : Line} {changed : Bool}
+pub same_made : (made : List MadeEntry) (x : ℕ) (stored : Line) {new : List MadeEntry} {line next : Line} {changed : Bool}
     → new ≡ made ++ record { at = x; line = line; changed = changed } ∷ [] → line ≡ next → changed ≡ is_other stored line
     → new ≡ made ++ made_over x stored next ∷ []
 same_made made x stored items bytes test =
@@ -36,7 +36,7 @@ same_made made x stored items bytes test =
 
 -- ---- a line that was made, or is read
 
-module _ (g : Shape) (made : List Made) (x : ℕ) where
+module _ (g : Shape) (made : List MadeEntry) (x : ℕ) where
   pub was_made : (d : Device) (line : Line) → line_made made x ≡ Some line → Follows (made_plan g made x) d d (Ok line)
   unfolding line_made_or
   was_made d line is = subst (λ o. Follows (line_made_or g x o) d d (Ok line)) (sym is) (is_done line d)
@@ -54,7 +54,7 @@ module _ (g : Shape) (made : List Made) (x : ℕ) where
 
 -- ---- a node over its children
 
-module _ (setup : Setup) (made : List Made) (x i : ℕ) (counts : SuiteCounts) (before : List (List ℕ)) {old new : Device} {at : ℕ}
+module _ (setup : Setup) (made : List MadeEntry) (x i : ℕ) (counts : SuiteCounts) (before : List (List ℕ)) {old new : Device} {at : ℕ}
     (place : at ≡ 4 * x + 1 + i) where
   pub child_made : (line : Line) (after : SuiteCounts) (next : List (List ℕ)) (digest : List ℕ) → after ≡ after_digest counts
       → next ≡ before ++ digest ∷ [] → digest ≡ setup.formulas.digest_of at line
@@ -69,7 +69,7 @@ module _ (setup : Setup) (made : List Made) (x i : ℕ) (counts : SuiteCounts) (
   pub child_cut : Follows (made_plan setup.shape made at) old new (Err the_cut) → Follows (child_turn setup made x i (counts, before)) old new (Err (counts, the_cut))
   child_cut it = mapped_follows _ _ (subst (λ n. Follows (made_plan setup.shape made n) old new (Err the_cut)) place it)
 
-module _ (setup : Setup) (made : List Made) (x : ℕ) (counts after : SuiteCounts) {old new : Device} where
+module _ (setup : Setup) (made : List MadeEntry) (x : ℕ) (counts after : SuiteCounts) {old new : Device} where
   pub children_made : (digests : List (List ℕ)) (line : Line) → line ≡ node_of digests
       → Follows (repeated (child_turn setup made x) 0 4 (counts, [])) old new (Ok (after, digests)) → Follows (children_plan setup made x counts) old new (Ok (after, line))
   unfolding children_plan
@@ -99,12 +99,12 @@ module _ (setup : Setup) (x : ℕ) (at : RecoveryParts) where
     unfolding fixed_node_plan
     node_stopped it = read_then (at, the_cut) was whole (mapped_follows _ _ it)
 
-    pub node_made_so : (next : Line) (made : List Made) → made ≡ at.made ++ made_over x line next ∷ []
+    pub node_made_so : (next : Line) (made : List MadeEntry) → made ≡ at.made ++ made_over x line next ∷ []
         → Follows (children_plan setup at.made x at.counts) mid new (Ok (counts, next))
         → Follows (fixed_node_plan setup x at) old new (Ok (recovery_parts made counts, tt))
     unfolding fixed_node_plan
     node_made_so next made items it =
-        subst (λ (m : List Made). Follows (fixed_node_plan setup x at) old new (Ok (recovery_parts m counts, tt))) (sym items)
+        subst (λ (m : List MadeEntry). Follows (fixed_node_plan setup x at) old new (Ok (recovery_parts m counts, tt))) (sym items)
         (read_then (at, the_cut) was whole (mapped_follows _ _ it))
 
 -- ---- the root
@@ -127,7 +127,7 @@ module _ (kept found : List ℕ) (counts : SuiteCounts) (d : Device) where
       (sym (other_bytes kept found (λ same. is.2 (sym same)))) (is_stopped (counts, Fault.Root kept found) d))
   compared_so (Err (Fault.Twin at major low high cipher tag)) is = absurd is
 
-module _ (setup : Setup) (root : List ℕ) (made : List Made) (counts : SuiteCounts) {old mid : Device} where
+module _ (setup : Setup) (root : List ℕ) (made : List MadeEntry) (counts : SuiteCounts) {old mid : Device} where
   pub top_cut : Follows (made_plan setup.shape made 0) old mid (Err the_cut) → Follows (root_plan setup root made counts) old mid (Err (counts, Fault.Cut))
   unfolding root_plan
   top_cut it = bind_err (top_plan setup root) (mapped_follows _ _ it)

@@ -20,7 +20,7 @@ use Rattle.page_reencrypt.specs.Registers.{register_held}
 use Rattle.shadow_tables.specs.Entries.{shadow_of}
 use Rattle.suite.specs.Setup.{Setup}
 use Rattle.pmem_engine.specs.Invariants.{is_named}
-use Rattle.pmem_recovery.specs.declared.entries.Made.{Made}
+use Rattle.pmem_recovery.specs.declared.entries.MadeEntry.{MadeEntry}
 use Rattle.pmem_recovery.specs.Named.{names, count_named, IsNextAt, IsNext}
 use Rattle.pmem_recovery.specs.Upward.{line_made, is_made, IsMadeLine, AreMade, AreMadeTo, AreAllMade}
 use Rattle.pmem_recovery.specs.Reads.{sum_named, line_reads, page_reads, unmade_reads, children_reads, unnamed_reads, node_reads}
@@ -132,46 +132,46 @@ page_reads-le registers page n =
 
 -- ---- the children of a node
 
-pub children_reads-none : (made : List Made) (x : ℕ) → children_reads made x 0 ≡ 0
+pub children_reads-none : (made : List MadeEntry) (x : ℕ) → children_reads made x 0 ≡ 0
 unfolding children_reads
 children_reads-none made x = refl
 
-pub children_reads-more : (made : List Made) (x n : ℕ) → children_reads made x (n + 1) ≡ children_reads made x n + unmade_reads made (4 * x + 1 + n)
+pub children_reads-more : (made : List MadeEntry) (x n : ℕ) → children_reads made x (n + 1) ≡ children_reads made x n + unmade_reads made (4 * x + 1 + n)
 unfolding children_reads
 children_reads-more made x n = sum_range_more (λ i. unmade_reads made (4 * x + 1 + i)) n
 
 -- a line was made for what is named, of the positions that are done
-line_made_some : (made : List Made) (x : ℕ) → is_some (line_made made x) ≡ is_made made x
+line_made_some : (made : List MadeEntry) (x : ℕ) → is_some (line_made made x) ≡ is_made made x
 line_made_some [] x = refl
 line_made_some (entry ∷ made) x = go (eqb entry.at x) (line_made_some made x)
   where
-    go : (b : Bool) → is_some (line_made made x) ≡ is_made made x → is_some (option_map (λ (e : Made). e.line) (cond b (Some entry) (find (λ (e : Made). eqb e.at x) made))) ≡ (b || is_made made x)
+    go : (b : Bool) → is_some (line_made made x) ≡ is_made made x → is_some (option_map (λ (e : MadeEntry). e.line) (cond b (Some entry) (find (λ (e : MadeEntry). eqb e.at x) made))) ≡ (b || is_made made x)
     go true again = refl
     go false again = again
 
-made_named : (g : Shape) (lines : List Line) (made : List Made) (x : ℕ) → All (λ (e : Made). is_named g lines e.at ≡ true) made → is_made made x ≡ true → is_named g lines x ≡ true
+made_named : (g : Shape) (lines : List Line) (made : List MadeEntry) (x : ℕ) → All (λ (e : MadeEntry). is_named g lines e.at ≡ true) made → is_made made x ≡ true → is_named g lines x ≡ true
 made_named g lines [] x all t = absurd (false≢true t)
 made_named g lines (entry ∷ made) x all t =
-    go (eqb entry.at x) refl t (λ r. made_named g lines made x (All-tail (λ (e : Made). is_named g lines e.at ≡ true) entry made all) r)
+    go (eqb entry.at x) refl t (λ r. made_named g lines made x (All-tail (λ (e : MadeEntry). is_named g lines e.at ≡ true) entry made all) r)
   where
     go : (b : Bool) → eqb entry.at x ≡ b → (b || is_made made x) ≡ true → (is_made made x ≡ true → is_named g lines x ≡ true) → is_named g lines x ≡ true
     go true q r again =
-        subst (λ z. is_named g lines z ≡ true) (eqb-true entry.at x q) (All-head (λ (e : Made). is_named g lines e.at ≡ true) entry made all)
+        subst (λ z. is_named g lines z ≡ true) (eqb-true entry.at x q) (All-head (λ (e : MadeEntry). is_named g lines e.at ≡ true) entry made all)
     go false q r again = again r
 
-pub made_is_named : (setup : Setup) (lines : List Line) (regs : Regs) (done : ℕ → Type 0) (made : List Made) (x : ℕ) → AreMade setup lines regs done made → x < layout.meta_lines setup.shape → done x → unmade_reads made x ≡ unnamed_reads setup.shape (shadow_of setup.shape lines) x
+pub made_is_named : (setup : Setup) (lines : List Line) (regs : Regs) (done : ℕ → Type 0) (made : List MadeEntry) (x : ℕ) → AreMade setup lines regs done made → x < layout.meta_lines setup.shape → done x → unmade_reads made x ≡ unnamed_reads setup.shape (shadow_of setup.shape lines) x
 made_is_named setup lines regs done made x m inside d =
     ap (λ b. cond b 0 1) (line_made_some made x ∙ go (is_made made x) refl (is_named setup.shape lines x) refl)
   where
     go : (b : Bool) → is_made made x ≡ b → (n : Bool) → is_named setup.shape lines x ≡ n → is_made made x ≡ is_named setup.shape lines x
     go true q n r =
         q
-        ∙ sym (made_named setup.shape lines made x (All-weaker (IsMadeLine setup lines regs) (λ (e : Made). is_named setup.shape lines e.at ≡ true) (λ e l. l.named) made m.each) q)
+        ∙ sym (made_named setup.shape lines made x (All-weaker (IsMadeLine setup lines regs) (λ (e : MadeEntry). is_named setup.shape lines e.at ≡ true) (λ e l. l.named) made m.each) q)
     go false q true r = absurd (false≢true (sym q ∙ m.every x inside d r))
     go false q false r = q ∙ sym r
 
 -- a node whose children are done
-pub node_reads_are : (setup : Setup) (lines : List Line) (regs : Regs) (level from x : ℕ) (made : List Made) → level < setup.shape.levels → IsAtLevel level x → AreMadeTo setup lines regs level from made → 1 + children_reads made x 4 ≡ node_reads setup.shape (shadow_of setup.shape lines) x
+pub node_reads_are : (setup : Setup) (lines : List Line) (regs : Regs) (level from x : ℕ) (made : List MadeEntry) → level < setup.shape.levels → IsAtLevel level x → AreMadeTo setup lines regs level from made → 1 + children_reads made x 4 ≡ node_reads setup.shape (shadow_of setup.shape lines) x
 unfolding children_reads node_reads
 node_reads_are setup lines regs level from x made above at m =
     ap (λ n. 1 + n)
@@ -182,7 +182,7 @@ node_reads_are setup lines regs level from x made above at m =
     (IsAtLevel-inner (setup.shape.levels + 1) (suc level) (child_position x i) (omega (arith, above)) child) (inl child.from)))
 
 -- the top line
-pub top_reads_are : (setup : Setup) (lines : List Line) (regs : Regs) (made : List Made) → AreAllMade setup lines regs made → unmade_reads made 0 ≡ unnamed_reads setup.shape (shadow_of setup.shape lines) 0
+pub top_reads_are : (setup : Setup) (lines : List Line) (regs : Regs) (made : List MadeEntry) → AreAllMade setup lines regs made → unmade_reads made 0 ≡ unnamed_reads setup.shape (shadow_of setup.shape lines) 0
 top_reads_are setup lines regs made m =
     let on_tree : 0 < layout.meta_lines setup.shape = level_start-le 1 (setup.shape.levels + 1) (omega arith) in
     made_is_named setup lines regs (λ x. level_start 0 ≤ x) made 0 m on_tree (omega arith)

@@ -20,7 +20,7 @@ use Rattle.call_plan.proofs.Bind.{bind_ok, bind_err, mapped_follows}
 use Rattle.commit_regs.specs.Plans.{finish_plan}
 use Rattle.suite.specs.Setup.{Setup}
 use Rattle.pmem_engine.specs.Mendable.{new_engine}
-use Rattle.pmem_recovery.specs.declared.entries.Made.{Made}
+use Rattle.pmem_recovery.specs.declared.entries.MadeEntry.{MadeEntry}
 use Rattle.pmem_recovery.specs.declared.faults.Work.{Work}
 use Rattle.pmem_recovery.specs.declared.faults.RecFault.{RecFault}
 use Rattle.pmem_recovery.specs.declared.faults.RecFault.TheVariants as Fault
@@ -53,7 +53,7 @@ module _ (g : Shape) (n : ℕ) (before : List Line) {old new : Device} where
 
 -- what a `?` answers
 pub made_err : {plan : Plan (SuiteCounts × RecFault) (SuiteCounts × MadeLines)} {old new : Device} {counts : SuiteCounts} {fault : RecFault}
-    (answer : Result Work RecFault) (shadow : List Line) (made : List Made) → IsErrAnd answer (λ (x : RecFault). x ≡ fault)
+    (answer : Result Work RecFault) (shadow : List Line) (made : List MadeEntry) → IsErrAnd answer (λ (x : RecFault). x ≡ fault)
     → Follows plan old new (Err (counts, fault)) → Follows plan old new (made_end answer shadow made counts)
 made_err {plan = plan} {old = old} {new = new} {counts = counts} answer shadow made is it =
     let end = err_from_is_err_and answer is in

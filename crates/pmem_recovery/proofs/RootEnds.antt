@@ -36,7 +36,7 @@ use Rattle.pmem_recovery.proofs.UpwardSteps.{AreMade-end}
 use Rattle.pmem_recovery.proofs.MakingEnds.{after_work, IsStop, IsCutEnd, few_reads, cut_end}
 use Rattle.pmem_recovery.proofs.BlockEnds.{AtBlock, blocks_end}
 use Rattle.pmem_recovery.proofs.NodeEnds.{HasNodes, few_trials, all_tried, few_read, cut_after, line_ends, nodes_end}
-use Rattle.pmem_recovery.proofs.Reading.{Reading, reading_bind, reading_mapped, reading_more, reading_repeated}
+use Rattle.pmem_recovery.proofs.ReadOnlyPlans.{Reading, reading_bind, reading_mapped, reading_more, reading_repeated}
 
 -- ---- the shadow lines as they are read
 

@@ -41,7 +41,7 @@ use Rattle.pmem_recovery.proofs.TryLaws.{decided_is, shown_undecided, stops_unde
 use Rattle.pmem_recovery.proofs.CounterSteps.{stopped_at}
 use Rattle.pmem_recovery.specs.Mending.{most_reads}
 use Rattle.pmem_recovery.proofs.MakingEnds.{after_work, IsStop, IsCutEnd, few_reads, cut_end, undecided_reads, undecided_work}
-use Rattle.pmem_recovery.proofs.Reading.{Reading, reading_mapped, reading_more, reading_repeated}
+use Rattle.pmem_recovery.proofs.ReadOnlyPlans.{Reading, reading_mapped, reading_more, reading_repeated}
 
 -- ---- how far the trials have come
 

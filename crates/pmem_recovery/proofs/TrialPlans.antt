@@ -21,7 +21,7 @@ use Rattle.stop_loss.specs.Trials.{matching_minors, found_among}
 use Rattle.stop_loss.specs.Windows.{window_minors}
 use Rattle.suite.specs.Formulas.{Formulas}
 use Rattle.suite.specs.Setup.{Setup}
-use Rattle.pmem_recovery.specs.declared.entries.Made.{Made}
+use Rattle.pmem_recovery.specs.declared.entries.MadeEntry.{MadeEntry}
 use Rattle.pmem_recovery.specs.declared.faults.RecFault.{RecFault}
 use Rattle.pmem_recovery.specs.declared.faults.RecFault.TheVariants as Fault
 use Rattle.pmem_recovery.specs.Parts.{decided_of}
@@ -136,10 +136,10 @@ module _ (setup : Setup) (regs : Regs) (x : ℕ) (at : RecoveryParts) where
     unfolding fixed_block_plan
     block_stopped fault it = read_then (at, Fault.Cut) was whole (mapped_follows _ _ it)
 
-    pub block_made_so : (block : Block) (trials : ℕ) (made : List Made) → made ≡ at.made ++ made_over x line (packed block) ∷ []
+    pub block_made_so : (block : Block) (trials : ℕ) (made : List MadeEntry) → made ≡ at.made ++ made_over x line (packed block) ∷ []
         → Follows (minors_plan setup regs its_page (unpacked line) at.counts) mid new (Ok (counts, (block, trials)))
         → Follows (fixed_block_plan setup regs x at) old new (Ok (recovery_parts made counts, trials))
     unfolding fixed_block_plan
     block_made_so block trials made items it =
-        subst (λ (m : List Made). Follows (fixed_block_plan setup regs x at) old new (Ok (recovery_parts m counts, trials))) (sym items)
+        subst (λ (m : List MadeEntry). Follows (fixed_block_plan setup regs x at) old new (Ok (recovery_parts m counts, trials))) (sym items)
         (read_then (at, Fault.Cut) was whole (mapped_follows _ _ it))

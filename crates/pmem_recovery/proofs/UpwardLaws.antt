@@ -16,7 +16,7 @@ use Rattle.bonsai_tree.proofs.Levels.{IsAtLevel, child-IsAtLevel, level_start-le
 use Rattle.bonsai_tree.proofs.NodeLaws.{node_over-same}
 use Rattle.suite.specs.Setup.{Setup}
 use Rattle.pmem_engine.specs.Invariants.{stored_meta, is_named}
-use Rattle.pmem_recovery.specs.declared.entries.Made.{Made}
+use Rattle.pmem_recovery.specs.declared.entries.MadeEntry.{MadeEntry}
 use Rattle.pmem_recovery.specs.Fixed.{fixed_line, found_root}
 use Rattle.pmem_recovery.specs.Upward.{made_or_stored, is_made, is_other, IsMadeLine, IsBefore, AreMade, AreAllMade, block_made, node_made}
 use Rattle.pmem_recovery.proofs.FixedEquations.{fixed_line-unnamed, fixed_line-block, fixed_line-node}
@@ -24,7 +24,7 @@ use Rattle.pmem_recovery.proofs.FixedEquations.{fixed_line-unnamed, fixed_line-b
 -- ---- what stands for a position
 
 -- the line made for x, where lines made are those of a function
-made_or_stored-made : (g : Shape) (lines : List Line) (line : ℕ → Line) (made : List Made) (x : ℕ) → All (λ entry. entry.line ≡ line entry.at) made → is_made made x ≡ true → made_or_stored g lines made x ≡ line x
+made_or_stored-made : (g : Shape) (lines : List Line) (line : ℕ → Line) (made : List MadeEntry) (x : ℕ) → All (λ entry. entry.line ≡ line entry.at) made → is_made made x ≡ true → made_or_stored g lines made x ≡ line x
 made_or_stored-made g lines line [] x all t = absurd (false≢true t)
 made_or_stored-made g lines line (entry ∷ made) x all t =
     go (eqb entry.at x) refl t (λ r. made_or_stored-made g lines line made x (All-tail (λ e. e.line ≡ line e.at) entry made all) r)
@@ -33,7 +33,7 @@ made_or_stored-made g lines line (entry ∷ made) x all t =
     go true q r again = All-head (λ e. e.line ≡ line e.at) entry made all ∙ ap line (eqb-true entry.at x q)
     go false q r again = again r
 
-made_or_stored-none : (g : Shape) (lines : List Line) (made : List Made) (x : ℕ) → is_made made x ≡ false → made_or_stored g lines made x ≡ stored_meta g lines x
+made_or_stored-none : (g : Shape) (lines : List Line) (made : List MadeEntry) (x : ℕ) → is_made made x ≡ false → made_or_stored g lines made x ≡ stored_meta g lines x
 made_or_stored-none g lines [] x q = refl
 made_or_stored-none g lines (entry ∷ made) x q =
     go (eqb entry.at x) q (λ r. made_or_stored-none g lines made x r)
@@ -43,7 +43,7 @@ made_or_stored-none g lines (entry ∷ made) x q =
     go false r again = again r
 
 -- at a position that is done, what is made or stored is the fixed line
-pub made_or_stored_fixed : (setup : Setup) (lines : List Line) (regs : Regs) (done : ℕ → Type 0) (made : List Made) (x : ℕ) → AreMade setup lines regs done made → x < layout.meta_lines setup.shape → done x → made_or_stored setup.shape lines made x ≡ fixed_line setup lines regs x
+pub made_or_stored_fixed : (setup : Setup) (lines : List Line) (regs : Regs) (done : ℕ → Type 0) (made : List MadeEntry) (x : ℕ) → AreMade setup lines regs done made → x < layout.meta_lines setup.shape → done x → made_or_stored setup.shape lines made x ≡ fixed_line setup lines regs x
 made_or_stored_fixed setup lines regs done made x m h d =
     go (is_made made x) refl (is_named setup.shape lines x) refl
   where
@@ -57,10 +57,10 @@ made_or_stored_fixed setup lines regs done made x m h d =
 -- ---- one more line made
 
 -- the positions that are done said in another way
-pub AreMade-same : (setup : Setup) (lines : List Line) (regs : Regs) (done same : ℕ → Type 0) (made : List Made) → ((x : ℕ) → x < layout.meta_lines setup.shape → done x → same x) → ((x : ℕ) → x < layout.meta_lines setup.shape → same x → done x) → AreMade setup lines regs done made → AreMade setup lines regs same made
+pub AreMade-same : (setup : Setup) (lines : List Line) (regs : Regs) (done same : ℕ → Type 0) (made : List MadeEntry) → ((x : ℕ) → x < layout.meta_lines setup.shape → done x → same x) → ((x : ℕ) → x < layout.meta_lines setup.shape → same x → done x) → AreMade setup lines regs done made → AreMade setup lines regs same made
 AreMade-same setup lines regs done same made to from m = search rules
 
-pub AreMade-append : (setup : Setup) (lines : List Line) (regs : Regs) (done also : ℕ → Type 0) (made more : List Made) → ((x : ℕ) → done x → also x → ⊥) → ((x y : ℕ) → x < layout.meta_lines setup.shape → done x → also y → IsBefore x y) → AreMade setup lines regs done made → AreMade setup lines regs also more → AreMade setup lines regs (λ x. done x ⊎ also x) (made ++ more)
+pub AreMade-append : (setup : Setup) (lines : List Line) (regs : Regs) (done also : ℕ → Type 0) (made more : List MadeEntry) → ((x : ℕ) → done x → also x → ⊥) → ((x y : ℕ) → x < layout.meta_lines setup.shape → done x → also y → IsBefore x y) → AreMade setup lines regs done made → AreMade setup lines regs also more → AreMade setup lines regs (λ x. done x ⊎ also x) (made ++ more)
 AreMade-append setup lines regs done also made more apart before m n =
     record {
       each = All-append (IsMadeLine setup lines regs) made more m.each n.each;
@@ -88,7 +88,7 @@ AreMade-append setup lines regs done also made more apart before m n =
         before (get_or made i d).at (get_or more j c).at (m.each i d within).on_tree (m.only_done i d within) (n.only_done j c inside)
 
 -- the line of one more named position, pushed at the end
-pub AreMade-push : (setup : Setup) (lines : List Line) (regs : Regs) (done : ℕ → Type 0) (made : List Made) (entry : Made) → (done entry.at → ⊥) → ((x : ℕ) → x < layout.meta_lines setup.shape → done x → IsBefore x entry.at) → entry.at < layout.meta_lines setup.shape → is_named setup.shape lines entry.at ≡ true → entry.line ≡ fixed_line setup lines regs entry.at → entry.changed ≡ is_other (stored_meta setup.shape lines entry.at) entry.line → AreMade setup lines regs done made → AreMade setup lines regs (λ x. done x ⊎ (x ≡ entry.at)) (made ++ entry ∷ [])
+pub AreMade-push : (setup : Setup) (lines : List Line) (regs : Regs) (done : ℕ → Type 0) (made : List MadeEntry) (entry : MadeEntry) → (done entry.at → ⊥) → ((x : ℕ) → x < layout.meta_lines setup.shape → done x → IsBefore x entry.at) → entry.at < layout.meta_lines setup.shape → is_named setup.shape lines entry.at ≡ true → entry.line ≡ fixed_line setup lines regs entry.at → entry.changed ≡ is_other (stored_meta setup.shape lines entry.at) entry.line → AreMade setup lines regs done made → AreMade setup lines regs (λ x. done x ⊎ (x ≡ entry.at)) (made ++ entry ∷ [])
 AreMade-push setup lines regs done made entry new before h q e o m =
     AreMade-append setup lines regs done (λ x. x ≡ entry.at) made (entry ∷ []) (λ x d same. new (subst done same d)) (λ x y on_tree d same. subst (IsBefore x) (sym same) (before x on_tree d)) m
     (record {
@@ -105,7 +105,7 @@ pub block_made_fixed : (setup : Setup) (lines : List Line) (regs : Regs) (page :
 block_made_fixed setup lines regs page shape h q = sym (fixed_line-block setup lines regs page shape h q)
 
 -- a node whose children are done
-pub node_made_fixed : (setup : Setup) (lines : List Line) (regs : Regs) (done : ℕ → Type 0) (made : List Made) (i x : ℕ) → IsShape setup.shape → AreMade setup lines regs done made → i < setup.shape.levels → IsAtLevel i x → ((c : ℕ) → c < 4 → done (child_position x c)) → is_named setup.shape lines x ≡ true → (node_made setup lines made x).line ≡ fixed_line setup lines regs x
+pub node_made_fixed : (setup : Setup) (lines : List Line) (regs : Regs) (done : ℕ → Type 0) (made : List MadeEntry) (i x : ℕ) → IsShape setup.shape → AreMade setup lines regs done made → i < setup.shape.levels → IsAtLevel i x → ((c : ℕ) → c < 4 → done (child_position x c)) → is_named setup.shape lines x ≡ true → (node_made setup lines made x).line ≡ fixed_line setup lines regs x
 node_made_fixed setup lines regs done made i x shape m h l children q =
     node_over-same setup.formulas x (made_or_stored setup.shape lines made) (fixed_line setup lines regs)
     (λ c small. made_or_stored_fixed setup lines regs done made (child_position x c) m (on_tree c small) (children c small))
@@ -116,7 +116,7 @@ node_made_fixed setup lines regs done made i x shape m h l children q =
 
 -- ---- the root
 
-pub made_root : (setup : Setup) (lines : List Line) (regs : Regs) (made : List Made) → AreAllMade setup lines regs made → setup.formulas.digest_of 0 (made_or_stored setup.shape lines made 0) ≡ found_root setup lines regs
+pub made_root : (setup : Setup) (lines : List Line) (regs : Regs) (made : List MadeEntry) → AreAllMade setup lines regs made → setup.formulas.digest_of 0 (made_or_stored setup.shape lines made 0) ≡ found_root setup lines regs
 made_root setup lines regs made m =
     let on_tree : 0 < layout.meta_lines setup.shape = level_start-le 1 (setup.shape.levels + 1) (omega arith) in
     ap (setup.formulas.digest_of 0) (made_or_stored_fixed setup lines regs (λ x. level_start 0 ≤ x) made 0 m on_tree (omega arith))

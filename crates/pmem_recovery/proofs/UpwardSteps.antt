@@ -10,12 +10,12 @@ use Rattle.bonsai_tree.specs.Positions.{counter_position, level_of}
 use Rattle.bonsai_tree.proofs.Levels.{IsAtLevel, child-IsAtLevel, level_start-next, level_start-le, counter_position-lt, counter_position-IsAtLevel, IsAtLevel-inner, level_of-IsAtLevel, level_of-at}
 use Rattle.suite.specs.Setup.{Setup}
 use Rattle.pmem_engine.specs.Invariants.{is_named}
-use Rattle.pmem_recovery.specs.declared.entries.Made.{Made}
+use Rattle.pmem_recovery.specs.declared.entries.MadeEntry.{MadeEntry}
 use Rattle.pmem_recovery.specs.Upward.{AreMade, AreMadeTo, AreAllMade, IsDoneTo, IsBefore, block_made, node_made}
 use Rattle.pmem_recovery.proofs.UpwardLaws.{AreMade-same, AreMade-push, block_made_fixed, node_made_fixed}
 
 -- one more position done, said by the next position
-one_more : (setup : Setup) (lines : List Line) (regs : Regs) (i m : ℕ) (made : List Made) → level_start i ≤ m → AreMade setup lines regs (λ x. IsDoneTo i m x ⊎ (x ≡ m)) made → AreMadeTo setup lines regs i (m + 1) made
+one_more : (setup : Setup) (lines : List Line) (regs : Regs) (i m : ℕ) (made : List MadeEntry) → level_start i ≤ m → AreMade setup lines regs (λ x. IsDoneTo i m x ⊎ (x ≡ m)) made → AreMadeTo setup lines regs i (m + 1) made
 one_more setup lines regs i m made low =
     AreMade-same setup lines regs (λ x. IsDoneTo i m x ⊎ (x ≡ m)) (IsDoneTo i (m + 1)) made (λ x h d. to x d) (λ x h d. from x (cases_eq x m) d)
   where
@@ -59,7 +59,7 @@ comes_before setup i m x shape few l h d = go d
         inr (level_of-at i x small (record { from = le.0; below = below }) ∙ sym here, le.1)
 
 -- a named counter block
-pub AreMadeTo-block : (setup : Setup) (lines : List Line) (regs : Regs) (page : ℕ) (made : List Made) → IsShape setup.shape → page < layout.pages setup.shape → is_named setup.shape lines (counter_position setup.shape page) ≡ true → AreMadeTo setup lines regs setup.shape.levels (counter_position setup.shape page) made → AreMadeTo setup lines regs setup.shape.levels (counter_position setup.shape page + 1) (made ++ block_made setup lines regs page ∷ [])
+pub AreMadeTo-block : (setup : Setup) (lines : List Line) (regs : Regs) (page : ℕ) (made : List MadeEntry) → IsShape setup.shape → page < layout.pages setup.shape → is_named setup.shape lines (counter_position setup.shape page) ≡ true → AreMadeTo setup lines regs setup.shape.levels (counter_position setup.shape page) made → AreMadeTo setup lines regs setup.shape.levels (counter_position setup.shape page + 1) (made ++ block_made setup lines regs page ∷ [])
 AreMadeTo-block setup lines regs page made shape h q d =
     let m = counter_position setup.shape page in
     let next = level_start-next setup.shape.levels in
@@ -70,7 +70,7 @@ AreMadeTo-block setup lines regs page made shape h q d =
     (counter_position-lt setup.shape page h) q (block_made_fixed setup lines regs page shape h q) refl d)
 
 -- a named node, over what is made of its children or read
-pub AreMadeTo-node : (setup : Setup) (lines : List Line) (regs : Regs) (i m : ℕ) (made : List Made) → IsShape setup.shape → i < setup.shape.levels → IsAtLevel i m → is_named setup.shape lines m ≡ true → AreMadeTo setup lines regs i m made → AreMadeTo setup lines regs i (m + 1) (made ++ node_made setup lines made m ∷ [])
+pub AreMadeTo-node : (setup : Setup) (lines : List Line) (regs : Regs) (i m : ℕ) (made : List MadeEntry) → IsShape setup.shape → i < setup.shape.levels → IsAtLevel i m → is_named setup.shape lines m ≡ true → AreMadeTo setup lines regs i m made → AreMadeTo setup lines regs i (m + 1) (made ++ node_made setup lines made m ∷ [])
 AreMadeTo-node setup lines regs i m made shape h l q d =
     one_more setup lines regs i m (made ++ node_made setup lines made m ∷ []) l.from
     (AreMade-push setup lines regs (IsDoneTo i m) made (node_made setup lines made m) (not_yet i m l)
@@ -80,7 +80,7 @@ AreMadeTo-node setup lines regs i m made shape h l q d =
     refl d)
 
 -- a level is whole, and the one above begins
-pub AreMadeTo-next : (setup : Setup) (lines : List Line) (regs : Regs) (i : ℕ) (made : List Made) → AreMadeTo setup lines regs (suc i) (level_start (suc (suc i))) made → AreMadeTo setup lines regs i (level_start i) made
+pub AreMadeTo-next : (setup : Setup) (lines : List Line) (regs : Regs) (i : ℕ) (made : List MadeEntry) → AreMadeTo setup lines regs (suc i) (level_start (suc (suc i))) made → AreMadeTo setup lines regs i (level_start i) made
 AreMadeTo-next setup lines regs i made =
     AreMade-same setup lines regs (IsDoneTo (suc i) (level_start (suc (suc i)))) (IsDoneTo i (level_start i)) made (λ x h d. to x d) (λ x h d. from x d)
   where
@@ -97,7 +97,7 @@ AreMadeTo-next setup lines regs i made =
     from x (inr d) = absurd (omega (arith, d.0, d.1))
 
 -- at the end every position is done
-pub AreMade-end : (setup : Setup) (lines : List Line) (regs : Regs) (made : List Made) → AreMadeTo setup lines regs 0 1 made → AreAllMade setup lines regs made
+pub AreMade-end : (setup : Setup) (lines : List Line) (regs : Regs) (made : List MadeEntry) → AreMadeTo setup lines regs 0 1 made → AreAllMade setup lines regs made
 AreMade-end setup lines regs made =
     AreMade-same setup lines regs (IsDoneTo 0 1) (λ x. level_start 0 ≤ x) made (λ x h d. omega arith) (λ x h d. at x (cases_lt x 1))
   where
@@ -105,5 +105,5 @@ AreMade-end setup lines regs made =
     at x (inl b) = inr (omega arith, b)
     at x (inr b) = inl b
 
-pub AreMadeTo-upto : (setup : Setup) (lines : List Line) (regs : Regs) (i m n : ℕ) (made : List Made) → level_start i ≤ m → m ≤ n → ((x : ℕ) → m ≤ x → x < n → is_named setup.shape lines x ≡ false) → AreMadeTo setup lines regs i m made → AreMadeTo setup lines regs i n made
+pub AreMadeTo-upto : (setup : Setup) (lines : List Line) (regs : Regs) (i m n : ℕ) (made : List MadeEntry) → level_start i ≤ m → m ≤ n → ((x : ℕ) → m ≤ x → x < n → is_named setup.shape lines x ≡ false) → AreMadeTo setup lines regs i m made → AreMadeTo setup lines regs i n made
 AreMadeTo-upto setup lines regs i m n made low le none d = search rules

@@ -12,7 +12,7 @@ use Rattle.board.specs.Steps.{WasCut}
 use Rattle.call_plan.specs.Plans.{bind, the_cut}
 use Rattle.call_plan.specs.Bounds.{Leaves}
 use Rattle.call_plan.proofs.Leaves.{leaves_bind, leaves_repeated, leaves_for_each, leaves_more}
-use Rattle.pmem_recovery.specs.declared.entries.Made.{Made}
+use Rattle.pmem_recovery.specs.declared.entries.MadeEntry.{MadeEntry}
 use Rattle.pmem_recovery.specs.Parts.{IsUncut, IsCutOff}
 use Rattle.pmem_recovery.specs.Writing.{HasWrittenIf, DueWrite, due_of_made, due_zeros, writes_due, HasWrittenTo}
 use Rattle.pmem_recovery.specs.Plans.{changed_plan, entry_turn, entries_plan, clear_turn, clear_plan}
@@ -30,13 +30,13 @@ changed_leaves at line false ok err d cut written = written d refl
 -- ---- which writes are due
 
 module _ (g : Shape) (shadow : List Line) where
-  pub due_made : (made : List Made) (k : ℕ) (d : Made) → k < length made → writes_due g shadow made k ≡ due_of_made g (get_or made k d)
+  pub due_made : (made : List MadeEntry) (k : ℕ) (d : MadeEntry) → k < length made → writes_due g shadow made k ≡ due_of_made g (get_or made k d)
   unfolding writes_due
   due_made [] k d low = absurd (omega arith)
   due_made (entry ∷ made) zero d low = refl
   due_made (entry ∷ made) (suc k) d low = due_made made k d (omega arith)
 
-  pub due_zero : (made : List Made) (n : ℕ) → writes_due g shadow made (length made + n) ≡ due_zeros g shadow n
+  pub due_zero : (made : List MadeEntry) (n : ℕ) → writes_due g shadow made (length made + n) ≡ due_zeros g shadow n
   unfolding writes_due
   due_zero [] n = let none : 0 + n ≡ n = omega arith in ap (due_zeros g shadow) none
   due_zero (entry ∷ made) n =
@@ -45,7 +45,7 @@ module _ (g : Shape) (shadow : List Line) where
 
 -- ---- the writes, one by one
 
-module _ (g : Shape) (shadow : List Line) (made : List Made) (start : Device) where
+module _ (g : Shape) (shadow : List Line) (made : List MadeEntry) (start : Device) where
   abbrev due : ℕ → DueWrite
   due = writes_due g shadow made
 
@@ -82,20 +82,20 @@ module _ (g : Shape) (shadow : List Line) (made : List Made) (start : Device) wh
       })))
 
   -- these of the lines made are left
-  record AreLeft (later : List Made) (now : Device) : Type 0 where
+  record AreLeft (later : List MadeEntry) (now : Device) : Type 0 where
     pub place : ℕ
     pub few : place ≤ length made
     pub rest : drop place made ≡ later
     pub so_far : IsAtWrite place now
 
-  inside : (place : ℕ) (entry : Made) (later : List Made) → drop place made ≡ entry ∷ later → place < length made
+  inside : (place : ℕ) (entry : MadeEntry) (later : List MadeEntry) → drop place made ≡ entry ∷ later → place < length made
   inside place entry later rest = go (cases_lt place (length made))
     where
       go : (place < length made) ⊎ (length made ≤ place) → place < length made
       go (inl less) = less
       go (inr none) = let empty = drop_of_length-le made none in absurd (cc)
 
-  first_left : (place : ℕ) (entry : Made) (later : List Made) → drop place made ≡ entry ∷ later
+  first_left : (place : ℕ) (entry : MadeEntry) (later : List MadeEntry) → drop place made ≡ entry ∷ later
       → (get_or made place entry ≡ entry) × (drop (place + 1) made ≡ later)
   first_left place entry later rest =
       let parts = drop_more made place entry (inside place entry later rest) in

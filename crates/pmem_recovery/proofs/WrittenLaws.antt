@@ -17,7 +17,7 @@ use Rattle.suite.specs.Setup.{Setup}
 use Rattle.pmem_engine.specs.Invariants.{stored_meta, is_named, IsMendable}
 use Rattle.pmem_engine.specs.Mendable.{IsAllTrue, IsShadowZero}
 use Rattle.pmem_engine.proofs.Laws.MendableLaws.{is_named-zero, IsMendable-mending, line_at-shadow_of, shadow_of-same}
-use Rattle.pmem_recovery.specs.declared.entries.Made.{Made}
+use Rattle.pmem_recovery.specs.declared.entries.MadeEntry.{MadeEntry}
 use Rattle.pmem_recovery.specs.Fixed.{fixed_line, found_root}
 use Rattle.pmem_recovery.specs.Upward.{is_other, IsBefore, IsMadeLine, AreMade}
 use Rattle.pmem_recovery.specs.Writing.{DueWrite, due_zeros, writes_due, count_changed, AreDue}
@@ -36,17 +36,17 @@ not_both la lb a b (inl h) (inr k) = omega (arith, h, k.0)
 not_both la lb a b (inr h) (inl k) = omega (arith, h.0, k)
 not_both la lb a b (inr h) (inr k) = omega (arith, h.1, k.1)
 
-abbrev no_entry : Made
+abbrev no_entry : MadeEntry
 no_entry = record { at = 0; line = record { 0 = [] }; changed = false }
 
 -- where the shadow lines are zero from the start, nothing is made
-nothing_made : (setup : Setup) (lines : List Line) (regs : Regs) (done : ℕ → Type 0) (made : List Made) → IsShadowZero setup lines → AreMade setup lines regs done made → made ≡ []
+nothing_made : (setup : Setup) (lines : List Line) (regs : Regs) (done : ℕ → Type 0) (made : List MadeEntry) → IsShadowZero setup lines → AreMade setup lines regs done made → made ≡ []
 nothing_made setup lines regs done [] z m = refl
 nothing_made setup lines regs done (entry ∷ made) z m =
     let line = All-head (IsMadeLine setup lines regs) entry made m.each in
     absurd (false≢true (sym (is_named-zero setup lines entry.at z) ∙ line.named))
 
-module _ (setup : Setup) (lines : List Line) (regs : Regs) (shadow : List Line) (made : List Made) (all : HasMadeAll setup lines regs shadow made) where
+module _ (setup : Setup) (lines : List Line) (regs : Regs) (shadow : List Line) (made : List MadeEntry) (all : HasMadeAll setup lines regs shadow made) where
   abbrev g : Shape
   g = setup.shape
 
@@ -185,9 +185,9 @@ module _ (setup : Setup) (lines : List Line) (regs : Regs) (shadow : List Line) 
     write_of : (x : ℕ) → x < layout.meta_lines setup.shape → is_named setup.shape lines x ≡ true → (j : ℕ) × IsWriteOf x j
     write_of x on_tree named =
         let found = Any-from_list_any (λ e. eqb e.at x) made (all.all_made.every x on_tree (omega arith) named) in
-        let entry : Made = found.1 in
+        let entry : MadeEntry = found.1 in
         let same : get_or made found.0 no_entry ≡ get_or made found.0 entry = get_or_default made found.0 no_entry entry found.2 in
-        (found.0, record { inside = found.2; here = ap (λ (z : Made). z.at) (same ∙ found.3) ∙ eqb-true entry.at x found.4 })
+        (found.0, record { inside = found.2; here = ap (λ (z : MadeEntry). z.at) (same ∙ found.3) ∙ eqb-true entry.at x found.4 })
 
     fixed_at : (x j : ℕ) → IsWriteOf x j → j < k → stored_meta setup.shape now x ≡ fixed_line setup lines regs x
     fixed_at x j f less =

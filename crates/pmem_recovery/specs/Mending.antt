@@ -11,7 +11,7 @@ use Rattle.commit_regs.specs.Groups.{RisesAtMost}
 use Rattle.shadow_tables.specs.Entries.{shadow_of}
 use Rattle.suite.specs.Setup.{Setup}
 use Rattle.pmem_engine.specs.Mendable.{IsShadowZero}
-use Rattle.pmem_recovery.specs.declared.entries.Made.{Made}
+use Rattle.pmem_recovery.specs.declared.entries.MadeEntry.{MadeEntry}
 use Rattle.pmem_recovery.specs.declared.faults.RecFault.{RecFault}
 use Rattle.pmem_recovery.specs.declared.faults.RecFault.TheVariants.{Cut}
 use Rattle.pmem_recovery.specs.Upward.{AreAllMade}
@@ -20,14 +20,14 @@ use Rattle.pmem_recovery.specs.Parts.{KeepsDevice, HasRoot}
 
 -- all named lines are made, and the root is right
 pub record HasMadeAll (setup : Setup) (lines : List Line) (regs : Regs) (shadow : List Line)
-    (made : List Made) : Type 0 where
+    (made : List MadeEntry) : Type 0 where
   pub its_shadow : shadow ≡ shadow_of setup.shape lines
   pub all_made : AreAllMade setup lines regs made
   pub has_root : HasRoot setup lines regs
 
 -- the root is right, and of the writes that are due then the first k are made
 pub record IsWrittenTo (setup : Setup) (lines : List Line) (regs : Regs) (shadow : List Line)
-    (made : List Made) (k : ℕ) (now : List Line) : Type 0 where
+    (made : List MadeEntry) (k : ℕ) (now : List Line) : Type 0 where
   pub all : HasMadeAll setup lines regs shadow made
   pub few : k ≤ length made + layout.shadow_lines setup.shape
   pub are_written : AreWritten (writes_due setup.shape shadow made) k lines now
@@ -35,12 +35,12 @@ pub record IsWrittenTo (setup : Setup) (lines : List Line) (regs : Regs) (shadow
 -- nothing is written, or so much
 abbrev pub IsPartlyMended : Setup → List Line → Regs → List Line → Type 0
 IsPartlyMended setup lines regs now =
-    (now ≡ lines) ⊎ ((shadow : List Line) × (made : List Made) × (k : ℕ) × IsWrittenTo setup lines regs shadow made k now)
+    (now ≡ lines) ⊎ ((shadow : List Line) × (made : List MadeEntry) × (k : ℕ) × IsWrittenTo setup lines regs shadow made k now)
 
 -- all that is due is written
 pub record IsRecovered (setup : Setup) (lines : List Line) (regs : Regs) (now : List Line) : Type 0 where
   pub shadow : List Line
-  pub made : List Made
+  pub made : List MadeEntry
   pub written : IsWrittenTo setup lines regs shadow made (length made + layout.shadow_lines setup.shape) now
 
 -- the most lines that recovery writes after the redo: one for each slot of each level, and the shadow

@@ -25,7 +25,7 @@ use Rattle.stop_loss.specs.Trials.{matching_minors, found_among}
 use Rattle.stop_loss.specs.Windows.{window_minors}
 use Rattle.pmem_engine.specs.Engine.{EngineState}
 use Rattle.pmem_engine.specs.Mendable.{new_engine}
-use Rattle.pmem_recovery.specs.declared.entries.Made.{Made}
+use Rattle.pmem_recovery.specs.declared.entries.MadeEntry.{MadeEntry}
 use Rattle.pmem_recovery.specs.declared.faults.Work.{Work}
 use Rattle.pmem_recovery.specs.declared.faults.RecFault.{RecFault}
 use Rattle.pmem_recovery.specs.declared.faults.RecFault.TheVariants as Fault
@@ -48,10 +48,10 @@ counts_of suite = suite_counts suite.tags suite.digests
 
 -- the lines made so far, and those counts
 pub record RecoveryParts : Type 0 where
-  pub made : List Made
+  pub made : List MadeEntry
   pub counts : SuiteCounts
 
-abbrev pub recovery_parts : List Made → SuiteCounts → RecoveryParts
+abbrev pub recovery_parts : List MadeEntry → SuiteCounts → RecoveryParts
 recovery_parts made counts = record { made = made; counts = counts }
 
 -- the counts at a moment of a call
@@ -71,7 +71,7 @@ abbrev pub named_positions : Shape → List Line → ℕ → ℕ → List ℕ
 named_positions g shadow a b = filter (λ x. names g shadow x) (range_with_len a (b - a))
 
 -- what is made for position x, whose line was read
-abbrev pub made_over : ℕ → Line → Line → Made
+abbrev pub made_over : ℕ → Line → Line → MadeEntry
 made_over x stored line = record { at = x; line = line; changed = is_other stored line }
 
 -- ---- the redo
@@ -163,18 +163,18 @@ unfoldable pub line_made_or : Shape → ℕ → Option Line → Plan Cut Line
 line_made_or g x (Some line) = done line
 line_made_or g x None = read the_cut (layout.meta_line g x) (λ line. done line)
 
-abbrev pub made_plan : Shape → List Made → ℕ → Plan Cut Line
+abbrev pub made_plan : Shape → List MadeEntry → ℕ → Plan Cut Line
 made_plan g made x = line_made_or g x (line_made made x)
 
 -- the child of x in slot i, whose digest follows those before
-abbrev pub child_turn : Setup → List Made → ℕ → ℕ → SuiteCounts × List (List ℕ) → Plan (SuiteCounts × Cut) (SuiteCounts × List (List ℕ))
+abbrev pub child_turn : Setup → List MadeEntry → ℕ → ℕ → SuiteCounts × List (List ℕ) → Plan (SuiteCounts × Cut) (SuiteCounts × List (List ℕ))
 child_turn setup made x i before =
     mapped (λ cut. (before.0, cut))
     (λ line. (after_digest before.0, before.1 ++ setup.formulas.digest_of (4 * x + 1 + i) line ∷ []))
     (made_plan setup.shape made (4 * x + 1 + i))
 
 -- the node over the four children of x
-unfoldable pub children_plan : Setup → List Made → ℕ → SuiteCounts → Plan (SuiteCounts × Cut) (SuiteCounts × Line)
+unfoldable pub children_plan : Setup → List MadeEntry → ℕ → SuiteCounts → Plan (SuiteCounts × Cut) (SuiteCounts × Line)
 children_plan setup made x counts =
     mapped (λ left. left) (λ end. (end.0, node_of end.1)) (repeated (child_turn setup made x) 0 4 (counts, []))
 
@@ -213,7 +213,7 @@ abbrev pub top_plan : Setup → List ℕ → SuiteCounts × Line → Plan (Suite
 top_plan setup root top = compare_plan root (setup.formulas.digest_of 0 top.1) (after_digest top.0)
 
 -- the top line's digest is compared with the root register
-unfoldable pub root_plan : Setup → List ℕ → List Made → SuiteCounts → Plan (SuiteCounts × RecFault) (SuiteCounts × Unit {0})
+unfoldable pub root_plan : Setup → List ℕ → List MadeEntry → SuiteCounts → Plan (SuiteCounts × RecFault) (SuiteCounts × Unit {0})
 root_plan setup root made counts =
     bind (mapped (λ cut. (counts, Fault.Cut)) (λ line. (counts, line)) (made_plan setup.shape made 0)) (top_plan setup root)
 
@@ -222,15 +222,15 @@ root_plan setup root made counts =
 -- the shadow lines, what was made by them, and how much was tried
 pub record MadeLines : Type 0 where
   pub shadow : List Line
-  pub made : List Made
+  pub made : List MadeEntry
   pub work : Work
 
-abbrev pub made_lines : List Line → List Made → ℕ → ℕ → MadeLines
+abbrev pub made_lines : List Line → List MadeEntry → ℕ → ℕ → MadeLines
 made_lines shadow made trials digests =
     record { shadow = shadow; made = made; work = record { trials = trials; digests = digests } }
 
 -- what was made at the end, with the counts that are left
-abbrev pub made_end : Result Work RecFault → List Line → List Made → SuiteCounts → Result (SuiteCounts × MadeLines) (SuiteCounts × RecFault)
+abbrev pub made_end : Result Work RecFault → List Line → List MadeEntry → SuiteCounts → Result (SuiteCounts × MadeLines) (SuiteCounts × RecFault)
 made_end (Ok work) shadow made counts = Ok (counts, record { shadow = shadow; made = made; work = work })
 made_end (Err fault) shadow made counts = Err (counts, fault)
 
@@ -262,11 +262,11 @@ making_plan setup regs counts =
 unfoldable pub changed_plan : ℕ → Line → Bool → Plan Cut (Unit {0})
 changed_plan at line changed = if changed then write the_cut at line (done tt) else done tt
 
-abbrev pub entry_turn : Shape → Made → Unit {0} → Plan Cut (Unit {0})
+abbrev pub entry_turn : Shape → MadeEntry → Unit {0} → Plan Cut (Unit {0})
 entry_turn g entry before = changed_plan (layout.meta_line g entry.at) entry.line entry.changed
 
 -- the lines made, in order
-abbrev pub entries_plan : Shape → List Made → Plan Cut (Unit {0})
+abbrev pub entries_plan : Shape → List MadeEntry → Plan Cut (Unit {0})
 entries_plan g made = for_each (entry_turn g) made tt
 
 abbrev pub clear_turn : Shape → List Line → ℕ → Unit {0} → Plan Cut (Unit {0})

@@ -11,7 +11,7 @@ use Rattle.pmem_base.specs.Layout.{level_start, page_of, index_in_page}
 use Rattle.board.specs.Counts.{RisesBy}
 use Rattle.bonsai_tree.specs.Positions.{counter_position}
 use Rattle.page_reencrypt.specs.Registers.{register_held}
-use Rattle.pmem_recovery.specs.declared.entries.Made.{Made}
+use Rattle.pmem_recovery.specs.declared.entries.MadeEntry.{MadeEntry}
 use Rattle.pmem_recovery.specs.declared.faults.RecFault.{RecFault}
 use Rattle.pmem_recovery.specs.declared.faults.RecFault.TheVariants.{NoCounter, Root, Twin}
 use Rattle.pmem_recovery.specs.Named.{names, count_named}
@@ -34,11 +34,11 @@ abbrev pub block_reads : Shape → Regs → ℕ → ℕ
 block_reads g regs x = 1 + page_reads regs.progress.items (x - counter_position g 0) 64
 
 -- for a line that may have been made: none if it was
-abbrev pub unmade_reads : List Made → ℕ → ℕ
+abbrev pub unmade_reads : List MadeEntry → ℕ → ℕ
 unmade_reads made x = if is_some (line_made made x) then 0 else 1
 
 -- for the first n children of position x
-unfoldable pub children_reads : List Made → ℕ → ℕ → ℕ
+unfoldable pub children_reads : List MadeEntry → ℕ → ℕ → ℕ
 children_reads made x n = sum_by (λ i. unmade_reads made (4 * x + 1 + i)) (range_with_len 0 n)
 
 -- for a position that counts only if it isn't named

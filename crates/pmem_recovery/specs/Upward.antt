@@ -12,7 +12,7 @@ use Rattle.bonsai_tree.specs.Positions.{counter_position, level_of}
 use Rattle.bonsai_tree.specs.Nodes.{node_over}
 use Rattle.suite.specs.Setup.{Setup}
 use Rattle.pmem_engine.specs.Invariants.{stored_meta, is_named}
-use Rattle.pmem_recovery.specs.declared.entries.Made.{Made}
+use Rattle.pmem_recovery.specs.declared.entries.MadeEntry.{MadeEntry}
 use Rattle.pmem_recovery.specs.Fixed.{fixed_block, fixed_line}
 
 -- whether the line made is another one than the line read
@@ -20,32 +20,32 @@ abbrev pub is_other : Line → Line → Bool
 is_other read line = not (same_bytes read.0 line.0)
 
 -- the line made for x
-abbrev pub line_made : List Made → ℕ → Option Line
+abbrev pub line_made : List MadeEntry → ℕ → Option Line
 line_made made x = option_map (λ entry. entry.line) (find (λ entry. entry.at == x) made)
 
 -- the line made for x, or the device's where none was
-abbrev pub made_or_stored : Shape → List Line → List Made → ℕ → Line
+abbrev pub made_or_stored : Shape → List Line → List MadeEntry → ℕ → Line
 made_or_stored g lines made x = unwrap_or (line_made made x) (stored_meta g lines x)
 
 -- whether a line was made for x
-abbrev pub is_made : List Made → ℕ → Bool
+abbrev pub is_made : List MadeEntry → ℕ → Bool
 is_made made x = list_any (λ entry. entry.at == x) made
 
 -- a line made for position x of the device
-abbrev pub made_entry : Shape → List Line → ℕ → Line → Made
+abbrev pub made_entry : Shape → List Line → ℕ → Line → MadeEntry
 made_entry g lines x line =
     record { at = x; line = line; changed = is_other (stored_meta g lines x) line }
 
-abbrev pub block_made : Setup → List Line → Regs → ℕ → Made
+abbrev pub block_made : Setup → List Line → Regs → ℕ → MadeEntry
 block_made setup lines regs page =
     made_entry setup.shape lines (counter_position setup.shape page) (packed (fixed_block setup lines regs page))
 
-abbrev pub node_made : Setup → List Line → List Made → ℕ → Made
+abbrev pub node_made : Setup → List Line → List MadeEntry → ℕ → MadeEntry
 node_made setup lines made x =
     made_entry setup.shape lines x (node_over setup.formulas x (made_or_stored setup.shape lines made))
 
 -- a line made for a named position of the tree: the fixed line there
-pub record IsMadeLine (setup : Setup) (lines : List Line) (regs : Regs) (entry : Made) :
+pub record IsMadeLine (setup : Setup) (lines : List Line) (regs : Regs) (entry : MadeEntry) :
     Type 0 where
   pub on_tree : entry.at < layout.meta_lines setup.shape
   pub named : is_named setup.shape lines entry.at ≡ true
@@ -58,7 +58,7 @@ IsBefore a b = (level_of b < level_of a) ⊎ ((level_of a ≡ level_of b) × (a 
 
 -- of the positions that are done, each named one has one line made for it, in order, and no other position has one
 pub record AreMade (setup : Setup) (lines : List Line) (regs : Regs) (done : ℕ → Type 0)
-    (made : List Made) : Type 0 where
+    (made : List MadeEntry) : Type 0 where
   pub each : All (IsMadeLine setup lines regs) made
   pub only_done : All (λ entry. done entry.at) made
   pub distinct : AllPairs (λ a b. a.at ≢ b.at) made
@@ -72,9 +72,9 @@ abbrev pub IsDoneTo : ℕ → ℕ → ℕ → Type 0
 IsDoneTo i m x = (level_start (suc i) ≤ x) ⊎ ((level_start i ≤ x) × (x < m))
 
 -- as the loops over levels and positions go on
-abbrev pub AreMadeTo : Setup → List Line → Regs → ℕ → ℕ → List Made → Type 0
+abbrev pub AreMadeTo : Setup → List Line → Regs → ℕ → ℕ → List MadeEntry → Type 0
 AreMadeTo setup lines regs i m made = AreMade setup lines regs (IsDoneTo i m) made
 
 -- at the end
-abbrev pub AreAllMade : Setup → List Line → Regs → List Made → Type 0
+abbrev pub AreAllMade : Setup → List Line → Regs → List MadeEntry → Type 0
 AreAllMade setup lines regs made = AreMade setup lines regs (λ x. level_start 0 ≤ x) made

@@ -8,7 +8,7 @@ use Rattle.pmem_base.specs.Lines.{line_at, zero_line}
 use Rattle.board.specs.Counts.{RisesBy}
 use Rattle.board.specs.Device.{Device}
 use Rattle.board.specs.Steps.{HasWritten}
-use Rattle.pmem_recovery.specs.declared.entries.Made.{Made}
+use Rattle.pmem_recovery.specs.declared.entries.MadeEntry.{MadeEntry}
 use Rattle.pmem_recovery.specs.Parts.{IfLinesTold}
 use Rattle.pmem_recovery.specs.Upward.{is_other}
 
@@ -44,7 +44,7 @@ pub record DueWrite : Type 0 where
   pub line : Line
   pub changed : Bool
 
-abbrev pub due_of_made : Shape → Made → DueWrite
+abbrev pub due_of_made : Shape → MadeEntry → DueWrite
 due_of_made g entry =
     record { place = layout.meta_line g entry.at; line = entry.line; changed = entry.changed }
 
@@ -53,7 +53,7 @@ due_zeros g shadow n =
     record { place = layout.shadow_line g n; line = zero_line; changed = is_other (line_at shadow n) zero_line }
 
 -- the lines made, in order, and then zeros over the shadow lines, by numbers upwards
-unfoldable pub writes_due : Shape → List Line → List Made → ℕ → DueWrite
+unfoldable pub writes_due : Shape → List Line → List MadeEntry → ℕ → DueWrite
 writes_due g shadow [] k = due_zeros g shadow k
 writes_due g shadow (entry ∷ made) zero = due_of_made g entry
 writes_due g shadow (entry ∷ made) (suc k) = writes_due g shadow made k

@@ -14,7 +14,7 @@ ghost use Rattle.call_plan.specs.Following.{Follows};
 ghost use Rattle.pmem_recovery.specs.Plans.{recovery_parts, counts_at, sealed_plan, trial_plan, minors_plan, fixed_block_plan, blocks_plan};
 
 use crate::RecFault;
-use crate::entries::{Made, is_other};
+use crate::entries::{MadeEntry, is_other};
 use crate::tables::next_named;
 use board::Board;
 use line_seal::tag_at;
@@ -31,7 +31,7 @@ pub(crate) fn fix_counters<B: Board, S: Suite>(
     geo: &Geo,
     regs: &Regs,
     shadow: &[Line],
-    made: &mut Vec<Made>,
+    made: &mut Vec<MadeEntry>,
 ) -> Result<u64, RecFault>
     requires size { (B.device board.old).size ≡ device_lines (shape_of geo.now) }
     requires loss { IsTrue (is_loss regs.now.loss) }
@@ -61,7 +61,7 @@ fn fix_counter<B: Board, S: Suite>(
     geo: &Geo,
     regs: &Regs,
     x: u32,
-    made: &mut Vec<Made>,
+    made: &mut Vec<MadeEntry>,
 ) -> Result<u64, RecFault>
     requires size { (B.device board.old).size ≡ device_lines (shape_of geo.now) }
     requires loss { IsTrue (is_loss regs.now.loss) }
@@ -81,7 +81,7 @@ fn fix_counter<B: Board, S: Suite>(
     let page = x - (geo.pages() - 1) / 3;
     let (fixed, trials) = fix_minors(board, suite, geo, regs, page, &unpack(&read))?;
     let line = pack(&fixed);
-    made.push_reserved(Made {
+    made.push_reserved(MadeEntry {
         at: x,
         line,
         changed: is_other(&read, &line),

@@ -6,14 +6,14 @@ use pmem_base::Line;
 
 /// The line made for a position, and whether it is another one than the line read.
 #[derive(Clone, Copy, Debug)]
-pub struct Made {
+pub struct MadeEntry {
     pub at: u32,
     pub line: Line,
     pub changed: bool,
 }
 
 /// The line made for a position.
-pub(crate) fn line_made(made: &[Made], x: u32) -> Option<Line>
+pub(crate) fn line_made(made: &[MadeEntry], x: u32) -> Option<Line>
     ensures { result ≡ line_made made.now x }
 {
     made.iter()

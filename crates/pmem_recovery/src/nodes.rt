@@ -9,7 +9,7 @@ ghost use Rattle.call_plan.specs.Following.{Follows};
 ghost use Rattle.pmem_recovery.specs.Plans.{recovery_parts, counts_at, made_plan, children_plan, fixed_node_plan, fixed_level_plan, nodes_plan, root_plan};
 
 use crate::RecFault;
-use crate::entries::{Made, is_other, line_made};
+use crate::entries::{MadeEntry, is_other, line_made};
 use crate::tables::next_named;
 use board::Board;
 use bonsai_tree::node_of;
@@ -23,7 +23,7 @@ pub(crate) fn fix_nodes<B: Board, S: Suite>(
     suite: &mut S,
     geo: &Geo,
     shadow: &[Line],
-    made: &mut Vec<Made>,
+    made: &mut Vec<MadeEntry>,
 ) -> Result<u64, Cut>
     requires size { (B.device board.old).size ≡ device_lines (shape_of geo.now) }
     requires shadow { length shadow.now ≡ shadow_lines (shape_of geo.now) }
@@ -49,7 +49,7 @@ fn fix_level<B: Board, S: Suite>(
     geo: &Geo,
     shadow: &[Line],
     level: u8,
-    made: &mut Vec<Made>,
+    made: &mut Vec<MadeEntry>,
 ) -> Result<u64, Cut>
     requires size { (B.device board.old).size ≡ device_lines (shape_of geo.now) }
     requires shadow { length shadow.now ≡ shadow_lines (shape_of geo.now) }
@@ -91,7 +91,7 @@ fn fix_node<B: Board, S: Suite>(
     suite: &mut S,
     geo: &Geo,
     x: u32,
-    made: &mut Vec<Made>,
+    made: &mut Vec<MadeEntry>,
 ) -> Result<(), Cut>
     requires size { (B.device board.old).size ≡ device_lines (shape_of geo.now) }
     requires node { x < level_start (shape_of geo.now).levels }
@@ -106,7 +106,7 @@ fn fix_node<B: Board, S: Suite>(
     let read = board.read_line(geo.meta_line(x))?;
     read.is_whole();
     let line = node_line(board, suite, geo, x, made)?;
-    made.push_reserved(Made {
+    made.push_reserved(MadeEntry {
         at: x,
         line,
         changed: is_other(&read, &line),
@@ -120,7 +120,7 @@ fn node_line<B: Board, S: Suite>(
     suite: &mut S,
     geo: &Geo,
     x: u32,
-    made: &[Made],
+    made: &[MadeEntry],
 ) -> Result<Line, Cut>
     requires size { (B.device board.old).size ≡ device_lines (shape_of geo.now) }
     requires node { x < level_start (shape_of geo.now).levels }
@@ -139,7 +139,7 @@ fn node_line<B: Board, S: Suite>(
 }
 
 /// The line made for a position, or the device's where none was.
-fn made_or_read<B: Board>(board: &mut B, geo: &Geo, x: u32, made: &[Made]) -> Result<Line, Cut>
+fn made_or_read<B: Board>(board: &mut B, geo: &Geo, x: u32, made: &[MadeEntry]) -> Result<Line, Cut>
     requires size { (B.device board.old).size ≡ device_lines (shape_of geo.now) }
     requires position { x < meta_lines (shape_of geo.now) }
     ensures plan { Follows (made_plan (shape_of geo.now) made.now x) (B.device board.old) (B.device board.new) result }
@@ -160,7 +160,7 @@ pub(crate) fn check_root<B: Board, S: Suite>(
     suite: &mut S,
     geo: &Geo,
     regs: &Regs,
-    made: &[Made],
+    made: &[MadeEntry],
 ) -> Result<(), RecFault>
     requires size { (B.device board.old).size ≡ device_lines (shape_of geo.now) }
     ensures keys { S.keys suite.new ≡ S.keys suite.old }

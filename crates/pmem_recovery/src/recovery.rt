@@ -11,7 +11,7 @@ ghost use Rattle.call_plan.specs.Following.{Follows};
 ghost use Rattle.pmem_recovery.specs.Plans.{counts_at, shadow_plan, making_plan, made_end, mend_plan};
 
 use crate::counters::fix_counters;
-use crate::entries::Made;
+use crate::entries::MadeEntry;
 use crate::nodes::{check_root, fix_nodes};
 use crate::writing::{clear_shadow, write_made};
 use crate::{RecFault, Work};
@@ -59,7 +59,7 @@ pub fn recover<B: Board, S: Suite, A: Audit>(
 #[derive(Drop)]
 struct Room {
     shadow: Vec<Line>,
-    made: Vec<Made>,
+    made: Vec<MadeEntry>,
 }
 
 impl Room {

@@ -5,12 +5,12 @@ ghost use Rattle.pmem_base.specs.Layout.{meta_lines, shadow_lines, device_lines}
 ghost use Rattle.call_plan.specs.Following.{Follows};
 ghost use Rattle.pmem_recovery.specs.Plans.{changed_plan, entries_plan, clear_plan};
 
-use crate::entries::{Made, is_other};
+use crate::entries::{MadeEntry, is_other};
 use board::Board;
 use pmem_base::{Cut, Geo, Line};
 
 /// Writes the lines made that are other lines than the device's, in order.
-pub(crate) fn write_made<B: Board>(board: &mut B, geo: &Geo, made: &[Made]) -> Result<(), Cut>
+pub(crate) fn write_made<B: Board>(board: &mut B, geo: &Geo, made: &[MadeEntry]) -> Result<(), Cut>
     requires size { (B.device board.old).size ≡ device_lines (shape_of geo.now) }
     requires on_tree { All (λ entry. entry.at < meta_lines (shape_of geo.now)) made.now }
     ensures plan { Follows (entries_plan (shape_of geo.now) made.now) (B.device board.old) (B.device board.new) result }

@@ -1,7 +1,7 @@
 pub mod Steps
 pub mod Marks
 pub mod Table
-pub mod Called
+pub mod EngineCalls
 pub mod Commands
 pub mod Drains
 pub mod Power

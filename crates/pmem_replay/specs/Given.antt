@@ -22,7 +22,7 @@ use Rattle.watched_board.specs.declared.taken.Taken.{Taken}
 use Rattle.watched_board.specs.Watching.{AreInCount, FollowsOn, none_taken, steps_in}
 use Rattle.pmem_replay.specs.During.{parts_in}
 use Rattle.pmem_replay.specs.Planned.{plan_of_write}
-use Rattle.pmem_replay.specs.Called.{IsFaultAnswered}
+use Rattle.pmem_replay.specs.EngineCalls.{IsFaultAnswered}
 
 -- the front write is put or not, and power stays on or not; what its marks leave dirty comes after
 abbrev pub given_state : PlainState → ℕ → Posted → List Posted → ℕ → Bool → Bool → PlainState

@@ -1,7 +1,7 @@
 pub mod World
 pub mod During
 pub mod Planned
-pub mod Called
+pub mod EngineCalls
 pub mod Flagged
 pub mod Given
 pub mod Replies

@@ -52,7 +52,7 @@ use Rattle.pmem_replay.specs.declared.world.Reply as replies
 use Rattle.watched_board.specs.Watching.{none_taken, steps_in, device_during}
 use Rattle.pmem_replay.specs.During.{parts_in}
 use Rattle.pmem_replay.specs.Planned.{CallPlan, plan_of_read, plan_of_write, plan_of_turn, plan_of_flush, plan_of_loss}
-use Rattle.pmem_replay.specs.Called.{IsFaultAnswered}
+use Rattle.pmem_replay.specs.EngineCalls.{IsFaultAnswered}
 
 -- ---- what the table's answers do to the board and to the engine
 

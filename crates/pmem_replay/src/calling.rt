@@ -7,13 +7,13 @@ ghost use Rattle.seal_ledger.specs.Notes.{HasRoom};
 ghost use Rattle.seal_ledger.specs.View.{ledger_of};
 ghost use Rattle.pmem_engine.specs.Outcomes.{is_sealed_by};
 ghost use Rattle.access_log.specs.Traced.{GoesOn};
-ghost use Rattle.pmem_replay.specs.Called.{WasCalled, CanStop, IsFaultAnswered, cut_answer};
+ghost use Rattle.pmem_replay.specs.EngineCalls.{HasCalledEngine, CanStop, IsFaultAnswered, cut_answer};
 ghost use Rattle.pmem_replay.specs.Flagged.{healed};
 ghost use Rattle.pmem_replay.specs.Given.{HasMarkRoom};
 ghost use Rattle.pmem_replay.specs.World.{IsWorld, setup_of_world};
 
 use crate::World;
-use crate::calls::{self, Call, Done};
+use crate::calls::{self, Call, CallEnd};
 use crate::tampered::Tampered;
 use access_log::AccessLog;
 use pmem_base::{Answer, Exhibit, Mark, MemFault, Place};
@@ -29,12 +29,12 @@ impl<S: Counted + Drop> World<S> {
         &mut self,
         call: &C,
         log: &mut AccessLog,
-    ) -> Done<Result<C::Value, Fault>>
+    ) -> CallEnd<Result<C::Value, Fault>>
         requires shown { self.old.shown ≡ false }
         requires on { IsSome self.old.engine }
         requires can { C.can call.now self.old.shape self.old.ledger self.old.capacity }
         requires within { IfSome (C.write call.now) (λ w. w.at < data_lines self.old.shape) }
-        ensures called { WasCalled (setup_of_world S.formulas_of self.old) (C.relation call.now) (C.write call.now) self.old result.taken result.answer self.new }
+        ensures called { HasCalledEngine (setup_of_world S.formulas_of self.old) (C.relation call.now) (C.write call.now) self.old result.taken result.answer self.new }
         ensures logged { GoesOn log.old self.old.board log.new self.new.board }
     {
         let Some(engine) = &mut self.engine else {

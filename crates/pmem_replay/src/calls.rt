@@ -23,7 +23,7 @@ ghost use Rattle.watched_board.specs.Watching.{IsWatched, device_during, none_ta
 ghost use Rattle.access_log.specs.Traced.{GoesOn};
 ghost use Rattle.pmem_replay.specs.During.{WasFormatted, IsTakenApart, WasRecovered};
 ghost use Rattle.pmem_replay.specs.Planned.{ReadsLine, WritesLine, TurnsPage, FlushesBlock, SetsLoss};
-ghost use Rattle.pmem_replay.specs.Called.{IsLawfulCall, is_outcome_shown, is_outcome_cut};
+ghost use Rattle.pmem_replay.specs.EngineCalls.{IsLawfulCall, is_outcome_shown, is_outcome_cut};
 
 use access_log::{AccessLog, Entry, Logged};
 use board::{Board, MemBoard};
@@ -38,7 +38,7 @@ use watched_board::{Kept, Left, Made, Start, Taken};
 
 /// A call's answer, and the steps that it took.
 #[derive(Drop)]
-pub(crate) struct Done<T> {
+pub(crate) struct CallEnd<T> {
     pub(crate) taken: Taken,
     pub(crate) answer: T,
 }
@@ -230,7 +230,7 @@ pub(crate) fn make<C: Call, S: Suite>(
     suite: &mut S,
     ledger: &mut Ledger,
     log: &mut AccessLog,
-) -> Done<Result<C::Value, Fault>>
+) -> CallEnd<Result<C::Value, Fault>>
     requires can { C.can call.now engine.old.shape (ledger_of ledger.old) (capacity_of ledger.old) }
     requires on { (memory_of board.old).powered ≡ true }
     requires usable { IsUsable engine.old.shape engine.old (device_during (memory_of board.old) none_taken) (ledger_of ledger.old) }
@@ -250,7 +250,7 @@ pub(crate) fn make<C: Call, S: Suite>(
         ..
     } = left;
     match outcome {
-        Some(answer) => Done { taken, answer },
+        Some(answer) => CallEnd { taken, answer },
         None => unreachable!(),
     }
 }
@@ -388,7 +388,7 @@ pub(crate) fn recover<S: Suite>(
     ledger: &Ledger,
     engine: &mut Option<Engine>,
     log: &mut AccessLog,
-) -> Done<Result<Work, RecFault>>
+) -> CallEnd<Result<Work, RecFault>>
     requires size { length (memory_of board.old).lines ≡ device_lines (shape_of geo.now) }
     requires on { (memory_of board.old).powered ≡ true }
     requires regs { IsValidRegs (shape_of geo.now) (memory_of board.old).regs }
@@ -407,7 +407,7 @@ pub(crate) fn recover<S: Suite>(
         taken,
         answer,
     } = left;
-    Done { taken, answer }
+    CallEnd { taken, answer }
 }
 
 fn recover_logged<'a, K: Start + Entry, S: Suite>(

@@ -6,7 +6,7 @@ ghost use Rattle.seal_ledger.specs.Notes.{HasRoom};
 ghost use Rattle.plain_model.specs.After.{steps_of};
 ghost use Rattle.pmem_engine.specs.Outcomes.{is_sealed_by};
 ghost use Rattle.access_log.specs.Traced.{GoesOn};
-ghost use Rattle.pmem_replay.specs.Called.{IsWriteTaken};
+ghost use Rattle.pmem_replay.specs.EngineCalls.{IsWriteTaken};
 ghost use Rattle.pmem_replay.specs.Given.{HasWriteGiven, CanEndFence};
 ghost use Rattle.pmem_replay.specs.Replies.{with_marks_since};
 ghost use Rattle.pmem_replay.specs.Stepped.{HasStepped, CanWantMemory, EndsFence};

@@ -10,7 +10,7 @@ ghost use Rattle.access_log.specs.Traced.{GoesOn};
 ghost use Rattle.pmem_replay.specs.World.{setup_of_world};
 ghost use Rattle.pmem_replay.specs.Replies.{without_marks, with_marks_since};
 ghost use Rattle.pmem_replay.specs.Stepped.{HasStepped, CanWantMemory};
-ghost use Rattle.pmem_replay.specs.Called.{IsOverlayOf, IsCleanIn, IsCleanAt};
+ghost use Rattle.pmem_replay.specs.EngineCalls.{IsOverlayOf, IsCleanIn, IsCleanAt};
 
 use crate::World;
 use crate::calls::{FlushBlock, ReadLine, SetLoss, TurnPage};

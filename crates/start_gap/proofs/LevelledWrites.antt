@@ -29,7 +29,7 @@ use Rattle.start_gap.specs.Logical.{move_edits, MoveStage, begun, written, copie
 use Rattle.start_gap.specs.Gapped.{HasWriteGoneOn, HasLevelledWrite, HasCounted, HasTriedMove, IsWriteEnd, IsLeftLevelled, write_answer_by}
 use Rattle.start_gap.proofs.Places.{places, source-within}
 use Rattle.start_gap.proofs.Records.{wear_record-IsLine}
-use Rattle.start_gap.proofs.Levelled.{safe_at_each_stage}
+use Rattle.start_gap.proofs.LevelledMemory.{safe_at_each_stage}
 
 -- ---- a move
 

@@ -1,6 +1,6 @@
 pub mod Records
 pub mod Places
-pub mod Levelled
+pub mod LevelledMemory
 pub mod LevelledCalls
 pub mod LevelledWrites
 pub mod LevelledEnds

@@ -25,7 +25,7 @@ use Rattle.tree_session.specs.World.{TreeParts, plain_of_parts}
 use Rattle.tree_session.specs.Answered.{IsRooted, IsNodeRefusal, IsNodeExhibit, IsPlainKept}
 use Rattle.tree_session.proofs.BoardSteps.{taken-exact}
 use Rattle.tree_session.proofs.PlainStates.{plain-kept}
-use Rattle.tree_session.proofs.Held.{TreeEngineCall, on, from, to, trusted_from, rooted_open}
+use Rattle.tree_session.proofs.Worlds.{TreeEngineCall, on, from, to, trusted_from, rooted_open}
 use Rattle.tree_session.proofs.Refusals.{rooted_with, node-refused, node-shown}
 
 -- so many write-backs are all of its steps

@@ -14,8 +14,8 @@ use Rattle.asit_shadow.specs.Formatting.{HasTreeFormatted}
 use Rattle.asit_shadow.specs.Recovering.{rest_of}
 use Rattle.tree_session.specs.State.{IsNewTree}
 use Rattle.tree_session.specs.World.{TreeParts, state_of, IsTreeWorld}
-use Rattle.tree_session.proofs.News.{new_held, new_is}
-use Rattle.tree_session.proofs.Seen.{setup_under}
+use Rattle.tree_session.proofs.NewWorlds.{new_held, new_is}
+use Rattle.tree_session.proofs.AnswerClauses.{setup_under}
 
 pub record NewTreeCall : Type 0 where
   pub formulas_of : List ℕ → Formulas

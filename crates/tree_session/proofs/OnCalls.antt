@@ -23,7 +23,7 @@ use Rattle.tree_session.specs.State.{SessionState, tree_setup_in}
 use Rattle.tree_session.specs.World.{TreeParts, state_of, IsTreeWorld}
 use Rattle.tree_session.specs.Answered.{IsTreeAnswered, IsTreeMemoryWanted, IsTreeHalt}
 use Rattle.tree_session.proofs.Recoveries.{TreeRecoveryCall, rest_from, rest_to, left_with, resting, recovered_held, recovered_done, cut_held, cut_done, refused_held, refused_done, memory_held, memory_wanted, clash_held, clash_done, clash_minors}
-use Rattle.tree_session.proofs.Seen.{setup_under, seen_from, held_under, halts}
+use Rattle.tree_session.proofs.AnswerClauses.{setup_under, seen_from, held_under, halts}
 
 pub record OnTreeCall : Type 0 where
   pub formulas_of : List ℕ → Formulas

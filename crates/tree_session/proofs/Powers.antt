@@ -7,7 +7,7 @@ use Rattle.commit_regs.specs.Groups.{redone}
 use Rattle.asit_shadow.specs.State.{TreeState}
 use Rattle.asit_shadow.proofs.PlaceLaws.{powered_off-place}
 use Rattle.tree_session.specs.World.{TreeParts, IsTreeBy, IsTreeWorld}
-use Rattle.tree_session.proofs.Held.{opened, open_in, on_in, off_in, usable_on, usable_off}
+use Rattle.tree_session.proofs.Worlds.{opened, open_in, on_in, off_in, usable_on, usable_off}
 
 module _ (setup : Setup) (p : TreeParts) (world : IsTreeWorld setup p) (none : p.watch.exhibit ≡ None) where
   -- with another fuse and snapshot

@@ -29,7 +29,7 @@ use Rattle.tree_session.specs.World.{TreeParts, plain_of_parts, state_of, IsTree
 use Rattle.tree_session.specs.Answered.{IsTreeAnswered, IsRooted, IsEngineShown, IsBoardSpilled, SaysOfRead, AnswersWith, tree_decided, IsDataAccepted, IsDataRefusal, IsDataExhibit, IsNodeExhibit, IsNodeRefusal}
 use Rattle.tree_session.proofs.BoardSteps.{goes_on, cut_off, then_rests}
 use Rattle.tree_session.proofs.PlainStates.{plain_is}
-use Rattle.tree_session.proofs.Held.{TreeEngineCall, from, to, left, left_resting, trusted_from, powered_from, seals_kept, rooted_still, cut_rooted_still, ended_after}
+use Rattle.tree_session.proofs.Worlds.{TreeEngineCall, from, to, left, left_resting, trusted_from, powered_from, seals_kept, rooted_still, cut_rooted_still, ended_after}
 use Rattle.tree_session.proofs.EngineCalls.{backs, backs-cut, undecided_line, kept_plain, rooted_shown, refused_node, shown_node, forged-minors}
 use Rattle.tree_session.proofs.Spills.{board_spilled}
 use Rattle.tree_session.proofs.Refusals.{data-accepted, data-refused, data-shown}

@@ -38,7 +38,7 @@ use Rattle.tree_session.specs.World.{TreeParts, plain_of_parts, state_of, IsTree
 use Rattle.tree_session.specs.Answered.{IsTreeAnswered, IsRooted, IsEngineShown, IsTreeMemoryWanted, SaysOfOn, HasTrueSlots, AnswersWith, IsSlotTampered, IsShadowRefusal, IsShadowExhibit, IsGroupDone, group_steps, board_redone, tree_recovery_bound}
 use Rattle.tree_session.proofs.BoardSteps.{goes_on, cut_off, from_dark, cut_from_dark, then_rests, taken-exact, untouched}
 use Rattle.tree_session.proofs.PlainStates.{plain_is, plain-kept, true_slots-is}
-use Rattle.tree_session.proofs.Held.{IsFrame, opened, ended, open_in, off_in, usable_on, usable_off, rooted_on, rooted_off, rooted_open}
+use Rattle.tree_session.proofs.Worlds.{IsFrame, opened, ended, open_in, off_in, usable_on, usable_off, rooted_on, rooted_off, rooted_open}
 
 -- a flag that is set below n, or none
 some_flag : (flag : ℕ → Bool) (n : ℕ) → ((i : ℕ) → i < n → flag i ≡ false) ⊎ ((i : ℕ) × (i < n) × (flag i ≡ true))

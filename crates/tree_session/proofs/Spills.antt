@@ -33,7 +33,7 @@ use Rattle.tree_session.specs.World.{TreeParts, plain_of_parts}
 use Rattle.tree_session.specs.Answered.{AreLinesSpilled, IsBoardSpilled, IsBoardWritten, put_by_write, board_redone}
 use Rattle.tree_session.proofs.BoardSteps.{taken-exact}
 use Rattle.tree_session.proofs.PlainStates.{plain_is, node-is}
-use Rattle.tree_session.proofs.Held.{TreeEngineCall, from, to, trusted_from}
+use Rattle.tree_session.proofs.Worlds.{TreeEngineCall, from, to, trusted_from}
 use Rattle.tree_session.proofs.Refusals.{cipher-here}
 
 -- ---- lines that are put, of which something holds

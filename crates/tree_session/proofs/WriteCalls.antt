@@ -18,9 +18,9 @@ use Rattle.tree_session.specs.declared.answers.TreeAnswer.TheVariants as Say
 use Rattle.tree_session.specs.State.{tree_setup_in}
 use Rattle.tree_session.specs.World.{TreeParts, state_of, IsTreeWorld}
 use Rattle.tree_session.specs.Answered.{IsTreeAnswered, IsTreeHalt}
-use Rattle.tree_session.proofs.Held.{left, left_resting, from, to, trusted_from, held_still, cut_still}
+use Rattle.tree_session.proofs.Worlds.{left, left_resting, from, to, trusted_from, held_still, cut_still}
 use Rattle.tree_session.proofs.WriteLaws.{written_held, written_done, is_lost, lost_done, kept_held, kept_done, unwritten_done, spent_done, unwritten_shown_held, unwritten_shown_done, unwritten_shown_minors}
-use Rattle.tree_session.proofs.Seen.{WorldCall, call, setup_of, setup_under, as_written, seen, held, halts, some_of}
+use Rattle.tree_session.proofs.AnswerClauses.{WorldCall, call, setup_of, setup_under, as_written, seen, held, halts, some_of}
 
 pub record WriteTreeCall : Type 0 where
   pub world : WorldCall

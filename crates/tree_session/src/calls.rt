@@ -27,7 +27,7 @@ use watched_board::{Kept, Left, Made, Start, Taken};
 
 /// A call's answer, and the steps that it took.
 #[derive(Drop)]
-pub(crate) struct Done<T> {
+pub(crate) struct CallEnd<T> {
     pub(crate) taken: Taken,
     pub(crate) answer: T,
 }
@@ -40,7 +40,7 @@ pub(crate) fn read<S: Suite, W: Watch>(
     watch: &mut W,
     at: u32,
     log: &mut AccessLog,
-) -> Done<Result<Line, TreeFault>>
+) -> CallEnd<Result<Line, TreeFault>>
     requires line { at < tree_lines engine.old.shape }
     requires on { (memory_of board.old).powered ≡ true }
     requires usable { IsTreeUsable engine.old.shape (tree_parts_of engine.old (device_during (memory_of board.old) none_taken) (W.watched watch.old)) }
@@ -59,7 +59,7 @@ pub(crate) fn read<S: Suite, W: Watch>(
         taken,
         answer,
     } = left;
-    Done { taken, answer }
+    CallEnd { taken, answer }
 }
 
 fn read_logged<'a, K: Start + Entry, S: Suite, W: Watch>(
@@ -100,7 +100,7 @@ pub(crate) fn write<S: Suite, W: Watch>(
     at: u32,
     line: &Line,
     log: &mut AccessLog,
-) -> Done<Result<u64, TreeFault>>
+) -> CallEnd<Result<u64, TreeFault>>
     requires line { at < tree_lines engine.old.shape }
     requires on { (memory_of board.old).powered ≡ true }
     requires usable { IsTreeUsable engine.old.shape (tree_parts_of engine.old (device_during (memory_of board.old) none_taken) (W.watched watch.old)) }
@@ -119,7 +119,7 @@ pub(crate) fn write<S: Suite, W: Watch>(
         taken,
         answer,
     } = left;
-    Done { taken, answer }
+    CallEnd { taken, answer }
 }
 
 fn write_logged<'a, K: Start + Entry, S: Suite, W: Watch>(
@@ -160,7 +160,7 @@ pub(crate) fn recover<S: Suite, W: Watch>(
     suite: &mut S,
     watch: &mut W,
     log: &mut AccessLog,
-) -> Done<Result<(TreeEngine, Work), TreeRec>>
+) -> CallEnd<Result<(TreeEngine, Work), TreeRec>>
     requires on { (memory_of board.old).powered ≡ true }
     requires usable { IsRestUsable (shape_of geo.now) (rest_of (device_during (memory_of board.old) none_taken) (W.watched watch.old)) }
     ensures recovered { HasTreeRecovered (record { shape = shape_of geo.now; formulas = S.formulas_of (S.keys suite.old) })
@@ -180,7 +180,7 @@ pub(crate) fn recover<S: Suite, W: Watch>(
         taken,
         answer,
     } = left;
-    Done { taken, answer }
+    CallEnd { taken, answer }
 }
 
 fn recover_logged<'a, K: Start + Entry, S: Suite, W: Watch>(

@@ -6,7 +6,7 @@ ghost use Rattle.tree_session.specs.State.{tree_setup_in};
 ghost use Rattle.tree_session.specs.Answered.{IsTreeAnswered, IsTreeHalt};
 
 use crate::answers::TreeAnswer;
-use crate::calls::{self, Done};
+use crate::calls::{self, CallEnd};
 use crate::world::TreeWorld;
 use access_log::AccessLog;
 use asit_shadow::TreeRec;
@@ -56,7 +56,7 @@ impl<S: Suite + Drop> TreeWorld<S> {
             &mut self.watch,
             log,
         );
-        let Done { taken, answer } = done;
+        let CallEnd { taken, answer } = done;
         let steps = taken.steps();
         match answer {
             Ok(made) => {

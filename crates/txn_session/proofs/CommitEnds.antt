@@ -23,8 +23,8 @@ use Rattle.pmem_engine.specs.Calls.{whole_write}
 use Rattle.engine_lines.specs.declared.edits.Edit.{Edit}
 use Rattle.engine_lines.specs.declared.edits.Edit.TheVariants as Make
 use Rattle.line_txn.specs.declared.store.Store.{Store}
-use Rattle.line_txn.specs.declared.store.Done.{Done}
-use Rattle.line_txn.specs.declared.store.Done.TheVariants as Do
+use Rattle.line_txn.specs.declared.store.Committed.{Committed}
+use Rattle.line_txn.specs.declared.store.Committed.TheVariants as Do
 use Rattle.line_txn.specs.declared.store.CommitFault.{CommitFault}
 use Rattle.line_txn.specs.Header.{AreDistinctBelow, header_of}
 use Rattle.line_txn.specs.Logged.{targets_of, bodies_of}
@@ -42,7 +42,7 @@ use Rattle.txn_session.proofs.WriteLists.{deciding_writes, applying_writes, post
 
 -- ---- with lines
 
-decided_calls : (setup : Setup) (txn : Entries) (old new : Store) (from to : Parts) (answer : Result Done CommitFault) → (txn ≡ [] → ⊥)
+decided_calls : (setup : Setup) (txn : Entries) (old new : Store) (from to : Parts) (answer : Result Committed CommitFault) → (txn ≡ [] → ⊥)
     → HasStoreCommitted setup txn old new from to answer → HasDecided setup txn old new from to answer
 decided_calls setup [] old new from to answer some it = absurd (some refl)
 decided_calls setup (entry ∷ txn) old new from to answer some it = it
@@ -83,18 +83,18 @@ FailsTxnAt setup from queue count most Fail.Cut true to = IsCutAt setup from que
 FailsTxnAt setup from queue count most Fail.Cut false to = IsCutAt setup from queue 0 (2 * count + 2) most to
 FailsTxnAt setup from queue count most fault committed to = ⊥
 
-abbrev pub CommitEndsAt : Setup → Parts → List Posted → ℕ → ℕ → Result Done CommitFault → Parts → Type 0
+abbrev pub CommitEndsAt : Setup → Parts → List Posted → ℕ → ℕ → Result Committed CommitFault → Parts → Type 0
 CommitEndsAt setup from queue count most (Ok Do.Applied) to = AreGone setup from queue (2 * count + 2) most to
 CommitEndsAt setup from queue count most (Ok (Do.Stuck page)) to = IsSpentAt setup from queue (count + 1) (2 * count + 2) page most to
 CommitEndsAt setup from queue count most (Err fault) to = FailsTxnAt setup from queue count most fault.fault fault.committed to
 
 -- what the store serves then; nothing is said where power is cut once the header is written
-abbrev pub CommitServes : Entries → Store → Store → Result Done CommitFault → Type 0
+abbrev pub CommitServes : Entries → Store → Store → Result Committed CommitFault → Type 0
 CommitServes txn old new (Ok Do.Applied) = IsServedAs old.logged.items old.stuck old new
 CommitServes txn old new (Ok (Do.Stuck page)) = IsServedAs (targets_of txn) (Some page) old new
 CommitServes txn old new (Err fault) = IsServedAs old.logged.items old.stuck old new
 
-pub commit_serves : (setup : Setup) (txn : Entries) (old new : Store) (from to : Parts) (answer : Result Done CommitFault) → (txn ≡ [] → ⊥)
+pub commit_serves : (setup : Setup) (txn : Entries) (old new : Store) (from to : Parts) (answer : Result Committed CommitFault) → (txn ≡ [] → ⊥)
     → HasStoreCommitted setup txn old new from to answer → CommitServes txn old new answer
 commit_serves setup txn old new from to answer some it = go its.made its.then
   where
@@ -199,7 +199,7 @@ module _ (setup : Setup) (n : ℕ) (txn : Entries) (some : txn ≡ [] → ⊥) (
       go Fail.Cut it = it
       go fault it = absurd it
 
-  pub commit_ends_at : (old new : Store) (to : Parts) (answer : Result Done CommitFault) → old.lines ≡ n
+  pub commit_ends_at : (old new : Store) (to : Parts) (answer : Result Committed CommitFault) → old.lines ≡ n
       → HasStoreCommitted setup txn old new from to answer → CommitEndsAt setup from queue count most answer to
   commit_ends_at old new to answer same it = go its.made its.was_made its.then
     where

@@ -15,7 +15,7 @@ use Rattle.plain_model.specs.View.{plain_memory}
 use Rattle.plain_model.specs.Asked.{moment_after_writes}
 use Rattle.pmem_engine.specs.Parts.{Parts, parts_of}
 use Rattle.line_txn.specs.declared.store.Store.{Store}
-use Rattle.line_txn.specs.declared.store.Done.{Done}
+use Rattle.line_txn.specs.declared.store.Committed.{Committed}
 use Rattle.line_txn.specs.declared.store.CommitFault.{CommitFault}
 use Rattle.line_txn.specs.Header.{AreTargets}
 use Rattle.line_txn.specs.Logged.{IsLogged, commit_lines_at, targets_at, commit_memory_at, targets_of}
@@ -98,7 +98,7 @@ pub record CommitCall : Type 0 where
   pub digests_new : ℕ
   pub said : ℕ
   pub counted : said ≡ steps_in taken
-  pub answer : Result Done CommitFault
+  pub answer : Result Committed CommitFault
   pub was_committed :
       HasStoreCommitted (setup_under formulas_of store.engine.shape before.keys) entries store after
       (parts_of store.engine (device_during before.board none_taken) ledger_before tags digests)
@@ -183,12 +183,12 @@ module _ (c : CommitCall) where
   committed_as =
       subst (λ s. HasStoreCommitted (setup_under c.formulas_of s c.before.keys) c.entries c.store c.after from to c.answer) on.its_shape c.was_committed
 
-  pub ends : (answer : Result Done CommitFault) → c.answer ≡ answer → CommitEndsAt setup from queue count most answer to
+  pub ends : (answer : Result Committed CommitFault) → c.answer ≡ answer → CommitEndsAt setup from queue count most answer to
   ends answer is =
       subst (λ r. CommitEndsAt setup from queue count most r to) is
       (commit_ends_at setup n c.entries c.some from on.sound on.powered size targets.below c.whole c.store c.after to c.answer refl committed_as)
 
-  pub serves : (answer : Result Done CommitFault) → c.answer ≡ answer → CommitServes c.entries c.store c.after answer
+  pub serves : (answer : Result Committed CommitFault) → c.answer ≡ answer → CommitServes c.entries c.store c.after answer
   serves answer is =
       subst (CommitServes c.entries c.store c.after) is (commit_serves setup c.entries c.store c.after from to c.answer c.some committed_as)
 

@@ -35,7 +35,7 @@ use Rattle.txn_session.specs.State.{TxnState, Entries, txn_setup_in, entry_in}
 use Rattle.txn_session.specs.World.{TxnParts, IsTxnWorld, IsStoreOn, stuck_in, targets_in_force, redone_memory, txn_of}
 use Rattle.txn_session.specs.Answered.{IsTxnAnswered}
 use Rattle.txn_session.proofs.Worlds.{IsOpenTxn, goes_to, cut_off, on_in, lines_are, on_after, off_after}
-use Rattle.txn_session.proofs.Seen.{read_undecided, served, seen_from, held_under}
+use Rattle.txn_session.proofs.AnswerClauses.{read_undecided, served, seen_from, held_under}
 
 -- the session's parts as the read finds them, what it leaves and answers
 pub record ReadTxnCall : Type 0 where

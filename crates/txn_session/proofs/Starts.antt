@@ -19,7 +19,7 @@ use Rattle.line_session.specs.declared.starts.StartFault.{StartFault}
 use Rattle.line_session.specs.During.{HasStartedBy}
 use Rattle.txn_session.specs.State.{TxnState}
 use Rattle.txn_session.specs.World.{TxnParts, IsTxnWorld, txn_of}
-use Rattle.txn_session.specs.Called.{HasOpened}
+use Rattle.txn_session.specs.StoreCalls.{HasOpened}
 use Rattle.txn_session.specs.Answered.{most_of_redo}
 
 pub few_of_on : (g : Shape) → IsShape g → (count : ℕ) → count ≤ 15 → recovery_bound g + read_steps g + most_of_redo g count ≤ step_limit

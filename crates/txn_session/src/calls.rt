@@ -3,12 +3,12 @@ ghost use Rattle.std.specs.Prelude.{◌≡◌, ◌<◌, None};
 ghost use Rattle.seal_ledger.specs.Notes.{HasRoom};
 ghost use Rattle.line_txn.specs.Header.{AreDistinctBelow};
 ghost use Rattle.line_txn.specs.Logged.{targets_of};
-ghost use Rattle.txn_session.specs.Called.{HasReadAt, HasCommitted, HasOpened};
+ghost use Rattle.txn_session.specs.StoreCalls.{HasReadAt, HasCommitted, HasOpened};
 
 use arrayvec::ArrayVec;
 use board::Board;
 use line_session::{StoreCall, StoreOpening};
-use line_txn::{CommitFault, Done, Opened, Store, TxnFault};
+use line_txn::{CommitFault, Committed, Opened, Store, TxnFault};
 use pmem_base::Line;
 use pmem_engine::{Engine, Fault};
 use seal_ledger::Ledger;
@@ -53,7 +53,7 @@ pub(crate) struct CommitTxn<'a> {
 impl<'a> StoreCall for CommitTxn<'a> {
     type Store = Store;
 
-    type Value = Done;
+    type Value = Committed;
 
     type Fault = CommitFault;
 
@@ -69,7 +69,7 @@ impl<'a> StoreCall for CommitTxn<'a> {
         board: &mut B,
         suite: &mut S,
         ledger: &mut Ledger,
-    ) -> Result<Done, CommitFault> {
+    ) -> Result<Committed, CommitFault> {
         store.commit(board, suite, ledger, self.txn)
     }
 }

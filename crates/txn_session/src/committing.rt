@@ -12,7 +12,7 @@ use crate::world::TxnWorld;
 use access_log::AccessLog;
 use arrayvec::ArrayVec;
 use line_session::{call, has_own_seal};
-use line_txn::{CommitFault, Done};
+use line_txn::{CommitFault, Committed};
 use pmem_base::{Line, MemFault};
 use pmem_engine::Fault;
 use seal_ledger::Audit;
@@ -138,8 +138,8 @@ impl<S: Suite + Drop> TxnWorld<S> {
         self.txn = None;
         let steps = done.taken.steps();
         match done.answer {
-            Ok(Done::Applied) => Ok(TxnAnswer::Applied { steps }),
-            Ok(Done::Stuck { page }) => Ok(TxnAnswer::Stuck { page, steps }),
+            Ok(Committed::Applied) => Ok(TxnAnswer::Applied { steps }),
+            Ok(Committed::Stuck { page }) => Ok(TxnAnswer::Stuck { page, steps }),
             Err(CommitFault { fault, committed }) => match fault {
                 Fault::Spent { page } => Ok(TxnAnswer::Spent { page, steps }),
                 Fault::Cut => {

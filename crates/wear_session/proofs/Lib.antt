@@ -1,12 +1,12 @@
 pub mod Starts
 pub mod Worlds
 pub mod ReadLaws
-pub mod Seen
+pub mod AnswerClauses
 pub mod Levels
 pub mod WriteEnds
 pub mod WriteLaws
-pub mod Written
+pub mod WriteExits
 pub mod Turns
 pub mod Sessions
-pub mod Opened
+pub mod OpeningExits
 pub mod NewLaws

@@ -35,7 +35,7 @@ use Rattle.start_gap.specs.Wear.{first_wear}
 use Rattle.start_gap.specs.Record.{recorded}
 use Rattle.start_gap.specs.Logical.{IsLevelled}
 use Rattle.start_gap.specs.Gapped.{HasGappedOpened, HasReadRecord, logical_lines}
-use Rattle.start_gap.proofs.Levelled.{zero_levelled}
+use Rattle.start_gap.proofs.LevelledMemory.{zero_levelled}
 use Rattle.engine_lines.proofs.EngineLines.{least_lines}
 use Rattle.line_session.proofs.NewDevices.{none_to_write, few_data}
 use Rattle.wear_session.specs.State.{IsNewWear}

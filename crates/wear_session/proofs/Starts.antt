@@ -15,7 +15,7 @@ use Rattle.line_session.specs.declared.starts.StartFault.{StartFault}
 use Rattle.line_session.specs.During.{HasStartedBy}
 use Rattle.wear_session.specs.State.{WearState}
 use Rattle.wear_session.specs.World.{WearParts, IsWearWorld, wear_of}
-use Rattle.wear_session.specs.Called.{HasLinesOpened}
+use Rattle.wear_session.specs.StoreCalls.{HasLinesOpened}
 use Rattle.engine_lines.specs.Writes.{read_steps}
 use Rattle.engine_lines.proofs.EngineLines.{setup_under}
 

@@ -18,7 +18,7 @@ use Rattle.start_gap.specs.declared.wear.Wear.{Wear}
 use Rattle.start_gap.specs.Wear.{place_of, next_wear}
 use Rattle.start_gap.specs.Logical.{IsLevelled, move_edits, MoveStage, begun, written, copied, moved, write_lines_at, write_memory_at, wear_at}
 use Rattle.start_gap.specs.Gapped.{logical_lines}
-use Rattle.start_gap.proofs.Levelled.{safe_at_each_stage}
+use Rattle.start_gap.proofs.LevelledMemory.{safe_at_each_stage}
 use Rattle.start_gap.proofs.LevelledWrites.{move_fits}
 use Rattle.start_gap.proofs.Places.{places}
 use Rattle.wear_session.specs.State.{WearState, wear_lines_in, is_due, with_writes}

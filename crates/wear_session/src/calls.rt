@@ -1,7 +1,7 @@
 //! The calls of levelled lines that a session makes, and their opening.
 ghost use Rattle.std.specs.Prelude.{◌≤◌, ◌<◌};
 ghost use Rattle.seal_ledger.specs.Notes.{HasRoom};
-ghost use Rattle.wear_session.specs.Called.{HasReadAt, HasWrittenAt, HasLinesOpened};
+ghost use Rattle.wear_session.specs.StoreCalls.{HasReadAt, HasWrittenAt, HasLinesOpened};
 
 use board::Board;
 use line_session::{StoreCall, StoreOpening};

@@ -17,7 +17,7 @@ use Rattle.pmem_replay.specs.World.{WorldState, IsOn}
 use Rattle.watched_board.specs.declared.taken.Taken.{Taken}
 use Rattle.watched_board.specs.Watching.{none_taken, steps_in}
 use Rattle.pmem_replay.specs.During.{parts_in}
-use Rattle.pmem_replay.specs.Called.{IsCall}
+use Rattle.pmem_replay.specs.EngineCalls.{IsCall}
 use Rattle.pmem_replay.proofs.Steps.WorldsAfterCalls.{on_in, cut_at_fuse, within_fuse}
 use Rattle.pmem_replay.proofs.Steps.MarklessCalls.{exactly}
 use Rattle.pmem_replay.proofs.Steps.FaultCauses.{zero_within}

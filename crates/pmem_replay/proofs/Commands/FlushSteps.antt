@@ -18,14 +18,14 @@ use Rattle.pmem_engine.specs.Calls.{HasFlushed, AnswersFlush}
 use Rattle.watched_board.specs.Watching.{none_taken, steps_in}
 use Rattle.pmem_replay.specs.During.{parts_in}
 use Rattle.pmem_replay.specs.Planned.{FlushesBlock, plan_of_flush}
-use Rattle.pmem_replay.specs.Called.{called_state, IsFaultAnswered, IsCleanIn, IsCleanAt}
+use Rattle.pmem_replay.specs.EngineCalls.{called_state, IsFaultAnswered, IsCleanIn, IsCleanAt}
 use Rattle.pmem_replay.specs.Replies.{without_marks}
 use Rattle.pmem_replay.specs.Stepped.{HasStepped, IsFlushAnswer}
-use Rattle.pmem_replay.proofs.Called.Noted.{clean_noted, flushed_noted}
+use Rattle.pmem_replay.proofs.EngineCalls.NotedWorlds.{clean_noted, flushed_noted}
 use Rattle.pmem_replay.proofs.Commands.FlushLaws as laws
 use Rattle.pmem_replay.proofs.Steps.DeviceEvidence.{small_position}
 use Rattle.pmem_replay.proofs.Table.UnchangedSteps.{lit_in}
-use Rattle.pmem_replay.proofs.Called.CommandSteps.{Serving, old_of, on_of, few_of, done_as, state_is, stepped_call, ends_as}
+use Rattle.pmem_replay.proofs.EngineCalls.CommandSteps.{Serving, old_of, on_of, few_of, done_as, state_is, stepped_call, ends_as}
 
 module _ (answer : Result (Option ℕ) Fault) (s : Serving FlushesBlock None answer) where
   done : OneLossEffect s.setup (outcome_of answer) [] (parts_in (old_of s) s.called.engine none_taken) (parts_in s.new s.called.after s.taken)

@@ -18,7 +18,7 @@ use Rattle.watched_board.specs.declared.taken.Taken.{Taken}
 use Rattle.watched_board.specs.Watching.{none_taken, device_during, steps_in}
 use Rattle.watched_board.proofs.StepLaws.{fewer}
 use Rattle.pmem_replay.specs.During.{parts_in}
-use Rattle.pmem_replay.specs.Called.{IsCall}
+use Rattle.pmem_replay.specs.EngineCalls.{IsCall}
 use Rattle.pmem_replay.proofs.Steps.WorldsAfterCalls.{on_in, cut_at_fuse, within_fuse}
 use Rattle.pmem_replay.proofs.Marks.DirtyBlocks.{dirty_blocks-le, dirty_slots-le}
 use Rattle.pmem_replay.proofs.Steps.MarklessCalls.{exactly, accounted_in}

@@ -14,12 +14,12 @@ use Rattle.pmem_engine.specs.Calls.{HasSetLoss, AnswersLoss}
 use Rattle.watched_board.specs.Watching.{none_taken, steps_in}
 use Rattle.pmem_replay.specs.During.{parts_in}
 use Rattle.pmem_replay.specs.Planned.{SetsLoss, plan_of_loss}
-use Rattle.pmem_replay.specs.Called.{IsFaultAnswered}
+use Rattle.pmem_replay.specs.EngineCalls.{IsFaultAnswered}
 use Rattle.pmem_replay.specs.Replies.{without_marks}
 use Rattle.pmem_replay.specs.Stepped.{HasStepped, IsLossAnswer}
 use Rattle.pmem_replay.proofs.Commands.LossLaws as laws
 use Rattle.pmem_replay.proofs.Table.UnchangedSteps.{lit_in}
-use Rattle.pmem_replay.proofs.Called.CommandSteps.{Serving, old_of, on_of, few_of, ends_as}
+use Rattle.pmem_replay.proofs.EngineCalls.CommandSteps.{Serving, old_of, on_of, few_of, ends_as}
 
 module _ (n : ℕ) (answer : Result ℕ Fault) (s : Serving (SetsLoss n) None answer) (some : IsTrue (is_loss n)) (other : n ≢ s.first.state.loss) where
   effect : CallEffect s.setup (outcome_of answer) [] (parts_in (old_of s) s.called.engine none_taken) (parts_in s.new s.called.after s.taken)

@@ -25,7 +25,7 @@ use Rattle.pmem_engine.specs.Calls.{HasReadLine}
 use Rattle.watched_board.specs.Watching.{none_taken, steps_in}
 use Rattle.pmem_replay.specs.During.{parts_in}
 use Rattle.pmem_replay.specs.Planned.{ReadsLine, plan_of_read}
-use Rattle.pmem_replay.specs.Called.{is_outcome_shown, is_outcome_cut, called_state, IsFaultAnswered}
+use Rattle.pmem_replay.specs.EngineCalls.{is_outcome_shown, is_outcome_cut, called_state, IsFaultAnswered}
 use Rattle.pmem_replay.specs.Replies.{without_marks}
 use Rattle.pmem_replay.specs.Stepped.{HasStepped, IsReadAnswer, IsSeenOnDevice, IsTagWrong, IsExhibitSeen}
 use Rattle.pmem_replay.proofs.Steps.FaultCauses.{on_path-within}
@@ -34,7 +34,7 @@ use Rattle.pmem_replay.proofs.Steps.DeviceEvidence.{meta_wrong, tag_wrong, small
 use Rattle.pmem_replay.proofs.Marks.SealedLines.{same_truth}
 use Rattle.pmem_replay.proofs.Commands.ReadLaws as laws
 use Rattle.pmem_replay.proofs.Table.UnchangedSteps.{lit_in}
-use Rattle.pmem_replay.proofs.Called.CommandSteps.{Serving, old_of, on_of, few_of, ends_as}
+use Rattle.pmem_replay.proofs.EngineCalls.CommandSteps.{Serving, old_of, on_of, few_of, ends_as}
 
 module _ (port at : ℕ) (answer : Result Line Fault) (s : Serving (ReadsLine at) None answer) (within : at < layout.data_lines s.setup.shape)
     (uncovered : is_covered s.first.state port at ≡ false) where

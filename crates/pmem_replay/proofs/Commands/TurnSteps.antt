@@ -19,7 +19,7 @@ use Rattle.pmem_engine.specs.Calls.{HasTurned, AreMarksOfTurn, moment_in}
 use Rattle.watched_board.specs.Watching.{none_taken, steps_in}
 use Rattle.pmem_replay.specs.During.{parts_in}
 use Rattle.pmem_replay.specs.Planned.{TurnsPage, plan_of_turn}
-use Rattle.pmem_replay.specs.Called.{is_outcome_shown, is_outcome_cut, called_state, IsFaultAnswered}
+use Rattle.pmem_replay.specs.EngineCalls.{is_outcome_shown, is_outcome_cut, called_state, IsFaultAnswered}
 use Rattle.pmem_replay.specs.World.{view_in}
 use Rattle.pmem_replay.specs.Stepped.{HasStepped, IsTurnAnswer, IsSeenOnDevice, IsExhibitSeen}
 use Rattle.pmem_replay.proofs.Steps.GoodReplies.{IsGood}
@@ -28,7 +28,7 @@ use Rattle.pmem_replay.proofs.Commands.FlushLaws.{left_alone-steps}
 use Rattle.pmem_replay.proofs.Commands.TurnLaws as laws
 use Rattle.pmem_replay.proofs.Steps.DeviceEvidence.{tag_wrong, small_line, forged_sight}
 use Rattle.pmem_replay.proofs.Table.UnchangedSteps.{lit_in}
-use Rattle.pmem_replay.proofs.Called.CommandSteps.{Serving, old_of, on_of, few_of, ends_as}
+use Rattle.pmem_replay.proofs.EngineCalls.CommandSteps.{Serving, old_of, on_of, few_of, ends_as}
 
 module _ (answer : Result (Option (ℕ × ℕ)) Fault) (s : Serving TurnsPage None answer) where
   abbrev turn : HasTurned s.setup (parts_in (old_of s) s.called.engine none_taken) (parts_in s.new s.called.after s.taken) answer

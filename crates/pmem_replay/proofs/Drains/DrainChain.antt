@@ -30,7 +30,7 @@ use Rattle.watched_board.specs.declared.taken.Taken.{Taken}
 use Rattle.watched_board.specs.Watching.{none_taken, steps_in}
 use Rattle.watched_board.proofs.StepLaws.{at_most, unburnt}
 use Rattle.pmem_replay.specs.During.{parts_in}
-use Rattle.pmem_replay.specs.Called.{IsCall}
+use Rattle.pmem_replay.specs.EngineCalls.{IsCall}
 use Rattle.pmem_replay.proofs.Steps.WorldsAfterCalls.{on_in, within_fuse}
 use Rattle.pmem_replay.proofs.Steps.FaultCauses.{stored_unspoiled, zero_within}
 use Rattle.pmem_replay.proofs.Steps.MarklessCalls.{counted_state}

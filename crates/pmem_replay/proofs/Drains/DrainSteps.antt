@@ -35,7 +35,7 @@ use Rattle.pmem_replay.specs.Replies.{with_marks_since}
 use Rattle.pmem_replay.proofs.Steps.PartsOfWorld.{since}
 use Rattle.pmem_replay.specs.Stepped.{HasStepped, HasDrained, IsDrainAnswer, IsSeenOnDevice, IsExhibitSeen}
 use Rattle.pmem_replay.proofs.Marks.AfterMarks.{touched_after, flushed_after, with_flags, after_marks-is}
-use Rattle.pmem_replay.specs.Called.{IsCall, cut_answer}
+use Rattle.pmem_replay.specs.EngineCalls.{IsCall, cut_answer}
 use Rattle.pmem_replay.proofs.Steps.WorldsAfterCalls.{on_in, cut_counted, uncut_counted}
 use Rattle.pmem_replay.proofs.Steps.FaultCauses.{on_path-within, forged_unstored, shown_uncut}
 use Rattle.pmem_replay.proofs.Marks.AskedMarks.{refused_within}

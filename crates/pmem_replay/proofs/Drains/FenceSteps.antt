@@ -30,7 +30,7 @@ use Rattle.watched_board.specs.Watching.{steps_in}
 use Rattle.pmem_replay.specs.Given.{given_state, WasWriteGiven, IsWriteGiven, IsWriteGivenShown}
 use Rattle.pmem_replay.specs.Stepped.{HasStepped, HasDrained, HasFenced, EndsFence, IsDrainAnswer, IsSeenOnDevice, IsExhibitSeen}
 use Rattle.pmem_replay.proofs.Marks.AfterMarks.{touched_after, flushed_after, with_flags, after_marks-is}
-use Rattle.pmem_replay.specs.Called.{IsCall}
+use Rattle.pmem_replay.specs.EngineCalls.{IsCall}
 use Rattle.pmem_replay.proofs.Steps.WorldsAfterCalls.{on_in}
 use Rattle.pmem_replay.proofs.Steps.FaultCauses.{on_path-within, forged_unstored, shown_uncut}
 use Rattle.pmem_replay.proofs.Marks.AskedMarks.{refused_within}

@@ -22,11 +22,11 @@ use Rattle.watched_board.specs.declared.taken.Taken.{Taken}
 use Rattle.watched_board.specs.Watching.{none_taken, steps_in}
 use Rattle.pmem_replay.specs.During.{parts_in}
 use Rattle.pmem_replay.specs.Planned.{WritesLine}
-use Rattle.pmem_replay.specs.Called.{engine_left, is_outcome_shown, called_state, IsCall, WasCalled, IsWriteTaken}
+use Rattle.pmem_replay.specs.EngineCalls.{engine_left, is_outcome_shown, called_state, IsCall, HasCalledEngine, IsWriteTaken}
 use Rattle.pmem_replay.specs.Given.{given_state, WasWriteGiven, IsWriteGiven, IsWriteGivenTo, IsDrainSaid, HasWriteGiven, CanEndFence}
 use Rattle.pmem_replay.specs.World.{WorldState, IsOn, IsWorld, setup_of_world}
 use Rattle.pmem_replay.proofs.Steps.WorldsAfterCalls.{on_in}
-use Rattle.pmem_replay.proofs.Called.CommandSteps.{run_of}
+use Rattle.pmem_replay.proofs.EngineCalls.CommandSteps.{run_of}
 use Rattle.pmem_replay.proofs.Drains.DrainChain.{IsDrainedTo, drained_none, ok_sealed}
 use Rattle.pmem_replay.proofs.Drains.WriteLaws.{meta-made, tag-unsealed, spent_marks}
 use Rattle.pmem_replay.proofs.Drains.WriteReplies.{drain_is_writing}
@@ -87,7 +87,7 @@ module _ (setup : Setup) (old new : WorldState) (port : ℕ) (small : port < 8) 
   drained : IsDrainedTo setup old old port 0 [] 0
   drained = drained_none setup old port whole
 
-  module _ (answer : Result Ctr Fault) (w : WasCalled setup (WritesLine write) (Some write) popped taken answer new) where
+  module _ (answer : Result Ctr Fault) (w : HasCalledEngine setup (WritesLine write) (Some write) popped taken answer new) where
     abbrev call : IsCall setup old new w.engine w.after taken
     call =
         record {
@@ -176,7 +176,7 @@ module _ (setup : Setup) (old new : WorldState) (port : ℕ) (small : port < 8) 
         }
 
   -- by what the engine answers
-  given_to : (answer : Result Ctr Fault) (w : WasCalled setup (WritesLine write) (Some write) popped taken answer new) (put : Bool)
+  given_to : (answer : Result Ctr Fault) (w : HasCalledEngine setup (WritesLine write) (Some write) popped taken answer new) (put : Bool)
       → put ≡ is_sealed_by (drop (length old.ledger.marks) new.ledger.marks) write.at → (n : ℕ) → n ≡ steps_in taken → IsWriteGivenTo setup old port n answer put new
   given_to (Ok ctr) w put its n counted =
       as_on (Ok ctr) w true n refl
@@ -202,11 +202,11 @@ module _ (setup : Setup) (old new : WorldState) (port : ℕ) (small : port < 8) 
 -- the port's oldest write was taken and given to the engine
 pub gives : (formulas_of : List ℕ → Formulas) (old mid new : WorldState) (port : ℕ) (write : Posted) (taken : Taken) (answer : Result Ctr Fault) (put : Bool) (n : ℕ)
     (said : Answer) → port < 8 → IsWorld (setup_of_world formulas_of old) old → old.shown ≡ false → IsWriteTaken old port write mid
-    → WasCalled (setup_of_world formulas_of mid) (WritesLine write) (Some write) mid taken answer new
+    → HasCalledEngine (setup_of_world formulas_of mid) (WritesLine write) (Some write) mid taken answer new
     → put ≡ is_sealed_by (drop (length mid.ledger.marks) new.ledger.marks) write.at → n ≡ steps_in taken → IsDrainSaid new answer put n said
     → HasWriteGiven (setup_of_world formulas_of old) old port said new
 gives formulas_of old mid new port write taken answer put n said small whole unshown took w its counted says =
-    let called = subst (λ (world : WorldState). WasCalled (setup_of_world formulas_of world) (WritesLine write) (Some write) world taken answer new) took.same w in
+    let called = subst (λ (world : WorldState). HasCalledEngine (setup_of_world formulas_of world) (WritesLine write) (Some write) world taken answer new) took.same w in
     let sealed = its ∙ ap (λ (world : WorldState). is_sealed_by (drop (length world.ledger.marks) new.ledger.marks) write.at) took.same in
     record {
       answer = answer;

@@ -44,7 +44,7 @@ use Rattle.pmem_replay.specs.During.{parts_in}
 use Rattle.pmem_engine.proofs.PostedWrites.WriteParts.{last_seal-unsealed}
 use Rattle.pmem_engine.proofs.PostedWrites.StoppedWrites.{stopped}
 use Rattle.pmem_replay.proofs.Marks.SealedLines.{counter_now}
-use Rattle.pmem_replay.specs.Called.{IsCall}
+use Rattle.pmem_replay.specs.EngineCalls.{IsCall}
 use Rattle.pmem_replay.proofs.Steps.WorldsAfterCalls.{on_in, cut_at_fuse, within_fuse}
 use Rattle.pmem_replay.proofs.Steps.FaultCauses.{on_path-within, may_differ, fetched_before, stored_unspoiled, hurt_before, tag_unstored, forged_unstored, forged_other, zero_within, shown_uncut}
 use Rattle.pmem_replay.proofs.Marks.DirtyBlocks.{dirty_count-le}

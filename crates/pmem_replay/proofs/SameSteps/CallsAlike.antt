@@ -20,7 +20,7 @@ use Rattle.pmem_engine.specs.Outcomes.{is_sealed_by}
 use Rattle.pmem_engine.specs.Parts.{Parts}
 use Rattle.pmem_engine.specs.Plans.{Chip, chip_of}
 use Rattle.pmem_replay.specs.Planned.{CallPlan}
-use Rattle.pmem_replay.specs.Called.{IsFaultAnswered}
+use Rattle.pmem_replay.specs.EngineCalls.{IsFaultAnswered}
 use Rattle.pmem_replay.specs.Stepped.{HasCalled, IsReadAnswer, IsDrainAnswer, IsTurnAnswer, IsFlushAnswer, IsLossAnswer}
 use Rattle.pmem_replay.specs.Determined.{AreSameParts}
 use Rattle.pmem_replay.specs.World.{WorldState}

@@ -10,7 +10,7 @@ use Rattle.pmem_engine.specs.Engine.{EngineState}
 use Rattle.pmem_replay.specs.World.{WorldState, WorldParts, world_of}
 use Rattle.watched_board.specs.declared.taken.Taken.{Taken}
 use Rattle.watched_board.specs.Watching.{steps_in, FollowsOn, IsWatched}
-use Rattle.pmem_replay.specs.Called.{IsCall}
+use Rattle.pmem_replay.specs.EngineCalls.{IsCall}
 use Rattle.pmem_replay.proofs.Table.UnchangedSteps.{IsGoingOn}
 
 -- ---- after a call

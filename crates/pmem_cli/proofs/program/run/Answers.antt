@@ -7,7 +7,7 @@ use Rattle.pmem_cli.specs.Printed.{with_waiting}
 use Rattle.pmem_cli.specs.Causes.{Rose}
 use Rattle.pmem_cli.specs.HasRun.{TaskOutcome, HasEnded, IsComplete}
 use Rattle.pmem_cli.specs.RepliesFirst.{TaskRepliesFirst}
-use Rattle.pmem_cli.proofs.Completing.{complete}
+use Rattle.pmem_cli.proofs.CompleteRuns.{complete}
 use Rattle.pmem_cli.proofs.ReplyLemmas.{ending_appends, task_replied_more}
 use Rattle.pmem_cli.proofs.StatusLemmas.{TaskOutcome-finished, pull_told, push_told, push_once}
 use Rattle.pmem_cli.proofs.TurnLemmas.{IfSome-map}

@@ -2,7 +2,7 @@ use Rattle.std.proofs.Common.{rules, refl, ap, inl, inr}
 use Rattle.trace_text.specs.Conversations.{talk_protocol}
 use Rattle.pmem_cli.specs.declared.ending.Ending.TheVariants.{Stopped}
 use Rattle.pmem_cli.specs.Printed.{with_waiting}
-use Rattle.pmem_cli.proofs.Completing.{talk_complete}
+use Rattle.pmem_cli.proofs.CompleteRuns.{talk_complete}
 use Rattle.pmem_cli.proofs.FaultLemmas.{CountsFault-map}
 use Rattle.pmem_cli.proofs.ReplyLemmas.{ending_appends, told_more_since}
 use Rattle.pmem_cli.proofs.StatusLemmas.{talk_done, pull_told, push_told, push_once}

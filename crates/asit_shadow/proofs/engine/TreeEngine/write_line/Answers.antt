@@ -37,7 +37,7 @@ use Rattle.asit_shadow.proofs.PairSets.{pairs-count}
 use Rattle.asit_shadow.proofs.WriteCalls.{top-used_up, fetch-unspent, armed-IsGroup}
 use Rattle.asit_shadow.proofs.CallCounts.{line-counts, naming-count}
 use Rattle.asit_shadow.proofs.WriteEnds.{write-spent, write-stopped, write-lost, lost-work}
-use Rattle.asit_shadow.proofs.WriteDone.{IsArmedWrite, write-kept, write-done, kept-work}
+use Rattle.asit_shadow.proofs.WriteOutcomes.{IsArmedWrite, write-kept, write-done, kept-work}
 use Rattle.asit_shadow.proofs.engine.TreeEngine.write_line.Given.{Over}
 use Rattle.asit_shadow.proofs.engine.TreeEngine.write_line.Goals.{After-is_used_up, After-next_regs-regs}
 use Rattle.asit_shadow.proofs.engine.TreeEngine.write_line.Goals as goal

@@ -8,7 +8,7 @@ use Rattle.pmem_engine.specs.Engine.{EngineState}
 use Rattle.pmem_engine.specs.Parts.{Parts, parts_of}
 use Rattle.pmem_engine.specs.Plans.{Chip, chip_of}
 use Rattle.engine_lines.proofs.EditPlans.{edits_as, edits_follow_under}
-use Rattle.line_txn.specs.declared.store.Done.TheVariants as Do
+use Rattle.line_txn.specs.declared.store.Committed.TheVariants as Do
 use Rattle.line_txn.specs.Logged.{targets_of}
 use Rattle.engine_lines.specs.Edits.{AreEdited, IsEditOf}
 use Rattle.engine_lines.proofs.EditLaws.{edits_under}

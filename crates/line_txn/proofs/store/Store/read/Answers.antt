@@ -1,6 +1,6 @@
 -- What is read is the line of memory.
 use Rattle.pmem_engine.specs.Parts.{parts_of}
-use Rattle.line_txn.proofs.Served.{read_logged}
+use Rattle.line_txn.proofs.ServedReads.{read_logged}
 use Rattle.line_txn.proofs.store.Store.read.Goals as goal
 
 pub returns-clause-logged : goal.returns-clause-logged

@@ -2,8 +2,8 @@
 use Rattle.std.proofs.Common.{refl}
 use Rattle.seal_ledger.specs.View.{ledger_of}
 use Rattle.pmem_engine.specs.Plans.{Chip, chip_of}
-use Rattle.pmem_replay.proofs.Called.OfEngine.{of_engine}
-use Rattle.pmem_replay.proofs.Called.Lawful.{flush_lawful}
+use Rattle.pmem_replay.proofs.EngineCalls.OfEngine.{of_engine}
+use Rattle.pmem_replay.proofs.EngineCalls.Lawful.{flush_lawful}
 use Rattle.pmem_replay.proofs.calls.FlushBlockCall.make.Goals as goal
 
 pub returns-clause-made : goal.returns-clause-made

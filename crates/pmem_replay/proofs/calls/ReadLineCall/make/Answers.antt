@@ -1,5 +1,5 @@
 -- The engine's call, with its law.
-use Rattle.pmem_replay.proofs.Called.Lawful.{read_lawful}
+use Rattle.pmem_replay.proofs.EngineCalls.Lawful.{read_lawful}
 use Rattle.pmem_replay.proofs.calls.ReadLineCall.make.Goals as goal
 
 pub returns-clause-made : goal.returns-clause-made

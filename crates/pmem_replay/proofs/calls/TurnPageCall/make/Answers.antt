@@ -1,5 +1,5 @@
 -- The engine's call, with its law.
-use Rattle.pmem_replay.proofs.Called.Lawful.{turn_lawful}
+use Rattle.pmem_replay.proofs.EngineCalls.Lawful.{turn_lawful}
 use Rattle.pmem_replay.proofs.calls.TurnPageCall.make.Goals as goal
 
 pub returns-clause-made : goal.returns-clause-made

@@ -14,12 +14,12 @@ use Rattle.pmem_engine.specs.Engine.{EngineState}
 use Rattle.pmem_engine.specs.Parts.{parts_of}
 use Rattle.watched_board.specs.Watching.{none_taken, device_during}
 use Rattle.pmem_replay.specs.During.{parts_in}
-use Rattle.pmem_replay.specs.Called.{written_line, IsLawfulCall, WasCalled}
+use Rattle.pmem_replay.specs.EngineCalls.{written_line, IsLawfulCall, HasCalledEngine}
 use Rattle.pmem_replay.specs.Flagged.{Tampering, Dirtying, with_dirtying, healed}
 use Rattle.pmem_replay.specs.World.{WorldParts, WorldState, IsWorld, world_of}
 use Rattle.pmem_replay.proofs.Steps.PartsOfWorld.{held, setup_in, going_in, shape_in, moved}
 use Rattle.pmem_replay.proofs.Steps.CallSurroundings.{called, IsServed}
-use Rattle.pmem_replay.proofs.Called.Made.{marks_longer, marks_whole, parts_made, was_called, was_shown}
+use Rattle.pmem_replay.proofs.EngineCalls.CallEnds.{marks_longer, marks_whole, parts_made, was_called, was_shown}
 use Rattle.pmem_replay.proofs.world.World.call.Given.{Over}
 use Rattle.pmem_replay.proofs.world.World.call.Goals.{After-saturating_add-self-inside}
 use Rattle.pmem_replay.proofs.world.World.call.Goals as goal
@@ -75,7 +75,7 @@ module _ (g : Over) (c : After-saturating_add-self-inside g) where
 pub returns-then-is_shown-clause-called : goal.returns-then-is_shown-clause-called
 returns-then-is_shown-clause-called g c =
     let at = (goal.at.returns-then-is_shown-clause-called g c).After-saturating_add-self-inside in
-    moved (λ setup old new. WasCalled setup (g.C.Call.relation c.args.call.now) (g.C.Call.write c.args.call.now) old c.make-done.result.taken c.make-done.result.answer new)
+    moved (λ setup old new. HasCalledEngine setup (g.C.Call.relation c.args.call.now) (g.C.Call.write c.args.call.now) old c.make-done.result.taken c.make-done.result.answer new)
     g.S.Suite.formulas_of (shape_of c.self.inside.geo) (p g at)
     (record (called (p g at) (g.S.Suite.keys c.make-done.new.suite) (memory_of c.make-done.new.board) (ledger_of c.make-done.new.ledger) (capacity_of c.make-done.new.ledger) (Some c.make-done.new.engine)
     (g.S.Suite.tags c.make-done.new.suite) (g.S.Suite.digests c.make-done.new.suite) c.saturating_add-self-inside.result) { shown = true })
@@ -120,7 +120,7 @@ pub returns-clause-called : goal.returns-clause-called
 returns-clause-called g c =
     let at = (goal.at.returns-clause-called g c).After-saturating_add-self-inside in
     let n : length c.marks-from.result.now ≡ length (p g at).ledger.marks = ap length c.marks-from.ensures in
-    moved (λ setup old new. WasCalled setup (g.C.Call.relation c.args.call.now) (g.C.Call.write c.args.call.now) old c.make-done.result.taken c.make-done.result.answer new)
+    moved (λ setup old new. HasCalledEngine setup (g.C.Call.relation c.args.call.now) (g.C.Call.write c.args.call.now) old c.make-done.result.taken c.make-done.result.answer new)
     g.S.Suite.formulas_of (shape_of c.self.inside.geo) (p g at)
     (after g at c.lose_if.new.engine c.lose_if.new.ports c.heal.new.tampered c.note_since.new.self)
     c.args.self.now c.self.view_is c.make-done.ensures.keys

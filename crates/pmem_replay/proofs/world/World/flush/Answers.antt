@@ -8,11 +8,11 @@ use Rattle.suite.specs.Setup.{Setup}
 use Rattle.plain_model.specs.After.{after_clean}
 use Rattle.pmem_engine.specs.declared.fault.Fault.{Fault}
 use Rattle.pmem_replay.specs.Planned.{FlushesBlock}
-use Rattle.pmem_replay.specs.Called.{WasCalled, IsFaultAnswered}
+use Rattle.pmem_replay.specs.EngineCalls.{HasCalledEngine, IsFaultAnswered}
 use Rattle.pmem_replay.specs.Replies.{without_marks}
 use Rattle.pmem_replay.specs.Stepped.{HasStepped}
 use Rattle.pmem_replay.specs.World.{WorldState, setup_of_world}
-use Rattle.pmem_replay.proofs.Called.CommandSteps.{Serving, serving}
+use Rattle.pmem_replay.proofs.EngineCalls.CommandSteps.{Serving, serving}
 use Rattle.pmem_replay.proofs.Commands.FlushSteps.{same_shape, flush_clean_in, flush_clean_at, flush_clean, flushed_state, flush_flushed, flush_stopped}
 use Rattle.pmem_replay.proofs.world.World.flush.Given.{Over}
 use Rattle.pmem_replay.proofs.world.World.flush.Goals.{After-steps-steps}
@@ -26,7 +26,7 @@ module _ (g : Over) (c : After-steps-steps g) where
   abbrev served : (answer : Result (Option ℕ) Fault) → c.call-done.result.answer ≡ answer → Serving FlushesBlock None answer
   served answer is =
       serving setup c.args.self.now c.call-done.result.taken c.call-done.new.self
-      (subst (λ (r : Result (Option ℕ) Fault). WasCalled setup FlushesBlock None c.args.self.now c.call-done.result.taken r c.call-done.new.self) is c.call-done.ensures.called)
+      (subst (λ (r : Result (Option ℕ) Fault). HasCalledEngine setup FlushesBlock None c.args.self.now c.call-done.result.taken r c.call-done.new.self) is c.call-done.ensures.called)
 
 pub note_clean-requires-clause-clean : goal.note_clean-requires-clause-clean
 note_clean-requires-clause-clean g c =

@@ -7,11 +7,11 @@ use Rattle.pmem_base.specs.declared.answers.Answer.TheVariants as Say
 use Rattle.suite.specs.Setup.{Setup}
 use Rattle.pmem_engine.specs.declared.fault.Fault.{Fault}
 use Rattle.pmem_replay.specs.Planned.{SetsLoss}
-use Rattle.pmem_replay.specs.Called.{WasCalled, IsFaultAnswered}
+use Rattle.pmem_replay.specs.EngineCalls.{HasCalledEngine, IsFaultAnswered}
 use Rattle.pmem_replay.specs.Replies.{without_marks}
 use Rattle.pmem_replay.specs.Stepped.{HasStepped}
 use Rattle.pmem_replay.specs.World.{setup_of_world}
-use Rattle.pmem_replay.proofs.Called.CommandSteps.{Serving, serving}
+use Rattle.pmem_replay.proofs.EngineCalls.CommandSteps.{Serving, serving}
 use Rattle.pmem_replay.proofs.Commands.LossSteps.{loss_set, loss_stopped}
 use Rattle.pmem_replay.proofs.world.World.loss.Given.{Over}
 use Rattle.pmem_replay.proofs.world.World.loss.Goals.{After-steps-steps}
@@ -25,7 +25,7 @@ module _ (g : Over) (c : After-steps-steps g) where
   abbrev served : (answer : Result ℕ Fault) → c.call-done.result.answer ≡ answer → Serving (SetsLoss c.args.n) None answer
   served answer is =
       serving setup c.args.self.now c.call-done.result.taken c.call-done.new.self
-      (subst (λ (r : Result ℕ Fault). WasCalled setup (SetsLoss c.args.n) None c.args.self.now c.call-done.result.taken r c.call-done.new.self) is c.call-done.ensures.called)
+      (subst (λ (r : Result ℕ Fault). HasCalledEngine setup (SetsLoss c.args.n) None c.args.self.now c.call-done.result.taken r c.call-done.new.self) is c.call-done.ensures.called)
 
   some : IsTrue (is_loss c.args.n)
   some = search (rules, c.is_loss.ensures, c.if-not-is_loss.false)

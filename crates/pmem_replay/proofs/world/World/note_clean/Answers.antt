@@ -6,11 +6,11 @@ use Rattle.seal_ledger.specs.View.{capacity_of, ledger_of}
 use Rattle.suite.specs.Setup.{Setup}
 use Rattle.plain_model.specs.State.{PlainState}
 use Rattle.plain_model.specs.After.{after_clean}
-use Rattle.pmem_replay.specs.Called.{IsCleanIn}
+use Rattle.pmem_replay.specs.EngineCalls.{IsCleanIn}
 use Rattle.pmem_replay.specs.Flagged.{with_dirtying}
 use Rattle.pmem_replay.specs.World.{WorldParts, WorldState, IsWorld, state_in, world_of}
 use Rattle.pmem_replay.proofs.Table.UnchangedSteps.{IsGoingOn}
-use Rattle.pmem_replay.proofs.Called.Noted.{clean_noted}
+use Rattle.pmem_replay.proofs.EngineCalls.NotedWorlds.{clean_noted}
 use Rattle.pmem_replay.proofs.Steps.PartsOfWorld.{held, setup_in, going_in}
 use Rattle.pmem_replay.proofs.world.World.note_clean.Given.{Over}
 use Rattle.pmem_replay.proofs.world.World.note_clean.Goals.{After-clean}

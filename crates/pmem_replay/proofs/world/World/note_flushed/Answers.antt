@@ -4,10 +4,10 @@ use Rattle.pmem_base.specs.Geo.{shape_of}
 use Rattle.board.specs.MemBoard.{memory_of}
 use Rattle.seal_ledger.specs.View.{capacity_of, ledger_of}
 use Rattle.suite.specs.Setup.{Setup}
-use Rattle.pmem_replay.specs.Called.{IsCleanAt}
+use Rattle.pmem_replay.specs.EngineCalls.{IsCleanAt}
 use Rattle.pmem_replay.specs.Flagged.{Dirtying}
 use Rattle.pmem_replay.specs.World.{WorldParts, WorldState, IsWorld, world_of}
-use Rattle.pmem_replay.proofs.Called.Noted.{flushed_noted}
+use Rattle.pmem_replay.proofs.EngineCalls.NotedWorlds.{flushed_noted}
 use Rattle.pmem_replay.proofs.Steps.PartsOfWorld.{held, setup_in, going_in}
 use Rattle.pmem_replay.proofs.world.World.note_flushed.Goals as goal
 

@@ -9,11 +9,11 @@ use Rattle.suite.specs.Setup.{Setup}
 use Rattle.plain_model.specs.Answers.{is_covered}
 use Rattle.pmem_engine.specs.declared.fault.Fault.{Fault}
 use Rattle.pmem_replay.specs.Planned.{ReadsLine}
-use Rattle.pmem_replay.specs.Called.{WasCalled, IsFaultAnswered}
+use Rattle.pmem_replay.specs.EngineCalls.{HasCalledEngine, IsFaultAnswered}
 use Rattle.pmem_replay.specs.Replies.{without_marks}
 use Rattle.pmem_replay.specs.Stepped.{HasStepped}
 use Rattle.pmem_replay.specs.World.{setup_of_world}
-use Rattle.pmem_replay.proofs.Called.CommandSteps.{Serving, serving, can_stop}
+use Rattle.pmem_replay.proofs.EngineCalls.CommandSteps.{Serving, serving, can_stop}
 use Rattle.pmem_replay.proofs.Commands.ReadSteps.{read_got, read_stopped}
 use Rattle.pmem_replay.proofs.Drains.FenceLaws.{some_engine}
 use Rattle.pmem_replay.proofs.Table.ForwardedReads.{covered_by, uncovered_by, read-forwarded}
@@ -29,7 +29,7 @@ module _ (g : Over) (c : After-steps-steps g) where
   abbrev served : (answer : Result Line Fault) → c.call-done.result.answer ≡ answer → Serving (ReadsLine c.args.at) None answer
   served answer is =
       serving setup c.args.self.now c.call-done.result.taken c.call-done.new.self
-      (subst (λ (r : Result Line Fault). WasCalled setup (ReadsLine c.args.at) None c.args.self.now c.call-done.result.taken r c.call-done.new.self) is c.call-done.ensures.called)
+      (subst (λ (r : Result Line Fault). HasCalledEngine setup (ReadsLine c.args.at) None c.args.self.now c.call-done.result.taken r c.call-done.new.self) is c.call-done.ensures.called)
 
   within : c.args.at < layout.data_lines setup.shape
   within = omega (arith, c.if-at-from.false, c.from.ensures, c.lines.ensures)

@@ -8,7 +8,7 @@ use Rattle.board.specs.MemBoard.{memory_of}
 use Rattle.seal_ledger.specs.View.{capacity_of, ledger_of}
 use Rattle.suite.specs.Setup.{Setup}
 use Rattle.pmem_replay.specs.World.{WorldParts, IsWorld, world_of}
-use Rattle.pmem_replay.proofs.Called.Noted.{taken_world}
+use Rattle.pmem_replay.proofs.EngineCalls.NotedWorlds.{taken_world}
 use Rattle.pmem_replay.proofs.Drains.GivenWrites.{front_is}
 use Rattle.pmem_replay.proofs.Steps.PartsOfWorld.{held, setup_in, going_in}
 use Rattle.pmem_replay.proofs.world.World.take.Goals as goal

@@ -6,11 +6,11 @@ use Rattle.pmem_base.specs.declared.answers.Answer.TheVariants as Say
 use Rattle.suite.specs.Setup.{Setup}
 use Rattle.pmem_engine.specs.declared.fault.Fault.{Fault}
 use Rattle.pmem_replay.specs.Planned.{TurnsPage}
-use Rattle.pmem_replay.specs.Called.{WasCalled, IsFaultAnswered}
+use Rattle.pmem_replay.specs.EngineCalls.{HasCalledEngine, IsFaultAnswered}
 use Rattle.pmem_replay.specs.Replies.{with_marks_since}
 use Rattle.pmem_replay.specs.Stepped.{HasStepped}
 use Rattle.pmem_replay.specs.World.{setup_of_world}
-use Rattle.pmem_replay.proofs.Called.CommandSteps.{Serving, serving_roomy}
+use Rattle.pmem_replay.proofs.EngineCalls.CommandSteps.{Serving, serving_roomy}
 use Rattle.pmem_replay.proofs.Commands.TurnSteps.{turn_idle, turn_turned, turn_stopped}
 use Rattle.pmem_replay.proofs.Steps.PartsOfWorld.{since}
 use Rattle.pmem_replay.proofs.world.World.turn.Given.{Over}
@@ -25,7 +25,7 @@ module _ (g : Over) (c : After-steps-steps g) where
   abbrev served : (answer : Result (Option (ℕ × ℕ)) Fault) → c.call-done.result.answer ≡ answer → Serving TurnsPage None answer
   served answer is =
       serving_roomy TurnsPage None answer g.S.Suite.formulas_of c.args.self.now c.make_room.new.self 1 c.in_ok-make_room.ensures.ok c.call-done.result.taken c.call-done.new.self
-      (subst (λ (r : Result (Option (ℕ × ℕ)) Fault). WasCalled (setup_of_world g.S.Suite.formulas_of c.make_room.new.self) TurnsPage None c.make_room.new.self c.call-done.result.taken r c.call-done.new.self)
+      (subst (λ (r : Result (Option (ℕ × ℕ)) Fault). HasCalledEngine (setup_of_world g.S.Suite.formulas_of c.make_room.new.self) TurnsPage None c.make_room.new.self c.call-done.result.taken r c.call-done.new.self)
       is c.call-done.ensures.called)
 
 pub returns-in-Ok-None-clause-stepped : goal.returns-in-Ok-None-clause-stepped

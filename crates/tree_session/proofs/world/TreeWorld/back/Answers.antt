@@ -6,7 +6,7 @@ use Rattle.board.specs.MemBoard.{memory_of}
 use Rattle.counter_tree.specs.BookView.{watch_of}
 use Rattle.tree_session.specs.declared.commands.TreeCommand.TheVariants as Do
 use Rattle.tree_session.specs.declared.answers.TreeAnswer.TheVariants as Say
-use Rattle.tree_session.proofs.Decided.{QuietCall, as_now, a_snapshot, back_past, back_none, back_held, back_seen}
+use Rattle.tree_session.proofs.DecidedAnswers.{QuietCall, as_now, a_snapshot, back_past, back_none, back_held, back_seen}
 use Rattle.tree_session.proofs.world.TreeWorld.back.Goals as goal
 
 pub returns-then-at-from : goal.returns-then-at-from

@@ -2,7 +2,7 @@
 use Rattle.pmem_base.specs.Geo.{shape_of}
 use Rattle.board.specs.MemBoard.{memory_of}
 use Rattle.counter_tree.specs.BookView.{watch_of}
-use Rattle.tree_session.proofs.Decided.{QuietCall, cut_held, cut_seen}
+use Rattle.tree_session.proofs.DecidedAnswers.{QuietCall, cut_held, cut_seen}
 use Rattle.tree_session.proofs.world.TreeWorld.cut.Goals as goal
 
 pub invariant_of-self : goal.invariant_of-self

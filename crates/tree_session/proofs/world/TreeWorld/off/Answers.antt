@@ -4,7 +4,7 @@ use Rattle.board.specs.MemBoard.{memory_of}
 use Rattle.counter_tree.specs.BookView.{watch_of}
 use Rattle.tree_session.specs.declared.commands.TreeCommand.TheVariants as Do
 use Rattle.tree_session.specs.declared.answers.TreeAnswer.TheVariants as Say
-use Rattle.tree_session.proofs.Decided.{QuietCall, as_now, none_found, some_found, off_off, off_held, off_seen}
+use Rattle.tree_session.proofs.DecidedAnswers.{QuietCall, as_now, none_found, some_found, off_off, off_held, off_seen}
 use Rattle.tree_session.proofs.world.TreeWorld.off.Goals as goal
 
 pub returns-then-is_none : goal.returns-then-is_none

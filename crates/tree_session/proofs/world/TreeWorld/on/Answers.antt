@@ -8,7 +8,7 @@ use Rattle.tree_session.specs.declared.answers.TreeAnswer.TheVariants as Say
 use Rattle.access_log.specs.Traced.{GoesOn, traced_of}
 use Rattle.access_log.proofs.TraceLemmas.{goes_on-between}
 use Rattle.tree_session.specs.State.{SessionState}
-use Rattle.tree_session.proofs.Decided.{QuietCall, found_some, already, as_now}
+use Rattle.tree_session.proofs.DecidedAnswers.{QuietCall, found_some, already, as_now}
 use Rattle.pmem_recovery.proofs.ResultLaws.{none_of}
 use Rattle.tree_session.proofs.OnCalls.{OnTreeCall, on_held, on_seen, cut_kept, cut_seen, shadow_kept, shadow_seen, shown_kept, shown_seen}
 use Rattle.tree_session.proofs.world.TreeWorld.on.Given.{Over}

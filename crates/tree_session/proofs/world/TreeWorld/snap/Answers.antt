@@ -5,7 +5,7 @@ use Rattle.pmem_base.specs.Geo.{shape_of}
 use Rattle.board.specs.MemBoard.{memory_of}
 use Rattle.counter_tree.specs.BookView.{watch_of}
 use Rattle.pmem_recovery.proofs.ResultLaws.{from_no_error}
-use Rattle.tree_session.proofs.Decided.{QuietCall, snap_wanted, snap_held, snap_seen}
+use Rattle.tree_session.proofs.DecidedAnswers.{QuietCall, snap_wanted, snap_held, snap_seen}
 use Rattle.tree_session.proofs.world.TreeWorld.snap.Goals as goal
 
 pub invariant_of-self-2 : goal.invariant_of-self-2

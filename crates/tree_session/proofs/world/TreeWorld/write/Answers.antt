@@ -6,8 +6,8 @@ use Rattle.counter_tree.specs.BookView.{watch_of}
 use Rattle.access_log.specs.Traced.{GoesOn, traced_of}
 use Rattle.access_log.proofs.TraceLemmas.{goes_on-between}
 use Rattle.tree_session.specs.State.{SessionState}
-use Rattle.tree_session.proofs.Seen.{WorldCall}
-use Rattle.tree_session.proofs.Decided.{QuietCall, write_off, write_past}
+use Rattle.tree_session.proofs.AnswerClauses.{WorldCall}
+use Rattle.tree_session.proofs.DecidedAnswers.{QuietCall, write_off, write_past}
 use Rattle.tree_session.proofs.WriteCalls.{WriteTreeCall, made_held, made_seen, node_kept, node_seen, spent_kept, spent_seen, lost_kept, lost_seen, cut_kept, cut_seen, shown_kept, shown_seen}
 use Rattle.tree_session.proofs.world.TreeWorld.write.Given.{Over}
 use Rattle.tree_session.proofs.world.TreeWorld.write.Goals.{After-steps-steps}

@@ -15,7 +15,7 @@ use Rattle.access_log.specs.Traced.{GoesOn, traced_of}
 use Rattle.access_log.proofs.TraceLemmas.{goes_on-between}
 use Rattle.txn_session.specs.State.{TxnState}
 use Rattle.txn_session.proofs.CommitStates.{CommitCall}
-use Rattle.txn_session.proofs.Committed.{applied_exit, stuck_exit, spent_exit, cut_held, cut_marks, kept_seen, lost_seen, sound_fault}
+use Rattle.txn_session.proofs.CommitExits.{applied_exit, stuck_exit, spent_exit, cut_held, cut_marks, kept_seen, lost_seen, sound_fault}
 use Rattle.txn_session.proofs.world.TxnWorld.commit.Given.{Over}
 use Rattle.txn_session.proofs.world.TxnWorld.commit.Goals.{After-steps-steps, then-committed, else-committed, then-has_own_seal, else-has_own_seal}
 use Rattle.txn_session.proofs.world.TxnWorld.commit.Goals as goal

@@ -14,7 +14,7 @@ use Rattle.access_log.specs.Traced.{GoesOn, traced_of}
 use Rattle.access_log.proofs.TraceLemmas.{goes_on-between}
 use Rattle.txn_session.specs.State.{TxnState}
 use Rattle.txn_session.proofs.Starts.{OnTxnCall}
-use Rattle.txn_session.proofs.Opened.{open_held, open_exit, stuck_exit, cut_exit, wanted_on, wanted_exit, twin_exit, possible}
+use Rattle.txn_session.proofs.OpeningExits.{open_held, open_exit, stuck_exit, cut_exit, wanted_on, wanted_exit, twin_exit, possible}
 use Rattle.txn_session.proofs.world.TxnWorld.on.Given.{Over}
 use Rattle.txn_session.proofs.world.TxnWorld.on.Goals.{After-steps-steps, in-Some, in-None, In-Err-Recovery, In-Err-Opening, In-Engine}
 use Rattle.txn_session.proofs.world.TxnWorld.on.Goals as goal

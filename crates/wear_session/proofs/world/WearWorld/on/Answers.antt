@@ -14,7 +14,7 @@ use Rattle.access_log.proofs.TraceLemmas.{goes_on-between}
 use Rattle.wear_session.specs.State.{WearState}
 use Rattle.wear_session.proofs.Starts.{OnWearCall}
 use Rattle.pmem_recovery.proofs.ResultLaws.{none_of}
-use Rattle.wear_session.proofs.Opened.{open_exit, cut_exit, wanted_on, wanted_exit, twin_exit, possible}
+use Rattle.wear_session.proofs.OpeningExits.{open_exit, cut_exit, wanted_on, wanted_exit, twin_exit, possible}
 use Rattle.wear_session.proofs.world.WearWorld.on.Given.{Over}
 use Rattle.wear_session.proofs.world.WearWorld.on.Goals.{After-steps-steps, In-Err-Recovery, In-Err-Opening, In-Engine}
 use Rattle.wear_session.proofs.world.WearWorld.on.Goals as goal

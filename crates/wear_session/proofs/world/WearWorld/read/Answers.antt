@@ -6,7 +6,7 @@ use Rattle.seal_ledger.specs.View.{ledger_of}
 use Rattle.access_log.specs.Traced.{GoesOn, traced_of}
 use Rattle.access_log.proofs.TraceLemmas.{goes_on-between}
 use Rattle.wear_session.specs.State.{WearState}
-use Rattle.wear_session.proofs.Seen.{ReadWearCall, got_held, got_seen, cut_held, cut_seen}
+use Rattle.wear_session.proofs.AnswerClauses.{ReadWearCall, got_held, got_seen, cut_held, cut_seen}
 use Rattle.wear_session.proofs.world.WearWorld.read.Given.{Over}
 use Rattle.wear_session.proofs.world.WearWorld.read.Goals.{After-steps-steps}
 use Rattle.wear_session.proofs.world.WearWorld.read.Goals as goal

@@ -10,7 +10,7 @@ use Rattle.engine_lines.specs.Lines.{IsCutOrSpent}
 use Rattle.engine_lines.specs.Writes.{is_own_seal}
 use Rattle.start_gap.specs.Wear.{place_of}
 use Rattle.engine_lines.proofs.OwnSeals.{own_marks}
-use Rattle.wear_session.proofs.Written.{WriteWearCall, made_exit, held_exit, spent_exit, cut_held, cut_marks, kept_seen, lost_seen, sound_fault}
+use Rattle.wear_session.proofs.WriteExits.{WriteWearCall, made_exit, held_exit, spent_exit, cut_held, cut_marks, kept_seen, lost_seen, sound_fault}
 use Rattle.engine_lines.specs.Writes.{is_own_seal}
 use Rattle.access_log.specs.Traced.{GoesOn, traced_of}
 use Rattle.access_log.proofs.TraceLemmas.{goes_on-between}

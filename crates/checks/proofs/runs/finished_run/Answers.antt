@@ -1,8 +1,0 @@
-use Rattle.std.proofs.Common.{rules}
-use Rattle.plain_model.specs.Lines.{lines_of}
-use Rattle.checks.proofs.FirstRun.{first_run}
-use Rattle.checks.proofs.runs.finished_run.Goals as goal
-
-pub returns : goal.returns
-unfolding lines_of
-returns c = record { run = first_run; counted = search rules }

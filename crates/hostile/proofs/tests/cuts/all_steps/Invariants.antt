@@ -1,6 +1,0 @@
--- No answer was an exhibit yet.
-use Rattle.std.specs.Prelude.{◌≡◌, false}
-use Rattle.hostile.proofs.tests.cuts.all_steps.Given as goal
-
-abbrev pub invariant-commands : goal.invariant-commands
-invariant-commands g l = l.world.shown ≡ false

@@ -1,6 +1,0 @@
--- No answer was an exhibit yet.
-use Rattle.std.specs.Prelude.{◌≡◌, false}
-use Rattle.hostile.proofs.tests.runs.stepped.Given as goal
-
-abbrev pub invariant-bytes : goal.invariant-bytes
-invariant-bytes g l = l.world.shown ≡ false

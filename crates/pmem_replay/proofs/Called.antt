@@ -1,7 +1,0 @@
--- One call of the engine, and the world after it.
-pub mod OfEngine
-pub mod Lawful
-pub mod Worlds
-pub mod Made
-pub mod Noted
-pub mod CommandSteps

@@ -1,0 +1,164 @@
+-- A device line is changed past the controller: what is still held of the other places.
+use Rattle.std.proofs.Common.{ℕ, ◌≡◌, ◌≢◌, ◌<◌, ◌≤◌, ◌+◌, ◌-◌, true, false, Bool, inl, inr, List, length, Option, Some, None, refl, sym, ap, subst, ◌∙◌, arith}
+use Rattle.std.specs.Prelude.{slice_index_or, slice_set, All, nat_lt, if◌then◌else◌}
+use Rattle.std.proofs.lemmas.Bool.{cases_eq, cases_lt, lt-ltb, le-ltb, false≢true}
+use Rattle.std.proofs.lemmas.List.{length-set, get_or-set_same, get_or-set_other}
+use Rattle.pmem_base.specs.declared.lines.Line.{Line}
+use Rattle.pmem_base.specs.Lines.{IsLine, line_at, tag_slot}
+use Rattle.pmem_base.specs.Shape.{Shape}
+use Rattle.suite.specs.Setup.{Setup}
+use Rattle.board.specs.Memory.{BoardMemory, device_of, with_line_at}
+use Rattle.commit_regs.specs.Groups.{redone}
+use Rattle.counter_tree.specs.Layout.{tree_lines, tree_size, line_of_tag, line_of_node, line_of_slot}
+use Rattle.asit_shadow.specs.State.{TreeState}
+use Rattle.asit_shadow.specs.Invariants.{IsTreeSealStored}
+use Rattle.asit_shadow.specs.Plain.{hurt_with}
+use Rattle.asit_shadow.proofs.PlaceLaws.{poked-elsewhere}
+use Rattle.tree_session.specs.World.{TreeParts, plain_of_parts, rest_in, AreTreePlacesKept, IsTreeBy, IsTreeWorld}
+use Rattle.tree_session.proofs.Worlds.{opened, open_in, on_in, off_in, usable_on, usable_off}
+
+-- ---- flags
+
+unflagged : (flags : List Bool) (d q : ℕ) → d < length flags → slice_index_or (slice_set flags d true) q false ≡ false
+    → (q ≢ d) × (slice_index_or flags q false ≡ false)
+unflagged flags d q inside is =
+    elim (cases_eq q d) [
+      | inl same ↦ absurd (false≢true (sym is ∙ (ap (λ i. slice_index_or (slice_set flags d true) i false) same ∙ get_or-set_same flags d true false inside)))
+      | inr other ↦ (other, sym (get_or-set_other flags d q true false other) ∙ is)
+    ]
+
+hurt-low : (g : Shape) (hurt : List Bool) (d : ℕ) → d < tree_lines g → hurt_with g hurt d ≡ slice_set hurt d true
+hurt-low g hurt d low =
+    ap (λ (b : Bool). if b then slice_set hurt d true else if nat_lt d (tree_lines g + tree_lines g) then slice_set hurt (d - tree_lines g) true else hurt) (lt-ltb d (tree_lines g) low)
+
+hurt-tag : (g : Shape) (hurt : List Bool) (d : ℕ) → tree_lines g ≤ d → d < tree_lines g + tree_lines g → hurt_with g hurt d ≡ slice_set hurt (d - tree_lines g) true
+hurt-tag g hurt d high low =
+    ap (λ (b : Bool). if b then slice_set hurt d true else if nat_lt d (tree_lines g + tree_lines g) then slice_set hurt (d - tree_lines g) true else hurt) (le-ltb d (tree_lines g) high)
+    ∙ ap (λ (b : Bool). if b then slice_set hurt (d - tree_lines g) true else hurt) (lt-ltb d (tree_lines g + tree_lines g) low)
+
+hurt-past : (g : Shape) (hurt : List Bool) (d : ℕ) → tree_lines g + tree_lines g ≤ d → hurt_with g hurt d ≡ hurt
+hurt-past g hurt d high =
+    ap (λ (b : Bool). if b then slice_set hurt d true else if nat_lt d (tree_lines g + tree_lines g) then slice_set hurt (d - tree_lines g) true else hurt)
+    (le-ltb d (tree_lines g) (omega (arith, high)))
+    ∙ ap (λ (b : Bool). if b then slice_set hurt (d - tree_lines g) true else hurt) (le-ltb d (tree_lines g + tree_lines g) high)
+
+pub length-hurt_with : (g : Shape) (hurt : List Bool) (d : ℕ) → length (hurt_with g hurt d) ≡ length hurt
+length-hurt_with g hurt d =
+    elim (cases_lt d (tree_lines g)) [
+      | inl low ↦ ap length (hurt-low g hurt d low) ∙ length-set hurt d true
+      | inr high ↦ elim (cases_lt d (tree_lines g + tree_lines g)) [
+        | inl low ↦ ap length (hurt-tag g hurt d high low) ∙ length-set hurt (d - tree_lines g) true
+        | inr past ↦ ap length (hurt-past g hurt d past)
+      ]
+    ]
+
+-- a line that isn't hurt afterwards wasn't before, and neither its cipher nor its tag was changed
+unhurt : (g : Shape) (hurt : List Bool) (d a : ℕ) → length hurt ≡ tree_lines g → a < tree_lines g → slice_index_or (hurt_with g hurt d) a false ≡ false
+    → (a ≢ d) × (line_of_tag g a ≢ d) × (slice_index_or hurt a false ≡ false)
+unhurt g hurt d a count inside is =
+    elim (cases_lt d (tree_lines g)) [
+      | inl low ↦
+          let it = unflagged hurt d a (omega (arith, low, count)) (ap (λ h. slice_index_or h a false) (sym (hurt-low g hurt d low)) ∙ is) in
+          (it.0, (λ e. omega (arith, e, low)), it.1)
+      | inr high ↦ elim (cases_lt d (tree_lines g + tree_lines g)) [
+        | inl low ↦
+            let it = unflagged hurt (d - tree_lines g) a (omega (arith, low, high, count)) (ap (λ h. slice_index_or h a false) (sym (hurt-tag g hurt d high low)) ∙ is) in
+            let other = it.0 in
+            ((λ e. omega (arith, e, high, inside)), (λ e. other (omega (arith, e))), it.1)
+        | inr past ↦
+            ((λ e. omega (arith, e, high, inside)), (λ e. omega (arith, e, past, inside)), ap (λ h. slice_index_or h a false) (sym (hurt-past g hurt d past)) ∙ is)
+      ]
+    ]
+
+-- ---- what is held
+
+module _ (setup : Setup) (p : TreeParts) (board : BoardMemory) (world : IsTreeWorld setup p) (none : p.watch.exhibit ≡ None) (d : ℕ) (line : Line)
+    (inside : d < tree_size setup.shape) (is : board ≡ with_line_at p.board d line) (each : All IsLine board.lines) where
+  abbrev pub changed : TreeParts
+  changed =
+      record {
+        keys = p.keys;
+        tags = p.tags;
+        digests = p.digests;
+        board = with_line_at p.board d line;
+        watch = p.watch;
+        engine = p.engine;
+        tampered = slice_set p.tampered d true;
+        hurt = hurt_with setup.shape p.hurt d;
+      }
+
+  elsewhere : (q : ℕ) → q ≢ d → line_at (redone p.board.regs.group.items (slice_set p.board.lines d line)) q ≡ line_at (redone p.board.regs.group.items p.board.lines) q
+  elsewhere q other = poked-elsewhere p.board.regs.group.items p.board.lines d q line other
+
+  flag : (q : ℕ) → slice_index_or (slice_set p.tampered d true) q false ≡ false → (q ≢ d) × (slice_index_or p.tampered q false ≡ false)
+  flag q unchanged = unflagged p.tampered d q (omega (arith, inside, world.tampered_count)) unchanged
+
+  places_changed : AreTreePlacesKept setup (plain_of_parts setup changed) (rest_in changed)
+  places_changed =
+      let opened_in = open_in setup p world none in
+      record {
+        seals =
+            λ a in_a clear.
+            let it = unhurt setup.shape p.hurt d a world.hurt_count in_a clear in
+            let before : IsTreeSealStored setup.shape (redone p.board.regs.group.items p.board.lines) p.watch a = opened_in.places.seals a in_a it.2 in
+            record {
+              seal = before.seal;
+              last = before.last;
+              cipher = elsewhere a it.0 ∙ before.cipher;
+              tag = ap (λ l. tag_slot l 0) (elsewhere (line_of_tag setup.shape a) it.1) ∙ before.tag;
+            };
+        slots =
+            λ i in_i clear.
+            let it = flag (line_of_slot setup.shape i) clear in
+            elsewhere (line_of_slot setup.shape i) it.0 ∙ opened_in.places.slots i in_i it.1;
+      }
+
+  size_changed : length (slice_set p.board.lines d line) ≡ tree_size setup.shape
+  size_changed = length-set p.board.lines d line ∙ world.whole_lines.count
+
+  chip_changed : (found : Option TreeState) → p.engine ≡ found → IsTreeBy setup changed found
+  chip_changed None there =
+      let off = off_in setup p (open_in setup p world none) there in
+      record {
+        unpowered = off.unpowered;
+        usable = usable_off setup (device_of (with_line_at p.board d line)) p.watch size_changed off.anchored;
+        small_group = off.small_group;
+        anchored = off.anchored;
+        nodes =
+            λ x unchanged.
+            let it = flag (line_of_node setup.shape x) unchanged.1 in
+            elim (off.nodes x (unchanged.0, it.1)) [
+              | inl stored ↦ inl (elsewhere (line_of_node setup.shape x) it.0 ∙ stored)
+              | inr named ↦ inr named
+            ];
+      }
+  chip_changed (Some engine) there =
+      let on = on_in setup p engine (open_in setup p world none) there in
+      record {
+        powered = on.powered;
+        its_shape = on.its_shape;
+        usable = usable_on setup engine (device_of (with_line_at p.board d line)) p.watch size_changed on.trusted;
+        trusted = on.trusted;
+        nodes =
+            λ x unchanged.
+            let it = flag (line_of_node setup.shape x) unchanged.1 in
+            elim (on.nodes x (unchanged.0, it.1)) [
+              | inl stored ↦ inl (elsewhere (line_of_node setup.shape x) it.0 ∙ stored)
+              | inr dirty ↦ inr dirty
+            ];
+      }
+
+  pub changed_held : IsTreeWorld setup (record { keys = p.keys; tags = p.tags; digests = p.digests; board = board; watch = p.watch; engine = p.engine; tampered = slice_set p.tampered d true; hurt = hurt_with setup.shape p.hurt d })
+  changed_held =
+      subst (λ (b : BoardMemory). IsTreeWorld setup (record { keys = p.keys; tags = p.tags; digests = p.digests; board = b; watch = p.watch; engine = p.engine; tampered = slice_set p.tampered d true; hurt = hurt_with setup.shape p.hurt d })) (sym is)
+      (opened setup changed
+      (record {
+        shape = world.whole_shape;
+        formulas = world.whole_formulas;
+        watch = world.its_watch;
+        lines = record { count = size_changed; each = subst (λ (b : BoardMemory). All IsLine b.lines) is each };
+        tampered = length-set p.tampered d true ∙ world.tampered_count;
+        hurt = length-hurt_with setup.shape p.hurt d ∙ world.hurt_count;
+      })
+      none
+      (record { chip = chip_changed p.engine refl; places = places_changed }))

@@ -1,0 +1,411 @@
+-- Power comes on, as the session's fields have it: what is held after recovery, the opening and its redo, and what is answered.
+use Rattle.std.proofs.Common.{ℕ, ◌≡◌, ◌≤◌, ◌+◌, ◌⊎◌, inl, inr, false, cond, List, [], length, take, Option, Some, None, Result, Ok, Err, refl, sym, ap, subst, ◌∙◌, arith}
+use Rattle.std.specs.Prelude.{MatchOption, ⊤}
+use Rattle.std.proofs.lemmas.Bool.{le-ltb}
+use Rattle.std.proofs.lemmas.List.{append-nil}
+use Rattle.pmem_base.specs.declared.lines.Line.{Line}
+use Rattle.pmem_base.specs.declared.answers.Exhibit.TheVariants.{Twin}
+use Rattle.pmem_base.specs.declared.commands.Posted.{Posted}
+use Rattle.board.specs.Device.{Device}
+use Rattle.board.specs.Memory.{BoardMemory}
+use Rattle.seal_ledger.specs.Ledger.{LedgerState}
+use Rattle.suite.specs.Setup.{Setup}
+use Rattle.plain_model.specs.State.{Memory}
+use Rattle.plain_model.specs.Bounds.{recovery_bound}
+use Rattle.pmem_engine.specs.declared.fault.Fault.{Fault}
+use Rattle.pmem_engine.specs.declared.fault.Fault.TheVariants as Fail
+use Rattle.pmem_engine.specs.Engine.{EngineState}
+use Rattle.pmem_engine.specs.Parts.{Parts, parts_of}
+use Rattle.pmem_engine.specs.Calls.{HasReadLine}
+use Rattle.pmem_engine.proofs.CallEnds.StillParts.{sound_trusted}
+use Rattle.pmem_recovery.specs.declared.faults.Work.{Work}
+use Rattle.pmem_recovery.specs.declared.faults.RecFault.{RecFault}
+use Rattle.pmem_recovery.specs.declared.faults.RecFault.TheVariants as Rec
+use Rattle.pmem_recovery.specs.Parts.{SuiteState}
+use Rattle.pmem_recovery.specs.Recovered.{HasRecovered, most_recovery_steps}
+use Rattle.line_txn.specs.declared.store.Store.{Store}
+use Rattle.line_txn.specs.declared.store.Opened.{Opened}
+use Rattle.line_txn.specs.declared.store.TxnFault.{TxnFault}
+use Rattle.line_txn.specs.declared.store.TxnFault.TheVariants as Txn
+use Rattle.line_txn.specs.Header.{IsHeader}
+use Rattle.line_txn.specs.Edits.{redoing_edits}
+use Rattle.line_txn.specs.Store.{HasStoreOpened, HasStoreStarted, HasFailedRedo, IsOpenedBy}
+use Rattle.watched_board.specs.Watching.{steps_in}
+use Rattle.engine_lines.specs.Writes.{Writing, read_steps}
+use Rattle.engine_lines.proofs.EngineLines.{setup_under}
+use Rattle.line_session.proofs.Twins.{seal_twin}
+use Rattle.line_session.proofs.Recoveries.{few_recovery, sound_recovered, cut_left, wanted_left, untouched, twin_left, twin_of_last, twin_within, rests}
+use Rattle.engine_lines.proofs.EngineWrites.{fewer_within, memory_done, read_line, read_cut}
+use Rattle.line_session.specs.declared.starts.StartFault.{StartFault}
+use Rattle.line_session.specs.declared.starts.StartFault.TheVariants as Start
+use Rattle.txn_session.specs.declared.commands.TxnCommand.TheVariants as Do
+use Rattle.txn_session.specs.declared.answers.TxnAnswer.{TxnAnswer}
+use Rattle.txn_session.specs.declared.answers.TxnAnswer.TheVariants as Say
+use Rattle.line_session.specs.During.{HasOpenedAfter, started_as}
+use Rattle.txn_session.specs.State.{TxnState, txn_setup_in}
+use Rattle.txn_session.specs.World.{TxnParts, IsTxnWorld, stuck_in, txn_of}
+use Rattle.txn_session.specs.Answered.{IsTxnAnswered, IsTxnShownBy, IsTxnMemoryWanted, GoesToTxnState, HasTxnOpened, after_redo}
+use Rattle.txn_session.proofs.AnswerClauses.{on_undecided, served, seen_from, held_under}
+use Rattle.engine_lines.proofs.EngineEdits.{IsCutAt, EndsAt}
+use Rattle.txn_session.proofs.RedoLists.{none_redone, few_redone}
+use Rattle.txn_session.proofs.Starts.{OnTxnCall}
+use Rattle.txn_session.proofs.RedoStates as state
+
+-- parts of one session that are equal one by one
+same_parts : (a b : TxnParts) → a.tags ≡ b.tags → a.digests ≡ b.digests → a.board ≡ b.board → a.ledger ≡ b.ledger → a.store ≡ b.store → a.txn ≡ b.txn
+    → record a { keys = b.keys } ≡ b
+same_parts a b tags digests board ledger store txn = grind arith
+
+module _ (c : OnTxnCall) where
+  abbrev setup : Setup
+  setup = state.setup c
+
+  abbrev p : TxnParts
+  p = state.p c
+
+  abbrev lit : BoardMemory
+  lit = state.lit c
+
+  abbrev old : TxnState
+  old = state.old c
+
+  abbrev places : Memory
+  places = state.places c
+
+  abbrev n : ℕ
+  n = state.n c
+
+  abbrev targets : List ℕ
+  targets = state.targets c
+
+  abbrev queue : List Posted
+  queue = state.queue c
+
+  abbrev from : Device
+  from = state.from c
+
+  abbrev to : Device
+  to = state.to c
+
+  abbrev most : ℕ
+  most = state.most c
+
+  abbrev left : BoardMemory → Option Store → TxnParts
+  left board store = state.left c board store
+
+  abbrev pub left_under : BoardMemory → Option Store → TxnParts
+  left_under board store = record { keys = c.keys; tags = c.suite_new.tags; digests = c.suite_new.digests; board = board; ledger = c.ledger; store = store; txn = p.txn }
+
+  -- ---- the answers
+
+  abbrev OpenExit : BoardMemory → Option Store → TxnAnswer → Type 0
+  OpenExit board store answer =
+      IsTxnWorld (setup_under c.formulas_of c.geometry c.keys) (left_under board store)
+      × IsTxnAnswered (txn_setup_in c.formulas_of c.now) c.now Do.On answer (txn_of (setup_under c.formulas_of c.geometry c.keys) (left_under board store))
+
+  now_is : old ≡ c.now
+  now_is = ap (λ ledger. txn_of setup (record (c.before) { ledger = ledger })) c.same_ledger ∙ c.is
+
+  -- no transaction is open, as before
+  txn_as : (P : TxnParts → Type 0) (board : BoardMemory) (store : Option Store) → P (left board store) → P (record (left board store) { txn = p.txn })
+  txn_as P board store it = subst (λ t. P (record (left board store) { txn = t })) (sym (state.off c).no_txn) it
+
+  exit_of : (board : BoardMemory) (store : Option Store) (answer : TxnAnswer) → IsTxnWorld setup (left board store)
+      → HasTxnOpened setup old answer (txn_of setup (left board store)) → OpenExit board store answer
+  exit_of board store answer held it = (
+    held_under c.formulas_of c.geometry p (record (left board store) { txn = p.txn }) c.keys c.same_keys (txn_as (IsTxnWorld setup) board store held),
+    seen_from c.formulas_of c.geometry p (record (left board store) { txn = p.txn }) c.now c.keys Do.On answer now_is c.same_keys refl
+        (txn_as (λ q. IsTxnAnswered setup old Do.On answer (txn_of setup q)) board store
+        (served setup old (txn_of setup (left board store)) Do.On answer (on_undecided old (state.off c).unpowered) it)),
+  )
+
+  -- what an exit says, whatever steps are answered
+  said_as : (board : BoardMemory) (store : Option Store) (answer : ℕ → TxnAnswer) → OpenExit board store (answer (steps_in c.taken))
+      → OpenExit board store (answer c.said)
+  said_as board store answer it = subst (λ k. OpenExit board store (answer k)) (sym c.counted) it
+
+  -- the board once power is off again
+  abbrev rested : BoardMemory
+  rested = record c.board { powered = false }
+
+  -- what holds after each answer of recovery and the opening
+  abbrev OpenOutcome : Result (Store × Opened) (StartFault TxnFault) → Type 0
+  OpenOutcome (Ok both) =
+      MatchOption both.1.stuck (OpenExit c.board (Some both.0) (Say.Opened both.1.redone (steps_in c.taken)))
+      (λ page. OpenExit c.board (Some both.0) (Say.Stuck page (steps_in c.taken)))
+  OpenOutcome (Err (Start.Recovery Rec.Cut)) = OpenExit c.board None (Say.Cut (steps_in c.taken))
+  OpenOutcome (Err (Start.Opening (Txn.Engine Fail.Cut))) = OpenExit c.board None (Say.Cut (steps_in c.taken))
+  OpenOutcome (Err (Start.Recovery Rec.Memory)) = IsTxnWorld setup (left rested None) × (txn_of setup (left rested None) ≡ old)
+  OpenOutcome (Err (Start.Recovery (Rec.Twin at major low high cipher tag))) =
+      IsTxnWorld setup (left rested None) × IsTxnShownBy setup old Do.On (Twin at major low high cipher tag)
+  OpenOutcome answer = ⊥
+
+  -- ---- the header was read, and its transaction redone, or power was cut
+
+  module _ (between : Device) (suite_between : SuiteState) (engine : EngineState) (work : Work)
+      (it : HasRecovered setup p.ledger from between c.suite_old suite_between (Ok (engine, work))) where
+    abbrev bound : ℕ
+    bound = recovery_bound c.geometry
+
+    abbrev parts_to : EngineState → Parts
+    parts_to kept = parts_of kept to c.ledger c.suite_new.tags c.suite_new.digests
+
+    abbrev first : Parts
+    first = state.parts_from c between suite_between engine work it
+
+    abbrev middle : Parts
+    middle = state.parts_between c between suite_between engine work it
+
+    opened_exit : (store : Store) (opened : Opened) → HasStoreStarted setup middle (parts_to store.engine) store opened → OpenOutcome (Ok (store, opened))
+    opened_exit store opened its =
+        go its.redone its.its_end (state.redo_ends c between suite_between engine work it its.targets (parts_to store.engine) its.redone its.was_redone)
+      where
+        same : its.targets ≡ targets
+        same = state.found_targets c between suite_between engine work it its.was_redone.between its.was_redone.line its.targets its.was_redone.was_read its.was_redone.header
+
+        go : (redone : Result (Unit {0}) Fault) → IsOpenedBy redone store.lines its.targets store opened
+            → EndsAt setup first queue 0 (length (redoing_edits n targets)) most redone (parts_to store.engine) → OpenOutcome (Ok (store, opened))
+        go (Ok done) by gone =
+            let writing : Writing = record { done = length (redoing_edits n targets); made = gone.made } in
+            let come : state.HasTxnCome c writing =
+            state.come_to c writing gone.done.marks (memory_done setup first (parts_to store.engine) (take writing.done queue) gone.made most gone.done) in
+            let stuck : store.stuck ≡ old.stuck = by.1 ∙ sym (ap stuck_in c.there) in
+            subst (λ o. MatchOption o (OpenExit c.board (Some store) (Say.Opened opened.redone (steps_in c.taken)))
+            (λ page. OpenExit c.board (Some store) (Say.Stuck page (steps_in c.taken)))) (sym by.2)
+            (exit_of c.board (Some store) (Say.Opened opened.redone (steps_in c.taken))
+            (state.lit_world c writing come store gone.done.live gone.done.sound (by.0 ∙ sym (none_redone n targets)))
+            (let said : HasTxnOpened setup old (Say.Opened opened.redone (steps_in c.taken)) (txn_of setup (left c.board (Some store))) =
+            record {
+              writing = writing;
+              came = (sym (state.count_is c), (omega (arith, (state.count_is c)), gone.done.asked));
+              ends = (
+                its.its_count ∙ ap length same,
+                subst (λ s. GoesToTxnState (record (after_redo old writing) { stuck = s }) (steps_in c.taken) most old (txn_of setup (left c.board (Some store)))) stuck
+                    (state.goes c writing come store gone.done.live gone.done.loss gone.done.takes),
+              );
+            } in said))
+        go (Err (Fail.Spent page)) by spent =
+            let writing : Writing = record { done = spent.count; made = spent.made } in
+            let come : state.HasTxnCome c writing =
+            state.come_to c writing spent.done.marks (memory_done setup first (parts_to store.engine) (take spent.count queue) spent.made most spent.done) in
+            let high = spent.high in
+            let before : spent.count ≤ length targets = let all = few_redone n targets in omega (arith, high, all) in
+            subst (λ o. MatchOption o (OpenExit c.board (Some store) (Say.Opened opened.redone (steps_in c.taken)))
+            (λ page. OpenExit c.board (Some store) (Say.Stuck page (steps_in c.taken)))) (sym by.2)
+            (exit_of c.board (Some store) (Say.Stuck page (steps_in c.taken))
+            (state.lit_world c writing come store spent.done.live spent.done.sound
+            (by.0 ∙ same ∙ sym (ap (λ b. cond b [] targets) (le-ltb (length targets) spent.count before))))
+            (let said : HasTxnOpened setup old (Say.Stuck page (steps_in c.taken)) (txn_of setup (left c.board (Some store))) =
+            record {
+              writing = writing;
+              came = spent.next;
+              ends =
+                  subst (λ s. GoesToTxnState (record (after_redo old writing) { stuck = s }) (steps_in c.taken) most old (txn_of setup (left c.board (Some store)))) by.1
+                  (state.goes c writing come store spent.done.live spent.done.loss spent.done.takes);
+            } in said))
+        go (Err fault) by ends = absurd by
+
+    -- power was cut in the redo
+    redo_cut_exit : (dropped : EngineState) → HasFailedRedo setup middle (parts_to dropped) Fail.Cut → OpenExit c.board None (Say.Cut (steps_in c.taken))
+    redo_cut_exit dropped redo =
+        let end : IsCutAt setup first queue 0 (length (redoing_edits n targets)) most (parts_to dropped) =
+        state.redo_ends c between suite_between engine work it redo.targets (parts_to dropped) (Err Fail.Cut) redo.was_redone in
+        let come : state.HasTxnCome c end.writing = state.come_to c end.writing end.cut.marks end.cut.memory in
+        exit_of c.board None (Say.Cut (steps_in c.taken)) (state.dark_world c end.writing come c.board end.cut.dark end.cut.durable end.cut.small_group)
+        (state.cut_seen c end.writing come end.came end.cut.dark end.cut.loss end.cut.takes)
+
+    -- or in the reading of the header
+    read_cut_exit : (dropped : EngineState) → HasReadLine setup n middle (parts_to dropped) (Err Fail.Cut) → OpenExit c.board None (Say.Cut (steps_in c.taken))
+    read_cut_exit dropped was =
+        let cut = read_cut setup first middle [] [] bound (state.recovered_to c between suite_between engine work it) n (parts_to dropped) was in
+        let writing : Writing = record { done = 0; made = [] } in
+        let come : state.HasTxnCome c writing = state.still_come c (cut.marks ∙ append-nil p.ledger.marks) in
+        exit_of c.board None (Say.Cut (steps_in c.taken)) (state.dark_world c writing come c.board cut.dark cut.durable cut.small_group)
+        (state.cut_seen c writing come (inl (omega arith, refl)) cut.dark cut.loss
+        (fewer_within from to (bound + read_steps c.geometry) most (omega arith) cut.takes))
+
+    by_opened : (opened : Result (Store × Opened) TxnFault) → HasStoreOpened setup middle parts_to opened → OpenOutcome (started_as opened)
+    by_opened (Ok both) opened = opened_exit both.0 both.1 opened
+    by_opened (Err (Txn.Engine Fail.Cut)) opened =
+        elim opened.1 [ inl read ↦ read_cut_exit opened.0 read | inr redo ↦ redo_cut_exit opened.0 redo ]
+    by_opened (Err (Txn.Engine (Fail.Spent page))) opened =
+        elim opened.1 [ inl read ↦ absurd read.possible | inr redo ↦ absurd redo.unspent ]
+    by_opened (Err (Txn.Engine fault)) opened =
+        let sound = sound_recovered setup p.ledger lit between c.suite_old suite_between engine work it (state.off c).durable in
+        elim opened.1 [
+          | inl read ↦ absurd (read.unrefused (sound_trusted setup middle sound).not_down sound)
+          | inr redo ↦ absurd (state.redo_ends c between suite_between engine work it redo.targets (parts_to opened.0) (Err fault) redo.was_redone)
+        ]
+    by_opened (Err (Txn.Header line)) opened =
+        absurd
+        (opened.1.none targets
+        (subst (λ l. IsHeader n l targets)
+        (sym
+        (read_line setup first middle [] [] bound (state.recovered_to c between suite_between engine work it) n (parts_to opened.0) line
+        (state.header_inside c between suite_between engine work it) opened.1.was_read)) (state.world c).logged.header))
+
+  -- ---- recovery wasn't done
+
+  abbrev nothing_done : Writing
+  nothing_done = record { done = 0; made = [] }
+
+  recovery_cut : (suite_between : SuiteState) → HasRecovered setup p.ledger from to c.suite_old suite_between (Err Rec.Cut) → c.ledger ≡ p.ledger
+      → OpenExit c.board None (Say.Cut (steps_in c.taken))
+  recovery_cut suite_between it ledger =
+      let come = state.still_come c (ap (λ (l : LedgerState). l.marks) ledger) in
+      let is = cut_left setup p.ledger c.ledger lit c.board c.taken c.suite_old suite_between ledger (state.off c).durable (state.world c).few_armed it in
+      let dark : c.board.powered ≡ false = it.power.off in
+      exit_of c.board None (Say.Cut (steps_in c.taken)) (state.dark_world c nothing_done come c.board dark is.durable is.few_armed)
+      (state.cut_seen c nothing_done come (inl (omega arith, refl)) dark is.loss
+      (fewer_within from to (most_recovery_steps setup lit.regs) most
+      (let few = few_recovery setup lit.regs (state.world c).few_armed in omega (arith, few)) it.steps))
+
+  -- nothing was done, for want of memory
+  recovery_wanted : (suite_between : SuiteState) → HasRecovered setup p.ledger from to c.suite_old suite_between (Err Rec.Memory)
+      → c.ledger ≡ p.ledger → c.suite_new ≡ suite_between → OpenOutcome (Err (Start.Recovery Rec.Memory))
+  recovery_wanted suite_between it ledger suite =
+      let marks : c.ledger.marks ≡ p.ledger.marks = ap (λ (l : LedgerState). l.marks) ledger in
+      let is = wanted_left setup p.ledger c.ledger lit c.board c.taken c.suite_old suite_between ledger (state.off c).durable (state.world c).few_armed it in
+      let board = rests p.board lit c.board refl (state.off c).unpowered (untouched lit c.board c.taken (state.watched c) it.unchanged refl) in
+      let uncounted : c.suite_new ≡ c.suite_old = suite ∙ it.uncounted in (
+        state.dark_world c nothing_done (state.still_come c marks) rested refl is.durable is.few_armed,
+        ap (txn_of setup)
+            (same_parts (left rested None) p (ap (λ (s : SuiteState). s.tags) uncounted ∙ c.tags_old) (ap (λ (s : SuiteState). s.digests) uncounted ∙ c.digests_old)
+            board ledger (sym c.there) (sym (state.off c).no_txn)),
+      )
+
+  recovery_twin : (suite_between : SuiteState) (at major low high : ℕ) (cipher : Line) (tag : List ℕ)
+      → HasRecovered setup p.ledger from to c.suite_old suite_between (Err (Rec.Twin at major low high cipher tag)) → c.ledger ≡ p.ledger
+      → OpenOutcome (Err (Start.Recovery (Rec.Twin at major low high cipher tag)))
+  recovery_twin suite_between at major low high cipher tag it ledger =
+      let marks : c.ledger.marks ≡ p.ledger.marks = ap (λ (l : LedgerState). l.marks) ledger in
+      let is = twin_left setup p.ledger c.ledger lit c.board c.taken c.suite_old suite_between ledger (state.off c).durable (state.world c).few_armed at major low high cipher tag it in
+      let within = twin_within setup p.ledger c.ledger lit c.board c.taken c.suite_old suite_between ledger (state.off c).durable (state.world c).few_armed at major low high cipher tag it in (
+        state.dark_world c nothing_done (state.still_come c marks) rested refl is.durable is.few_armed,
+        (
+          (state.off c).unpowered,
+          within,
+          it.twin,
+          seal_twin setup p.board.regs p.ledger places p.board.regs.loss at major low high cipher tag
+              (state.world c).whole_formulas (state.off c).durable.mendable.anchored (state.world c).places within
+              (twin_of_last setup p.ledger c.ledger lit c.board c.taken c.suite_old suite_between ledger (state.off c).durable (state.world c).few_armed at major low high cipher tag it),
+        ),
+      )
+
+  outcome : OpenOutcome c.answer
+  outcome = go (state.started c).recovery (state.started c).recovered (state.started c).then
+    where
+      refused : (fault : RecFault) → HasRecovered setup p.ledger from (state.started c).between c.suite_old (state.started c).suite_between (Err fault) → to ≡ (state.started c).between
+          → HasRecovered setup p.ledger from to c.suite_old (state.started c).suite_between (Err fault)
+      refused fault it same =
+          subst (λ d. HasRecovered setup p.ledger from d c.suite_old (state.started c).suite_between (Err fault)) (sym same) it
+
+      go : (recovery : Result (EngineState × Work) RecFault)
+          → HasRecovered setup p.ledger from (state.started c).between c.suite_old (state.started c).suite_between recovery
+          → HasOpenedAfter recovery (state.opens c) (state.started c).between to p.ledger c.ledger (state.started c).suite_between c.suite_new c.answer
+          → OpenOutcome c.answer
+      go (Ok done) it later =
+          subst OpenOutcome (sym later.2) (by_opened (state.started c).between (state.started c).suite_between done.0 done.1 it later.0 later.1.was_opened)
+      go (Err Rec.Cut) it later =
+          subst OpenOutcome (sym later.0) (recovery_cut (state.started c).suite_between (refused Rec.Cut it later.1) later.2)
+      go (Err Rec.Memory) it later =
+          subst OpenOutcome (sym later.0) (recovery_wanted (state.started c).suite_between (refused Rec.Memory it later.1) later.2 later.3)
+      go (Err (Rec.Twin at major low high cipher tag)) it later =
+          subst OpenOutcome (sym later.0)
+          (recovery_twin (state.started c).suite_between at major low high cipher tag (refused (Rec.Twin at major low high cipher tag) it later.1) later.2)
+      go (Err fault) it later =
+          absurd (((refused fault it later.1).lines p.board.lines refl c.board.lines refl).from_durable (state.off c).durable)
+
+  -- ---- as contracts write it
+
+  outcome_as : (answer : Result (Store × Opened) (StartFault TxnFault)) → c.answer ≡ answer → OpenOutcome answer
+  outcome_as answer is = subst OpenOutcome is outcome
+
+  -- what is held, whether the store is stuck or not
+  pub open_held : (store : Store) (opened : Opened) → c.answer ≡ Ok (store, opened)
+      → IsTxnWorld (setup_under c.formulas_of c.geometry c.keys) (left_under c.board (Some store))
+  open_held store opened is = go opened.stuck (outcome_as (Ok (store, opened)) is)
+    where
+      go : (stuck : Option ℕ)
+          → MatchOption stuck (OpenExit c.board (Some store) (Say.Opened opened.redone (steps_in c.taken)))
+          (λ page. OpenExit c.board (Some store) (Say.Stuck page (steps_in c.taken)))
+          → IsTxnWorld (setup_under c.formulas_of c.geometry c.keys) (left_under c.board (Some store))
+      go None it = it.0
+      go (Some page) it = it.0
+
+  pub open_exit : (store : Store) (opened : Opened) → c.answer ≡ Ok (store, opened) → opened.stuck ≡ None
+      → OpenExit c.board (Some store) (Say.Opened opened.redone c.said)
+  open_exit store opened is none =
+      said_as c.board (Some store) (λ k. Say.Opened opened.redone k)
+      (subst (λ o. MatchOption o (OpenExit c.board (Some store) (Say.Opened opened.redone (steps_in c.taken)))
+      (λ page. OpenExit c.board (Some store) (Say.Stuck page (steps_in c.taken)))) none (outcome_as (Ok (store, opened)) is))
+
+  pub stuck_exit : (store : Store) (opened : Opened) (page : ℕ) → c.answer ≡ Ok (store, opened) → opened.stuck ≡ Some page
+      → OpenExit c.board (Some store) (Say.Stuck page c.said)
+  stuck_exit store opened page is there =
+      said_as c.board (Some store) (λ k. Say.Stuck page k)
+      (subst (λ o. MatchOption o (OpenExit c.board (Some store) (Say.Opened opened.redone (steps_in c.taken)))
+      (λ page. OpenExit c.board (Some store) (Say.Stuck page (steps_in c.taken)))) there (outcome_as (Ok (store, opened)) is))
+
+  -- the answer wasn't decided, so memory may be wanted for it
+  pub wanted_on : IsTxnMemoryWanted c.now Do.On
+  wanted_on = subst (λ (w : TxnState). IsTxnMemoryWanted w Do.On) now_is (refl, on_undecided old (state.off c).unpowered)
+
+  -- no store is there, as before
+  dark_exit : (board : BoardMemory) (answer : TxnAnswer) → OpenExit board None answer → OpenExit board p.store answer
+  dark_exit board answer it = subst (λ s. OpenExit board s answer) (sym c.there) it
+
+  pub cut_exit : (c.answer ≡ Err (Start.Recovery Rec.Cut)) ⊎ (c.answer ≡ Err (Start.Opening (Txn.Engine Fail.Cut)))
+      → OpenExit c.board p.store (Say.Cut c.said)
+  cut_exit (inl is) = dark_exit c.board (Say.Cut c.said) (said_as c.board None (λ k. Say.Cut k) (outcome_as (Err (Start.Recovery Rec.Cut)) is))
+  cut_exit (inr is) =
+      dark_exit c.board (Say.Cut c.said) (said_as c.board None (λ k. Say.Cut k) (outcome_as (Err (Start.Opening (Txn.Engine Fail.Cut))) is))
+
+  module _ (board : BoardMemory) (is_rested : board ≡ rested) where
+    rested_as : (P : TxnParts → Type 0) → P (left rested None) → P (record (left board p.store) { txn = p.txn })
+    rested_as P it =
+        subst (λ s. P (record (left board s) { txn = p.txn })) (sym c.there)
+        (subst (λ b. P (record (left b None) { txn = p.txn })) (sym is_rested) (txn_as P rested None it))
+
+    held_rested : IsTxnWorld setup (left rested None) → IsTxnWorld (setup_under c.formulas_of c.geometry c.keys) (left_under board p.store)
+    held_rested it =
+        held_under c.formulas_of c.geometry p (record (left board p.store) { txn = p.txn }) c.keys c.same_keys (rested_as (IsTxnWorld setup) it)
+
+    pub wanted_exit : c.answer ≡ Err (Start.Recovery Rec.Memory)
+        → IsTxnWorld (setup_under c.formulas_of c.geometry c.keys) (left_under board p.store)
+        × (txn_of (setup_under c.formulas_of c.geometry c.keys) (left_under board p.store) ≡ c.now)
+    wanted_exit is =
+        let it = outcome_as (Err (Start.Recovery Rec.Memory)) is in (
+          held_rested it.0,
+          subst (λ (k : List ℕ). txn_of (setup_under c.formulas_of c.geometry k) (record (left board p.store) { txn = p.txn; keys = k }) ≡ c.now) (sym c.same_keys)
+              (rested_as (λ q. txn_of setup q ≡ c.now) (it.1 ∙ now_is)),
+        )
+
+    pub twin_exit : (at major low high : ℕ) (cipher : Line) (tag : List ℕ) → c.answer ≡ Err (Start.Recovery (Rec.Twin at major low high cipher tag))
+        → IsTxnWorld (setup_under c.formulas_of c.geometry c.keys) (left_under board p.store)
+        × IsTxnShownBy (txn_setup_in c.formulas_of c.now) c.now Do.On (Twin at major low high cipher tag)
+    twin_exit at major low high cipher tag is =
+        let it = outcome_as (Err (Start.Recovery (Rec.Twin at major low high cipher tag))) is in (
+          held_rested it.0,
+          subst (λ (w : TxnState). IsTxnShownBy (txn_setup_in c.formulas_of w) w Do.On (Twin at major low high cipher tag)) now_is it.1,
+        )
+
+  -- no other answer comes
+  abbrev pub IsTxnPossible : Result (Store × Opened) (StartFault TxnFault) → Type 0
+  IsTxnPossible (Ok both) = ⊤
+  IsTxnPossible (Err (Start.Recovery Rec.Cut)) = ⊤
+  IsTxnPossible (Err (Start.Opening (Txn.Engine Fail.Cut))) = ⊤
+  IsTxnPossible (Err (Start.Recovery Rec.Memory)) = ⊤
+  IsTxnPossible (Err (Start.Recovery (Rec.Twin at major low high cipher tag))) = ⊤
+  IsTxnPossible answer = ⊥
+
+  pub possible : (answer : Result (Store × Opened) (StartFault TxnFault)) → c.answer ≡ answer → IsTxnPossible answer
+  possible answer is = go answer (outcome_as answer is)
+    where
+      go : (answer : Result (Store × Opened) (StartFault TxnFault)) → OpenOutcome answer → IsTxnPossible answer
+      go (Ok both) it = tt
+      go (Err (Start.Recovery Rec.Cut)) it = tt
+      go (Err (Start.Opening (Txn.Engine Fail.Cut))) it = tt
+      go (Err (Start.Recovery Rec.Memory)) it = tt
+      go (Err (Start.Recovery (Rec.Twin at major low high cipher tag))) it = tt
+      go answer it = absurd it
