@@ -6,6 +6,8 @@ pub mod WriteReplies
 pub mod GivenWrites
 pub mod DrainLists
 pub mod DrainChain
+pub mod GivenCalls
+pub mod LastWrites
 pub mod DrainSteps
 pub mod DrainedLaws
 pub mod FenceLaws

@@ -158,15 +158,15 @@ pub record HasSameParts (old new : WorldState) : Type 0 where
   pub tags : new.tags ≡ old.tags
   pub digests : new.digests ≡ old.digests
 
--- What a fence answers that ends with a write of which a drain would answer `one`: so many were drained
--- before it, in `spent` steps. It isn't counted itself, not even where it was kept in a cut.
-abbrev pub EndsFence : ℕ → ℕ → Answer → Answer → Type 0
-EndsFence drained spent (Say.Refused None place steps) answer = answer ≡ Say.Refused (Some drained) place (spent + steps)
-EndsFence drained spent (Say.Spent None page steps) answer = answer ≡ Say.Spent (Some drained) page (spent + steps)
-EndsFence drained spent (Say.CutKept None steps) answer = answer ≡ Say.CutKept (Some drained) (spent + steps)
-EndsFence drained spent (Say.CutLost None steps) answer = answer ≡ Say.CutLost (Some drained) (spent + steps)
-EndsFence drained spent (Say.Shown exhibit) answer = answer ≡ Say.Shown exhibit
-EndsFence drained spent one answer = ⊥
+-- What a command answers that ends with a write of which a drain of it alone would answer `one`: so many were drained
+-- before it, as a fence tells, in `spent` steps. It isn't counted itself, not even where it was kept in a cut.
+abbrev pub EndsWrites : Option ℕ → ℕ → Answer → Answer → Type 0
+EndsWrites drained spent (Say.Refused None place steps) answer = answer ≡ Say.Refused drained place (spent + steps)
+EndsWrites drained spent (Say.Spent None page steps) answer = answer ≡ Say.Spent drained page (spent + steps)
+EndsWrites drained spent (Say.CutKept None steps) answer = answer ≡ Say.CutKept drained (spent + steps)
+EndsWrites drained spent (Say.CutLost None steps) answer = answer ≡ Say.CutLost drained (spent + steps)
+EndsWrites drained spent (Say.Shown exhibit) answer = answer ≡ Say.Shown exhibit
+EndsWrites drained spent one answer = ⊥
 
 -- A fence of these writes, the oldest first, after so many drained ones that took `spent` steps: a chain
 -- of drains. The first write ends it, or is drained, and the fence goes on with the others from the
@@ -174,7 +174,7 @@ EndsFence drained spent one answer = ⊥
 abbrev pub HasFenced : Setup → List Posted → ℕ → ℕ → WorldState → Answer → WorldState → Type 0
 HasFenced setup [] drained spent old answer new = HasSameParts old new × (answer ≡ Say.Fenced drained spent)
 HasFenced setup (write ∷ later) drained spent old answer new =
-    ((one : Answer) × HasDrained setup write old one new × EndsFence drained spent one answer)
+    ((one : Answer) × HasDrained setup write old one new × EndsWrites (Some drained) spent one answer)
     ⊎ ((steps : ℕ) × (mid : WorldState) × HasDrained setup write old (Say.Drained steps) mid
     × HasFenced setup later (drained + 1) (spent + steps) mid answer new)
 

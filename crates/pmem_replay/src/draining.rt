@@ -9,7 +9,7 @@ ghost use Rattle.access_log.specs.Traced.{GoesOn};
 ghost use Rattle.pmem_replay.specs.EngineCalls.{IsWriteTaken};
 ghost use Rattle.pmem_replay.specs.Given.{HasWriteGiven, CanEndFence};
 ghost use Rattle.pmem_replay.specs.Replies.{with_marks_since};
-ghost use Rattle.pmem_replay.specs.Stepped.{HasStepped, CanWantMemory, EndsFence};
+ghost use Rattle.pmem_replay.specs.Stepped.{HasStepped, CanWantMemory, EndsWrites};
 ghost use Rattle.pmem_replay.specs.World.{setup_of_world};
 
 use crate::World;
@@ -145,7 +145,7 @@ fn ended(one: Answer, done: u8, steps: u64) -> Answer
     requires small { steps ≤ 65536 * 16 }
     requires few { steps_of one ≤ 65536 }
     requires ends { CanEndFence one }
-    ensures { EndsFence done steps one result }
+    ensures { EndsWrites (Some done) steps one result }
 {
     match one {
         Answer::Refused {

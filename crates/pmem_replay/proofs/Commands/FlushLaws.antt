@@ -22,7 +22,7 @@ use Rattle.pmem_replay.proofs.Steps.WorldsAfterCalls.{on_in, cut_at_fuse, within
 use Rattle.pmem_replay.proofs.Steps.MarklessCalls.{exactly}
 use Rattle.pmem_replay.proofs.Steps.FaultCauses.{zero_within}
 use Rattle.pmem_replay.specs.Replies.{without_marks}
-use Rattle.pmem_replay.proofs.Steps.GoodReplies.{IsGood}
+use Rattle.pmem_replay.proofs.Steps.GoodReplies.{IsGood, good}
 
 -- where nothing was done no step was taken
 pub left_alone-steps : (setup : Setup) (old new : WorldState) (engine after : EngineState) (taken : Taken)
@@ -64,27 +64,9 @@ module _ (setup : Setup) (old new : WorldState) (engine after : EngineState) (ta
         let answered = flush.answered on_now.trusted.not_down in
         let done = flush.done on_now.trusted.not_down in
         let powered = done.gone.power.1 (call.world.board.power ∙ on_now.powered) in
-        record {
-          legal =
-              record {
-                legal =
-                    record {
-                      listed = refl;
-                      within_fuse = within_fuse old.state old.board new.board taken call.world.board call.follows powered;
-                      writes_whole = refl;
-                      caused = tt;
-                    };
-                shown = tt;
-              };
-          fits =
-              record {
-                marks_asked = refl;
-                peek_true = tt;
-                steps_counted = tt;
-                flush_true = on_now.dirty (level_of x) x answered.0;
-                within_bounds = exactly old.board new.board taken 1 call.follows.few answered.3;
-              };
-        }
+        good refl (within_fuse old.state old.board new.board taken call.world.board call.follows powered) refl tt tt
+        refl tt tt (on_now.dirty (level_of x) x answered.0)
+        (exactly old.board new.board taken 1 call.follows.few answered.3)
 
   -- ---- a cut
 

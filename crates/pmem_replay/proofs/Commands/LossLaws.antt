@@ -23,7 +23,7 @@ use Rattle.pmem_replay.proofs.Steps.WorldsAfterCalls.{on_in, cut_at_fuse, within
 use Rattle.pmem_replay.proofs.Marks.DirtyBlocks.{dirty_blocks-le, dirty_slots-le}
 use Rattle.pmem_replay.proofs.Steps.MarklessCalls.{exactly, accounted_in}
 use Rattle.pmem_replay.specs.Replies.{without_marks}
-use Rattle.pmem_replay.proofs.Steps.GoodReplies.{IsGood}
+use Rattle.pmem_replay.proofs.Steps.GoodReplies.{IsGood, good}
 
 -- the slots of a bank are few
 pub few_slots : (g : Shape) → IsShape g → layout.slots g ≤ 512
@@ -78,31 +78,12 @@ module _ (setup : Setup) (old new : WorldState) (engine after : EngineState) (ta
     set-good =
         let gone = set.gone on_now.trusted.not_down in
         let powered = gone.power.1 (call.world.board.power ∙ on_now.powered) in
-        record {
-          legal =
-              record {
-                legal =
-                    record {
-                      listed = refl;
-                      within_fuse = within_fuse old.state old.board new.board taken call.world.board call.follows powered;
-                      writes_whole = refl;
-                      caused = set_steps (nat_lt old.state.loss n) its_steps;
-                    };
-                shown = tt;
-              };
-          fits =
-              record {
-                marks_asked = refl;
-                peek_true = tt;
-                steps_counted = tt;
-                flush_true = tt;
-                within_bounds =
-                    subst (λ b. AreAllWithin false (steps_in taken)
-                    (cond b (0 ∷ []) (cond (nat_lt old.state.loss n) (1 ∷ []) ((layout.slots setup.shape + 1) ∷ (dirty_bound setup.shape old.state + 1) ∷ []))))
-                    (sym (ne_eqb n old.state.loss other))
-                    (set_bounds (nat_lt old.state.loss n) its_steps);
-              };
-        }
+        good refl (within_fuse old.state old.board new.board taken call.world.board call.follows powered) refl
+        (set_steps (nat_lt old.state.loss n) its_steps) tt refl tt tt tt
+        (subst (λ b. AreAllWithin false (steps_in taken)
+        (cond b (0 ∷ []) (cond (nat_lt old.state.loss n) (1 ∷ []) ((layout.slots setup.shape + 1) ∷ (dirty_bound setup.shape old.state + 1) ∷ []))))
+        (sym (ne_eqb n old.state.loss other))
+        (set_bounds (nat_lt old.state.loss n) its_steps))
 
   -- ---- a cut
 
@@ -140,30 +121,11 @@ module _ (setup : Setup) (old new : WorldState) (engine after : EngineState) (ta
     pub cut-good : IsGood setup old (Do.Loss n) (without_marks (Say.Cut (steps_in taken)))
     cut-good =
         let gone = set.gone on_now.trusted.not_down in
-        record {
-          legal =
-              record {
-                legal =
-                    record {
-                      listed = refl;
-                      within_fuse =
-                          cut_at_fuse old.state old.board new.board taken call.world.board call.follows gone.power.1
-                          (omega (arith, few_steps (nat_lt old.state.loss n) cut_steps));
-                      writes_whole = refl;
-                      caused = tt;
-                    };
-                shown = tt;
-              };
-          fits =
-              record {
-                marks_asked = refl;
-                peek_true = tt;
-                steps_counted = tt;
-                flush_true = tt;
-                within_bounds =
-                    subst (λ b. AreAllWithin true (steps_in taken)
-                    (cond b (0 ∷ []) (cond (nat_lt old.state.loss n) (1 ∷ []) ((layout.slots setup.shape + 1) ∷ (dirty_bound setup.shape old.state + 1) ∷ []))))
-                    (sym (ne_eqb n old.state.loss other))
-                    (cut_bounds (nat_lt old.state.loss n) cut_steps);
-              };
-        }
+        good refl
+        (cut_at_fuse old.state old.board new.board taken call.world.board call.follows gone.power.1
+        (omega (arith, few_steps (nat_lt old.state.loss n) cut_steps)))
+        refl tt tt refl tt tt tt
+        (subst (λ b. AreAllWithin true (steps_in taken)
+        (cond b (0 ∷ []) (cond (nat_lt old.state.loss n) (1 ∷ []) ((layout.slots setup.shape + 1) ∷ (dirty_bound setup.shape old.state + 1) ∷ []))))
+        (sym (ne_eqb n old.state.loss other))
+        (cut_bounds (nat_lt old.state.loss n) cut_steps))

@@ -40,7 +40,7 @@ use Rattle.pmem_replay.specs.EngineCalls.{IsCall}
 use Rattle.pmem_replay.proofs.Steps.WorldsAfterCalls.{on_in, cut_at_fuse, within_fuse}
 use Rattle.pmem_replay.proofs.Steps.FaultCauses.{on_path-within, may_differ, fetched_before, stored_unspoiled, stored_before, hurt_before, tag_unstored, forged_unstored, forged_other, zero_within, shown_uncut}
 use Rattle.pmem_replay.specs.Replies.{without_marks}
-use Rattle.pmem_replay.proofs.Steps.GoodReplies.{IsGood}
+use Rattle.pmem_replay.proofs.Steps.GoodReplies.{IsGood, good}
 use Rattle.pmem_replay.proofs.Marks.DirtyBlocks.{dirty_count-le}
 use Rattle.pmem_replay.proofs.Steps.MarklessCalls.{accounted_in}
 
@@ -97,27 +97,10 @@ module _ (setup : Setup) (old new : WorldState) (engine after : EngineState) (ta
     read-good =
         let powered = read_powered (Ok line) refl read in
         let bounds = steps_within (Ok line) read in
-        record {
-          legal =
-              record {
-                legal =
-                    record {
-                      listed = refl;
-                      within_fuse = within_fuse old.state old.board new.board taken call.world.board call.follows powered;
-                      writes_whole = refl;
-                      caused = (ap (λ z. put_writes z (writes_to (queue_of old.state.queues port) at)) read-memory, read-unspoiled);
-                    };
-                shown = tt;
-              };
-          fits =
-              record {
-                marks_asked = refl;
-                peek_true = tt;
-                steps_counted = tt;
-                flush_true = tt;
-                within_bounds = (le-leb (steps_in taken) (path_length setup.shape) bounds.0, le-leb (steps_in taken) (dirty_bound setup.shape old.state) bounds.1);
-              };
-        }
+        good refl (within_fuse old.state old.board new.board taken call.world.board call.follows powered) refl
+        (ap (λ z. put_writes z (writes_to (queue_of old.state.queues port) at)) read-memory, read-unspoiled) tt refl
+        tt tt tt
+        (le-leb (steps_in taken) (path_length setup.shape) bounds.0, le-leb (steps_in taken) (dirty_bound setup.shape old.state) bounds.1)
 
   -- ---- a refused metadata line
 
@@ -130,33 +113,15 @@ module _ (setup : Setup) (old new : WorldState) (engine after : EngineState) (ta
         let done = read.done on_now.trusted.not_down in
         let in_tree = on_path-within setup.shape (page_of at) x (omega (arith, within)) refused.fetched.on_path in
         let other : refused.line ≢ line_at old.ledger.truth x = λ same. refused.other_digest (ap (setup.formulas.digest_of x) same) in
-        record {
-          legal =
-              record {
-                legal =
-                    record {
-                      listed = refl;
-                      within_fuse = within_fuse old.state old.board new.board taken call.world.board call.follows powered;
-                      writes_whole = refl;
-                      caused = (
-                        refused.fetched.on_path,
-                        may_differ setup old engine x refused.line on_now in_tree refused.fetched.uncached
-                            (fetched_before setup old new engine after taken (page_of at) x refused.line call.world.whole_shape on_now
-                            done.gone in_tree refused.fetched other)
-                            other,
-                      );
-                    };
-                shown = tt;
-              };
-          fits =
-              record {
-                marks_asked = refl;
-                peek_true = tt;
-                steps_counted = tt;
-                flush_true = tt;
-                within_bounds = (le-leb (steps_in taken) (path_length setup.shape) bounds.0, le-leb (steps_in taken) (dirty_bound setup.shape old.state) bounds.1);
-              };
-        }
+        good refl (within_fuse old.state old.board new.board taken call.world.board call.follows powered) refl (
+          refused.fetched.on_path,
+          may_differ setup old engine x refused.line on_now in_tree refused.fetched.uncached
+              (fetched_before setup old new engine after taken (page_of at) x refused.line call.world.whole_shape on_now
+              done.gone in_tree refused.fetched other)
+              other,
+        )
+        tt refl tt tt tt
+        (le-leb (steps_in taken) (path_length setup.shape) bounds.0, le-leb (steps_in taken) (dirty_bound setup.shape old.state) bounds.1)
 
   -- ---- a refused data line
 
@@ -167,32 +132,14 @@ module _ (setup : Setup) (old new : WorldState) (engine after : EngineState) (ta
         let done = read.done on_now.trusted.not_down in
         let powered = read_powered (Err (Fail.Tag b)) refl read in
         let bounds = steps_within (Err (Fail.Tag b)) read in
-        record {
-          legal =
-              record {
-                legal =
-                    record {
-                      listed = refl;
-                      within_fuse = within_fuse old.state old.board new.board taken call.world.board call.follows powered;
-                      writes_whole = refl;
-                      caused = (
-                        subst (λ z. IsTrue (is_flagged old.state.hurt z)) (sym refused.0)
-                            (hurt_before setup old new engine after taken [] at call.world.kept (done.gone.places on_now.trusted) within
-                            (tag_unstored setup new after taken at (done.gone.trusted on_now.trusted) refused.1)),
-                        refused.0,
-                      );
-                    };
-                shown = tt;
-              };
-          fits =
-              record {
-                marks_asked = refl;
-                peek_true = tt;
-                steps_counted = tt;
-                flush_true = tt;
-                within_bounds = (le-leb (steps_in taken) (path_length setup.shape) bounds.0, le-leb (steps_in taken) (dirty_bound setup.shape old.state) bounds.1);
-              };
-        }
+        good refl (within_fuse old.state old.board new.board taken call.world.board call.follows powered) refl (
+          subst (λ z. IsTrue (is_flagged old.state.hurt z)) (sym refused.0)
+              (hurt_before setup old new engine after taken [] at call.world.kept (done.gone.places on_now.trusted) within
+              (tag_unstored setup new after taken at (done.gone.trusted on_now.trusted) refused.1)),
+          refused.0,
+        )
+        tt refl tt tt tt
+        (le-leb (steps_in taken) (path_length setup.shape) bounds.0, le-leb (steps_in taken) (dirty_bound setup.shape old.state) bounds.1)
 
   -- ---- a cut
 
@@ -201,29 +148,11 @@ module _ (setup : Setup) (old new : WorldState) (engine after : EngineState) (ta
     cut-good few =
         let done = read.done on_now.trusted.not_down in
         let bounds = cut_within read in
-        record {
-          legal =
-              record {
-                legal =
-                    record {
-                      listed = refl;
-                      within_fuse =
-                          cut_at_fuse old.state old.board new.board taken call.world.board call.follows done.gone.power.1
-                          (omega (arith, bounds.0, few));
-                      writes_whole = refl;
-                      caused = tt;
-                    };
-                shown = tt;
-              };
-          fits =
-              record {
-                marks_asked = refl;
-                peek_true = tt;
-                steps_counted = tt;
-                flush_true = tt;
-                within_bounds = (lt-ltb (steps_in taken) (path_length setup.shape) bounds.0, lt-ltb (steps_in taken) (dirty_bound setup.shape old.state) bounds.1);
-              };
-        }
+        good refl
+        (cut_at_fuse old.state old.board new.board taken call.world.board call.follows done.gone.power.1
+        (omega (arith, bounds.0, few)))
+        refl tt tt refl tt tt tt
+        (lt-ltb (steps_in taken) (path_length setup.shape) bounds.0, lt-ltb (steps_in taken) (dirty_bound setup.shape old.state) bounds.1)
 
   -- ---- an exhibit
 
@@ -291,15 +220,9 @@ module _ (setup : Setup) (old new : WorldState) (engine after : EngineState) (ta
         → KeepsPlaces setup [] (parts_in old engine none_taken) (parts_in new after taken)
         → IsGood setup old (Do.Read port at) (without_marks (Say.Shown exhibit))
     shown-good before places =
-        record {
-          legal =
-              record {
-                legal = record { listed = refl; within_fuse = zero_within old.state.fuse; writes_whole = refl; caused = tt };
-                shown =
-                    elim (read.answered on_now.trusted.not_down on_now.trusted) [
-                      | inl clash ↦ clash-shown clash (before clash)
-                      | inr forged ↦ forged-shown forged places
-                    ];
-              };
-          fits = record { marks_asked = refl; peek_true = tt; steps_counted = tt; flush_true = tt; within_bounds = tt };
-        }
+        good refl (zero_within old.state.fuse) refl tt
+        (elim (read.answered on_now.trusted.not_down on_now.trusted) [
+          | inl clash ↦ clash-shown clash (before clash)
+          | inr forged ↦ forged-shown forged places
+        ])
+        refl tt tt tt tt

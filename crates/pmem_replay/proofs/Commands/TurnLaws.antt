@@ -30,7 +30,7 @@ use Rattle.pmem_replay.proofs.Steps.FaultCauses.{hurt_before, tag_unstored, forg
 use Rattle.pmem_replay.proofs.Steps.MarklessCalls.{exactly}
 use Rattle.pmem_replay.proofs.Marks.OpenPages.{IsWholePage, whole_pages, lowest_within}
 use Rattle.pmem_replay.specs.Replies.{without_marks}
-use Rattle.pmem_replay.proofs.Steps.GoodReplies.{IsGood}
+use Rattle.pmem_replay.proofs.Steps.GoodReplies.{IsGood, good}
 
 module _ (setup : Setup) (old new : WorldState) (engine after : EngineState) (taken : Taken)
     (call : IsCall setup old new engine after taken) where
@@ -58,27 +58,8 @@ module _ (setup : Setup) (old new : WorldState) (engine after : EngineState) (ta
         let counts = turn.counts on_now.trusted.not_down in
         let done = turn.done on_now.trusted.not_down in
         let powered = done.gone.power.1 (call.world.board.power ∙ on_now.powered) in
-        record {
-          legal =
-              record {
-                legal =
-                    record {
-                      listed = refl;
-                      within_fuse = within_fuse old.state old.board new.board taken call.world.board call.follows powered;
-                      writes_whole = refl;
-                      caused = tt;
-                    };
-                shown = tt;
-              };
-          fits =
-              record {
-                marks_asked = (marks.0, marks.2);
-                peek_true = tt;
-                steps_counted = tt;
-                flush_true = tt;
-                within_bounds = exactly old.board new.board taken 4 call.follows.few counts.0;
-              };
-        }
+        good refl (within_fuse old.state old.board new.board taken call.world.board call.follows powered) refl tt tt
+        (marks.0, marks.2) tt tt tt (exactly old.board new.board taken 4 call.follows.few counts.0)
 
   -- ---- a refused line
 
@@ -97,31 +78,13 @@ module _ (setup : Setup) (old new : WorldState) (engine after : EngineState) (ta
         let done = refused_done in
         let powered = done.gone.power.1 (call.world.board.power ∙ on_now.powered) in
         let within = lowest_within setup.shape (view_in setup old).open_pages b pages_whole marks.1 in
-        record {
-          legal =
-              record {
-                legal =
-                    record {
-                      listed = refl;
-                      within_fuse = within_fuse old.state old.board new.board taken call.world.board call.follows powered;
-                      writes_whole = refl;
-                      caused = (
-                        hurt_before setup old new engine after taken [] b call.world.kept (done.gone.places on_now.trusted) within
-                            (tag_unstored setup new after taken b (done.gone.trusted on_now.trusted) (turn.answered on_now.trusted.not_down on_now.trusted)),
-                        tt,
-                      );
-                    };
-                shown = tt;
-              };
-          fits =
-              record {
-                marks_asked = (refl, marks.1);
-                peek_true = tt;
-                steps_counted = tt;
-                flush_true = tt;
-                within_bounds = exactly old.board new.board taken 0 call.follows.few (turn.counts on_now.trusted.not_down);
-              };
-        }
+        good refl (within_fuse old.state old.board new.board taken call.world.board call.follows powered) refl (
+          hurt_before setup old new engine after taken [] b call.world.kept (done.gone.places on_now.trusted) within
+              (tag_unstored setup new after taken b (done.gone.trusted on_now.trusted) (turn.answered on_now.trusted.not_down on_now.trusted)),
+          tt,
+        )
+        tt (refl, marks.1) tt tt tt
+        (exactly old.board new.board taken 0 call.follows.few (turn.counts on_now.trusted.not_down))
 
   -- ---- a cut
 
@@ -133,29 +96,10 @@ module _ (setup : Setup) (old new : WorldState) (engine after : EngineState) (ta
     cut-good =
         let done = turn.done on_now.trusted.not_down in
         let few = fewer taken 4 call.follows.few (turn.counts on_now.trusted.not_down).sum in
-        record {
-          legal =
-              record {
-                legal =
-                    record {
-                      listed = refl;
-                      within_fuse =
-                          cut_at_fuse old.state old.board new.board taken call.world.board call.follows done.gone.power.1
-                          (omega (arith, few));
-                      writes_whole = refl;
-                      caused = tt;
-                    };
-                shown = tt;
-              };
-          fits =
-              record {
-                marks_asked = cut_marks;
-                peek_true = tt;
-                steps_counted = tt;
-                flush_true = tt;
-                within_bounds = few;
-              };
-        }
+        good refl
+        (cut_at_fuse old.state old.board new.board taken call.world.board call.follows done.gone.power.1
+        (omega (arith, few)))
+        refl tt tt cut_marks tt tt tt few
 
   -- ---- an exhibit
 
@@ -178,46 +122,40 @@ module _ (setup : Setup) (old new : WorldState) (engine after : EngineState) (ta
         let same = same_Some (Forged found.at forged.ctr forged.cipher forged.tag) exhibit (sym forged.exhibit ∙ its) in
         let its_ctr : option_map (λ seal. seal.ctr) (last_seal old.ledger.marks found.at) ≡ Some forged.ctr =
         ap (λ marks. option_map (λ seal. seal.ctr) (last_seal marks found.at)) (sym marks) ∙ forged.unsealed.counter in
-        record {
-          legal =
+        good refl (zero_within old.state.fuse) refl tt
+        (subst (λ e. IsShown setup old.state (view_in setup old) Do.Turn [] e) same
+        (record {
+          holds = forged.right_tag;
+          in_run =
               record {
-                legal = record { listed = refl; within_fuse = zero_within old.state.fuse; writes_whole = refl; caused = tt };
-                shown =
-                    subst (λ e. IsShown setup old.state (view_in setup old) Do.Turn [] e) same
-                    (record {
-                      holds = forged.right_tag;
-                      in_run =
-                          record {
-                            last_counter = sym (counter_at-last setup.shape old.ledger.marks found.at forged.ctr within its_ctr);
-                            refusable = (
-                              None,
-                              record {
-                                legal =
-                                    record {
-                                      listed = refl;
-                                      within_fuse = zero_within old.state.fuse;
-                                      writes_whole = refl;
-                                      caused = (
-                                        hurt_before setup old new engine after taken [] found.at call.world.kept places within
-                                            (forged_unstored setup new after taken found.at none forged),
-                                        tt,
-                                      );
-                                    };
-                                fits =
-                                    record {
-                                      marks_asked = (refl, found.lowest);
-                                      peek_true = tt;
-                                      steps_counted = tt;
-                                      flush_true = tt;
-                                      within_bounds = refl;
-                                    };
-                              },
-                              forged_other setup old.board.regs old.ledger old.state.memory found.at forged.ctr forged.cipher call.world.whole_formulas
-                                  on_now.trusted.anchored call.world.memory within its_ctr
-                                  (subst (λ marks. IfSome (last_seal marks found.at) (λ seal. forged.cipher ≢ seal.cipher)) marks forged.other_cipher),
-                            );
-                          };
-                    });
+                last_counter = sym (counter_at-last setup.shape old.ledger.marks found.at forged.ctr within its_ctr);
+                refusable = (
+                  None,
+                  record {
+                    legal =
+                        record {
+                          listed = refl;
+                          within_fuse = zero_within old.state.fuse;
+                          writes_whole = refl;
+                          caused = (
+                            hurt_before setup old new engine after taken [] found.at call.world.kept places within
+                                (forged_unstored setup new after taken found.at none forged),
+                            tt,
+                          );
+                        };
+                    fits =
+                        record {
+                          marks_asked = (refl, found.lowest);
+                          peek_true = tt;
+                          steps_counted = tt;
+                          flush_true = tt;
+                          within_bounds = refl;
+                        };
+                  },
+                  forged_other setup old.board.regs old.ledger old.state.memory found.at forged.ctr forged.cipher call.world.whole_formulas
+                      on_now.trusted.anchored call.world.memory within its_ctr
+                      (subst (λ marks. IfSome (last_seal marks found.at) (λ seal. forged.cipher ≢ seal.cipher)) marks forged.other_cipher),
+                );
               };
-          fits = record { marks_asked = (refl, marks_of.1); peek_true = tt; steps_counted = tt; flush_true = tt; within_bounds = tt };
-        }
+        }))
+        (refl, marks_of.1) tt tt tt tt

@@ -24,13 +24,13 @@ use Rattle.pmem_replay.specs.Replies.{with_marks_since}
 use Rattle.pmem_engine.specs.declared.fault.Fault.{Fault}
 use Rattle.pmem_engine.specs.declared.fault.Fault.TheVariants as Fail
 use Rattle.pmem_replay.specs.Given.{HasMarkRoom, HasWriteGiven, IsWriteGiven, IsWriteGivenTo, IsDrainSaid}
-use Rattle.pmem_replay.specs.Stepped.{HasStepped, EndsFence, IsByTable, HasDrained, HasFenced, HasSameParts, IsSeenOnDevice}
+use Rattle.pmem_replay.specs.Stepped.{HasStepped, EndsWrites, IsByTable, HasDrained, HasFenced, HasSameParts, IsSeenOnDevice}
 use Rattle.pmem_replay.proofs.Marks.AskedMarks.{asked_form, asked_few}
 use Rattle.pmem_replay.proofs.Steps.WorldsAfterCalls.{on_in}
 use Rattle.pmem_replay.proofs.Drains.DrainChain.{drained_none}
 use Rattle.pmem_replay.proofs.Drains.DrainLists.{queue_after}
 use Rattle.pmem_replay.proofs.Drains.DrainedLaws.{fenced-good, fenced-after}
-use Rattle.pmem_replay.proofs.Drains.FenceSteps.{IsFencing, fence-put, fence-meta, fence-tag, fence-spent, fence-kept, fence-lost, fence-shown}
+use Rattle.pmem_replay.proofs.Drains.FenceSteps.{IsFencing, fence-put, fence_last}
 use Rattle.pmem_replay.proofs.Steps.PartsOfWorld.{since}
 use Rattle.pmem_replay.proofs.Marks.OpenPages.{whole_pages}
 use Rattle.pmem_replay.proofs.Steps.ReservedRoom.{same_room}
@@ -144,31 +144,13 @@ module _ (formulas_of : List ℕ → Formulas) (mid now new : WorldState) (port 
   put_of : (k : ℕ) (answer : Result Ctr Fault) (put : Bool) (n : ℕ) → IsWriteGivenTo setup now port n answer put new → IsDrainSaid new answer put n (Say.Drained k)
       → (ctr : Ctr) × IsWriteGiven setup now port k (Ok ctr) true true new
   put_of k (Ok ctr) put n it same = (ctr, subst (λ (m : ℕ). IsWriteGiven setup now port m (Ok ctr) true true new) (sym (steps_alike k n same)) it)
-  put_of k (Err (Fail.Meta x)) put n it same = absurd (apart same)
-    where
-      apart : Say.Drained k ≡ Say.Refused None (Place.Meta x) n → ⊥
-      apart same = cc
-  put_of k (Err (Fail.Tag at)) put n it same = absurd (apart same)
-    where
-      apart : Say.Drained k ≡ Say.Refused None (Place.Line at) n → ⊥
-      apart same = cc
-  put_of k (Err (Fail.Spent page)) put n it same = absurd (apart same)
-    where
-      apart : Say.Drained k ≡ Say.Spent None page n → ⊥
-      apart same = cc
-  put_of k (Err Fail.Cut) true n it same = absurd (apart same)
-    where
-      apart : Say.Drained k ≡ Say.CutKept None n → ⊥
-      apart same = cc
-  put_of k (Err Fail.Cut) false n it same = absurd (apart same)
-    where
-      apart : Say.Drained k ≡ Say.CutLost None n → ⊥
-      apart same = cc
+  put_of k (Err (Fail.Meta x)) put n it same = absurd (let apart : Say.Drained k ≡ Say.Refused None (Place.Meta x) n = same in cc)
+  put_of k (Err (Fail.Tag at)) put n it same = absurd (let apart : Say.Drained k ≡ Say.Refused None (Place.Line at) n = same in cc)
+  put_of k (Err (Fail.Spent page)) put n it same = absurd (let apart : Say.Drained k ≡ Say.Spent None page n = same in cc)
+  put_of k (Err Fail.Cut) true n it same = absurd (let apart : Say.Drained k ≡ Say.CutKept None n = same in cc)
+  put_of k (Err Fail.Cut) false n it same = absurd (let apart : Say.Drained k ≡ Say.CutLost None n = same in cc)
   put_of k (Err Fail.Down) put n it same = absurd same
-  put_of k (Err Fail.Shown) put n it same = absurd (apart same.2)
-    where
-      apart : Say.Drained k ≡ Say.Shown same.0 → ⊥
-      apart same = cc
+  put_of k (Err Fail.Shown) put n it same = absurd (let apart : Say.Drained k ≡ Say.Shown same.0 = same.2 in cc)
 
   pub fence_next : (k : ℕ) → HasWriteGiven (setup_of_world formulas_of now) now port (Say.Drained k) new → done < count
       → IsDraining formulas_of mid new port count (done + 1) (steps + k)
@@ -192,40 +174,11 @@ module _ (formulas_of : List ℕ → Formulas) (mid now new : WorldState) (port 
         within = omega (arith, below);
       }
 
-  said_since : (marks : List Mark) (said answer : Answer) → HasStepped setup mid (Do.Fence port) (record { marks = marks; answer = said }) new → answer ≡ said
-      → HasStepped setup mid (Do.Fence port) (with_marks_since mid new answer) new
-  said_since marks said answer step same =
-      subst (λ (a : Answer). HasStepped setup mid (Do.Fence port) (with_marks_since mid new a) new) (sym same)
-      (since setup mid new (Do.Fence port) marks said step)
-
-  ended_as : (one answer : Answer) (r : Result Ctr Fault) (put : Bool) (k : ℕ) → IsWriteGivenTo setup now port k r put new → IsDrainSaid new r put k one
-      → EndsFence done steps one answer → HasStepped setup mid (Do.Fence port) (with_marks_since mid new answer) new
-  ended_as one answer (Ok ctr) put k it is ends = absurd (subst (λ (a : Answer). EndsFence done steps a answer) is ends)
-  ended_as one answer (Err (Fail.Meta x)) put k it is ends =
-      said_since (draining.made ++ it.given.written.made) (Say.Refused (Some done) (Place.Meta x) (steps + k)) answer
-      (fence-meta setup mid now new port small done draining.made steps whole draining.fencing x k it) (subst (λ (a : Answer). EndsFence done steps a answer) is ends)
-  ended_as one answer (Err (Fail.Tag b)) put k it is ends =
-      said_since (draining.made ++ it.given.written.made) (Say.Refused (Some done) (Place.Line b) (steps + k)) answer
-      (fence-tag setup mid now new port small done draining.made steps whole draining.fencing b k it) (subst (λ (a : Answer). EndsFence done steps a answer) is ends)
-  ended_as one answer (Err (Fail.Spent page)) put k it is ends =
-      said_since (draining.made ++ it.given.written.made) (Say.Spent (Some done) page (steps + k)) answer
-      (fence-spent setup mid now new port small done draining.made steps whole draining.fencing page k it) (subst (λ (a : Answer). EndsFence done steps a answer) is ends)
-  ended_as one answer (Err Fail.Cut) true k it is ends =
-      said_since (draining.made ++ it.given.written.made) (Say.CutKept (Some done) (steps + k)) answer
-      (fence-kept setup mid now new port small done draining.made steps whole draining.fencing k it) (subst (λ (a : Answer). EndsFence done steps a answer) is ends)
-  ended_as one answer (Err Fail.Cut) false k it is ends =
-      said_since (draining.made ++ it.given.written.made) (Say.CutLost (Some done) (steps + k)) answer
-      (fence-lost setup mid now new port small done draining.made steps whole draining.fencing k it) (subst (λ (a : Answer). EndsFence done steps a answer) is ends)
-  ended_as one answer (Err Fail.Shown) put k it is ends =
-      said_since (draining.made ++ it.given.written.made) (Say.Shown is.0) answer
-      (fence-shown setup mid now new port small done draining.made steps whole draining.fencing is.0 it is.1) (subst (λ (a : Answer). EndsFence done steps a answer) is.2 ends)
-  ended_as one answer (Err Fail.Down) put k it is ends = absurd is
-
-  pub fence_ended : (one answer : Answer) → HasWriteGiven (setup_of_world formulas_of now) now port one new → EndsFence done steps one answer
+  pub fence_ended : (one answer : Answer) → HasWriteGiven (setup_of_world formulas_of now) now port one new → EndsWrites (Some done) steps one answer
       → HasStepped setup mid (Do.Fence port) (with_marks_since mid new answer) new
   fence_ended one answer given ends =
       let it = subst (λ (s : Setup). HasWriteGiven s now port one new) same_setup given in
-      ended_as one answer it.answer it.put it.steps it.given it.says ends
+      fence_last setup mid now new port small done draining.made steps whole draining.fencing one answer it.answer it.put it.steps it.given it.says ends
 
 no_writes_left : (queue : List Posted) → length queue ≡ 0 → queue ≡ []
 no_writes_left [] none = refl
@@ -265,32 +218,8 @@ fence_done formulas_of mid now port count done steps small whole counted most dr
 -- a fence shows nothing of the world before it
 seen_before : (setup : Setup) (old before new : WorldState) (port : ℕ) (answer : Answer)
     → IsSeenOnDevice setup before (Do.Fence port) answer new → IsSeenOnDevice setup old (Do.Fence port) answer new
-seen_before setup old before new port Say.Ok it = it
-seen_before setup old before new port (Say.Drained steps) it = it
-seen_before setup old before new port (Say.Fenced drained steps) it = it
-seen_before setup old before new port (Say.Turned left steps) it = it
-seen_before setup old before new port (Say.Flushed x steps) it = it
-seen_before setup old before new port (Say.Got line steps) it = it
-seen_before setup old before new port (Say.CutKept drained steps) it = it
-seen_before setup old before new port (Say.CutLost drained steps) it = it
-seen_before setup old before new port (Say.Cut steps) it = it
-seen_before setup old before new port (Say.Refused drained place steps) it = it
-seen_before setup old before new port (Say.Spent drained page steps) it = it
-seen_before setup old before new port (Say.Recovered trials digests steps) it = it
-seen_before setup old before new port (Say.NoCounter at steps) it = it
-seen_before setup old before new port (Say.WrongRoot kept found steps) it = it
-seen_before setup old before new port (Say.Raw line) it = it
-seen_before setup old before new port (Say.Counts counts) it = it
-seen_before setup old before new port (Say.LossSet steps) it = it
-seen_before setup old before new port Say.Full it = it
-seen_before setup old before new port Say.Empty it = it
-seen_before setup old before new port Say.Idle it = it
-seen_before setup old before new port Say.Clean it = it
-seen_before setup old before new port Say.Off it = it
-seen_before setup old before new port Say.Already it = it
-seen_before setup old before new port Say.Range it = it
-seen_before setup old before new port Say.NoSnap it = it
 seen_before setup old before new port (Say.Shown exhibit) it = it
+seen_before setup old before new port answer it = it
 
 parts_before : (decided : Option Answer) (A B : Type 0) (C D : Answer → Type 0) → (A → B) → decided ≡ None → MatchOption decided A C → MatchOption decided B D
 parts_before None A B C D before none parts = before parts

@@ -56,7 +56,7 @@ use Rattle.pmem_replay.proofs.Drains.DrainLists.{writing_bound-few}
 use Rattle.pmem_replay.proofs.Drains.WriteWorlds.{front_on_memory}
 use Rattle.pmem_replay.proofs.Drains.DrainChain.{IsDrainedTo, IsNextDrain, next-known, next-short, can-more, marks-more, fuse_more, fuse_cut, drains_fuse}
 use Rattle.pmem_replay.proofs.Drains.WriteReplies.{IsReplayWriting, part_none, place_refused, meta_refused, refused_part}
-use Rattle.pmem_replay.proofs.Steps.GoodReplies.{IsGood}
+use Rattle.pmem_replay.proofs.Steps.GoodReplies.{IsGood, good}
 use Rattle.pmem_replay.proofs.Drains.WriteBounds.{takes_meta, takes_tag, some_asked, view_both, refused_bound, refusal_within, none_within, bound_by, first_next, bound_at, CanBeRefusedIn, next_count}
 
 module _ (setup : Setup) (old mid new : WorldState) (command : Command) (d : Option ℕ) (port n : ℕ) (made : List Mark) (spent : ℕ)
@@ -244,31 +244,18 @@ module _ (setup : Setup) (old mid new : WorldState) (command : Command) (d : Opt
         let done = written.done on_mid.trusted.not_down in
         let powered = done.gone.power.1 (call.world.board.power ∙ on_mid.powered) in
         let all : made ++ written.made ≡ made = ap (λ more. made ++ more) spent_marks.1 ∙ append-nil made in
-        record {
-          legal =
-              record {
-                legal =
-                    record { listed = writing.can_spend page (spent + steps_in taken); within_fuse = all_within powered; writes_whole = done_writes; caused = tt };
-                shown = tt;
-              };
-          fits =
-              record {
-                marks_asked =
-                    writing.marks (made ++ written.made) (Say.Spent d page (spent + steps_in taken))
-                    (subst (λ k. IsSpentNext setup.formulas now queue k page (made ++ written.made)) (sym writing.count)
-                    (record {
-                      one_waits = slice_get_within queue n write next.its_place;
-                      all_drained = drained.asked ∙ ap (λ (marks : List Mark). Some marks) (sym all);
-                      spent = next.asked ∙ spent_marks.0;
-                      its_page =
-                          subst (λ o. MatchOption o ⊥ (λ write. page_of write.at ≡ page)) (sym next.its_place) (sym spent_marks.2);
-                    }));
-                peek_true = writing.peek (Say.Spent d page (spent + steps_in taken));
-                steps_counted = tt;
-                flush_true = tt;
-                within_bounds = writing.bounds (made ++ written.made) (Say.Spent d page (spent + steps_in taken)) bound;
-              };
-        }
+        good (writing.can_spend page (spent + steps_in taken)) (all_within powered) done_writes tt tt
+        (writing.marks (made ++ written.made) (Say.Spent d page (spent + steps_in taken))
+        (subst (λ k. IsSpentNext setup.formulas now queue k page (made ++ written.made)) (sym writing.count)
+        (record {
+          one_waits = slice_get_within queue n write next.its_place;
+          all_drained = drained.asked ∙ ap (λ (marks : List Mark). Some marks) (sym all);
+          spent = next.asked ∙ spent_marks.0;
+          its_page =
+              subst (λ o. MatchOption o ⊥ (λ write. page_of write.at ≡ page)) (sym next.its_place) (sym spent_marks.2);
+        })))
+        (writing.peek (Say.Spent d page (spent + steps_in taken))) tt tt
+        (writing.bounds (made ++ written.made) (Say.Spent d page (spent + steps_in taken)) bound)
 
     -- in a fence
     pub spent-bound : spent + steps_in taken ≤ writing_bound setup.shape n (made ++ written.made) + spent_bound setup.shape
@@ -317,30 +304,12 @@ module _ (setup : Setup) (old mid new : WorldState) (command : Command) (d : Opt
     pub lost-good : IsPartOf asked written.made → IsCutWriteWithin setup old.state (view_in setup old) port d (spent + steps_in taken)
         → IsGood setup old command (record { marks = made ++ written.made; answer = Say.CutLost d (spent + steps_in taken) })
     lost-good part bound =
-        record {
-          legal =
-              record {
-                legal =
-                    record {
-                      listed = writing.can_lose (spent + steps_in taken);
-                      within_fuse = all_cut cut_off (cut_few asked refl).1;
-                      writes_whole = done_writes;
-                      caused = tt;
-                    };
-                shown = tt;
-              };
-          fits =
-              record {
-                marks_asked =
-                    writing.marks (made ++ written.made) (Say.CutLost d (spent + steps_in taken))
-                    (subst (λ k. IsStopped setup.formulas now queue k (made ++ written.made)) (sym writing.count)
-                    (stopped setup.formulas now queue n made written.made asked write next.its_place drained.asked next.asked part));
-                peek_true = writing.peek (Say.CutLost d (spent + steps_in taken));
-                steps_counted = tt;
-                flush_true = tt;
-                within_bounds = writing.bounds (made ++ written.made) (Say.CutLost d (spent + steps_in taken)) bound;
-              };
-        }
+        good (writing.can_lose (spent + steps_in taken)) (all_cut cut_off (cut_few asked refl).1) done_writes tt tt
+        (writing.marks (made ++ written.made) (Say.CutLost d (spent + steps_in taken))
+        (subst (λ k. IsStopped setup.formulas now queue k (made ++ written.made)) (sym writing.count)
+        (stopped setup.formulas now queue n made written.made asked write next.its_place drained.asked next.asked part)))
+        (writing.peek (Say.CutLost d (spent + steps_in taken))) tt tt
+        (writing.bounds (made ++ written.made) (Say.CutLost d (spent + steps_in taken)) bound)
 
     pub lost-unsealed : IsPartOf asked written.made → is_sealed_by written.made write.at ≡ false
     lost-unsealed part = part_apart setup.shape setup.formulas (moment_of mid.state (view_in setup mid)) write written.made pages_whole part
@@ -360,34 +329,17 @@ module _ (setup : Setup) (old mid new : WorldState) (command : Command) (d : Opt
         stored_unspoiled setup mid.state (lines_in mid) mid.board.regs.loss mid.ledger write.at call.world.kept within
         (written.sealed_before on_mid.trusted write.at within (kept-sealed whole)
         (inr (omega (arith, part, next-short setup old mid port n made spent drained world small write later waits))))) in
-        record {
-          legal =
-              record {
-                legal =
-                    record {
-                      listed = writing.can_keep (spent + steps_in taken);
-                      within_fuse = all_cut cut_off (cut_few asked refl).1;
-                      writes_whole =
-                          subst (λ p. IsTrue (can_put_first old.state p (unwrap_or d 0 + 1))) (sym writing.its_port)
-                          (subst (λ k. IsTrue (can_put_first old.state port k)) (next_count (unwrap_or d 0) writing.count) one_more);
-                      caused = tt;
-                    };
-                shown = tt;
-              };
-          fits =
-              record {
-                marks_asked =
-                    writing.marks (made ++ written.made) (Say.CutKept d (spent + steps_in taken)) (
-                      omega (arith, writing.count, slice_get_within queue n write next.its_place),
-                      ap (λ k. marks_of_writes setup.formulas now (take k queue)) (sym (next_count (unwrap_or d 0) writing.count))
-                          ∙ marks-more setup old mid port n made spent drained world small write later waits written.made whole,
-                    );
-                peek_true = writing.peek (Say.CutKept d (spent + steps_in taken));
-                steps_counted = tt;
-                flush_true = tt;
-                within_bounds = writing.bounds (made ++ written.made) (Say.CutKept d (spent + steps_in taken)) bound;
-              };
-        }
+        good (writing.can_keep (spent + steps_in taken)) (all_cut cut_off (cut_few asked refl).1)
+        (subst (λ p. IsTrue (can_put_first old.state p (unwrap_or d 0 + 1))) (sym writing.its_port)
+        (subst (λ k. IsTrue (can_put_first old.state port k)) (next_count (unwrap_or d 0) writing.count) one_more))
+        tt tt
+        (writing.marks (made ++ written.made) (Say.CutKept d (spent + steps_in taken)) (
+          omega (arith, writing.count, slice_get_within queue n write next.its_place),
+          ap (λ k. marks_of_writes setup.formulas now (take k queue)) (sym (next_count (unwrap_or d 0) writing.count))
+              ∙ marks-more setup old mid port n made spent drained world small write later waits written.made whole,
+        ))
+        (writing.peek (Say.CutKept d (spent + steps_in taken))) tt tt
+        (writing.bounds (made ++ written.made) (Say.CutKept d (spent + steps_in taken)) bound)
 
   -- ---- an exhibit
 
@@ -470,24 +422,11 @@ module _ (setup : Setup) (old mid new : WorldState) (command : Command) (d : Opt
         → KeepsPlaces setup written.made (parts_in mid engine none_taken) (parts_in new after taken)
         → IsGood setup old command (record { marks = made ++ written.made; answer = Say.Shown exhibit })
     shown-good before places =
-        record {
-          legal =
-              record {
-                legal = record { listed = writing.can_show exhibit; within_fuse = zero_within old.state.fuse; writes_whole = refl; caused = tt };
-                shown =
-                    elim (written.answered on_mid.trusted.not_down on_mid.trusted mid.state.memory call.world.memory.each) [
-                      | inl clash ↦ clash-shown clash.0 clash.1 (before clash.1)
-                      | inr forged ↦ forged-shown forged places
-                    ];
-              };
-          fits =
-              record {
-                marks_asked =
-                    writing.marks (made ++ written.made) (Say.Shown exhibit)
-                    (n, stopped setup.formulas now queue n made written.made asked write next.its_place drained.asked next.asked shown_part);
-                peek_true = writing.peek (Say.Shown exhibit);
-                steps_counted = tt;
-                flush_true = tt;
-                within_bounds = writing.bounds (made ++ written.made) (Say.Shown exhibit) tt;
-              };
-        }
+        good (writing.can_show exhibit) (zero_within old.state.fuse) refl tt
+        (elim (written.answered on_mid.trusted.not_down on_mid.trusted mid.state.memory call.world.memory.each) [
+          | inl clash ↦ clash-shown clash.0 clash.1 (before clash.1)
+          | inr forged ↦ forged-shown forged places
+        ])
+        (writing.marks (made ++ written.made) (Say.Shown exhibit)
+        (n, stopped setup.formulas now queue n made written.made asked write next.its_place drained.asked next.asked shown_part))
+        (writing.peek (Say.Shown exhibit)) tt tt (writing.bounds (made ++ written.made) (Say.Shown exhibit) tt)

@@ -42,7 +42,7 @@ use Rattle.pmem_replay.proofs.Marks.AfterMarks.{length-no_flags}
 use Rattle.pmem_replay.proofs.Steps.MarklessCalls.{HasQueues-none}
 use Rattle.pmem_replay.proofs.Steps.SameWorld.{same_world}
 use Rattle.pmem_replay.specs.Replies.{without_marks}
-use Rattle.pmem_replay.proofs.Steps.GoodReplies.{IsGood}
+use Rattle.pmem_replay.proofs.Steps.GoodReplies.{IsGood, good}
 
 -- ---- an empty cache
 
@@ -152,32 +152,12 @@ module _ (setup : Setup) (old new : WorldState) (left : BoardMemory) (taken : Ta
   pub recovered-good : IsGood setup old Do.On (without_marks (Say.Recovered work.trials work.digests (steps_in taken)))
   recovered-good =
       let few = call.recovered.few_work in
-      record {
-        legal =
-            record {
-              legal =
-                  record {
-                    listed = refl;
-                    within_fuse = within_lasting setup old new left taken (Ok (engine, work)) call lasting;
-                    writes_whole = refl;
-                    caused = tt;
-                  };
-              shown = tt;
-            };
-        fits =
-            record {
-              marks_asked = refl;
-              peek_true = tt;
-              steps_counted = tt;
-              flush_true = tt;
-              within_bounds =
-                  record {
-                    few_trials = subst (λ loss. work.trials ≤ 64 * loss * layout.slots setup.shape) call.world.board.loss few.trials;
-                    few_digests = few.digests;
-                    few_steps = few_steps setup old new left taken (Ok (engine, work)) call;
-                  };
-            };
-      }
+      good refl (within_lasting setup old new left taken (Ok (engine, work)) call lasting) refl tt tt refl tt tt tt
+      (record {
+        few_trials = subst (λ loss. work.trials ≤ 64 * loss * layout.slots setup.shape) call.world.board.loss few.trials;
+        few_digests = few.digests;
+        few_steps = few_steps setup old new left taken (Ok (engine, work)) call;
+      })
 
   trusted_now : IsTrusted setup engine left.regs old.ledger
   trusted_now = call.recovered.trusted its_off.anchored

@@ -43,7 +43,7 @@ use Rattle.pmem_replay.proofs.Steps.MarklessCalls.{counted_state}
 use Rattle.pmem_replay.proofs.Power.OnLaws.{IsOnCall, lit, off, mended, exact, within_lasting, left_lines, left_steps}
 use Rattle.pmem_replay.proofs.Steps.SameWorld.{same_world}
 use Rattle.pmem_replay.specs.Replies.{without_marks}
-use Rattle.pmem_replay.proofs.Steps.GoodReplies.{IsGood}
+use Rattle.pmem_replay.proofs.Steps.GoodReplies.{IsGood, good}
 
 -- ---- a refusal that has done nothing but the redo
 
@@ -191,35 +191,17 @@ module _ (setup : Setup) (old new : WorldState) (left : BoardMemory) (taken : Ta
   pub root-good : IsGood setup old Do.On (without_marks (Say.WrongRoot kept found (steps_in taken)))
   root-good =
       let other = (mended setup old new left taken (Err (Fail.Root kept found)) call).decided in
-      record {
-        legal =
-            record {
-              legal =
-                  record {
-                    listed = refl;
-                    within_fuse = within_lasting setup old new left taken (Err (Fail.Root kept found)) call root_lasting;
-                    writes_whole = refl;
-                    caused =
-                        record {
-                          tampered = true_from_ne_false (has_flags old.state.named) root_tampered;
-                          kept_is_true =
-                              other.its_kept ∙ root_off.anchored.root
-                              ∙ ap (setup.formulas.digest_of 0)
-                              (sym (true_line-is setup old.board.regs old.ledger root_off.anchored call.world.whole_shape 0 (some_meta setup.shape)));
-                          found_differs = other.differ;
-                        };
-                  };
-              shown = tt;
-            };
-        fits =
-            record {
-              marks_asked = refl;
-              peek_true = tt;
-              steps_counted = tt;
-              flush_true = tt;
-              within_bounds = refused_few setup old new left taken (Fail.Root kept found) call call.recovered.regs call.recovered.unchanged;
-            };
-      }
+      good refl (within_lasting setup old new left taken (Err (Fail.Root kept found)) call root_lasting) refl
+      (record {
+        tampered = true_from_ne_false (has_flags old.state.named) root_tampered;
+        kept_is_true =
+            other.its_kept ∙ root_off.anchored.root
+            ∙ ap (setup.formulas.digest_of 0)
+            (sym (true_line-is setup old.board.regs old.ledger root_off.anchored call.world.whole_shape 0 (some_meta setup.shape)));
+        found_differs = other.differ;
+      })
+      tt refl tt tt tt
+      (refused_few setup old new left taken (Fail.Root kept found) call call.recovered.regs call.recovered.unchanged)
 
 -- ---- a twin
 
@@ -268,23 +250,17 @@ module _ (setup : Setup) (old new : WorldState) (left : BoardMemory) (taken : Ta
   pub twin-good : IsGood setup old Do.On (without_marks (Say.Shown (Show.Twin at major low high cipher tag)))
   twin-good =
       let its = mended setup old new left taken (Err (Fail.Twin at major low high cipher tag)) call in
-      record {
-        legal =
+      good refl (zero_within old.state.fuse) refl tt
+      (record {
+        holds = call.recovered.twin;
+        in_run =
             record {
-              legal = record { listed = refl; within_fuse = zero_within old.state.fuse; writes_whole = refl; caused = tt };
-              shown =
-                  record {
-                    holds = call.recovered.twin;
-                    in_run =
-                        record {
-                          answers_on = refl;
-                          of_seal =
-                              λ honest.
-                              twin_of_seal setup old old.board.regs old.board.regs.loss at major low high cipher tag call.world twin_off.anchored
-                              (undecided_line setup (lines_in old) old.board.regs at its.decided.0).0.on_device call.world.board.loss
-                              (its.from_durable (twin_off.durable honest)).0;
-                        };
-                  };
+              answers_on = refl;
+              of_seal =
+                  λ honest.
+                  twin_of_seal setup old old.board.regs old.board.regs.loss at major low high cipher tag call.world twin_off.anchored
+                  (undecided_line setup (lines_in old) old.board.regs at its.decided.0).0.on_device call.world.board.loss
+                  (its.from_durable (twin_off.durable honest)).0;
             };
-        fits = record { marks_asked = refl; peek_true = tt; steps_counted = tt; flush_true = tt; within_bounds = tt };
-      }
+      })
+      refl tt tt tt tt

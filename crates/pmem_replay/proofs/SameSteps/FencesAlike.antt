@@ -1,16 +1,16 @@
 -- Two outcomes of one fence: drain by drain they are the same.
-use Rattle.std.proofs.Common.{ℕ, ◌≡◌, ◌+◌, true, inl, inr, List, [], ◌∷◌, None, sym, subst, ◌∙◌}
+use Rattle.std.proofs.Common.{ℕ, ◌≡◌, ◌+◌, true, inl, inr, List, [], ◌∷◌, None, sym, subst, ◌∙◌, Some}
 use Rattle.pmem_base.specs.declared.commands.Posted.{Posted}
 use Rattle.pmem_base.specs.declared.answers.Answer.{Answer}
 use Rattle.pmem_base.specs.declared.answers.Answer.TheVariants as Say
 use Rattle.suite.specs.Setup.{Setup}
-use Rattle.pmem_replay.specs.Stepped.{EndsFence, HasSameParts, HasFenced}
+use Rattle.pmem_replay.specs.Stepped.{EndsWrites, HasSameParts, HasFenced}
 use Rattle.pmem_replay.specs.Determined.{AreSameParts}
 use Rattle.pmem_replay.specs.World.{WorldState}
 use Rattle.pmem_replay.proofs.SameSteps.CallsAlike.{calls_alike, drain_says_one}
 
 -- the write that ends a fence decides its answer
-ends_alike : (n spent : ℕ) (one x y : Answer) → EndsFence n spent one x → EndsFence n spent one y → x ≡ y
+ends_alike : (n spent : ℕ) (one x y : Answer) → EndsWrites (Some n) spent one x → EndsWrites (Some n) spent one y → x ≡ y
 ends_alike n spent (Say.Refused None place steps) x y is its = is ∙ sym its
 ends_alike n spent (Say.Spent None page steps) x y is its = is ∙ sym its
 ends_alike n spent (Say.CutKept None steps) x y is its = is ∙ sym its
@@ -36,13 +36,13 @@ pub fences_alike : (setup : Setup) (queue : List Posted) (n spent : ℕ) (old ot
 fences_alike setup [] n spent old other a b x y same on it its = (it.1 ∙ sym its.1, kept_alike old other a b same it.0 its.0)
 fences_alike setup (write ∷ later) n spent old other a b x y same on (inl s) (inl t) =
     let one = calls_alike (drain_says_one write) old other a b s.0 t.0 same on s.1 t.1 in
-    (ends_alike n spent s.0 x y s.2 (subst (λ (o : Answer). EndsFence n spent o y) (sym one.0) t.2), one.1)
+    (ends_alike n spent s.0 x y s.2 (subst (λ (o : Answer). EndsWrites (Some n) spent o y) (sym one.0) t.2), one.1)
 fences_alike setup (write ∷ later) n spent old other a b x y same on (inl s) (inr t) =
     let one = calls_alike (drain_says_one write) old other a t.1 s.0 (Say.Drained t.0) same on s.1 t.2 in
-    absurd (subst (λ (o : Answer). EndsFence n spent o x) one.0 s.2)
+    absurd (subst (λ (o : Answer). EndsWrites (Some n) spent o x) one.0 s.2)
 fences_alike setup (write ∷ later) n spent old other a b x y same on (inr s) (inl t) =
     let one = calls_alike (drain_says_one write) old other s.1 b (Say.Drained s.0) t.0 same on s.2 t.1 in
-    absurd (subst (λ (o : Answer). EndsFence n spent o y) (sym one.0) t.2)
+    absurd (subst (λ (o : Answer). EndsWrites (Some n) spent o y) (sym one.0) t.2)
 fences_alike setup (write ∷ later) n spent old other a b x y same on (inr s) (inr t) =
     let one = calls_alike (drain_says_one write) old other s.1 t.1 (Say.Drained s.0) (Say.Drained t.0) same on s.2 t.2 in
     let count = same_count s.0 t.0 one.0 in

@@ -15,7 +15,7 @@ use Rattle.pmem_base.specs.WaitingWrites.{queue_of}
 use Rattle.write_ports.specs.Queues.{ArePorts}
 use Rattle.suite.specs.Setup.{Setup}
 use Rattle.plain_model.specs.State.{PlainState, Reply}
-use Rattle.plain_model.specs.After.{steps_of, is_cut, steps_with, after_front, after_drain, after_drains, without_front, after_drop, after_writes, after_power_loss, after_flush, after_on, after_hurting, after_command, after_steps, state_after}
+use Rattle.plain_model.specs.After.{steps_of, is_cut, steps_with, after_front, after_drain, after_drains, without_front, after_drop, after_writes, after_power_loss, after_hurting, after_command, after_steps, state_after}
 use Rattle.plain_model.specs.Answers.{decided_answer, posting_answer, seen_line, is_covered, is_on_device, is_shown}
 use Rattle.seal_ledger.specs.Ledger.{LedgerState}
 use Rattle.pmem_engine.specs.declared.fault.Fault.{Fault}
@@ -25,7 +25,7 @@ use Rattle.plain_model.specs.Shown.{IsEngineReply}
 use Rattle.pmem_replay.specs.World.{WorldState, IsWorld, view_in}
 use Rattle.watched_board.specs.Watching.{step_limit}
 use Rattle.pmem_replay.specs.Planned.{CallPlan}
-use Rattle.pmem_replay.specs.Stepped.{HasCalled, HasDrained, EndsFence, HasFenced, HasPoweredOn, IsStatAnswer, IsByTable, IsCommandDone, HasStepped, most_command_steps, AddsFewSteps}
+use Rattle.pmem_replay.specs.Stepped.{HasCalled, HasDrained, EndsWrites, HasFenced, HasPoweredOn, IsStatAnswer, IsByTable, IsCommandDone, HasStepped, most_command_steps, AddsFewSteps}
 use Rattle.pmem_replay.proofs.Marks.AfterMarks.{after_marks-is}
 
 -- ---- the state's steps after a reply
@@ -55,82 +55,30 @@ steps-writes s port (Say.Refused drained place steps) = steps-drains_drop s port
 steps-writes s port (Say.Spent drained page steps) = steps-drains_drop s port (unwrap_or drained 0)
 steps-writes s port answer = refl
 
-steps-flush : (g : Shape) (s : PlainState) (answer : Answer) → (after_flush g s answer).steps ≡ s.steps
-steps-flush g s (Say.Flushed x steps) = refl
-steps-flush g s Say.Clean = refl
-steps-flush g s answer = refl
-
-steps-on : (g : Shape) (s : PlainState) (answer : Answer) → (after_on g s answer).steps ≡ s.steps
-steps-on g s (Say.Recovered trials digests steps) = refl
-steps-on g s (Say.Cut steps) = refl
-steps-on g s answer = refl
-
 steps-hurting : (s : PlainState) (flipped : Bool) (content : Content) → (after_hurting s flipped content).steps ≡ s.steps
 steps-hurting s flipped (data_line a) = refl
 steps-hurting s flipped (tags_from a) = refl
 steps-hurting s flipped content = refl
 
-steps-post : (g : Shape) (s : PlainState) (port at : ℕ) (line : Line) (answer : Answer) → (after_command g s (Do.Post port at line) answer).steps ≡ s.steps
-steps-post g s port at line Say.Ok = refl
-steps-post g s port at line answer = refl
-
-steps-part : (g : Shape) (s : PlainState) (port at from count : ℕ) (line : Line) (answer : Answer)
-    → (after_command g s (Do.Part port at from count line) answer).steps ≡ s.steps
-steps-part g s port at from count line Say.Ok = refl
-steps-part g s port at from count line answer = refl
-
-steps-cut : (g : Shape) (s : PlainState) (n : ℕ) (answer : Answer) → (after_command g s (Do.Cut n) answer).steps ≡ s.steps
-steps-cut g s n Say.Ok = refl
-steps-cut g s n answer = refl
-
-steps-off : (g : Shape) (s : PlainState) (answer : Answer) → (after_command g s Do.Off answer).steps ≡ s.steps
-steps-off g s Say.Ok = refl
-steps-off g s answer = refl
-
-steps-poke : (g : Shape) (s : PlainState) (d : ℕ) (line : Line) (answer : Answer) → (after_command g s (Do.Poke d line) answer).steps ≡ s.steps
-steps-poke g s d line Say.Ok = steps-hurting s false (content_of g d)
-steps-poke g s d line answer = refl
-
-steps-flip : (g : Shape) (s : PlainState) (d bit : ℕ) (answer : Answer) → (after_command g s (Do.Flip d bit) answer).steps ≡ s.steps
-steps-flip g s d bit Say.Ok = steps-hurting s true (content_of g d)
-steps-flip g s d bit answer = refl
-
-steps-move : (g : Shape) (s : PlainState) (from to : ℕ) (answer : Answer) → (after_command g s (Do.Move from to) answer).steps ≡ s.steps
-steps-move g s from to Say.Ok = steps-hurting s false (content_of g to)
-steps-move g s from to answer = refl
-
-steps-snap : (g : Shape) (s : PlainState) (answer : Answer) → (after_command g s Do.Snap answer).steps ≡ s.steps
-steps-snap g s Say.Ok = refl
-steps-snap g s answer = refl
-
-steps-back : (g : Shape) (s : PlainState) (d : ℕ) (answer : Answer) → (after_command g s (Do.Back d) answer).steps ≡ s.steps
-steps-back g s d Say.Ok = steps-hurting s false (content_of g d)
-steps-back g s d answer = refl
-
-steps-loss : (g : Shape) (s : PlainState) (n : ℕ) (answer : Answer) → (after_command g s (Do.Loss n) answer).steps ≡ s.steps
-steps-loss g s n (Say.LossSet steps) = refl
-steps-loss g s n answer = refl
-
 -- a command's effect leaves them
 steps-command : (g : Shape) (s : PlainState) (command : Command) (answer : Answer) → (after_command g s command answer).steps ≡ s.steps
-steps-command g s (Do.Post port at line) answer = steps-post g s port at line answer
-steps-command g s (Do.Part port at from count line) answer = steps-part g s port at from count line answer
+steps-command g s (Do.Post port at line) Say.Ok = refl
+steps-command g s (Do.Part port at from count line) Say.Ok = refl
 steps-command g s (Do.Drain port) answer = steps-writes s port answer
 steps-command g s (Do.Fence port) answer = steps-writes s port answer
-steps-command g s (Do.Read port at) answer = refl
-steps-command g s Do.Turn answer = refl
-steps-command g s Do.Flush answer = steps-flush g s answer
-steps-command g s (Do.Cut n) answer = steps-cut g s n answer
-steps-command g s Do.Off answer = steps-off g s answer
-steps-command g s Do.On answer = steps-on g s answer
-steps-command g s (Do.Poke d line) answer = steps-poke g s d line answer
-steps-command g s (Do.Flip d bit) answer = steps-flip g s d bit answer
-steps-command g s (Do.Move from to) answer = steps-move g s from to answer
-steps-command g s Do.Snap answer = steps-snap g s answer
-steps-command g s (Do.Back d) answer = steps-back g s d answer
-steps-command g s (Do.Peek d) answer = refl
-steps-command g s Do.Stat answer = refl
-steps-command g s (Do.Loss n) answer = steps-loss g s n answer
+steps-command g s Do.Flush (Say.Flushed x steps) = refl
+steps-command g s Do.Flush Say.Clean = refl
+steps-command g s (Do.Cut n) Say.Ok = refl
+steps-command g s Do.Off Say.Ok = refl
+steps-command g s Do.On (Say.Recovered trials digests steps) = refl
+steps-command g s Do.On (Say.Cut steps) = refl
+steps-command g s (Do.Poke d line) Say.Ok = steps-hurting s false (content_of g d)
+steps-command g s (Do.Flip d bit) Say.Ok = steps-hurting s true (content_of g d)
+steps-command g s (Do.Move from to) Say.Ok = steps-hurting s false (content_of g to)
+steps-command g s Do.Snap Say.Ok = refl
+steps-command g s (Do.Back d) Say.Ok = steps-hurting s false (content_of g d)
+steps-command g s (Do.Loss n) (Say.LossSet steps) = refl
+steps-command g s command answer = refl
 
 steps_if : (cut : Bool) (s : PlainState) → (if cut then after_power_loss s else s).steps ≡ s.steps
 steps_if true s = refl
@@ -199,7 +147,7 @@ few_called : {T : Type 0} {plan : CallPlan T} {relation : Parts → Parts → Re
 few_called old new answer called quiet = omega (arith, called.steps quiet, called.outcome.run.follows.few)
 
 -- the write that ends a fence
-few_last : (n spent : ℕ) (one answer : Answer) → EndsFence n spent one answer → spent ≤ step_limit * n
+few_last : (n spent : ℕ) (one answer : Answer) → EndsWrites (Some n) spent one answer → spent ≤ step_limit * n
     → (is_shown one ≡ false → steps_of one ≤ step_limit) → is_shown answer ≡ false → steps_of answer ≤ step_limit * (n + 1)
 few_last n spent (Say.Refused None place steps) answer ends low few quiet =
     subst (λ (a : Answer). steps_of a ≤ step_limit * (n + 1)) (sym ends) (omega (arith, low, few refl))

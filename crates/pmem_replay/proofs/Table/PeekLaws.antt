@@ -41,7 +41,7 @@ use Rattle.pmem_replay.proofs.Steps.FaultCauses.{lines_unarmed, zero_within, cou
 use Rattle.pmem_replay.proofs.Marks.AfterMarks.{is_touched_block}
 use Rattle.pmem_replay.specs.Stepped.{IsStatOf}
 use Rattle.pmem_replay.specs.Replies.{without_marks}
-use Rattle.pmem_replay.proofs.Steps.GoodReplies.{IsGood}
+use Rattle.pmem_replay.proofs.Steps.GoodReplies.{IsGood, good}
 
 -- ---- a line in four slots
 
@@ -242,21 +242,7 @@ shown_dark setup world nothing line dark = tt
 pub peek-good : (setup : Setup) (world : WorldState) (d : ℕ) → IsWorld setup world → d < device_lines setup.shape
     → IsGood setup world (Do.Peek d) (without_marks (Say.Raw (line_at world.board.lines d)))
 peek-good setup world d whole on_device =
-    record {
-      legal =
-          record {
-            legal = record { listed = refl; within_fuse = zero_within world.state.fuse; writes_whole = refl; caused = tt };
-            shown = tt;
-          };
-      fits =
-          record {
-            marks_asked = refl;
-            peek_true = by_power world.engine whole.chip;
-            steps_counted = tt;
-            flush_true = tt;
-            within_bounds = tt;
-          };
-    }
+    good refl (zero_within world.state.fuse) refl tt tt refl (by_power world.engine whole.chip) tt tt tt
   where
     by_power : (engine : Option EngineState) → IsPowered setup world engine
         → ShowsContent setup world.state (view_in setup world) (content_of setup.shape d) (line_at world.board.lines d)
@@ -268,21 +254,8 @@ peek-good setup world d whole on_device =
 pub stat-good : (setup : Setup) (world : WorldState) (counts : Stat) → IsWorld setup world → IsStatOf world counts
     → IsGood setup world Do.Stat (without_marks (Say.Counts counts))
 stat-good setup world counts whole told =
-    record {
-      legal =
-          record {
-            legal = record { listed = refl; within_fuse = zero_within world.state.fuse; writes_whole = refl; caused = tt };
-            shown = tt;
-          };
-      fits =
-          record {
-            marks_asked = refl;
-            peek_true = tt;
-            steps_counted = by_counts (cases_lt world.board.writes last_count) (cases_lt world.board.latches last_count);
-            flush_true = tt;
-            within_bounds = tt;
-          };
-    }
+    good refl (zero_within world.state.fuse) refl tt tt refl tt
+    (by_counts (cases_lt world.board.writes last_count) (cases_lt world.board.latches last_count)) tt tt
   where
     all_steps : (AreExact world.board → ⊥) → counts.writes + counts.latches ≡ world.state.steps
     all_steps ended =

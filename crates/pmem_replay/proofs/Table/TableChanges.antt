@@ -179,7 +179,7 @@ module _ (setup : Setup) (p : WorldParts) (going : IsGoingOn setup (world_of set
       → counted_state (after_tampering setup.shape (state_in setup p) flipped d) 0 ≡ after_tampering setup.shape (state_in setup p) flipped d
   tampered_still flipped d on_device =
       counted_zero (after_tampering setup.shape (state_in setup p) flipped d)
-      (subst (λ n. n ≤ last_count) (sym (hurts setup.shape (state_in setup p) d flipped going.whole.flags on_device).steps) range)
+      (subst (λ n. n ≤ last_count) (sym (ap (λ (s : PlainState). s.steps) (hurts setup.shape (state_in setup p) d flipped going.whole.flags on_device).others)) range)
 
   -- the line that was put there is whole
   put_line : (d : ℕ) (line : Line) (board : BoardMemory) → d < layout.device_lines setup.shape → board ≡ with_line_at p.board d line

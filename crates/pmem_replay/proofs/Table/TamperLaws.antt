@@ -90,17 +90,7 @@ tampered_alike d line lines =
 
 -- what a tampering with line d does to the state
 pub record IsHurtBy (g : Shape) (old new : PlainState) (d : ℕ) (flipped : Bool) : Type 0 where
-  pub named : new.named ≡ with_flag old.named d
-  pub memory : new.memory ≡ old.memory
-  pub queues : new.queues ≡ old.queues
-  pub power : new.power ≡ old.power
-  pub snapped : new.snapped ≡ old.snapped
-  pub fuse : new.fuse ≡ old.fuse
-  pub steps : new.steps ≡ old.steps
-  pub loose : new.loose ≡ old.loose
-  pub touched : new.touched ≡ old.touched
-  pub flushed : new.flushed ≡ old.flushed
-  pub loss : new.loss ≡ old.loss
+  pub others : new ≡ record old { named = with_flag old.named d; hurt = new.hurt; spoiled = new.spoiled }
   pub hurt_count : length new.hurt ≡ length old.hurt
   pub spoiled_count : length new.spoiled ≡ length old.spoiled
   -- a line that isn't hurt then wasn't, and its device line and tag line are others
@@ -140,17 +130,7 @@ hurts_none : (g : Shape) (old : PlainState) (d : ℕ) (flipped : Bool) → meta_
 hurts_none g old d flipped high same =
     subst (λ (s : PlainState). IsHurtBy g old (record s { named = with_flag old.named d }) d flipped) (sym same)
     (record {
-      named = refl;
-      memory = refl;
-      queues = refl;
-      power = refl;
-      snapped = refl;
-      fuse = refl;
-      steps = refl;
-      loose = refl;
-      touched = refl;
-      flushed = refl;
-      loss = refl;
+      others = refl;
       hurt_count = refl;
       spoiled_count = refl;
       unhurt = λ a within whole. (whole, λ same. omega (arith, within, high, same), λ same. omega (arith, within, high, same));
@@ -163,17 +143,7 @@ hurts_tags g old d flipped flags low high =
     subst (λ content. IsHurtBy g old (record (after_hurting old flipped content) { named = with_flag old.named d }) d flipped)
     (sym (content_of-tags g d low high))
     (record {
-      named = refl;
-      memory = refl;
-      queues = refl;
-      power = refl;
-      snapped = refl;
-      fuse = refl;
-      steps = refl;
-      loose = refl;
-      touched = refl;
-      flushed = refl;
-      loss = refl;
+      others = refl;
       hurt_count = length-four old.hurt (4 * (d - data_lines g));
       spoiled_count = refl;
       unhurt =
@@ -192,17 +162,7 @@ hurts_data g old d flipped flags small =
     subst (λ content. IsHurtBy g old (record (after_hurting old flipped content) { named = with_flag old.named d }) d flipped)
     (sym (content_of-data g d small))
     (record {
-      named = refl;
-      memory = refl;
-      queues = refl;
-      power = refl;
-      snapped = refl;
-      fuse = refl;
-      steps = refl;
-      loose = refl;
-      touched = refl;
-      flushed = refl;
-      loss = refl;
+      others = refl;
       hurt_count = length-set old.hurt d true;
       spoiled_count = length-set old.spoiled d (flipped && old.power && not (is_flagged old.hurt d));
       unhurt =
@@ -277,12 +237,12 @@ module _ (setup : Setup) (old : WorldState) (d : ℕ) (line : Line) (flipped : B
 
   unnamed : (m : ℕ) → is_flagged state.named m ≡ false → (is_flagged old.state.named m ≡ false) × (m ≢ d)
   unnamed m none =
-      let none : is_flagged (with_flag old.state.named d) m ≡ false = ap (λ flags. is_flagged flags m) (sym hurt.named) ∙ none in
+      let none : is_flagged (with_flag old.state.named d) m ≡ false = ap (λ flags. is_flagged flags m) (sym (ap (λ (s : PlainState). s.named) hurt.others)) ∙ none in
       (flag_unset old.state.named d m none, flag_other old.state.named d m named_within none)
 
   some_named : has_flags state.named ≡ true
   some_named =
-      ap has_flags hurt.named
+      ap has_flags (ap (λ (s : PlainState). s.named) hurt.others)
       ∙ list_any_at (λ flag. flag) (with_flag old.state.named d) d false (omega (arith, named_within, length-set old.state.named d true))
       (flag_set old.state.named d named_within)
 
@@ -338,33 +298,33 @@ module _ (setup : Setup) (old : WorldState) (d : ℕ) (line : Line) (flipped : B
             let was = unnamed (meta_line setup.shape (counter_position setup.shape page)) none in
             subst (λ (line : Line). IsStoredBlock old.board.regs.loss (unpacked line) (true_block setup.shape old.ledger.truth page))
             (sym (alike.elsewhere (meta_line setup.shape (counter_position setup.shape page)) was.1))
-            (world.kept.counters (sym hurt.loose ∙ tight) page within was.0);
+            (world.kept.counters (sym (ap (λ (s : PlainState). s.loose) hurt.others) ∙ tight) page within was.0);
       }
 
   chip : (engine : Option EngineState) → IsPowered setup old engine → IsPowered setup new engine
   chip None off =
       record {
-        unpowered = hurt.power ∙ off.unpowered;
+        unpowered = (ap (λ (s : PlainState). s.power) hurt.others) ∙ off.unpowered;
         anchored = off.anchored;
         durable = λ honest. absurd (true≢false (sym some_named ∙ honest));
       }
   chip (Some engine) on =
       record {
-        powered = hurt.power ∙ on.powered;
+        powered = (ap (λ (s : PlainState). s.power) hurt.others) ∙ on.powered;
         trusted = on.trusted;
         sound = λ honest. absurd (true≢false (sym some_named ∙ honest));
         whole_cache = on.whole_cache;
         metadata =
             λ tight x within none.
             let was = unnamed (meta_line setup.shape x) none in
-            elim (on.metadata (sym hurt.loose ∙ tight) x within was.0) [
+            elim (on.metadata (sym (ap (λ (s : PlainState). s.loose) hurt.others) ∙ tight) x within was.0) [
               | inl stored ↦ inl (alike.elsewhere (meta_line setup.shape x) was.1 ∙ stored)
               | inr dirty ↦ inr dirty
             ];
         dirty =
             λ bank x now.
             subst₂ (λ touched flushed. IsTrue (can_be_dirty setup.shape (record (old.state) { touched = touched; flushed = flushed }) x))
-            (sym hurt.touched) (sym hurt.flushed) (on.dirty bank x now);
+            (sym (ap (λ (s : PlainState). s.touched) hurt.others)) (sym (ap (λ (s : PlainState). s.flushed) hurt.others)) (on.dirty bank x now);
       }
 
   tampered-world : IsWorld setup new
@@ -380,44 +340,44 @@ module _ (setup : Setup) (old : WorldState) (d : ℕ) (line : Line) (flipped : B
             };
         memory =
             record {
-              count = ap length hurt.memory ∙ world.memory.count;
-              each = λ a within. world.memory.each a within ∙ ap (λ memory. Some (line_at memory a)) (sym hurt.memory);
+              count = ap length (ap (λ (s : PlainState). s.memory) hurt.others) ∙ world.memory.count;
+              each = λ a within. world.memory.each a within ∙ ap (λ memory. Some (line_at memory a)) (sym (ap (λ (s : PlainState). s.memory) hurt.others));
             };
         chip = chip old.engine world.chip;
         kept = kept;
         flags =
             record {
-              named = ap length hurt.named ∙ length-set old.state.named d true ∙ world.flags.named;
+              named = ap length (ap (λ (s : PlainState). s.named) hurt.others) ∙ length-set old.state.named d true ∙ world.flags.named;
               hurt = hurt.hurt_count ∙ world.flags.hurt;
               spoiled = hurt.spoiled_count ∙ world.flags.spoiled;
-              touched = ap length hurt.touched ∙ world.flags.touched;
-              flushed = ap length hurt.flushed ∙ world.flags.flushed;
+              touched = ap length (ap (λ (s : PlainState). s.touched) hurt.others) ∙ world.flags.touched;
+              flushed = ap length (ap (λ (s : PlainState). s.flushed) hurt.others) ∙ world.flags.flushed;
             };
         queues =
             record {
-              ports = subst ArePorts (sym hurt.queues) world.queues.ports;
+              ports = subst ArePorts (sym (ap (λ (s : PlainState). s.queues) hurt.others)) world.queues.ports;
               on_memory =
-                  subst (λ queues. All (λ queue. All (λ write. write.at < data_lines setup.shape) queue) queues) (sym hurt.queues)
+                  subst (λ queues. All (λ queue. All (λ write. write.at < data_lines setup.shape) queue) queues) (sym (ap (λ (s : PlainState). s.queues) hurt.others))
                   world.queues.on_memory;
             };
         board =
             record {
-              power = world.board.power ∙ sym hurt.power;
-              fuse = world.board.fuse ∙ sym hurt.fuse;
-              snapped = world.board.snapped ∙ sym hurt.snapped;
-              loss = world.board.loss ∙ sym hurt.loss;
+              power = world.board.power ∙ sym (ap (λ (s : PlainState). s.power) hurt.others);
+              fuse = world.board.fuse ∙ sym (ap (λ (s : PlainState). s.fuse) hurt.others);
+              snapped = world.board.snapped ∙ sym (ap (λ (s : PlainState). s.snapped) hurt.others);
+              loss = world.board.loss ∙ sym (ap (λ (s : PlainState). s.loss) hurt.others);
               few_armed = world.board.few_armed;
             };
         steps =
             record {
-              in_range = omega (arith, world.steps.in_range, hurt.steps);
+              in_range = omega (arith, world.steps.in_range, (ap (λ (s : PlainState). s.steps) hurt.others));
               reads = world.steps.reads;
               writes = world.steps.writes;
               latches = world.steps.latches;
               sum =
                   λ exact low.
-                  let was = world.steps.sum (record { writes = exact.writes; latches = exact.latches }) (omega (arith, low, hurt.steps)) in
-                  omega (arith, was, hurt.steps);
+                  let was = world.steps.sum (record { writes = exact.writes; latches = exact.latches }) (omega (arith, low, (ap (λ (s : PlainState). s.steps) hurt.others))) in
+                  omega (arith, was, (ap (λ (s : PlainState). s.steps) hurt.others));
             };
       }
 
