@@ -92,23 +92,22 @@ each_apart g a (opened ∷ pages) whole none =
     (record { whole = All-head (IsWholePage g) opened pages whole; not_left = parts.0 })
     (each_apart g a pages (All-tail (IsWholePage g) opened pages whole) parts.1)
 
--- so is the one that is to be finished
-finished_apart : (g : Shape) (a page : ℕ) (view : DeviceView) → All (IsPageApart g a) view.open_pages
-    → MatchOption (page_to_finish view (open_page view page)) ⊤ (IsPageApart g a)
-finished_apart g a page view each = of_page (open_page view page) refl
+-- what is said of each open page is said of the one that is to be finished
+finished_page : (P : OpenPage → Type 0) (page : ℕ) (view : DeviceView) → All P view.open_pages
+    → MatchOption (page_to_finish view (open_page view page)) ⊤ P
+finished_page P page view each = of_page (open_page view page) refl
   where
-    first_apart : (pages : List OpenPage) → All (IsPageApart g a) pages → MatchOption (first_of pages) ⊤ (IsPageApart g a)
-    first_apart [] each = tt
-    first_apart (opened ∷ pages) each = All-head (IsPageApart g a) opened pages each
+    first_is : (pages : List OpenPage) → All P pages → MatchOption (first_of pages) ⊤ P
+    first_is [] each = tt
+    first_is (opened ∷ pages) each = All-head P opened pages each
 
-    oldest : (b : Bool) → MatchOption (cond b (first_of view.open_pages) None) ⊤ (IsPageApart g a)
-    oldest true = first_apart view.open_pages each
+    oldest : (b : Bool) → MatchOption (cond b (first_of view.open_pages) None) ⊤ P
+    oldest true = first_is view.open_pages each
     oldest false = tt
 
-    of_page : (found : Option OpenPage) → open_page view page ≡ found → MatchOption (page_to_finish view found) ⊤ (IsPageApart g a)
+    of_page : (found : Option OpenPage) → open_page view page ≡ found → MatchOption (page_to_finish view found) ⊤ P
     of_page None none = oldest (nat_le 4 (length view.open_pages))
-    of_page (Some opened) there =
-        (find_found (λ opened. opened.page == page) (IsPageApart g a) view.open_pages opened each there).1
+    of_page (Some opened) there = (find_found (λ opened. opened.page == page) P view.open_pages opened each there).1
 
 -- the marks asked have that form
 pub asked_form : (g : Shape) (f : Formulas) (now : Moment) (write : Posted) (marks : List Mark)
@@ -140,7 +139,7 @@ asked_form g f now write marks whole asked =
         → Some (finishing ++ Begin (page_of write.at) ∷ seal_mark f write.at (next_major last 1) plain ∷ []) ≡ Some marks
         → IsAsked f write marks
     rolled free it =
-        let page = finished_apart g write.at (page_of write.at) now.view (each_apart g write.at now.view.open_pages whole free) in
+        let page = finished_page (IsPageApart g write.at) (page_of write.at) now.view (each_apart g write.at now.view.open_pages whole free) in
         record {
           front = finishing ++ Begin (page_of write.at) ∷ [];
           ctr = next_major last 1;
@@ -226,24 +225,6 @@ page_within g f now page (i ∷ left) inside small =
     (omega (arith, inside, All-head (λ i. i < 64) i left small))
     (page_within g f now page left inside (All-tail (λ i. i < 64) i left small))
 
--- the page to finish is whole
-finished_whole : (g : Shape) (page : ℕ) (view : DeviceView) → All (IsWholePage g) view.open_pages
-    → MatchOption (page_to_finish view (open_page view page)) ⊤ (IsWholePage g)
-finished_whole g page view each = of_page (open_page view page) refl
-  where
-    first_whole : (pages : List OpenPage) → All (IsWholePage g) pages → MatchOption (first_of pages) ⊤ (IsWholePage g)
-    first_whole [] each = tt
-    first_whole (opened ∷ pages) each = All-head (IsWholePage g) opened pages each
-
-    oldest : (b : Bool) → MatchOption (cond b (first_of view.open_pages) None) ⊤ (IsWholePage g)
-    oldest true = first_whole view.open_pages each
-    oldest false = tt
-
-    of_page : (found : Option OpenPage) → open_page view page ≡ found → MatchOption (page_to_finish view found) ⊤ (IsWholePage g)
-    of_page None none = oldest (nat_le 4 (length view.open_pages))
-    of_page (Some opened) there =
-        (find_found (λ opened. opened.page == page) (IsWholePage g) view.open_pages opened each there).1
-
 -- the marks asked seal data lines
 pub asked_within : (g : Shape) (f : Formulas) (now : Moment) (write : Posted) (marks : List Mark)
     → All (IsWholePage g) now.view.open_pages → write.at < data_lines g → marks_of_write f now write ≡ Some marks
@@ -278,7 +259,7 @@ asked_within g f now write marks whole within asked =
         subst (All (IsSealWithin g))
         (same_Some (finishing ++ Begin (page_of write.at) ∷ seal_mark f write.at (next_major last 1) plain ∷ []) marks it)
         (All-append (IsSealWithin g) finishing (Begin (page_of write.at) ∷ seal_mark f write.at (next_major last 1) plain ∷ [])
-        (finished to_finish (finished_whole g (page_of write.at) now.view whole))
+        (finished to_finish (finished_page (IsWholePage g) (page_of write.at) now.view whole))
         (All-cons (IsSealWithin g) (Begin (page_of write.at)) (seal_mark f write.at (next_major last 1) plain ∷ []) tt
         (All-cons (IsSealWithin g) (seal_mark f write.at (next_major last 1) plain) [] within (All-nil (IsSealWithin g)))))
 

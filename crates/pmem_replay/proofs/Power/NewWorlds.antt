@@ -97,52 +97,21 @@ module _ (setup : Setup) (p : WorldParts) (old : Device) (made : IsJustMade setu
   its_state : state_in setup p ≡ start_state setup.shape
   unfolding start_state
   its_state =
-      let now = state_in setup p in
-      ap (λ (m : List Line). record now { memory = m }) memory_same
-      ∙ ap (λ q. record now { memory = replicate (layout.data_lines setup.shape) zero_line; queues = q }) made.queues
-      ∙ ap (λ (b : Bool). record now { memory = replicate (layout.data_lines setup.shape) zero_line; queues = no_writes; power = b }) powered
-      ∙ ap (λ (b : Option (List Line)). record now { memory = replicate (layout.data_lines setup.shape) zero_line; queues = no_writes; power = true; snapped = is_some b }) made.no_snapshot
-      ∙ ap (λ (f : Option ℕ). record now { memory = replicate (layout.data_lines setup.shape) zero_line; queues = no_writes; power = true; snapped = false; fuse = f }) fuse
-      ∙ ap (λ (n : ℕ). record now { memory = replicate (layout.data_lines setup.shape) zero_line; queues = no_writes; power = true; snapped = false; fuse = None; steps = n }) made.steps
-      ∙ ap (λ (t : Tampering). record now {
-        memory = replicate (layout.data_lines setup.shape) zero_line;
-        queues = no_writes;
-        power = true;
-        snapped = false;
-        fuse = None;
-        steps = 0;
-        named = t.named;
-        hurt = t.hurt;
-        spoiled = t.spoiled;
-        loose = t.loose;
-      }) made.tampering
-      ∙ ap (λ (d : Dirtying). record (record now {
-        memory = replicate (layout.data_lines setup.shape) zero_line;
-        queues = no_writes;
-        power = true;
-        snapped = false;
-        fuse = None;
-        steps = 0;
-        named = no_flags (layout.device_lines setup.shape);
-        hurt = no_flags (layout.data_lines setup.shape);
-        spoiled = no_flags (layout.data_lines setup.shape);
-        loose = false;
-      }) { touched = d.touched; flushed = d.flushed }) made.dirtying
-      ∙ ap (λ (r : Regs). record now {
-        memory = replicate (layout.data_lines setup.shape) zero_line;
-        queues = no_writes;
-        power = true;
-        snapped = false;
-        fuse = None;
-        steps = 0;
-        named = no_flags (layout.device_lines setup.shape);
-        hurt = no_flags (layout.data_lines setup.shape);
-        spoiled = no_flags (layout.data_lines setup.shape);
-        loose = false;
-        touched = no_flags (layout.pages setup.shape);
-        flushed = no_flags (layout.meta_lines setup.shape);
-        loss = r.loss;
-      }) regs
+      cc (
+        memory_same,
+        made.queues,
+        powered,
+        ap (λ (b : Option (List Line)). is_some b) made.no_snapshot,
+        fuse,
+        made.steps,
+        ap (λ (t : Tampering). t.named) made.tampering,
+        ap (λ (t : Tampering). t.hurt) made.tampering,
+        ap (λ (t : Tampering). t.spoiled) made.tampering,
+        ap (λ (t : Tampering). t.loose) made.tampering,
+        ap (λ (d : Dirtying). d.touched) made.dirtying,
+        ap (λ (d : Dirtying). d.flushed) made.dirtying,
+        ap (λ (r : Regs). r.loss) regs,
+      )
 
   counters_same : (view_of setup.shape p.ledger.marks).counters ≡ replicate (layout.data_lines setup.shape) (first_counter setup)
   counters_same =

@@ -58,6 +58,11 @@ use Rattle.pmem_replay.proofs.Table.UnchangedSteps.{dark_in}
 use Rattle.pmem_replay.proofs.Steps.CallSurroundings.{called}
 use Rattle.pmem_replay.proofs.Power.RecoveryCalls.{whole_empty, apart_ok, apart_err, RecoveryCall}
 
+-- a board is its fields
+same_board : (a b : BoardMemory) → a.lines ≡ b.lines → a.regs ≡ b.regs → a.powered ≡ b.powered → a.fuse ≡ b.fuse → a.snapshot ≡ b.snapshot
+    → a.reads ≡ b.reads → a.writes ≡ b.writes → a.latches ≡ b.latches → a.cuts ≡ b.cuts → a ≡ b
+same_board a b lines regs powered fuse snapshot reads writes latches cuts = grind arith
+
 module _ (s : RecoveryCall) where
   abbrev setup : Setup
   setup = setup_in s.formulas_of s.geometry s.parts
@@ -415,16 +420,8 @@ module _ (s : RecoveryCall) where
       let its_latches : s.board.latches ≡ s.parts.board.latches = omega (arith, s.served.watched.follows.latches, latches, s.served.watched.in_count.latches) in
       let fuse : s.board.fuse ≡ s.parts.board.fuse =
       s.served.watched.follows.burnt lasting ∙ no_steps s.parts.board.fuse (steps_in s.taken) (omega (arith, writes, latches)) in
-      ap (λ (x : List Line). record dim { lines = x }) (same_Some s.board.lines s.parts.board.lines (ap (λ d. d.lines) same))
-      ∙ ap (λ (x : Regs). record dim { lines = s.parts.board.lines; regs = x }) (ap (λ d. d.regs) same)
-      ∙ ap (λ (x : Bool). record (s.board) { lines = s.parts.board.lines; regs = s.parts.board.regs; powered = x }) (sym its_off.unpowered)
-      ∙ ap (λ (x : Option ℕ). record (s.board) { lines = s.parts.board.lines; regs = s.parts.board.regs; powered = s.parts.board.powered; fuse = x }) fuse
-      ∙ ap (λ (x : Option (List Line)). record (s.parts.board) { snapshot = x; reads = s.board.reads; writes = s.board.writes; latches = s.board.latches; cuts = s.board.cuts })
-      s.served.watched.follows.snapshot
-      ∙ ap (λ (x : ℕ). record (s.parts.board) { reads = x; writes = s.board.writes; latches = s.board.latches; cuts = s.board.cuts }) (ap (λ d. d.reads) same)
-      ∙ ap (λ (x : ℕ). record (s.parts.board) { writes = x; latches = s.board.latches; cuts = s.board.cuts }) its_writes
-      ∙ ap (λ (x : ℕ). record (s.parts.board) { latches = x; cuts = s.board.cuts }) its_latches
-      ∙ ap (λ (x : ℕ). record (s.parts.board) { cuts = x }) (s.served.watched.follows.uncut lasting)
+      same_board dim s.parts.board (same_Some s.board.lines s.parts.board.lines (ap (λ d. d.lines) same)) (ap (λ d. d.regs) same) (sym its_off.unpowered)
+      fuse s.served.watched.follows.snapshot (ap (λ d. d.reads) same) its_writes its_latches (s.served.watched.follows.uncut lasting)
 
   -- nothing has changed
   pub on-memory : (rested : BoardMemory) → s.outcome ≡ Err Fail.Memory → rested ≡ dim → left_with s.engine rested ≡ s.parts
