@@ -4,7 +4,7 @@ ghost use Rattle.pmem_base.specs.Ranges.{IsCommand};
 ghost use Rattle.plain_model.specs.Run.{takes_memory};
 ghost use Rattle.pmem_replay.specs.World.{setup_of_world};
 ghost use Rattle.pmem_replay.specs.Replies.{with_marks_since};
-ghost use Rattle.pmem_replay.specs.Logged.{IsLogged};
+ghost use Rattle.pmem_replay.specs.Logged.{IsLogged, IsLogKept};
 ghost use Rattle.pmem_replay.specs.Stepped.{HasStepped, reply_in, AddsFewSteps, CanWantMemory};
 
 use crate::{Reply, World};
@@ -48,6 +48,7 @@ impl<S: Counted + Drop> World<S> {
         ensures wanting { OnErr result (CanWantMemory self.old.state command.now) }
         ensures memory { OnErr result (IsTrue (takes_memory command.now)) }
         ensures logged { OnOk result (IsLogged command.now log.old self.old.board log.new self.new.board) }
+        ensures kept { IsLogKept self.old.shape self.old.state command.now log.old log.new }
     {
         self.holds();
         let from = self.marks().len();
@@ -74,6 +75,7 @@ impl<S: Counted + Drop> World<S> {
         ensures wanting { OnErr result (CanWantMemory self.old.state command.now) }
         ensures memory { OnErr result (IsTrue (takes_memory command.now)) }
         ensures logged { OnOk result (IsLogged command.now log.old self.old.board log.new self.new.board) }
+        ensures kept { IsLogKept self.old.shape self.old.state command.now log.old log.new }
     {
         match command {
             Command::Post { port, at, line } => Ok(self.post(*port, *at, line)),

@@ -1,5 +1,5 @@
 //! Waiting writes, given to the engine one by one.
-ghost use Rattle.std.specs.Prelude.{◌≡◌, ◌<◌, ◌≤◌, ◌*◌, false, length, drop, Some, IsSome, IfOk, OnErr};
+ghost use Rattle.std.specs.Prelude.{◌≡◌, ◌<◌, ◌≤◌, ◌*◌, ◌⊎◌, false, length, drop, Some, IsSome, IfOk, OnErr};
 ghost use Rattle.pmem_base.specs.declared.commands.Command.TheVariants as Do;
 ghost use Rattle.pmem_base.specs.WaitingWrites.{queue_of};
 ghost use Rattle.seal_ledger.specs.Notes.{HasRoom};
@@ -8,6 +8,7 @@ ghost use Rattle.pmem_engine.specs.Outcomes.{is_sealed_by};
 ghost use Rattle.access_log.specs.Traced.{GoesOn};
 ghost use Rattle.pmem_replay.specs.EngineCalls.{IsWriteTaken};
 ghost use Rattle.pmem_replay.specs.Given.{HasWriteGiven, CanEndFence};
+ghost use Rattle.pmem_replay.specs.Logged.{IsLogKept};
 ghost use Rattle.pmem_replay.specs.Replies.{with_marks_since};
 ghost use Rattle.pmem_replay.specs.Stepped.{HasStepped, CanWantMemory, EndsWrites};
 ghost use Rattle.pmem_replay.specs.World.{setup_of_world};
@@ -37,6 +38,7 @@ impl<S: Counted + Drop> World<S> {
         ensures err { OnErr result (self.new ≡ self.old) }
         ensures wanting { OnErr result (CanWantMemory self.old.state (Do.Drain port)) }
         ensures logged { GoesOn log.old self.old.board log.new self.new.board }
+        ensures kept { IsLogKept self.old.shape self.old.state (Do.Drain port) log.old log.new }
     {
         self.holds();
         if !self.is_on() {
@@ -57,6 +59,7 @@ impl<S: Counted + Drop> World<S> {
         ensures err { OnErr result (self.new ≡ self.old) }
         ensures wanting { OnErr result (CanWantMemory self.old.state (Do.Fence port)) }
         ensures logged { GoesOn log.old self.old.board log.new self.new.board }
+        ensures kept { IsLogKept self.old.shape self.old.state (Do.Fence port) log.old log.new }
     {
         self.holds();
         if !self.is_on() {
@@ -77,6 +80,7 @@ impl<S: Counted + Drop> World<S> {
         requires room { HasRoom self.old.ledger self.old.capacity (66 * count) }
         ensures stepped { HasStepped (setup_of_world S.formulas_of self.old) self.old (Do.Fence port) (with_marks_since self.old self.new result) self.new }
         ensures logged { GoesOn log.old self.old.board log.new self.new.board }
+        ensures kept { (log.new ≡ log.old) ⊎ (0 < count) }
     {
         self.holds();
         let mut done: u8 = 0;

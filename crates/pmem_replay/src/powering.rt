@@ -4,6 +4,7 @@ ghost use Rattle.pmem_base.specs.Lines.{AreBytes, IsTag};
 ghost use Rattle.pmem_base.specs.declared.commands.Command.TheVariants as Do;
 ghost use Rattle.access_log.specs.Traced.{GoesOn};
 ghost use Rattle.pmem_replay.specs.World.{setup_of_world};
+ghost use Rattle.pmem_replay.specs.Logged.{IsLogKept};
 ghost use Rattle.pmem_replay.specs.Replies.{without_marks};
 ghost use Rattle.pmem_replay.specs.Stepped.{HasStepped, CanWantMemory};
 
@@ -46,6 +47,7 @@ impl<S: Counted + Drop> World<S> {
         ensures err { OnErr result (self.new ≡ self.old) }
         ensures wanting { OnErr result (CanWantMemory self.old.state Do.On) }
         ensures logged { OnOk result (GoesOn log.old self.old.board log.new self.new.board) }
+        ensures kept { IsLogKept self.old.shape self.old.state Do.On log.old log.new }
     {
         if self.engine.is_some() {
             return Ok(Answer::Already);

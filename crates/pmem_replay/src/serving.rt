@@ -8,6 +8,7 @@ ghost use Rattle.plain_model.specs.State.{with_flag};
 ghost use Rattle.plain_model.specs.After.{after_clean};
 ghost use Rattle.access_log.specs.Traced.{GoesOn};
 ghost use Rattle.pmem_replay.specs.World.{setup_of_world};
+ghost use Rattle.pmem_replay.specs.Logged.{IsLogKept};
 ghost use Rattle.pmem_replay.specs.Replies.{without_marks, with_marks_since};
 ghost use Rattle.pmem_replay.specs.Stepped.{HasStepped, CanWantMemory};
 ghost use Rattle.pmem_replay.specs.EngineCalls.{IsOverlayOf, IsCleanIn, IsCleanAt};
@@ -43,6 +44,7 @@ impl<S: Counted + Drop> World<S> {
         requires port { port < 8 }
         ensures stepped { HasStepped (setup_of_world S.formulas_of self.old) self.old (Do.Read port at) (without_marks result) self.new }
         ensures logged { GoesOn log.old self.old.board log.new self.new.board }
+        ensures kept { IsLogKept self.old.shape self.old.state (Do.Read port at) log.old log.new }
     {
         self.holds();
         if !self.is_on() {
@@ -81,6 +83,7 @@ impl<S: Counted + Drop> World<S> {
         ensures err { OnErr result (self.new ≡ self.old) }
         ensures wanting { OnErr result (CanWantMemory self.old.state Do.Turn) }
         ensures logged { GoesOn log.old self.old.board log.new self.new.board }
+        ensures kept { IsLogKept self.old.shape self.old.state Do.Turn log.old log.new }
     {
         self.holds();
         if !self.is_on() {
@@ -105,6 +108,7 @@ impl<S: Counted + Drop> World<S> {
         requires { self.old.shown ≡ false }
         ensures stepped { HasStepped (setup_of_world S.formulas_of self.old) self.old Do.Flush (without_marks result) self.new }
         ensures logged { GoesOn log.old self.old.board log.new self.new.board }
+        ensures kept { IsLogKept self.old.shape self.old.state Do.Flush log.old log.new }
     {
         self.holds();
         if !self.is_on() {
@@ -156,6 +160,7 @@ impl<S: Counted + Drop> World<S> {
         requires { self.old.shown ≡ false }
         ensures stepped { HasStepped (setup_of_world S.formulas_of self.old) self.old (Do.Loss n) (without_marks result) self.new }
         ensures logged { GoesOn log.old self.old.board log.new self.new.board }
+        ensures kept { IsLogKept self.old.shape self.old.state (Do.Loss n) log.old log.new }
     {
         self.holds();
         if !self.is_on() {

@@ -1,5 +1,5 @@
 -- What each command answers, as its own function says.
-use Rattle.std.proofs.Common.{refl}
+use Rattle.std.proofs.Common.{refl, inl}
 use Rattle.pmem_replay.proofs.Steps.PartsOfWorld.{unmarked}
 use Rattle.pmem_replay.proofs.world.World.answer.Goals as goal
 
@@ -119,3 +119,57 @@ returns-in-Snap-clause-err g c = c.snap.ensures.err
 
 pub returns-in-Snap-clause-wanting : goal.returns-in-Snap-clause-wanting
 returns-in-Snap-clause-wanting g c = rw c.in-Snap.is c.snap.ensures.wanting
+
+pub returns-in-Post-clause-kept : goal.returns-in-Post-clause-kept
+returns-in-Post-clause-kept g c = inl refl
+
+pub returns-in-Part-clause-kept : goal.returns-in-Part-clause-kept
+returns-in-Part-clause-kept g c = inl refl
+
+pub returns-in-Cut-clause-kept : goal.returns-in-Cut-clause-kept
+returns-in-Cut-clause-kept g c = inl refl
+
+pub returns-in-Off-clause-kept : goal.returns-in-Off-clause-kept
+returns-in-Off-clause-kept g c = inl refl
+
+pub returns-in-Poke-clause-kept : goal.returns-in-Poke-clause-kept
+returns-in-Poke-clause-kept g c = inl refl
+
+pub returns-in-Flip-clause-kept : goal.returns-in-Flip-clause-kept
+returns-in-Flip-clause-kept g c = inl refl
+
+pub returns-in-Move-clause-kept : goal.returns-in-Move-clause-kept
+returns-in-Move-clause-kept g c = inl refl
+
+pub returns-in-Snap-clause-kept : goal.returns-in-Snap-clause-kept
+returns-in-Snap-clause-kept g c = inl refl
+
+pub returns-in-Back-clause-kept : goal.returns-in-Back-clause-kept
+returns-in-Back-clause-kept g c = inl refl
+
+pub returns-in-Peek-clause-kept : goal.returns-in-Peek-clause-kept
+returns-in-Peek-clause-kept g c = inl refl
+
+pub returns-in-Stat-clause-kept : goal.returns-in-Stat-clause-kept
+returns-in-Stat-clause-kept g c = inl refl
+
+pub returns-in-Read-clause-kept : goal.returns-in-Read-clause-kept
+returns-in-Read-clause-kept g c = rw c.in-Read.is c.read.ensures.kept
+
+pub returns-in-Flush-clause-kept : goal.returns-in-Flush-clause-kept
+returns-in-Flush-clause-kept g c = rw c.in-Flush.is c.flush.ensures.kept
+
+pub returns-in-Loss-clause-kept : goal.returns-in-Loss-clause-kept
+returns-in-Loss-clause-kept g c = rw c.in-Loss.is c.loss.ensures.kept
+
+pub returns-in-Drain-clause-kept : goal.returns-in-Drain-clause-kept
+returns-in-Drain-clause-kept g c = rw c.in-Drain.is c.drain.ensures.kept
+
+pub returns-in-Fence-clause-kept : goal.returns-in-Fence-clause-kept
+returns-in-Fence-clause-kept g c = rw c.in-Fence.is c.fence.ensures.kept
+
+pub returns-in-Turn-clause-kept : goal.returns-in-Turn-clause-kept
+returns-in-Turn-clause-kept g c = rw c.in-Turn.is c.turn.ensures.kept
+
+pub returns-in-On-clause-kept : goal.returns-in-On-clause-kept
+returns-in-On-clause-kept g c = rw c.in-On.is c.on.ensures.kept

@@ -1,5 +1,5 @@
 -- The port's oldest write is drained.
-use Rattle.std.proofs.Common.{arith, rules}
+use Rattle.std.proofs.Common.{arith, rules, inr}
 use Rattle.meta_path.proofs.NameLemmas.{on_err}
 use Rattle.pmem_base.specs.declared.commands.Command.TheVariants as Do
 use Rattle.pmem_replay.specs.Stepped.{CanWantMemory}
@@ -18,3 +18,9 @@ returns-in_err-make_room-clause-wanting g c =
       on_lit _ c.args.self.now c.holds.ensures (search (rules, c.is_on.ensures, c.if-not-is_on.false)),
       omega (arith, c.waiting.ensures.value),
     )
+
+pub returns-clause-kept : goal.returns-clause-kept
+returns-clause-kept g c = inr (
+  on_lit _ c.args.self.now c.holds.ensures (search (rules, c.is_on.ensures, c.if-not-is_on.false)),
+  omega (arith, c.waiting.ensures.value),
+)

@@ -1,5 +1,5 @@
 -- Writes are drained until none waits, or one ends it.
-use Rattle.std.proofs.Common.{arith}
+use Rattle.std.proofs.Common.{arith, refl, inl, inr}
 use Rattle.pmem_replay.proofs.Drains.GivenWrites.{ends_with}
 use Rattle.pmem_replay.proofs.Drains.FenceLaws.{fence_starts, still_waits, fence_next, fence_ended, fence_done}
 use Rattle.pmem_replay.proofs.world.World.drain_all.Goals as goal
@@ -8,6 +8,7 @@ pub writes-init : goal.writes-init
 writes-init g c = (
   fence_starts g.S.Suite.formulas_of c.args.self.now c.args.port c.args.count c.holds.ensures c.requires.shown c.requires.on c.requires.room,
   λ first leads. leads,
+  inl refl,
 )
 
 pub give-requires-clause-some : goal.give-requires-clause-some
@@ -37,9 +38,16 @@ writes-preserved g c = (
   fence_next g.S.Suite.formulas_of c.args.self.now c.writes.self c.give.new.self c.args.port c.args.count c.writes.done c.writes.steps
       c.requires.port c.holds.ensures c.requires.count c.requires.most c.writes.invariant.0 c.in-Drained.steps c.in-Drained.ensures.given c.writes-test.true,
   λ first leads. c.give.ensures.logged first (c.writes.invariant.1 first leads),
+  inr (omega (arith, c.writes-test.true)),
 )
 
 pub returns-clause-stepped : goal.returns-clause-stepped
 returns-clause-stepped g c =
     fence_done g.S.Suite.formulas_of c.args.self.now c.writes.self c.args.port c.args.count c.writes.done c.writes.steps c.requires.port
     c.holds.ensures c.requires.count c.requires.most c.writes.invariant.0 (omega (arith, c.writes-test.false))
+
+pub returns-in_default-clause-kept : goal.returns-in_default-clause-kept
+returns-in_default-clause-kept g c = inr (omega (arith, c.writes-test.true))
+
+pub returns-clause-kept : goal.returns-clause-kept
+returns-clause-kept g c = c.writes.invariant.2

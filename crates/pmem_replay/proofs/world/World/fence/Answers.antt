@@ -1,5 +1,5 @@
 -- All writes of the port are drained.
-use Rattle.std.proofs.Common.{arith, rules}
+use Rattle.std.proofs.Common.{arith, rules, inl, inr}
 use Rattle.meta_path.proofs.NameLemmas.{on_err}
 use Rattle.pmem_base.specs.declared.commands.Command.TheVariants as Do
 use Rattle.pmem_replay.specs.Stepped.{CanWantMemory}
@@ -17,3 +17,13 @@ returns-in_err-make_room-clause-wanting g c =
       on_lit _ c.args.self.now c.holds.ensures (search (rules, c.is_on.ensures, c.if-not-is_on.false)),
       omega (arith, c.in_err-make_room.ensures.some, c.waiting-count.ensures.value),
     )
+
+pub returns-clause-kept : goal.returns-clause-kept
+returns-clause-kept g c =
+    elim c.drain_all.ensures.kept [
+      | inl same ↦ inl same
+      | inr some ↦ inr (
+        on_lit _ c.args.self.now c.holds.ensures (search (rules, c.is_on.ensures, c.if-not-is_on.false)),
+        omega (arith, some, c.waiting-count.ensures.value),
+      )
+    ]

@@ -1,5 +1,5 @@
 -- A dirty block is written back, where there is one.
-use Rattle.std.proofs.Common.{ℕ, ◌≡◌, rules, subst, sym, ap, ◌∙◌, Ok, Err, Option, Some, None}
+use Rattle.std.proofs.Common.{ℕ, ◌≡◌, rules, subst, sym, ap, ◌∙◌, Ok, Err, Option, Some, None, true, inr}
 use Rattle.std.specs.Prelude.{Result}
 use Rattle.pmem_base.specs.Shape.{Shape}
 use Rattle.pmem_base.specs.declared.commands.Command.TheVariants as Do
@@ -14,6 +14,7 @@ use Rattle.pmem_replay.specs.Stepped.{HasStepped}
 use Rattle.pmem_replay.specs.World.{WorldState, setup_of_world}
 use Rattle.pmem_replay.proofs.EngineCalls.CommandSteps.{Serving, serving}
 use Rattle.pmem_replay.proofs.Commands.FlushSteps.{same_shape, flush_clean_in, flush_clean_at, flush_clean, flushed_state, flush_flushed, flush_stopped}
+use Rattle.pmem_replay.proofs.Drains.FenceLaws.{on_lit}
 use Rattle.pmem_replay.proofs.world.World.flush.Given.{Over}
 use Rattle.pmem_replay.proofs.world.World.flush.Goals.{After-steps-steps}
 use Rattle.pmem_replay.proofs.world.World.flush.Goals as goal
@@ -27,6 +28,9 @@ module _ (g : Over) (c : After-steps-steps g) where
   served answer is =
       serving setup c.args.self.now c.call-done.result.taken c.call-done.new.self
       (subst (λ (r : Result (Option ℕ) Fault). HasCalledEngine setup FlushesBlock None c.args.self.now c.call-done.result.taken r c.call-done.new.self) is c.call-done.ensures.called)
+
+  on : c.args.self.now.state.power ≡ true
+  on = on_lit setup c.args.self.now c.holds.ensures (search (rules, c.is_on.ensures, c.if-not-is_on.false))
 
 pub note_clean-requires-clause-clean : goal.note_clean-requires-clause-clean
 note_clean-requires-clause-clean g c =
@@ -60,3 +64,12 @@ returns-in-Err-clause-stepped g c =
     let at = (goal.at.returns-in-Err-clause-stepped g c).After-steps-steps in
     flush_stopped c.in-Err.fault (served g at (Err c.in-Err.fault) c.in-Err.is) c.stopped.result
     (subst (λ n. IsFaultAnswered c.call-done.new.self.ledger.exhibit None c.in-Err.fault n c.stopped.result) c.steps-steps.ensures c.stopped.ensures)
+
+pub returns-in-Ok-None-clause-kept : goal.returns-in-Ok-None-clause-kept
+returns-in-Ok-None-clause-kept g c = inr (on g (goal.at.returns-in-Ok-None-clause-kept g c).After-steps-steps)
+
+pub returns-in-Ok-Some-clause-kept : goal.returns-in-Ok-Some-clause-kept
+returns-in-Ok-Some-clause-kept g c = inr (on g (goal.at.returns-in-Ok-Some-clause-kept g c).After-steps-steps)
+
+pub returns-in-Err-clause-kept : goal.returns-in-Err-clause-kept
+returns-in-Err-clause-kept g c = inr (on g (goal.at.returns-in-Err-clause-kept g c).After-steps-steps)

@@ -1,5 +1,5 @@
 -- Power comes on: the device is recovered, refused or shown, or power is cut.
-use Rattle.std.proofs.Common.{arith, rules, ◌≡◌, ap, subst, sym, ◌∙◌}
+use Rattle.std.proofs.Common.{arith, rules, ◌≡◌, ap, subst, sym, ◌∙◌, inr}
 use Rattle.std.specs.Prelude.{false}
 use Rattle.pmem_base.specs.Geo.{shape_of}
 use Rattle.board.specs.MemBoard.{memory_of}
@@ -66,6 +66,12 @@ module _ (g : Over) (c : After-saturating_add-self-inside g) where
             (g.S.Suite.tags c.recover-done.new.suite) (g.S.Suite.digests c.recover-done.new.suite))
             c.recover-done.new.engine c.recover-done.result.answer) lights c.recover-done.ensures.recovered;
       }
+
+  dark : c.args.self.now.state.power ≡ false
+  dark =
+      let setup = setup_in g.S.Suite.formulas_of (shape_of c.self.inside.geo) p in
+      subst (λ (w : WorldState). w.state.power ≡ false) c.self.view_is
+      (dark_in setup (world_of setup p) call.served.going.whole call.served.was_off)
 
 pub invariant_of-self-in-Err-Memory : goal.invariant_of-self-in-Err-Memory
 invariant_of-self-in-Err-Memory g c =
@@ -136,11 +142,7 @@ returns-in-Err-Twin-clause-stepped g c =
     c.is_whole.ensures c.is_tag-in-Err-Twin.ensures).stepped
 
 pub returns-in-Err-Memory-clause-wanting : goal.returns-in-Err-Memory-clause-wanting
-returns-in-Err-Memory-clause-wanting g c =
-    let place = (goal.at.returns-in-Err-Memory-clause-wanting g c).After-saturating_add-self-inside in
-    let setup = setup_in g.S.Suite.formulas_of (shape_of c.self.inside.geo) (p g place) in
-    subst (λ (w : WorldState). w.state.power ≡ false) c.self.view_is
-    (dark_in setup (world_of setup (p g place)) (call g place).served.going.whole (call g place).served.was_off)
+returns-in-Err-Memory-clause-wanting g c = dark g (goal.at.returns-in-Err-Memory-clause-wanting g c).After-saturating_add-self-inside
 
 pub returns-in-Err-NoCounter-clause-logged : goal.returns-in-Err-NoCounter-clause-logged
 returns-in-Err-NoCounter-clause-logged g c =
@@ -162,3 +164,21 @@ returns-in-Err-Twin-clause-logged g c =
     (memory_of c.rest-in-Err-Twin.new.self)
     (ap traced_of c.power.ensures ∙ ap (λ (w : WorldState). traced_of w.board) c.self.view_is) (ap traced_of c.rest-in-Err-Twin.ensures)
     c.recover-done.ensures.logged
+
+pub returns-in-Ok-clause-kept : goal.returns-in-Ok-clause-kept
+returns-in-Ok-clause-kept g c = inr (dark g (goal.at.returns-in-Ok-clause-kept g c).After-saturating_add-self-inside)
+
+pub returns-in-Err-Memory-clause-kept : goal.returns-in-Err-Memory-clause-kept
+returns-in-Err-Memory-clause-kept g c = inr (dark g (goal.at.returns-in-Err-Memory-clause-kept g c).After-saturating_add-self-inside)
+
+pub returns-in-Err-Cut-clause-kept : goal.returns-in-Err-Cut-clause-kept
+returns-in-Err-Cut-clause-kept g c = inr (dark g (goal.at.returns-in-Err-Cut-clause-kept g c).After-saturating_add-self-inside)
+
+pub returns-in-Err-NoCounter-clause-kept : goal.returns-in-Err-NoCounter-clause-kept
+returns-in-Err-NoCounter-clause-kept g c = inr (dark g (goal.at.returns-in-Err-NoCounter-clause-kept g c).After-saturating_add-self-inside)
+
+pub returns-in-Err-Root-clause-kept : goal.returns-in-Err-Root-clause-kept
+returns-in-Err-Root-clause-kept g c = inr (dark g (goal.at.returns-in-Err-Root-clause-kept g c).After-saturating_add-self-inside)
+
+pub returns-in-Err-Twin-clause-kept : goal.returns-in-Err-Twin-clause-kept
+returns-in-Err-Twin-clause-kept g c = inr (dark g (goal.at.returns-in-Err-Twin-clause-kept g c).After-saturating_add-self-inside)

@@ -1,6 +1,6 @@
 -- A line is read, or the read is stopped.
-use Rattle.std.proofs.Common.{◌≡◌, ◌<◌, arith, rules, subst, sym, ◌∙◌, Ok, Err, None}
-use Rattle.std.specs.Prelude.{Result, false}
+use Rattle.std.proofs.Common.{◌≡◌, ◌<◌, arith, rules, subst, sym, ◌∙◌, Ok, Err, None, inr}
+use Rattle.std.specs.Prelude.{Result, true, false}
 use Rattle.pmem_base.specs.declared.lines.Line.{Line}
 use Rattle.pmem_base.specs.declared.commands.Command.TheVariants as Do
 use Rattle.pmem_base.specs.declared.answers.Answer.TheVariants as Say
@@ -15,7 +15,7 @@ use Rattle.pmem_replay.specs.Stepped.{HasStepped}
 use Rattle.pmem_replay.specs.World.{setup_of_world}
 use Rattle.pmem_replay.proofs.EngineCalls.CommandSteps.{Serving, serving, can_stop}
 use Rattle.pmem_replay.proofs.Commands.ReadSteps.{read_got, read_stopped}
-use Rattle.pmem_replay.proofs.Drains.FenceLaws.{some_engine}
+use Rattle.pmem_replay.proofs.Drains.FenceLaws.{some_engine, on_lit}
 use Rattle.pmem_replay.proofs.Table.ForwardedReads.{covered_by, uncovered_by, read-forwarded}
 use Rattle.pmem_replay.proofs.world.World.read.Given.{Over}
 use Rattle.pmem_replay.proofs.world.World.read.Goals.{After-steps-steps}
@@ -30,6 +30,9 @@ module _ (g : Over) (c : After-steps-steps g) where
   served answer is =
       serving setup c.args.self.now c.call-done.result.taken c.call-done.new.self
       (subst (λ (r : Result Line Fault). HasCalledEngine setup (ReadsLine c.args.at) None c.args.self.now c.call-done.result.taken r c.call-done.new.self) is c.call-done.ensures.called)
+
+  on : c.args.self.now.state.power ≡ true
+  on = on_lit setup c.args.self.now c.holds.ensures (search (rules, c.is_on.ensures, c.if-not-is_on.false))
 
   within : c.args.at < layout.data_lines setup.shape
   within = omega (arith, c.if-at-from.false, c.from.ensures, c.lines.ensures)
@@ -64,3 +67,13 @@ returns-in-Err-clause-stepped g c =
     let at = (goal.at.returns-in-Err-clause-stepped g c).After-steps-steps in
     read_stopped c.args.port c.args.at c.in-Err.fault (served g at (Err c.in-Err.fault) c.in-Err.is) (within g at) (uncovered g at) c.stopped.result
     (subst (λ n. IsFaultAnswered c.call-done.new.self.ledger.exhibit None c.in-Err.fault n c.stopped.result) c.steps-steps.ensures c.stopped.ensures)
+
+pub returns-in-Ok-clause-kept : goal.returns-in-Ok-clause-kept
+returns-in-Ok-clause-kept g c =
+    let at = (goal.at.returns-in-Ok-clause-kept g c).After-steps-steps in
+    inr (on g at, within g at, uncovered g at)
+
+pub returns-in-Err-clause-kept : goal.returns-in-Err-clause-kept
+returns-in-Err-clause-kept g c =
+    let at = (goal.at.returns-in-Err-clause-kept g c).After-steps-steps in
+    inr (on g at, within g at, uncovered g at)

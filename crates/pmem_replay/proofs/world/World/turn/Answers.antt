@@ -1,5 +1,5 @@
 -- A line is sealed anew, or the turn is stopped, or no page is open.
-use Rattle.std.proofs.Common.{ℕ, ◌≡◌, rules, subst, sym, Ok, Err, Option, Some, None}
+use Rattle.std.proofs.Common.{ℕ, ◌≡◌, rules, subst, sym, Ok, Err, Option, Some, None, true, inr}
 use Rattle.std.specs.Prelude.{Result}
 use Rattle.pmem_base.specs.declared.commands.Command.TheVariants as Do
 use Rattle.pmem_base.specs.declared.answers.Answer.TheVariants as Say
@@ -12,6 +12,7 @@ use Rattle.pmem_replay.specs.Stepped.{HasStepped}
 use Rattle.pmem_replay.specs.World.{setup_of_world}
 use Rattle.pmem_replay.proofs.EngineCalls.CommandSteps.{Serving, serving_roomy}
 use Rattle.pmem_replay.proofs.Commands.TurnSteps.{turn_idle, turn_turned, turn_stopped}
+use Rattle.pmem_replay.proofs.Drains.FenceLaws.{on_lit}
 use Rattle.pmem_replay.proofs.Steps.PartsOfWorld.{since}
 use Rattle.pmem_replay.proofs.world.World.turn.Given.{Over}
 use Rattle.pmem_replay.proofs.world.World.turn.Goals.{After-steps-steps}
@@ -27,6 +28,9 @@ module _ (g : Over) (c : After-steps-steps g) where
       serving_roomy TurnsPage None answer g.S.Suite.formulas_of c.args.self.now c.make_room.new.self 1 c.in_ok-make_room.ensures.ok c.call-done.result.taken c.call-done.new.self
       (subst (λ (r : Result (Option (ℕ × ℕ)) Fault). HasCalledEngine (setup_of_world g.S.Suite.formulas_of c.make_room.new.self) TurnsPage None c.make_room.new.self c.call-done.result.taken r c.call-done.new.self)
       is c.call-done.ensures.called)
+
+  on : c.args.self.now.state.power ≡ true
+  on = on_lit setup c.args.self.now c.holds.ensures (search (rules, c.is_on.ensures, c.if-not-is_on.false))
 
 pub returns-in-Ok-None-clause-stepped : goal.returns-in-Ok-None-clause-stepped
 returns-in-Ok-None-clause-stepped g c =
@@ -47,3 +51,12 @@ returns-in-Err-clause-stepped g c =
     since _ c.args.self.now _ Do.Turn _ _
     (turn_stopped c.in-Err.fault (served g at (Err c.in-Err.fault) c.in-Err.is) c.stopped.result
     (subst (λ n. IsFaultAnswered c.call-done.new.self.ledger.exhibit None c.in-Err.fault n c.stopped.result) c.steps-steps.ensures c.stopped.ensures))
+
+pub returns-in-Ok-None-clause-kept : goal.returns-in-Ok-None-clause-kept
+returns-in-Ok-None-clause-kept g c = inr (on g (goal.at.returns-in-Ok-None-clause-kept g c).After-steps-steps)
+
+pub returns-in-Ok-Some-clause-kept : goal.returns-in-Ok-Some-clause-kept
+returns-in-Ok-Some-clause-kept g c = inr (on g (goal.at.returns-in-Ok-Some-clause-kept g c).After-steps-steps)
+
+pub returns-in-Err-clause-kept : goal.returns-in-Err-clause-kept
+returns-in-Err-clause-kept g c = inr (on g (goal.at.returns-in-Err-clause-kept g c).After-steps-steps)
