@@ -1,13 +1,11 @@
 -- What a world's replies say that are told with their logs: as without them, and of each log.
 use Rattle.std.proofs.Common.{◌≡◌, ◌∙◌, ◌+◌, ◌-◌, ◌≤◌, ℕ, List, [], ◌∷◌, ◌++◌, length, refl, sym, ap, subst, Bool, true, false, inl, inr, arith}
-use Rattle.std.specs.Prelude.{◌⊎◌, Option, None, Some, Ok, IsTrue, IfSome}
+use Rattle.std.specs.Prelude.{◌⊎◌, Option, None, Some, Ok, IfSome}
 use Rattle.std.proofs.lemmas.List.{map-append}
 use Rattle.pmem_base.specs.declared.commands.Command.{Command}
-use Rattle.pmem_base.specs.declared.commands.Command.TheVariants as Do
 use Rattle.pmem_base.specs.Shape.{Shape}
 use Rattle.suite.specs.Formulas.{Formulas}
 use Rattle.suite.specs.Setup.{Setup}
-use Rattle.board.specs.Memory.{BoardMemory}
 use Rattle.access_log.specs.declared.access.Access.{Access}
 use Rattle.plain_model.specs.declared.Stop.{Stop}
 use Rattle.plain_model.specs.declared.Stop.TheVariants.{Finished, Words, Memory, ReadFault, WriteFault, Refused, Shown, TooManyLines}
@@ -18,11 +16,11 @@ use Rattle.plain_model.specs.State.{PlainState, Reply}
 use Rattle.plain_model.specs.Run.{Machine, Step, line_limit, start, machine_after_all, Ends}
 use Rattle.pmem_replay.specs.World.{WorldState, setup_of_world}
 use Rattle.pmem_replay.specs.Stepped.{HasStepped, AddsFewSteps}
-use Rattle.pmem_replay.specs.Logged.{IsLogged}
+use Rattle.pmem_replay.specs.Logged.{IsLogged, CanAccess, IsLogKept}
 use Rattle.trace_text.specs.Conversations.{AnswersOne, IsTalk, AreRepliesGiven, IsShownTalk, TalkEnds}
 use Rattle.pmem_cli.specs.Printed.{Output}
 use Rattle.pmem_cli.specs.Replies.{world_protocol}
-use Rattle.pmem_cli.specs.Logged.{LoggedStep, IsTold, may_access, GoesOnTold, EndsTold, logged_protocol, steps_logged, IsMemoryWantedLogged, LoggedEnds, LoggedEndsFrom, AreTold, IsReplayedTold, HasReplayedLogged, HasRepliedLoggedFirst}
+use Rattle.pmem_cli.specs.Logged.{LoggedStep, IsTold, WantsMemoryLogged, GoesOnTold, EndsTold, logged_protocol, steps_logged, IsMemoryWantedLogged, LoggedEnds, LoggedEndsFrom, AreTold, IsReplayedTold, HasReplayedLogged, HasRepliedLoggedFirst}
 use Rattle.pmem_cli.specs.Standing.{standing_of, AreStepped, IsFirstWorld, IsReplayed}
 use Rattle.pmem_cli.specs.Talked.{HasToldFirst}
 use Rattle.pmem_cli.specs.Turns.{HasStopped}
@@ -98,16 +96,11 @@ told_either true f old new line command reply accesses tags digests shown is ste
 told_either false f old new line command reply accesses tags digests hidden is stepped few told =
     inl (told_goes f old new line command reply accesses tags digests is stepped few told hidden)
 
--- memory for a log is wanted only by a command whose accesses are logged
-pub lost_wants : (command : Command) (log : Option (List Access)) (old new : BoardMemory) → log ≡ None → IsLogged command (Some []) old log new → IsTrue (may_access command)
-lost_wants (Do.Drain port) log old new lost logged = refl
-lost_wants (Do.Fence port) log old new lost logged = refl
-lost_wants (Do.Read port at) log old new lost logged = refl
-lost_wants Do.Turn log old new lost logged = refl
-lost_wants Do.Flush log old new lost logged = refl
-lost_wants (Do.Loss n) log old new lost logged = refl
-lost_wants Do.On log old new lost logged = refl
-lost_wants command log old new lost logged = absurd cc
+-- memory for a log is wanted only where the command may access the board
+pub lost_accesses : (g : Shape) (state : PlainState) (command : Command) (before after : Option (List Access)) → before ≡ Some [] → None ≡ after
+    → IsLogKept g state command before after → CanAccess g state command
+lost_accesses g state command before after empty lost (inl same) = absurd cc
+lost_accesses g state command before after empty lost (inr may) = may
 
 -- ---- without the logs
 
@@ -164,9 +157,13 @@ ends_of_logged Memory f world trace left xs running ends =
             (run_of_talk f world ends.last ends.before (steps_logged xs) running (plain_talk f world ends.last ends.before xs ends.talk)).run;
       };
       wanting =
-          inr (subst (λ (m : Machine). IsMemoryWantedLogged m.state (length ends.before) (ends.line ∷ ends.behind))
-          (run_of_talk f world ends.last ends.before (steps_logged xs) running (plain_talk f world ends.last ends.before xs ends.talk)).on.machine
-          (ends.wanted, omega (arith, ends.counted)));
+          inr (subst (λ (m : Machine). IsMemoryWantedLogged world.shape m.state (length ends.before) (ends.line ∷ ends.behind))
+          (run_of_talk f world ends.last ends.before (steps_logged xs) running (plain_talk f world ends.last ends.before xs ends.talk)).on.machine (
+            subst (λ (u : Setup). WantsMemoryLogged u.shape ends.last.state (reading_of ends.line))
+                (run_of_talk f world ends.last ends.before (steps_logged xs) running (plain_talk f world ends.last ends.before xs ends.talk)).on.setup
+                ends.wanted,
+            omega (arith, ends.counted),
+          ));
     }
 ends_of_logged Words f world trace left xs running ends = ends
 ends_of_logged ReadFault f world trace left xs running ends =
@@ -249,9 +246,9 @@ replayed_plain setup stop xs (inr (first, last, new, chain)) = inr (first, last,
 
 -- ---- the whole run
 
-wanted_within : (state : PlainState) (n : ℕ) (behind : List (List ℕ)) → IsMemoryWantedLogged state n behind → n ≤ line_limit
-wanted_within state n [] wanted = absurd wanted
-wanted_within state n (line ∷ lines) wanted = omega (arith, wanted.1)
+wanted_within : (g : Shape) (state : PlainState) (n : ℕ) (behind : List (List ℕ)) → IsMemoryWantedLogged g state n behind → n ≤ line_limit
+wanted_within g state n [] wanted = absurd wanted
+wanted_within g state n (line ∷ lines) wanted = omega (arith, wanted.1)
 
 -- so much is said of the steps without the log, whatever stopped it
 pub ends_plain : (setup : Setup) (stop : Stop) (trace : List ℕ) (left : Option (List ℕ)) (steps : List Step) → LoggedEnds setup stop trace left steps
@@ -260,7 +257,7 @@ ends_plain setup Memory trace left steps ends =
     let short : length ends.front.before ≤ line_limit =
     elim ends.wanting [
       | inl none ↦ omega (arith, none.0)
-      | inr wanted ↦ wanted_within (machine_after_all setup (start setup) steps).state (length ends.front.before) ends.front.behind wanted
+      | inr wanted ↦ wanted_within setup.shape (machine_after_all setup (start setup) steps).state (length ends.front.before) ends.front.behind wanted
     ] in
     (WriteFault, inl (record { front = ends.front; counted = omega (arith, short) }))
 ends_plain setup Finished trace left steps ends = (Finished, ends)

@@ -1,9 +1,8 @@
 -- A run whose accesses of the board are told before each reply.
-use Rattle.std.specs.Prelude.{◌≡◌, ◌≢◌, ◌⊎◌, ◌<◌, ◌-◌, ◌++◌, ℕ, Bool, true, false, List, [], ◌∷◌, codes, decimal, length, map, All, IsTrue, Option, Some, None, Ok, Err, IfSome}
+use Rattle.std.specs.Prelude.{◌≡◌, ◌≢◌, ◌⊎◌, ◌<◌, ◌-◌, ◌++◌, ℕ, false, List, [], ◌∷◌, codes, decimal, length, map, All, Option, Some, None, Ok, Err, IfSome}
 use Rattle.std.specs.List.{flat_map}
 use Rattle.std.specs.Io.KnownBytes.{Appends}
-use Rattle.pmem_base.specs.declared.commands.Command.{Command}
-use Rattle.pmem_base.specs.declared.commands.Command.TheVariants as Do
+use Rattle.pmem_base.specs.Shape.{Shape}
 use Rattle.suite.specs.Formulas.{Formulas}
 use Rattle.suite.specs.Setup.{Setup}
 use Rattle.collision_witness.specs.Texts.{sentence}
@@ -18,7 +17,7 @@ use Rattle.access_log.specs.declared.access.Access.{Access}
 use Rattle.access_log.specs.declared.access.Access.TheVariants as Did
 use Rattle.pmem_replay.specs.World.{WorldState}
 use Rattle.pmem_replay.specs.Stepped.{CanWantMemory}
-use Rattle.pmem_replay.specs.Logged.{IsLogged}
+use Rattle.pmem_replay.specs.Logged.{IsLogged, CanAccess}
 use Rattle.trace_text.specs.Entries.{sort_of_reading}
 use Rattle.trace_text.specs.Conversations.{Protocol}
 use Rattle.pmem_cli.specs.declared.ending.Ending.{Ending}
@@ -71,22 +70,12 @@ pub record IsTold (old : WorldState) (logged : LoggedStep) (new : WorldState) : 
 
 -- ---- want of memory
 
--- whether the command may access the board by the engine or by recovery, which its log then tells
-abbrev pub may_access : Command → Bool
-may_access (Do.Drain port) = true
-may_access (Do.Fence port) = true
-may_access (Do.Read port at) = true
-may_access Do.Turn = true
-may_access Do.Flush = true
-may_access (Do.Loss n) = true
-may_access Do.On = true
-may_access command = false
-
--- the reply to a line that reads so, with its log, may want memory: for the reply, or for an access that is logged
-abbrev pub WantsMemoryLogged : PlainState → Reading → Type 0
-WantsMemoryLogged state (Ok (Some command)) = CanWantMemory state command ⊎ IsTrue (may_access command)
-WantsMemoryLogged state (Ok None) = ⊥
-WantsMemoryLogged state (Err kind) = ⊥
+-- the reply to a line that reads so, with its log, may want memory in this state: for the reply, or for an access that is
+-- logged
+abbrev pub WantsMemoryLogged : Shape → PlainState → Reading → Type 0
+WantsMemoryLogged g state (Ok (Some command)) = CanWantMemory state command ⊎ CanAccess g state command
+WantsMemoryLogged g state (Ok None) = ⊥
+WantsMemoryLogged g state (Err kind) = ⊥
 
 -- ---- the lines of a trace
 
@@ -111,7 +100,7 @@ logged_protocol formulas_of =
       answers = GoesOnTold formulas_of;
       shows = EndsTold formulas_of;
       text_of = logged_text;
-      wants_memory = λ old line. WantsMemoryLogged old.state (reading_of line);
+      wants_memory = λ old line. WantsMemoryLogged old.shape old.state (reading_of line);
       runs = λ world. world.shown ≡ false;
     }
 
@@ -121,17 +110,18 @@ abbrev pub steps_logged : List LoggedStep → List Step
 steps_logged all = map (λ logged. logged.step) all
 
 -- memory was wanted for the reply to the first of these lines or for its log, and the line isn't past the limit
-abbrev pub IsMemoryWantedLogged : PlainState → ℕ → List (List ℕ) → Type 0
-IsMemoryWantedLogged state served [] = ⊥
-IsMemoryWantedLogged state served (line ∷ lines) = WantsMemoryLogged state (reading_of line) × (served < line_limit)
+abbrev pub IsMemoryWantedLogged : Shape → PlainState → ℕ → List (List ℕ) → Type 0
+IsMemoryWantedLogged g state served [] = ⊥
+IsMemoryWantedLogged g state served (line ∷ lines) =
+    WantsMemoryLogged g state (reading_of line) × (served < line_limit)
 
--- A front of the lines is run, and memory was wanted for the reply to the next line's command or for its log; or it was
--- wanted before the first line, and no byte was taken.
+-- A front of the lines is run, and memory was wanted for the reply to the next line's command or for its log, in the
+-- state that the front left; or it was wanted before the first line, and no byte was taken.
 pub record IsStarvedLogged (setup : Setup) (machine : Machine) (trace : List ℕ) (left : Option (List ℕ)) (steps : List Step) : Type 0 where
   pub front : IsFrontFrom setup machine (lines_of trace) steps
   pub wanting :
       ((length front.before ≡ 0) × (left ≡ Some trace))
-      ⊎ IsMemoryWantedLogged (machine_after_all setup machine steps).state (length front.before) front.behind
+      ⊎ IsMemoryWantedLogged setup.shape (machine_after_all setup machine steps).state (length front.before) front.behind
 
 -- What a stop says of a trace, of what is left of it, and of the steps: as without a log, but for want of memory,
 -- which may be for the log.

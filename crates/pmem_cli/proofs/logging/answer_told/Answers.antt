@@ -1,11 +1,9 @@
-use Rattle.std.proofs.Common.{◌≡◌, ◌∙◌, List, [], refl, sym, ap, subst, inl, inr, Option, None, Some}
-use Rattle.access_log.specs.declared.access.Access.{Access}
+use Rattle.std.proofs.Common.{◌≡◌, ◌∙◌, refl, sym, ap, inl, inr}
 use Rattle.plain_model.specs.Answers.{is_shown}
-use Rattle.pmem_replay.specs.Logged.{IsLogged}
 use Rattle.pmem_replay.specs.Stepped.{reply_in}
 use Rattle.pmem_cli.specs.Logged.{IsTold}
 use Rattle.pmem_cli.proofs.FaultLemmas.{stops_unfailed, stops_unwritten}
-use Rattle.pmem_cli.proofs.LoggedTalks.{logged_of, told_of, told_goes, told_ends, told_either, lost_wants}
+use Rattle.pmem_cli.proofs.LoggedTalks.{logged_of, told_of, told_goes, told_ends, told_either, lost_accesses}
 use Rattle.pmem_cli.proofs.logging.answer_told.Given.{Over}
 use Rattle.pmem_cli.proofs.logging.answer_told.Goals as goal
 
@@ -19,9 +17,8 @@ returns-in_default-clause-answered g c = λ line number is. (
 pub returns-in_default-accesses-clause-answered : goal.returns-in_default-accesses-clause-answered
 returns-in_default-accesses-clause-answered g c = λ line number is. (
   rw is refl,
-  rw is (inr (lost_wants c.args.command.now c.step_logged.new.log c.args.world.now.board c.step_logged.new.self.board (sym c.in_default-accesses.ensures)
-      (subst (λ (log : Option (List Access)). IsLogged c.args.command.now log c.args.world.now.board c.step_logged.new.log c.step_logged.new.self.board) c.empty-log.ensures
-      c.in-Ok.ensures.logged))),
+  rw is (inr (lost_accesses c.args.world.now.shape c.args.world.now.state c.args.command.now c.empty-log.result c.step_logged.new.log
+      c.empty-log.ensures c.in_default-accesses.ensures c.step_logged.ensures.kept)),
   refl,
 )
 
