@@ -2,7 +2,7 @@
 import itertools
 from dataclasses import dataclass, field, replace
 from functools import cached_property
-from typing import Any, Callable, Dict, FrozenSet, Iterator, List, Optional, Sequence, Tuple
+from typing import Any, Callable, Dict, FrozenSet, Iterator, List, Optional, Sequence, Tuple, TypeVar
 
 from .errors import ExploreError
 from .layout import DATA, TAGS, Layout
@@ -24,6 +24,9 @@ MARK_STARTS = tuple(f"{mark} ".encode() for mark in MARKS)
 OFF = b"off"
 
 Readings = List[bytes]
+Seen = Tuple[Readings, Tuple["Other", ...], Tuple[int, ...]]
+
+T = TypeVar("T")
 
 
 @dataclass(frozen=True)
@@ -106,6 +109,8 @@ class CutFinder:
         self.recording = recording
         self.observe: Optional[Callable[[Cut, Readings], None]] = None
         self.texts: Dict[bytes, str] = {}
+        self.behind: List[Moment] = []
+        self.last_seen: Optional[Tuple[Readings, Sequence[int], bytes, Seen]] = None
         self.before: Readings = []
         self.plain_before: Readings = []
         self.together = together
@@ -171,9 +176,9 @@ class CutFinder:
             return [*cut, b"on"]
         return [*cut, b"cut %d" % moment.recovery_steps, b"on", b"on"]
 
-    def question(self, moment: Moment) -> Question:
-        """The question that tells what a moment leaves."""
-        lines, is_before = self.lines_at(moment), moment.kind == "before"
+    def question(self, moment: Moment, lines: Optional[Sequence[int]] = None) -> Question:
+        """The question that tells what a moment leaves; with `lines` it reads those."""
+        lines, is_before = self.lines_at(moment) if lines is None else lines, moment.kind == "before"
         if lines is self.lines:
             reads = self.before_reads if is_before else self.reads
         else:
@@ -207,7 +212,9 @@ class CutFinder:
                 and self.together.library_for(self.recording, len(moments)):
             log = self.recording.program.logged(self.recording.script, self.recording.settings)
             if log is not None:
-                yield from Shared(self.recording, self.together, log, self.question).answers(moments, what)
+                shared = Shared(self.recording, self.together, log, self)
+                self.behind = shared.behind
+                yield from shared.answers(moments, what)
                 return
         found = self.together.answers(self.recording, map(self.question, moments), len(moments), what)
         for moment, (_, data) in zip(moments, found):
@@ -232,7 +239,7 @@ class CutFinder:
     def cut(self, moment: Moment, data: bytes, before: Readings, waiting: Waiting) -> Cut:
         """The cut that the answers to a moment's question tell."""
         count = len(self.script(moment))
-        replies, after = readings_in(data, count)
+        replies, printed = replies_before(data, count)
         if len(replies) < count:
             raise ExploreError(f"{self.recording.trace.name}, line {self.recording.commands[moment.index].number}: "
                                f"a cut after {moment.number} steps ends the run")
@@ -243,12 +250,20 @@ class CutFinder:
         lines = self.lines_at(moment)
         if self.observe is not None and lines is not self.lines:
             before = [self.before[self.places[line]] for line in lines]
-        others, unread = self.others(lines, before, after)
+        after, others, unread = self.seen(lines, before, printed)
         cut = Cut(moment.index, moment.number, moment.steps, command, replies[-2].answer, recovery, others, tuple(lost),
                   unread, moment.recovery_steps)
         if self.observe is not None:
             self.observe(cut, self.whole(lines, after))
         return cut
+
+    def seen(self, lines: Sequence[int], before: Readings, printed: bytes) -> Seen:
+        """What reads of these lines printed, line by line, and what `others` tells of it: found once for cuts in a row in which
+        they print the same."""
+        if self.last_seen is None or self.last_seen[0] is not before or self.last_seen[1:3] != (lines, printed):
+            after = readings_of(printed)
+            self.last_seen = before, lines, printed, (after, *self.others(lines, before, after))
+        return self.last_seen[3]
 
     def note(self, lines: Sequence[int], before: Readings) -> None:
         """Notes what lines read as before a command; `off` after an exhibit, which ends the run."""
@@ -309,13 +324,21 @@ class CutFinder:
         finder.lines, finder.places = self.lines, self.places
         finder.reads, finder.before_reads = self.reads, self.before_reads
         finder.totals = self.totals
-        some = spread(cuts, count) if self.together.library_for(self.recording, len(cuts)) else []
+        some = self.sample(cuts, count) if self.together.library_for(self.recording, len(cuts)) else []
         moments = [moment for cut in some for moment in (
             Moment("before", cut.index), Moment("cut" if cut.command else "end", cut.index, cut.number, cut.steps))]
         for cut, other in zip(some, finder.cuts(moments, "rows compared")):
             if cut != other:
                 raise ExploreError(f"{self.recording.trace.name}: a cut after {cut.steps} steps isn't answered the same by a "
                                    "fork of a run and by a run from the start: use --from-start")
+
+    def sample(self, cuts: Sequence[Cut], count: int) -> List[Cut]:
+        """So many of the cuts, in their order. Half of them are from those behind a commit group's end, where other cuts tell
+        of such."""
+        behind = {(moment.index, moment.number) for moment in spread(self.behind, count // 2)}
+        places = {place for place, cut in enumerate(cuts) if behind and (cut.index, cut.number) in behind}
+        places.update(spread(range(len(cuts)), count - len(places)))
+        return [cuts[place] for place in sorted(places)]
 
     def with_second_cuts(self, cuts: Sequence[Cut]) -> List[Cut]:
         """The cuts with those of each recovery."""
@@ -358,30 +381,41 @@ class InPlay:
         return sorted({line for lines in self.lines[first:last + 1] for line in lines})
 
 
-def spread(cuts: Sequence[Cut], count: int) -> List[Cut]:
-    """So many of the cuts, from the first to the last."""
-    if count >= len(cuts):
-        return list(cuts)
-    return [cuts[place * (len(cuts) - 1) // max(1, count - 1)] for place in range(count)]
+def spread(every: Sequence[T], count: int) -> List[T]:
+    """So many of them, from the first to the last."""
+    if count >= len(every):
+        return list(every)
+    return [every[place * (len(every) - 1) // max(1, count - 1)] for place in range(count)]
 
 
-def readings_in(data: bytes, count: int) -> Tuple[List[Reply], Readings]:
-    """The first `count` replies of what was printed, and what the reads after them answer."""
+def replies_before(data: bytes, count: int) -> Tuple[List[Reply], bytes]:
+    """The first `count` replies of what was printed, and what is printed after them."""
     at = 0
     for _ in range(count):
         while True:
             end = data.find(b"\n", at)
             if end < 0:
-                return replies_in(data), []
+                return replies_in(data), b""
             is_mark = data.startswith(MARK_STARTS, at)
             at = end + 1
             if not is_mark:
                 break
-    readings = data[at:].split(b"\n")
+    return replies_in(data[:at]), data[at:]
+
+
+def readings_of(data: bytes) -> Readings:
+    """What reads answer that printed this."""
+    readings = data.split(b"\n")
     readings.pop()
     if any(start in data for start in MARK_STARTS):
         readings = [line for line in readings if not line.startswith(MARK_STARTS)]
-    return replies_in(data[:at]), readings
+    return readings
+
+
+def readings_in(data: bytes, count: int) -> Tuple[List[Reply], Readings]:
+    """The first `count` replies of what was printed, and what the reads after them answer."""
+    replies, rest = replies_before(data, count)
+    return replies, readings_of(rest)
 
 
 def reading_of(line: bytes) -> bytes:

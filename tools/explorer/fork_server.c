@@ -3,10 +3,12 @@
    Nothing of the program changes but what its reads of standard input give. That input holds frames, each a letter, a
    number, a line end and so many bytes:
      L  the program gets the bytes;
-     F  a fork of the program gets the bytes and then the end of its input, and this one waits until the fork has ended.
-   The program answers what it got before it reads again, so its output stands in order. To it are added, each on a line
-   that begins with the byte 1: H before the first read, F before a fork, E and the fork's wait status after it. They are
-   written together, as late as that order and the next wait for input allow: each write may wake the one who reads. */
+     F  a fork of the program gets the bytes, and this one waits until the fork has ended.
+   The program answers what it got before it reads again, so its output stands in order, and a fork that reads on behind
+   its bytes has answered all: it ends there, with status 0, as what else it would do takes longer than most answers. To
+   the output are added, each on a line that begins with the byte 1: H before the first read, F before a fork, E and the
+   fork's wait status after it. They are written together, as late as that order and the next wait for input allow: each
+   write may wake the one who reads. */
 #define _GNU_SOURCE
 #include <dlfcn.h>
 #include <errno.h>
@@ -157,6 +159,8 @@ ssize_t read(int file, void *to, size_t room)
             break;
     }
     if (is_fork) {
+        if (taken == length)
+            _exit(0);
         count = given(to, room, script + taken, length - taken);
         taken += (size_t)count;
         return count;

@@ -134,7 +134,8 @@ class Forked(Worker[Question]):
                  done: Dict[int, Output]) -> None:
         super().__init__(done, AT_ONCE)
         self.recording = recording
-        environment = {**os.environ, "LD_PRELOAD": library}
+        # What the program calls is found before it is forked, and not by each fork again.
+        environment = {**os.environ, "LD_PRELOAD": library, "LD_BIND_NOW": "1"}
         self.channel = Channel(selector, recording.program.start(recording.settings, environment), self)
         self.position = 0
         self.waiting: Deque[Tuple[int, bytes]] = deque()
