@@ -147,12 +147,12 @@ def replies_of(data: bytes, path: str) -> Iterator[Tuple[bytes, int]]:
         start = data.find(b"\n", data.find(WORK, at)) + 1
         if not start or not data.startswith(WORK, data.rfind(b"\n", at, start - 1) + 1 or at):
             raise wrong(path)
-        at = start
-        while data.startswith(MARKED, at):
+        at, is_mark = start, True
+        while is_mark:
+            is_mark = data.startswith(MARKED, at)
             at = data.find(b"\n", at) + 1
-        at = data.find(b"\n", at) + 1
-        if at <= start:
-            raise wrong(path)
+            if not at:
+                raise wrong(path)
         yield data[start:at], at
 
 
@@ -181,8 +181,8 @@ def is_cut(replies: bytes) -> bool:
 
 
 class Shared:
-    """The cuts of one trace, of which the log is `data`. `behind`: those whose recovery is known from one that began by finishing
-    their command's last group."""
+    """The cuts of one trace, of which the log is `data`. `behind`: those that come behind a group's end and that another one told
+    of."""
 
     def __init__(self, recording: Recording, together: Together, data: bytes, finder: Finder) -> None:
         self.recording = recording

@@ -10,7 +10,7 @@ from explorer.logged import LoggedProgram
 from explorer.moments import Moment
 from explorer.program import Program, Question, Recording
 from explorer.settings import Settings
-from explorer.shared import First, Stretch, stretches_of, written_first
+from explorer.shared import First, Stretch, replies_of, stretches_of, written_first
 from explorer.together import Together
 from explorer.trace import trace_of
 
@@ -96,6 +96,14 @@ class SharedTest(ExploreTest):
             self.assertFalse(self.first(LOG.replace(old, new)).tells(Moment("cut", 3, 4)), new)
         self.assertFalse(self.first(LOG, False).tells(Moment("cut", 3, 4)))
         self.assertIsNone(self.first(LOG.replace(b"on 4 5 16", b"on 4 5 2")).same_at(Moment("cut", 3, 4), marks + b"cut lost 4\n", marks, [7]))
+
+    def test_what_is_no_log(self) -> None:
+        for data in (b"work 0 0", b"work 0 0\n", b"work 0 0\nok", b"work 0 0\nseal 0 0.1 ab\n", b"ok\n", b"seal 0 0.1 ab\nwork 0 0\nseal 0 0.1 ab",
+                     b"line 3\nok\n", b"line 3\nwork 0 0\nok\nlatch 0\n", b"look 3 work 0 0\nok\n"):
+            with self.assertRaises(ExploreError, msg=data):
+                list(replies_of(data, "pmem"))
+        self.assertEqual(list(replies_of(b"work 0 0\nok\nline 3\nwork 1 3\nseal 0 0.1 ab\nok 7\n", "pmem")),
+                         [(b"ok\n", 12), (b"seal 0 0.1 ab\nok 7\n", 47)])
 
     def test_what_is_printed_to_some_of_the_reads(self) -> None:
         log = LOG + b"work 1 1\nline ee 0\n"
