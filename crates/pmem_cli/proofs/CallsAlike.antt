@@ -1,4 +1,4 @@
--- Two calls of `run` with the same words for one trace put one text, with one status.
+-- Two calls of `run` with the same words for one trace put one text, with one status, or logs of one run.
 use Rattle.std.proofs.Common.{◌≡◌, ◌≢◌, ◌∙◌, ℕ, List, ◌++◌, refl, sym, ap, ap₂, subst, inl, inr}
 use Rattle.std.specs.Prelude.{IfSome, IsNone, Option, None, Some}
 use Rattle.std.specs.Io.KnownBytes.{Appends}
@@ -10,11 +10,17 @@ use Rattle.plain_model.specs.Run.{Step, status_of, output_of, stop_text, Ends}
 use Rattle.trace_text.specs.Samples.{sample_trace, commands_text}
 use Rattle.pmem_cli.specs.declared.options.Choices.{Choices}
 use Rattle.pmem_cli.specs.declared.options.Task.{Task}
+use Rattle.pmem_cli.specs.declared.ending.Ending.{Ending}
 use Rattle.pmem_cli.specs.Causes.{Rose}
-use Rattle.pmem_cli.specs.Determined.{Call, IsCallWith, IsSettled, IsUndisturbed, AreAnsweredAlike}
-use Rattle.pmem_cli.specs.HasRun.{HasRun, HasTextPut, HasSampled, TaskOutcome, AreRefusedWords}
-use Rattle.pmem_cli.specs.Keys.{setup_chosen}
+use Rattle.pmem_cli.specs.Checked.{IsChecked}
+use Rattle.pmem_cli.specs.Determined.{Call, IsCallWith, IsSettled, IsUndisturbed, AreAnsweredAlike, AreLoggedAlike}
+use Rattle.pmem_cli.specs.Endings.{ending_text, ending_status}
+use Rattle.pmem_cli.specs.HasRun.{HasRun, HasTextPut, HasSampled, HasCheckedTrace, TaskOutcome, AreRefusedWords}
+use Rattle.pmem_cli.specs.Keys.{formulas_of, setup_chosen}
+use Rattle.pmem_cli.specs.Logged.{HasLoggedRun, LoggedEnds, steps_logged, logged_texts}
 use Rattle.pmem_cli.specs.Words.{task_of}
+use Rattle.pmem_cli.proofs.ChecksAlike.{checks_alike}
+use Rattle.pmem_cli.proofs.LogsAlike.{logs_alike}
 use Rattle.pmem_cli.proofs.ReplaysAlike.{IsOfTrace, replays_alike}
 use Rattle.pmem_cli.proofs.SamplesAlike.{samples_alike}
 
@@ -90,6 +96,52 @@ module _ (trace put : List ℕ) where
         (appended b.put_before b.put_after (its.text ++ stop_text its.stop) quiet.put_told (its.whole pushed_too)
         ∙ ap₂ (λ (text : List ℕ) (s : Stop). Some (put ++ (text ++ stop_text s))) (sym same.1) (sym same.0))
 
+    checked_alike : (choices : Choices) → Said (Task.Check choices) a → Said (Task.Check choices) b → AreAnsweredAlike put a b
+    checked_alike choices it its =
+        let check : HasCheckedTrace choices a.status (Rose a.pulls_before a.pulls_after) a.trace a.left a.put_before a.put_after = it in
+        let other : HasCheckedTrace choices b.status (Rose b.pulls_before b.pulls_after) b.trace b.left b.put_before b.put_after = its in
+        let status : a.status ≡ ending_status check.ending = check.its_status pushed in
+        let its_status : b.status ≡ ending_status other.ending = other.its_status pushed_too in
+        let same =
+        checks_alike (formulas_of choices) trace check.ending other.ending a.left b.left
+        (λ is. pulled (status ∙ ap ending_status is)) (λ is. pulled_too (its_status ∙ ap ending_status is))
+        (subst (λ (o : Option (List ℕ)). IfSome o (λ bytes. IsChecked (formulas_of choices) check.ending bytes a.left)) calm.trace_told check.checked)
+        (subst (λ (o : Option (List ℕ)). IfSome o (λ bytes. IsChecked (formulas_of choices) other.ending bytes b.left)) quiet.trace_told other.checked) in
+        put_alike a b (ending_status check.ending) (ending_text check.ending) status (its_status ∙ ap ending_status (sym same))
+        (appended a.put_before a.put_after (ending_text check.ending) calm.put_told (check.whole pushed))
+        (appended b.put_before b.put_after (ending_text other.ending) quiet.put_told (other.whole pushed_too)
+        ∙ ap (λ (e : Ending). Some (put ++ ending_text e)) (sym same))
+
+    logged_alike : (choices : Choices) → Said (Task.Log choices) a → Said (Task.Log choices) b → AreLoggedAlike (setup_chosen choices) put a b
+    logged_alike choices it its =
+        let setup = setup_chosen choices in
+        let run : HasLoggedRun setup a.status (Rose a.pulls_before a.pulls_after) a.trace a.left a.put_before a.put_after = it in
+        let other : HasLoggedRun setup b.status (Rose b.pulls_before b.pulls_after) b.trace b.left b.put_before b.put_after = its in
+        let status : a.status ≡ status_of run.stop = run.its_status pushed in
+        let its_status : b.status ≡ status_of other.stop = other.its_status pushed_too in
+        let same =
+        logs_alike setup trace run.stop other.stop a.left b.left run.all other.all (calm_stop a run.stop calm status pushed pulled)
+        (calm_stop b other.stop quiet its_status pushed_too pulled_too)
+        (subst (λ (o : Option (List ℕ)). IfSome o (λ bytes. LoggedEnds setup run.stop bytes a.left (steps_logged run.all))) calm.trace_told run.ends)
+        (subst (λ (o : Option (List ℕ)). IfSome o (λ bytes. LoggedEnds setup other.stop bytes b.left (steps_logged other.all))) quiet.trace_told
+        other.ends)
+        run.replayed other.replayed in
+        record {
+          stop = run.stop;
+          status = status;
+          its_status = its_status ∙ ap status_of (sym same.0);
+          all = run.all;
+          others = other.all;
+          first = appended a.put_before a.put_after (logged_texts run.all ++ stop_text run.stop) calm.put_told (run.whole pushed);
+          second =
+              appended b.put_before b.put_after (logged_texts other.all ++ stop_text other.stop) quiet.put_told (other.whole pushed_too)
+              ∙ ap (λ (s : Stop). Some (put ++ (logged_texts other.all ++ stop_text s))) (sym same.0);
+          begin = same.1;
+          end = same.2;
+          new = same.3;
+          one_run = same.4;
+        }
+
     -- ---- by what the words ask for
 
     tasks_alike : (task : Option Task) → IsSettled task → IfSome task (λ its. Said its a) → IfSome task (λ its. Said its b)
@@ -98,8 +150,8 @@ module _ (trace put : List ℕ) where
     tasks_alike (Some (Task.Run choices)) settled it its none = runs_alike choices it its
     tasks_alike (Some (Task.Make seed count)) settled it its none = texts_alike (commands_text (sample_trace seed count)) it its
     tasks_alike (Some (Task.Sample seed count)) settled it its none = sampled_alike seed count it its
+    tasks_alike (Some (Task.Check choices)) settled it its none = checked_alike choices it its
     tasks_alike (Some (Task.Log choices)) settled it its none = absurd settled
-    tasks_alike (Some (Task.Check choices)) settled it its none = absurd settled
     tasks_alike (Some (Task.Wear choices)) settled it its none = absurd settled
     tasks_alike (Some (Task.Tree choices)) settled it its none = absurd settled
     tasks_alike (Some (Task.Txn choices)) settled it its none = absurd settled
@@ -120,3 +172,11 @@ calls_alike words trace put a b settled it its calm quiet =
     let second : b.status ≡ 2 = its.faulty.1 none in
     put_alike trace put a b 2 (stop_text Words) first second (refused trace put a calm (it.refused first))
     (refused trace put b quiet (its.refused second)))
+
+pub logged_calls_alike : (words : List Word) (choices : Choices) (trace put : List ℕ) (a b : Call) → task_of words ≡ Some (Task.Log choices)
+    → IsCallWith words a → IsCallWith words b → IsUndisturbed trace put a → IsUndisturbed trace put b
+    → AreLoggedAlike (setup_chosen choices) put a b
+logged_calls_alike words choices trace put a b task it its calm quiet =
+    logged_alike trace put a b calm quiet (λ is. calm.pushed (it.write is)) (λ is. quiet.pushed (its.write is)) (λ is. calm.pulled (it.read is))
+    (λ is. quiet.pulled (its.read is)) choices (subst (λ (o : Option Task). IfSome o (λ t. Said trace put t a)) task it.told)
+    (subst (λ (o : Option Task). IfSome o (λ t. Said trace put t b)) task its.told)

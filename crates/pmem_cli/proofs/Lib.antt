@@ -21,6 +21,8 @@ pub mod ReplayLemmas
 pub mod RunsAlike
 pub mod ReplaysAlike
 pub mod SamplesAlike
+pub mod ChecksAlike
+pub mod LogsAlike
 pub mod CallsAlike
 pub mod UntamperedRuns
 pub mod StepSums
