@@ -1,7 +1,9 @@
+pub mod Common
 pub mod Outcomes
+pub mod SessionCalls
 pub mod Recoveries
 pub mod Twins
-pub mod StepCounts
 pub mod Openings
 pub mod StartPlans
 pub mod NewDevices
+pub mod NewSessions

@@ -1,18 +1,6 @@
 -- Recovery, and then the opening of a store: one relation.
 use Rattle.std.proofs.Common.{◌≡◌, List, ℕ, Result, Ok, refl, ap, subst}
-use Rattle.pmem_base.specs.Shape.{Shape}
-use Rattle.board.specs.Device.{Device}
-use Rattle.seal_ledger.specs.Ledger.{LedgerState}
-use Rattle.suite.specs.Formulas.{Formulas}
-use Rattle.suite.specs.Setup.{Setup}
-use Rattle.pmem_engine.specs.Engine.{EngineState}
-use Rattle.pmem_engine.specs.Parts.{Parts, parts_of}
-use Rattle.pmem_recovery.specs.declared.faults.Work.{Work}
-use Rattle.pmem_recovery.specs.declared.faults.RecFault.{RecFault}
-use Rattle.pmem_recovery.specs.Parts.{SuiteState}
-use Rattle.pmem_recovery.specs.Recovered.{HasRecovered}
-use Rattle.engine_lines.proofs.EngineLines.{setup_under}
-use Rattle.line_session.specs.During.{OpeningRelation, HasStartedBy, started_as}
+use Rattle.line_session.proofs.Common.{Shape, Device, LedgerState, Formulas, Setup, EngineState, Parts, parts_of, Work, RecFault, SuiteState, HasRecovered, setup_under, OpeningRelation, HasStartedBy, started_as}
 
 -- where recovery was done, its engine is of the geometry, and the lines are opened under the same keys
 pub has_started : {O F : Type 0} (opens : Setup → OpeningRelation O F) (formulas_of : List ℕ → Formulas) (g : Shape)

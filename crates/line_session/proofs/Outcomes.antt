@@ -1,31 +1,19 @@
 -- Two outcomes of one call of a session are the same.
-use Rattle.std.proofs.Common.{ℕ, ◌≡◌, true, cond, List, Option, Some, None, Result, refl, sym, ap, subst, ◌∙◌}
-use Rattle.std.proofs.lemmas.Option.{same_Some}
-use Rattle.pmem_base.specs.Shape.{Shape}
-use Rattle.board.specs.Memory.{BoardMemory}
-use Rattle.seal_ledger.specs.Ledger.{LedgerState}
-use Rattle.suite.specs.Setup.{Setup}
-use Rattle.watched_board.specs.Watching.{steps_in}
+use Rattle.std.proofs.Common.{ℕ, ◌≡◌, cond, Some, None, Result, refl, sym, ap, subst, ◌∙◌, [], Err, arith}
+use Rattle.line_session.proofs.Common.{same_Some, BoardMemory, Setup, steps_in, EngineState, Chip, LineSession, chip_in, CallPlan, HasCalledStore, StartFault, HasStarted, RecFault, zero_line}
 use Rattle.call_plan.specs.Runs.{IsOutcome}
 use Rattle.call_plan.proofs.DeterminedCalls.{call_is_determined}
-use Rattle.pmem_engine.specs.Engine.{EngineState}
-use Rattle.pmem_engine.specs.Plans.{Chip}
-use Rattle.line_session.specs.State.{LineSession, chip_in}
-use Rattle.line_session.specs.StoreCalls.{CallPlan, HasCalledStore}
-use Rattle.line_session.specs.declared.starts.StartFault.{StartFault}
-use Rattle.line_session.specs.Started.{HasStarted}
+use Rattle.line_session.specs.Answered.{CallRelation, IsAnsweredBy}
+use Rattle.line_session.specs.Started.{IsRefusedFrom}
+use Rattle.line_session.specs.declared.starts.StartFault.TheVariants.{Recovery}
+use Rattle.pmem_base.specs.declared.answers.Exhibit.{Exhibit}
+use Rattle.pmem_base.specs.declared.answers.Exhibit.TheVariants as Show
+use Rattle.pmem_recovery.specs.declared.faults.RecFault.TheVariants as Rec
 
 -- a session is its fields
 same_session : (a b : LineSession) → a.shape ≡ b.shape → a.keys ≡ b.keys → a.board ≡ b.board → a.engine ≡ b.engine → a.ledger ≡ b.ledger
     → a.tags ≡ b.tags → a.digests ≡ b.digests → a ≡ b
-same_session a b shape keys board engine ledger tags digests =
-    ap (λ (s : Shape). record a { shape = s }) shape
-    ∙ ap (λ (k : List ℕ). record a { shape = b.shape; keys = k }) keys
-    ∙ ap (λ (m : BoardMemory). record a { shape = b.shape; keys = b.keys; board = m }) board
-    ∙ ap (λ (e : Option EngineState). record b { engine = e; ledger = a.ledger; tags = a.tags; digests = a.digests }) engine
-    ∙ ap (λ (l : LedgerState). record b { ledger = l; tags = a.tags; digests = a.digests }) ledger
-    ∙ ap (λ (n : ℕ). record b { tags = n; digests = a.digests }) tags
-    ∙ ap (λ (n : ℕ). record b { digests = n }) digests
+same_session a b shape keys board engine ledger tags digests = grind arith
 
 -- what is left of the engine
 same_kept : (a b : LineSession) (x y : EngineState) → a.engine ≡ cond a.board.powered (Some x) None → b.engine ≡ cond b.board.powered (Some y) None
@@ -41,13 +29,12 @@ same_after a b x y kept its shape keys board chip =
     (ap (λ (c : Chip). c.ledger) chip) (ap (λ (c : Chip). c.tags) chip) (ap (λ (c : Chip). c.digests) chip)
 
 pub call_determined : {F A : Type 0} (plan : CallPlan F A) (steps more : ℕ) (end other : Result A F) (old a b : LineSession)
-    → old.board.powered ≡ true → HasCalledStore plan steps end old a → HasCalledStore plan more other old b
-    → (end ≡ other) × (steps ≡ more) × (a ≡ b)
-call_determined plan steps more end other old a b on it its =
+    → HasCalledStore plan steps end old a → HasCalledStore plan more other old b → (end ≡ other) × (steps ≡ more) × (a ≡ b)
+call_determined plan steps more end other old a b it its =
     let engine : its.engine ≡ it.engine = same_Some its.engine it.engine (sym its.was_on ∙ it.was_on) in
     let outcome : IsOutcome (plan old.board.regs (chip_in old it.engine)) old.board b.board its.taken other (chip_in b its.after) =
     subst (λ e. IsOutcome (plan old.board.regs (chip_in old e)) old.board b.board its.taken other (chip_in b its.after)) engine its.outcome in
-    let same = call_is_determined on it.outcome outcome in (
+    let same = call_is_determined it.powered it.outcome outcome in (
       same.0,
       it.its_steps ∙ ap steps_in same.3 ∙ sym its.its_steps,
       same_after a b it.after its.after it.kept its.kept (it.shape ∙ sym its.shape) (it.keys ∙ sym its.keys) same.2 same.1,
@@ -62,3 +49,43 @@ start_determined setup opening steps more end other old a b it its =
       it.its_steps ∙ ap steps_in same.3 ∙ sym its.its_steps,
       same_after a b it.after its.after it.kept its.kept (it.shape ∙ sym its.shape) (it.keys ∙ sym its.keys) same.2 same.1,
     )
+
+-- what is said after a call that leaves nothing open leaves nothing open
+answer_determined : {F A W : Type 0} (calls : CallRelation F A) (says : LineSession → ℕ → Result A F → W) (said other : W) (old a b : LineSession)
+    → ((steps more : ℕ) (end last : Result A F) → calls steps end old a → calls more last old b → (end ≡ last) × (steps ≡ more) × (a ≡ b))
+    → IsAnsweredBy calls says said old a → IsAnsweredBy calls says other old b → (said ≡ other) × (a ≡ b)
+answer_determined calls says said other old a b determined it its =
+    let same = determined it.steps its.steps it.end its.end it.called its.called in (
+      it.is_said ∙ ap (λ (s : LineSession). says s it.steps it.end) same.2 ∙ ap (λ n. says b n it.end) same.1 ∙ ap (λ e. says b its.steps e) same.0
+          ∙ sym its.is_said,
+      same.2,
+    )
+
+pub called_answer : {F A W : Type 0} (plan : CallPlan F A) (says : LineSession → ℕ → Result A F → W) (said other : W) (old a b : LineSession)
+    → IsAnsweredBy (HasCalledStore plan) says said old a → IsAnsweredBy (HasCalledStore plan) says other old b → (said ≡ other) × (a ≡ b)
+called_answer plan says said other old a b =
+    answer_determined (HasCalledStore plan) says said other old a b (λ steps more end last it its. call_determined plan steps more end last old a b it its)
+
+pub started_answer : {F A W : Type 0} (setup : Setup) (opening : CallPlan F A) (says : LineSession → ℕ → Result A (StartFault F) → W) (said other : W)
+    (old a b : LineSession) → IsAnsweredBy (HasStarted setup opening) says said old a → IsAnsweredBy (HasStarted setup opening) says other old b
+    → (said ≡ other) × (a ≡ b)
+started_answer setup opening says said other old a b =
+    answer_determined (HasStarted setup opening) says said other old a b
+    (λ steps more end last it its. start_determined setup opening steps more end last old a b it its)
+
+-- ---- recovery that refuses
+
+abbrev refusal_in : {F A : Type 0} → RecFault → Result A (StartFault F) → RecFault
+refusal_in other (Err (Recovery fault)) = fault
+refusal_in other end = other
+
+-- it tells one reason
+pub refusal_determined : {F A : Type 0} (setup : Setup) (opening : CallPlan F A) (old : LineSession) (one other : RecFault)
+    → IsRefusedFrom setup opening old one → IsRefusedFrom setup opening old other → one ≡ other
+refusal_determined setup opening old one other it its =
+    ap (refusal_in one) (start_determined setup opening it.steps its.steps (Err (Recovery one)) (Err (Recovery other)) old it.new its.new it.started its.started).0
+
+-- the exhibit of a twin
+abbrev pub twin_in : RecFault → Exhibit
+twin_in (Rec.Twin at major low high cipher tag) = Show.Twin at major low high cipher tag
+twin_in fault = Show.Twin 0 0 0 0 zero_line []

@@ -1,34 +1,13 @@
 -- What a recovery leaves that a session over the engine began: as from the engine's start where it is done, and else a
 -- durable device.
 use Rattle.std.proofs.Common.{ℕ, ◌≡◌, ◌<◌, ◌≤◌, ◌-◌, Bool, true, false, List, [], length, inl, inr, Option, Some, None, Ok, Err, refl, sym, ap, subst, ◌∙◌, arith}
-use Rattle.std.specs.Prelude.{is_some, option_map, MatchOption}
-use Rattle.std.proofs.lemmas.Bool.{true≢false}
-use Rattle.std.proofs.lemmas.List.{append-nil}
-use Rattle.std.proofs.lemmas.Option.{same_Some}
-use Rattle.pmem_base.specs.declared.lines.Line.{Line}
-use Rattle.pmem_base.specs.declared.registers.Regs.{Regs}
+use Rattle.line_session.proofs.Common.{is_some, option_map, MatchOption, true≢false, append-nil, same_Some, Line, Regs, Device, BoardMemory, LedgerState, Setup, recovery_bound, EngineState, Parts, parts_of, AreSound, IsDurable, IsSound, Work, SuiteState, IsTwinOfLastSeal, HasRecovered, most_recovery_steps, Taken, steps_in, device_during, none_taken, IsWatched, unburnt, most_within, AreDone}
 use Rattle.pmem_base.specs.Layout as layout
 use Rattle.pmem_base.specs.Registers.{without_group}
-use Rattle.board.specs.Device.{Device}
-use Rattle.board.specs.Memory.{BoardMemory}
 use Rattle.commit_regs.specs.Groups.{redone}
-use Rattle.seal_ledger.specs.Ledger.{LedgerState}
-use Rattle.suite.specs.Setup.{Setup}
-use Rattle.plain_model.specs.Bounds.{recovery_bound}
-use Rattle.pmem_engine.specs.Engine.{EngineState}
-use Rattle.pmem_engine.specs.Parts.{Parts, parts_of, AreSound}
-use Rattle.pmem_engine.specs.Invariants.{IsDurable, IsSound}
-use Rattle.pmem_recovery.specs.declared.faults.Work.{Work}
 use Rattle.pmem_recovery.specs.declared.faults.RecFault.TheVariants as Rec
-use Rattle.pmem_recovery.specs.Parts.{SuiteState}
-use Rattle.pmem_recovery.specs.Trials.{IsTwinOfLastSeal}
-use Rattle.pmem_recovery.specs.Recovered.{HasRecovered, most_recovery_steps}
 use Rattle.pmem_recovery.proofs.LatchLaws.{one_latch}
 use Rattle.pmem_recovery.proofs.UndecidedLaws.{undecided_line}
-use Rattle.watched_board.specs.declared.taken.Taken.{Taken}
-use Rattle.watched_board.specs.Watching.{steps_in, device_during, none_taken, IsWatched}
-use Rattle.watched_board.proofs.StepLaws.{unburnt}
-use Rattle.engine_lines.proofs.EngineWrites.{most_within, AreDone}
 
 -- its steps
 pub few_recovery : (setup : Setup) (regs : Regs) → length regs.group.items ≤ 3 → most_recovery_steps setup regs ≤ recovery_bound setup.shape

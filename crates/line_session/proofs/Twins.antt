@@ -1,25 +1,13 @@
 -- A twin that recovery shows is one of a line that the session keeps.
 use Rattle.std.proofs.Common.{ℕ, ◌≡◌, ◌<◌, ◌/◌, List, Option, Some, None, refl, sym, ap, ap₂, ◌∙◌}
-use Rattle.std.specs.Prelude.{option_map}
-use Rattle.std.proofs.lemmas.Option.{same_Some, none-some}
-use Rattle.pmem_base.specs.declared.lines.Line.{Line}
-use Rattle.pmem_base.specs.declared.lines.Ctr.{Ctr}
-use Rattle.pmem_base.specs.declared.registers.Regs.{Regs}
+use Rattle.line_session.proofs.Common.{option_map, same_Some, none-some, Line, Ctr, Regs, line_at, LedgerState, IsMark, AreInRange, cipher_of, Setup, Memory, IsMemoryOf, counter_at, plain_of_seal, view_of, IsAnchored, IsSealTagged, IsTwinOfLastSeal}
 use Rattle.pmem_base.specs.declared.answers.Mark.TheVariants.{Seal}
 use Rattle.pmem_base.specs.Layout as layout
-use Rattle.pmem_base.specs.Lines.{line_at}
 use Rattle.pmem_base.specs.Marks.{SealOf, last_seal}
-use Rattle.seal_ledger.specs.Ledger.{LedgerState, IsMark}
 use Rattle.seal_ledger.proofs.MarkLemmas.{last_seal_has}
-use Rattle.suite.specs.Formulas.{AreInRange, cipher_of}
-use Rattle.suite.specs.Setup.{Setup}
 use Rattle.suite.proofs.CipherLemmas.{cipher_of-back}
-use Rattle.plain_model.specs.State.{Memory}
-use Rattle.plain_model.specs.View.{IsMemoryOf, counter_at, plain_of_seal, view_of}
 use Rattle.plain_model.specs.Shown.{IsTwinOfSeal}
 use Rattle.plain_model.proofs.Views.{counter_at-last}
-use Rattle.pmem_engine.specs.Invariants.{IsAnchored, IsSealTagged}
-use Rattle.pmem_recovery.specs.Trials.{IsTwinOfLastSeal}
 
 -- a twin of its last seal is one of memory's line
 pub seal_twin : (setup : Setup) (regs : Regs) (ledger : LedgerState) (memory : Memory) (loss a major low high : ℕ) (cipher : Line) (tag : List ℕ)

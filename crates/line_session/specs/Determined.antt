@@ -1,5 +1,5 @@
 -- That the relations of a session's calls leave nothing open: of two outcomes of one call, both are the same.
-use Rattle.std.specs.Prelude.{ℕ, ◌≡◌, true, Result}
+use Rattle.std.specs.Prelude.{ℕ, ◌≡◌, Result}
 use Rattle.suite.specs.Setup.{Setup}
 use Rattle.line_session.specs.State.{LineSession}
 use Rattle.line_session.specs.StoreCalls.{CallPlan, HasCalledStore}
@@ -8,8 +8,8 @@ use Rattle.line_session.specs.Started.{HasStarted}
 
 abbrev pub CallsAreDetermined : Type 0 → Type 0 → Type 0
 CallsAreDetermined F A =
-    (plan : CallPlan F A) (steps more : ℕ) (end other : Result A F) (old a b : LineSession) → old.board.powered ≡ true
-    → HasCalledStore plan steps end old a → HasCalledStore plan more other old b → (end ≡ other) × (steps ≡ more) × (a ≡ b)
+    (plan : CallPlan F A) (steps more : ℕ) (end other : Result A F) (old a b : LineSession) → HasCalledStore plan steps end old a
+    → HasCalledStore plan more other old b → (end ≡ other) × (steps ≡ more) × (a ≡ b)
 
 abbrev pub StartsAreDetermined : Type 0 → Type 0 → Type 0
 StartsAreDetermined F A =

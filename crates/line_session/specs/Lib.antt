@@ -1,6 +1,6 @@
 pub mod State
-pub mod Steps
 pub mod StoreCalls
 pub mod Started
+pub mod Answered
 pub mod During
 pub mod Determined

@@ -1,5 +1,5 @@
 -- Power comes on: the device is recovered, and its lines are opened, as one plan.
-use Rattle.std.specs.Prelude.{ℕ, ◌≡◌, Some, None, Result, if◌then◌else◌}
+use Rattle.std.specs.Prelude.{ℕ, ◌≡◌, Some, None, Result, Err, if◌then◌else◌}
 use Rattle.pmem_base.specs.declared.registers.Regs.{Regs}
 use Rattle.call_plan.specs.Plans.{Plan, bind, mapped}
 use Rattle.call_plan.specs.Runs.{IsOutcome}
@@ -11,6 +11,7 @@ use Rattle.pmem_engine.specs.Engine.{EngineState}
 use Rattle.pmem_engine.specs.Mendable.{new_engine}
 use Rattle.pmem_engine.specs.Plans.{Chip, chip_of}
 use Rattle.pmem_recovery.specs.declared.faults.Work.{Work}
+use Rattle.pmem_recovery.specs.declared.faults.RecFault.{RecFault}
 use Rattle.pmem_recovery.specs.Plans.{SuiteCounts, suite_counts, recover_plan}
 use Rattle.engine_lines.specs.Plans.{with_regs}
 use Rattle.line_session.specs.declared.starts.StartFault.{StartFault}
@@ -49,3 +50,9 @@ pub record HasStarted {F A : Type 0} (setup : Setup) (opening : CallPlan F A) (s
   pub kept : new.engine ≡ (if new.board.powered then Some after else None)
   pub shape : new.shape ≡ old.shape
   pub keys : new.keys ≡ old.keys
+
+-- Where power comes on recovery refuses, and tells why.
+pub record IsRefusedFrom {F A : Type 0} (setup : Setup) (opening : CallPlan F A) (old : LineSession) (fault : RecFault) : Type 0 where
+  pub steps : ℕ
+  pub new : LineSession
+  pub started : HasStarted setup opening steps (Err (Recovery fault)) old new

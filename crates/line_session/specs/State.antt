@@ -1,6 +1,7 @@
 -- What every session over a store of lines keeps, as plain data, and what it says of the memory.
-use Rattle.std.specs.Prelude.{ℕ, ◌≡◌, true, false, List, map, Option, Some, None}
+use Rattle.std.specs.Prelude.{ℕ, ◌≡◌, true, false, List, ◌++◌, map, Option, Some, None}
 use Rattle.std.specs.List.{range_with_len}
+use Rattle.pmem_base.specs.declared.answers.Mark.{Mark}
 use Rattle.pmem_base.specs.Shape.{Shape}
 use Rattle.pmem_base.specs.Layout as layout
 use Rattle.board.specs.Counts.{RisesBy}
@@ -50,6 +51,10 @@ moment_in setup session = record { memory = places_in setup session; view = view
 -- this engine with the session's ledger and counts
 abbrev pub chip_in : LineSession → EngineState → Chip
 chip_in session engine = chip_of engine session.ledger session.tags session.digests
+
+-- the session with these marks made
+abbrev pub with_marks : LineSession → List Mark → LineSession
+with_marks session made = record session { ledger = record session.ledger { marks = session.ledger.marks ++ made } }
 
 -- ---- power and fuse
 

@@ -1,5 +1,5 @@
 -- One call of a store in a session: the board followed the call's plan, and all else is by the plan's end.
-use Rattle.std.specs.Prelude.{ℕ, ◌≡◌, Some, None, Result, if◌then◌else◌}
+use Rattle.std.specs.Prelude.{ℕ, ◌≡◌, true, Some, None, Result, if◌then◌else◌}
 use Rattle.pmem_base.specs.declared.registers.Regs.{Regs}
 use Rattle.call_plan.specs.Plans.{Plan}
 use Rattle.call_plan.specs.Runs.{IsOutcome}
@@ -16,6 +16,7 @@ CallPlan F A = Regs → Chip → Plan (Chip × F) (Chip × A)
 -- The session before and after a call that ended so, after so many steps: what is on the chip then is the session's, and
 -- the engine is there unless power was cut.
 pub record HasCalledStore {F A : Type 0} (plan : CallPlan F A) (steps : ℕ) (end : Result A F) (old new : LineSession) : Type 0 where
+  pub powered : old.board.powered ≡ true
   pub engine : EngineState
   pub was_on : old.engine ≡ Some engine
   pub after : EngineState

@@ -23,11 +23,11 @@ pub record IsNewRun (f : List ℕ → Formulas) (shape : Shape) (keys : List ℕ
   pub new : IsNewWorld (record { shape = shape; formulas = f keys }) world
 
 pub record IsNewLevelled (f : List ℕ → Formulas) (shape : Shape) (keys : List ℕ) (every : ℕ) (state : WearState) : Type 0 where
-  pub its_keys : state.keys ≡ keys
+  pub its_keys : state.session.keys ≡ keys
   pub new : IsNewWear (record { shape = shape; formulas = f keys }) every state
 
 pub record IsNewStore (f : List ℕ → Formulas) (shape : Shape) (keys : List ℕ) (state : TxnState) : Type 0 where
-  pub its_keys : state.keys ≡ keys
+  pub its_keys : state.session.keys ≡ keys
   pub new : IsNewTxn (record { shape = shape; formulas = f keys }) state
 
 pub record IsNewCounterTree (f : List ℕ → Formulas) (shape : Shape) (keys : List ℕ) (state : SessionState) : Type 0 where

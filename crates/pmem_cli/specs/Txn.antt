@@ -25,7 +25,7 @@ transactions_session setup =
       wants_memory = IsTxnStarvedOf;
       text_of = λ reply. txn_text reply.answer;
       logs = λ old line log_old log_new new. IsTxnLogOf (reading_of_txn line) log_old old log_new new;
-      work = λ state. (state.tags, state.digests);
+      work = λ state. (state.session.tags, state.session.digests);
       promises =
           λ first said. AreTxnReplies (logged_lines setup.shape) (replies_among said)
           × AreTxnSpentAsUsedUp setup first (replies_among said);

@@ -25,7 +25,7 @@ levelled_session setup every =
       wants_memory = IsWearStarvedOf;
       text_of = λ reply. wear_text reply.answer;
       logs = λ old line log_old log_new new. IsWearLogOf (reading_of_wear line) log_old old log_new new;
-      work = λ state. (state.tags, state.digests);
+      work = λ state. (state.session.tags, state.session.digests);
       promises =
           λ first said. AreWearReplies (logical_lines setup.shape) every (replies_among said)
           × AreWearSpentAsUsedUp setup first (replies_among said);

@@ -1,22 +1,12 @@
 -- Answers as contracts write them.
-use Rattle.std.proofs.Common.{ℕ, ◌≡◌, ◌<◌, true, false, List, [], ◌∷◌, Some, None, refl, sym, ap, subst, ◌∙◌}
-use Rattle.std.specs.Prelude.{if◌then◌else◌}
-use Rattle.std.proofs.lemmas.Bool.{lt-ltb}
-use Rattle.pmem_base.specs.Shape.{Shape}
-use Rattle.suite.specs.Formulas.{Formulas}
-use Rattle.suite.specs.Setup.{Setup}
-use Rattle.engine_lines.proofs.EngineLines.{setup_under}
-use Rattle.txn_session.specs.declared.commands.TxnCommand.{TxnCommand}
+use Rattle.std.proofs.Common.{ℕ, ◌≡◌, ◌<◌, true, false, List, [], ◌∷◌, Option, Some, None, refl, sym, ap, subst, ◌∙◌}
+use Rattle.txn_session.proofs.Common.{if◌then◌else◌, lt-ltb, Shape, Formulas, Setup, setup_under, TxnCommand, TxnAnswer, TxnState, Entries, txn_setup_in, txn_lines_in, TxnParts, IsTxnWorld, txn_of, IsTxnCalled, of_open, txn_of_line, committed, held, line_held, txn_decided, txn_after_decided, IsTxnServed, IsTxnAnswered, IsTxnAnsweredAs}
 use Rattle.txn_session.specs.declared.commands.TxnCommand.TheVariants as Do
-use Rattle.txn_session.specs.declared.answers.TxnAnswer.{TxnAnswer}
 use Rattle.txn_session.specs.declared.answers.TxnAnswer.TheVariants as Say
-use Rattle.txn_session.specs.State.{TxnState, Entries, txn_setup_in, txn_lines_in}
-use Rattle.txn_session.specs.World.{TxnParts, IsTxnWorld, txn_of}
-use Rattle.txn_session.specs.Answered.{of_open, txn_of_line, committed, held, line_held, txn_decided, IsTxnServed, IsTxnAnswered, IsTxnAnsweredAs}
 
 -- ---- where the state decides nothing
 
-pub read_undecided : (state : TxnState) (a : ℕ) → state.board.powered ≡ true → a < txn_lines_in state → line_held state a ≡ None
+pub read_undecided : (state : TxnState) (a : ℕ) → state.session.board.powered ≡ true → a < txn_lines_in state → line_held state a ≡ None
     → txn_decided state (Do.Read a) ≡ None
 read_undecided state a lit low none =
     ap (λ b. if b then txn_of_line state a (held (line_held state a)) else Some Say.Off) lit
@@ -27,19 +17,19 @@ uncommitted : (entries : Entries) → (entries ≡ [] → ⊥) → committed ent
 uncommitted [] some = absurd (some refl)
 uncommitted (entry ∷ entries) some = refl
 
-pub commit_undecided : (state : TxnState) (entries : Entries) → state.board.powered ≡ true → state.txn ≡ Some entries → (entries ≡ [] → ⊥)
+pub commit_undecided : (state : TxnState) (entries : Entries) → state.session.board.powered ≡ true → state.txn ≡ Some entries → (entries ≡ [] → ⊥)
     → txn_decided state Do.Commit ≡ None
 commit_undecided state entries lit there some =
     ap (λ b. if b then of_open state.txn committed else Some Say.Off) lit
     ∙ ap (λ txn. of_open txn committed) there ∙ uncommitted entries some
 
-pub on_undecided : (state : TxnState) → state.board.powered ≡ false → txn_decided state Do.On ≡ None
+pub on_undecided : (state : TxnState) → state.session.board.powered ≡ false → txn_decided state Do.On ≡ None
 on_undecided state dark = ap (λ b. if b then Some Say.Already else None) dark
 
 -- the engine does
 pub served : (setup : Setup) (old new : TxnState) (command : TxnCommand) (answer : TxnAnswer) → txn_decided old command ≡ None
-    → IsTxnServed setup old command answer new → IsTxnAnswered setup old command answer new
-served setup old new command answer none it = subst (λ d. IsTxnAnsweredAs d setup old command answer new) (sym none) it
+    → IsTxnServed setup old command answer new → IsTxnCalled setup old command answer new → IsTxnAnswered setup old command answer new
+served setup old new command answer none it called = subst (λ d. IsTxnAnsweredAs d setup old command answer new) (sym none) (it, called)
 
 -- ---- as a contract writes it; the suite's keys stay
 
@@ -58,3 +48,33 @@ pub held_under : (formulas_of : List ℕ → Formulas) (g : Shape) (p q : TxnPar
     → IsTxnWorld (setup_under formulas_of g p.keys) (record q { keys = p.keys }) → IsTxnWorld (setup_under formulas_of g keys) (record q { keys = keys })
 held_under formulas_of g p q keys same it =
     subst (λ (k : List ℕ). IsTxnWorld (setup_under formulas_of g k) (record q { keys = k })) (sym same) it
+
+-- ---- what no answer changes
+
+-- geometry and keys
+pub record IsKept (old new : TxnState) : Type 0 where
+  pub shape : new.session.shape ≡ old.session.shape
+  pub keys : new.session.keys ≡ old.session.keys
+
+kept_decided : (old : TxnState) (command : TxnCommand) (answer : TxnAnswer) → IsKept old (txn_after_decided old command answer)
+kept_decided old Do.Begin Say.Ok = record { shape = refl; keys = refl }
+kept_decided old (Do.Put a line) Say.Ok = record { shape = refl; keys = refl }
+kept_decided old Do.Commit (Say.Applied steps) = record { shape = refl; keys = refl }
+kept_decided old Do.Abort Say.Ok = record { shape = refl; keys = refl }
+kept_decided old (Do.Cut n) answer = record { shape = refl; keys = refl }
+kept_decided old Do.Off Say.Ok = record { shape = refl; keys = refl }
+kept_decided old command answer = record { shape = refl; keys = refl }
+
+kept_called : (setup : Setup) (old new : TxnState) (command : TxnCommand) (answer : TxnAnswer) → IsTxnCalled setup old command answer new → IsKept old new
+kept_called setup old new (Do.Read a) answer it = record { shape = it.0.called.shape; keys = it.0.called.keys }
+kept_called setup old new Do.Commit answer it = record { shape = it.0.called.shape; keys = it.0.called.keys }
+kept_called setup old new Do.On answer it = record { shape = it.0.called.shape; keys = it.0.called.keys }
+kept_called setup old new command answer it = absurd it.0
+
+pub kept_always : (setup : Setup) (old new : TxnState) (command : TxnCommand) (answer : TxnAnswer) → IsTxnAnswered setup old command answer new
+    → IsKept old new
+kept_always setup old new command answer it = by_decided (txn_decided old command) it
+  where
+    by_decided : (decided : Option TxnAnswer) → IsTxnAnsweredAs decided setup old command answer new → IsKept old new
+    by_decided (Some fixed) its = subst (IsKept old) (sym its.1) (kept_decided old command fixed)
+    by_decided None its = kept_called setup old new command answer its.1

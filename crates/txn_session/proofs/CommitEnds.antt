@@ -1,43 +1,10 @@
 -- How far a commit came, by its answer: how many of its engine writes are done, all their marks, and whether the header's own
 -- seal is among these.
 use Rattle.std.proofs.Common.{ℕ, ◌≡◌, ◌<◌, ◌≤◌, ◌+◌, ◌-◌, ◌*◌, ◌++◌, Bool, true, false, List, [], ◌∷◌, length, take, drop, Some, Result, Ok, Err, refl, sym, ap, subst, ◌∙◌, arith}
-use Rattle.std.specs.Prelude.{All}
-use Rattle.std.specs.List.{list_any}
-use Rattle.std.proofs.Math.Seq.{take-append-add}
-use Rattle.std.proofs.lemmas.List.{append-nil, append_assoc, drop_at, take-append-le}
-use Rattle.std.proofs.lemmas.List.Elements.{All-nil, All-cons, All-take}
-use Rattle.pmem_base.specs.declared.lines.Line.{Line}
-use Rattle.pmem_base.specs.declared.commands.Posted.{Posted}
-use Rattle.pmem_base.specs.declared.answers.Mark.{Mark}
-use Rattle.pmem_base.specs.Layout.{data_lines}
-use Rattle.pmem_base.specs.Lines.{zero_line}
-use Rattle.pmem_base.specs.Shape.{Shape}
-use Rattle.suite.specs.Formulas.{Formulas}
-use Rattle.suite.specs.Setup.{Setup}
-use Rattle.plain_model.specs.Asked.{Moment, marks_of_writes}
-use Rattle.plain_model.specs.Fits.{drained_marks}
-use Rattle.pmem_engine.specs.declared.fault.Fault.{Fault}
+use Rattle.txn_session.proofs.Common.{All, list_any, take-append-add, append-nil, append_assoc, drop_at, take-append-le, All-nil, All-cons, All-take, Line, Posted, Mark, data_lines, zero_line, Shape, Formulas, Setup, Moment, marks_of_writes, drained_marks, Fault, Parts, AreSound, whole_write, Edit, Store, Committed, CommitFault, AreDistinctBelow, header_of, targets_of, bodies_of, AreEdited, IsWholeTxn, body_edits, target_edits, deciding_edits, applying_edits, HasStoreCommitted, HasDecided, HasCommitGoneOn, IsServedAs, IsServedBy, commit_answer_by, deciding_fit, applying_fit, length-deciding, length-applying, Writing, is_own_seal, IsCutAmong, write_steps, memory_now, none_done, Entries, body_writes, commit_writes, most_of_commit, writes_none, writes_own, own_at_cut, cost, AreGone, IsSpentAt, IsCutAt, EndsAt, ends_within, edits_go}
 use Rattle.pmem_engine.specs.declared.fault.Fault.TheVariants as Fail
-use Rattle.pmem_engine.specs.Parts.{Parts, AreSound}
-use Rattle.pmem_engine.specs.Calls.{whole_write}
-use Rattle.engine_lines.specs.declared.edits.Edit.{Edit}
 use Rattle.engine_lines.specs.declared.edits.Edit.TheVariants as Make
-use Rattle.line_txn.specs.declared.store.Store.{Store}
-use Rattle.line_txn.specs.declared.store.Committed.{Committed}
 use Rattle.line_txn.specs.declared.store.Committed.TheVariants as Do
-use Rattle.line_txn.specs.declared.store.CommitFault.{CommitFault}
-use Rattle.line_txn.specs.Header.{AreDistinctBelow, header_of}
-use Rattle.line_txn.specs.Logged.{targets_of, bodies_of}
-use Rattle.engine_lines.specs.Edits.{AreEdited}
-use Rattle.line_txn.specs.Edits.{IsWholeTxn, body_edits, target_edits, deciding_edits, applying_edits}
-use Rattle.line_txn.specs.Store.{HasStoreCommitted, HasDecided, HasCommitGoneOn, IsServedAs, IsServedBy, commit_answer_by}
-use Rattle.line_txn.proofs.EditStages.{deciding_fit, applying_fit, length-deciding, length-applying}
-use Rattle.engine_lines.specs.Writes.{Writing, is_own_seal, IsCutAmong, write_steps}
-use Rattle.engine_lines.proofs.EngineWrites.{memory_now, none_done}
-use Rattle.txn_session.specs.State.{Entries, body_writes, commit_writes}
-use Rattle.txn_session.specs.Answered.{most_of_commit}
-use Rattle.engine_lines.proofs.OwnSeals.{writes_none, writes_own, own_at_cut}
-use Rattle.engine_lines.proofs.EngineEdits.{cost, AreGone, IsSpentAt, IsCutAt, EndsAt, ends_within, edits_go}
 use Rattle.txn_session.proofs.WriteLists.{deciding_writes, applying_writes, posted_deciding, posted_applying, commit_parts, length-bodies, length-deciding_writes}
 
 -- ---- with lines

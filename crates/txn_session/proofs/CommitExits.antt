@@ -1,32 +1,11 @@
 -- A commit as the session's fields have it: what is held after each of its answers, and what these say.
-use Rattle.std.proofs.Common.{ℕ, ◌≡◌, ◌<◌, ◌≤◌, ◌+◌, ◌*◌, ◌++◌, ◌⊎◌, inl, inr, Bool, true, false, cond, List, [], length, take, drop, Option, Some, None, Ok, Err, refl, sym, ap, subst, ◌∙◌, mul-le-mul_right, arith}
-use Rattle.std.specs.Prelude.{nat_lt, unwrap_or, ◌==◌}
-use Rattle.std.specs.List.{list_any}
-use Rattle.std.proofs.lemmas.Bool.{true≢false, cases_lt, le-ltb, lt-ltb, eq-eqb, ne_eqb}
-use Rattle.std.proofs.lemmas.List.{length-append, drop_at}
-use Rattle.pmem_base.specs.declared.commands.Posted.{Posted}
-use Rattle.pmem_base.specs.declared.answers.Mark.{Mark}
-use Rattle.suite.specs.Setup.{Setup}
-use Rattle.pmem_engine.specs.declared.fault.Fault.{Fault}
+use Rattle.std.proofs.Common.{ℕ, ◌≡◌, ◌<◌, ◌≤◌, ◌+◌, ◌*◌, ◌++◌, ◌⊎◌, inl, inr, Bool, true, false, cond, List, [], length, take, drop, Option, Some, None, Result, Ok, Err, refl, sym, ap, subst, ◌∙◌, mul-le-mul_right, arith}
+use Rattle.txn_session.proofs.Common.{Committed, nat_lt, unwrap_or, ◌||◌, ◌==◌, list_any, true≢false, cases_lt, le-ltb, lt-ltb, eq-eqb, ne_eqb, length-append, drop_at, Posted, Setup, Fault, Parts, IsCutOrSpent, Store, CommitFault, targets_of, steps_in, step_limit, Writing, is_own_seal, write_steps, setup_under, moment_now, memory_done, TxnAnswer, IsTxnCalled, fault_said, done_said, stuck_said, TxnState, txn_setup_in, moment_in, commit_writes, TxnParts, IsTxnWorld, stuck_in, txn_of, IsTxnAnswered, IsCommitting, EndsCommit, HasTxnCommitted, after_commit, IsCutAt, or_true}
 use Rattle.pmem_engine.specs.declared.fault.Fault.TheVariants as Fail
-use Rattle.pmem_engine.specs.Parts.{Parts}
-use Rattle.engine_lines.specs.Lines.{IsCutOrSpent}
-use Rattle.line_txn.specs.declared.store.Store.{Store}
 use Rattle.line_txn.specs.declared.store.Committed.TheVariants as Make
-use Rattle.line_txn.specs.declared.store.CommitFault.{CommitFault}
-use Rattle.line_txn.specs.Logged.{targets_of}
-use Rattle.watched_board.specs.Watching.{steps_in, step_limit}
-use Rattle.engine_lines.specs.Writes.{Writing, is_own_seal, write_steps}
-use Rattle.engine_lines.proofs.EngineLines.{setup_under}
-use Rattle.engine_lines.proofs.EngineWrites.{moment_now, memory_done}
 use Rattle.txn_session.specs.declared.commands.TxnCommand.TheVariants as Do
-use Rattle.txn_session.specs.declared.answers.TxnAnswer.{TxnAnswer}
 use Rattle.txn_session.specs.declared.answers.TxnAnswer.TheVariants as Say
-use Rattle.txn_session.specs.State.{TxnState, txn_setup_in, txn_moment_in, commit_writes}
-use Rattle.txn_session.specs.World.{TxnParts, IsTxnWorld, stuck_in, txn_of}
-use Rattle.txn_session.specs.Answered.{IsTxnAnswered, IsCommitting, IsTxnCommitKept, EndsCommit, HasTxnCommitted, after_commit}
 use Rattle.txn_session.proofs.AnswerClauses.{commit_undecided, served, seen_from, held_under}
-use Rattle.engine_lines.proofs.EngineEdits.{IsCutAt}
 use Rattle.txn_session.proofs.CommitEnds.{FailsTxnAt, own_absent, own_present}
 use Rattle.txn_session.proofs.CommitStates.{CommitCall}
 use Rattle.txn_session.proofs.CommitStates as state
@@ -76,10 +55,10 @@ module _ (c : CommitCall) where
   -- what an answer says, by its engine writes and its end
   seen_as : (store : Option Store) (writing : Writing) (say : ℕ → TxnAnswer)
       → IsCommitting count setup.formulas (moment_now setup from) queue writing (say (steps_in c.taken))
-      → IsTxnCommitKept n writing.made (say (steps_in c.taken))
-      → EndsCommit (after_commit old c.entries writing) most (say (steps_in c.taken)) old (txn_of setup (left store))
+      → EndsCommit (after_commit old c.entries writing) most (say (steps_in c.taken)) (txn_of setup (left store))
+      → IsTxnCalled setup old Do.Commit (say (steps_in c.taken)) (txn_of setup (left store))
       → IsTxnAnswered (txn_setup_in c.formulas_of c.now) c.now Do.Commit (say c.said) (txn_of (setup_under c.formulas_of c.geometry c.keys) (left_under store))
-  seen_as store writing say came kept ended =
+  seen_as store writing say came ended by =
       subst (λ (k : ℕ). IsTxnAnswered (txn_setup_in c.formulas_of c.now) c.now Do.Commit (say k)
       (txn_of (setup_under c.formulas_of c.geometry c.keys) (left_under store))) (sym c.counted)
       (seen_from c.formulas_of c.geometry p (left store) c.now c.keys Do.Commit (say (steps_in c.taken)) now_is c.same_keys refl
@@ -89,10 +68,10 @@ module _ (c : CommitCall) where
       record {
         writing = writing;
         came =
-            subst (λ m. IsCommitting count setup.formulas (txn_moment_in setup old) (commit_writes m c.entries) writing (say (steps_in c.taken))) (state.n_is c) came;
-        kept = subst (λ a. IsTxnCommitKept a writing.made (say (steps_in c.taken))) (state.n_is c) kept;
+            subst (λ m. IsCommitting count setup.formulas (moment_in setup old.session) (commit_writes m c.entries) writing (say (steps_in c.taken))) (state.n_is c) came;
         ends = ended;
-      } in it))))
+      } in it))
+      by))
 
   -- ---- the exits: what is held, and what is answered
 
@@ -100,6 +79,20 @@ module _ (c : CommitCall) where
   CommitExit store say =
       IsTxnWorld (setup_under c.formulas_of c.geometry c.keys) (left_under store)
       × IsTxnAnswered (txn_setup_in c.formulas_of c.now) c.now Do.Commit (say c.said) (txn_of (setup_under c.formulas_of c.geometry c.keys) (left_under store))
+
+  -- the call, with power on and off
+  lit_call : (say : ℕ → TxnAnswer) → c.board.powered ≡ true → say (steps_in c.taken) ≡ done_said (state.own c) (steps_in c.taken) c.answer
+      → c.after.stuck ≡ stuck_said old.stuck c.answer → IsTxnCalled setup old Do.Commit (say (steps_in c.taken)) (txn_of setup (left (Some c.after)))
+  lit_call say lit is stuck =
+      state.called c (Some c.after) (say (steps_in c.taken)) (sym (ap (λ b. cond b (Some c.after) None) lit)) (λ dark. absurd (true≢false (sym lit ∙ dark)))
+      is (stuck ∙ sym (ap (λ b. cond b (stuck_said old.stuck c.answer) None) lit))
+
+  dark_call : (say : ℕ → TxnAnswer) (committed : Bool) → c.board.powered ≡ false → steps_in c.taken < step_limit
+      → c.answer ≡ Err (record { fault = Fail.Cut; committed = committed }) → say (steps_in c.taken) ≡ fault_said (committed || state.own c) (steps_in c.taken) Fail.Cut
+      → IsTxnCalled setup old Do.Commit (say (steps_in c.taken)) (txn_of setup (left None))
+  dark_call say committed dark below is said =
+      state.called c None (say (steps_in c.taken)) (sym (ap (λ b. cond b (Some c.after) None) dark)) (λ off. below)
+      (said ∙ sym (ap (λ r. done_said (state.own c) (steps_in c.taken) r) is)) (sym (ap (λ b. cond b (stuck_said old.stuck c.answer) None) dark))
 
   -- the store serves as before
   stuck_still : c.after.stuck ≡ c.store.stuck → c.after.stuck ≡ old.stuck
@@ -114,10 +107,12 @@ module _ (c : CommitCall) where
       let few : k ≤ 2 * count + 2 = omega arith in
       let log : c.after.logged.items ≡ cond (nat_lt count k) (cond (k == 2 * count + 2) [] (targets_of c.entries)) [] =
       its.its_targets ∙ (state.no_log c) ∙ sym targets_all in (
-        held_as (Some c.after) (state.going_world c k gone.made few lines most (take k queue) gone.done c.after.stuck refl log),
+        held_as (Some c.after) (state.going_world c k gone.made few lines most (take k queue) gone.done log),
         seen_as (Some c.after) (record { done = k; made = gone.made }) Say.Applied
-            (sym (state.long c), (omega (arith, ap (λ (m : ℕ). m) (state.long c)), gone.done.asked)) tt
-            (state.goes c k gone.made few lines most (take k queue) gone.done (stuck_still its.its_page)),
+            (sym (state.long c), (omega (arith, ap (λ (m : ℕ). m) (state.long c)), gone.done.asked))
+            (state.goes c k gone.made few lines most (take k queue) gone.done (stuck_still its.its_page))
+            (lit_call Say.Applied gone.done.live (sym (ap (λ r. done_said (state.own c) (steps_in c.taken) r) is))
+            (stuck_still its.its_page ∙ sym (ap (stuck_said old.stuck) is))),
       )
     where
       by_last : (b last : Bool) → last ≡ true → cond b (cond last [] (targets_of c.entries)) [] ≡ []
@@ -143,9 +138,11 @@ module _ (c : CommitCall) where
       ∙ sym
       (ap (λ b. cond b (cond (k == 2 * count + 2) [] (targets_of c.entries)) []) (lt-ltb count k past)
       ∙ ap (λ b. cond b [] (targets_of c.entries)) (ne_eqb k (2 * count + 2) (λ e. omega (arith, e, high)))) in (
-        held_as (Some c.after) (state.going_world c k spent.made few lines most (take k queue) spent.done (Some page) its.its_page log),
-        seen_as (Some c.after) (record { done = k; made = spent.made }) (λ steps. Say.Stuck page steps) (past, spent.next) tt
-            (state.goes_stuck c k spent.made few lines most (take k queue) spent.done (Some page) its.its_page log),
+        held_as (Some c.after) (state.going_world c k spent.made few lines most (take k queue) spent.done log),
+        seen_as (Some c.after) (record { done = k; made = spent.made }) (λ steps. Say.Stuck page steps) (past, spent.next)
+            (state.goes_stuck c k spent.made few lines most (take k queue) spent.done page its.its_page)
+            (lit_call (λ steps. Say.Stuck page steps) spent.done.live (sym (ap (λ r. done_said (state.own c) (steps_in c.taken) r) is))
+            (its.its_page ∙ sym (ap (stuck_said old.stuck) is))),
       )
 
   pub spent_exit : (page : ℕ) (committed : Bool) → c.answer ≡ Err (record { fault = Fail.Spent page; committed = committed })
@@ -161,9 +158,11 @@ module _ (c : CommitCall) where
       let log : c.after.logged.items ≡ cond (nat_lt count k) (cond (k == 2 * count + 2) [] (targets_of c.entries)) [] =
       its.its_targets ∙ (state.no_log c)
       ∙ sym (ap (λ b. cond b (cond (k == 2 * count + 2) [] (targets_of c.entries)) []) (le-ltb count k before)) in (
-        held_as (Some c.after) (state.going_world c k spent.made few lines most (take k queue) spent.done c.after.stuck refl log),
-        seen_as (Some c.after) (record { done = k; made = spent.made }) (λ steps. Say.Spent page steps) (before, spent.next) tt
-            (state.goes c k spent.made few lines most (take k queue) spent.done (stuck_still its.its_page)),
+        held_as (Some c.after) (state.going_world c k spent.made few lines most (take k queue) spent.done log),
+        seen_as (Some c.after) (record { done = k; made = spent.made }) (λ steps. Say.Spent page steps) (before, spent.next)
+            (state.goes c k spent.made few lines most (take k queue) spent.done (stuck_still its.its_page))
+            (lit_call (λ steps. Say.Spent page steps) spent.done.live (sym (ap (λ r. done_said (state.own c) (steps_in c.taken) r) is))
+            (stuck_still its.its_page ∙ sym (ap (stuck_said old.stuck) is))),
       )
 
   -- power was cut
@@ -179,87 +178,92 @@ module _ (c : CommitCall) where
   abbrev CutAt : Type 0
   CutAt = IsCutAt setup from queue 0 (2 * count + 2) most to
 
-  by_end : (committed : Bool) → c.answer ≡ Err (record { fault = Fail.Cut; committed = committed })
-      → (it : CutAt) × ((count < it.writing.done) ⊎ ((it.writing.done ≤ count) × (committed ≡ false)))
-  by_end true is =
-      let cut = state.ends c (Err (record { fault = Fail.Cut; committed = true })) is in
-      let low = cut.low in
-      let end : CutAt = record { writing = cut.writing; low = omega arith; high = cut.high; came = cut.came; cut = cut.cut } in
-      (end, inl (omega (arith, low)))
-  by_end false is =
-      let cut = state.ends c (Err (record { fault = Fail.Cut; committed = false })) is in
-      (cut, elim (cases_lt count cut.writing.done) [ inl past ↦ inl past | inr before ↦ inr (before, refl) ])
+  abbrev cut_answer : Bool → Result Committed CommitFault
+  cut_answer committed = Err (record { fault = Fail.Cut; committed = committed })
 
-  kept_exit : (it : CutAt) → count < it.writing.done → CommitExit None Say.CutKept
-  kept_exit it past =
-      let k = it.writing.done in (
-        held_as None (state.cut_world c k it.writing.made it.high it.cut.memory most (take k queue) it.cut),
-        seen_as None it.writing Say.CutKept (past, it.came)
-            (own_present setup.formulas (moment_now setup from) n c.entries c.some it.writing past it.came)
-            (state.cuts c k it.writing.made it.high it.cut.memory most (take k queue) it.cut few_steps),
+  abbrev at_cut : (committed : Bool) → c.answer ≡ cut_answer committed → CutAt
+  at_cut true is =
+      let cut = state.ends c (cut_answer true) is in
+      record { writing = cut.writing; low = omega arith; high = cut.high; came = cut.came; cut = cut.cut }
+  at_cut false is = state.ends c (cut_answer false) is
+
+  -- whether the header's own seal is among the new marks
+  abbrev pub fresh : Bool
+  fresh = list_any (is_own_seal n) (drop (length c.ledger_before.marks) c.ledger.marks)
+
+  fresh_is : (it : CutAt) → fresh ≡ list_any (is_own_seal n) it.writing.made
+  fresh_is it =
+      ap (list_any (is_own_seal n))
+      (ap (drop (length c.ledger_before.marks)) it.cut.marks ∙ drop_at c.ledger_before.marks it.writing.made (length c.ledger_before.marks) refl)
+
+  own_is : state.own c ≡ fresh
+  own_is = ap (λ m. list_any (is_own_seal m) (drop (length c.ledger_before.marks) c.ledger.marks)) (sym (state.n_is c))
+
+  kept_exit : (committed : Bool) → c.answer ≡ cut_answer committed → (it : CutAt) → count < it.writing.done → CommitExit None Say.CutKept × (fresh ≡ true)
+  kept_exit committed is it past =
+      let k = it.writing.done in
+      let own : fresh ≡ true = fresh_is it ∙ own_present setup.formulas (moment_now setup from) n c.entries c.some it.writing past it.came in
+      let small = few_steps in
+      let cut = state.cuts c k it.writing.made it.high it.cut.memory most (take k queue) it.cut in
+      let below = cut.1 in (
+        (
+          held_as None (state.cut_world c k it.writing.made it.high it.cut.memory most (take k queue) it.cut),
+          seen_as None it.writing Say.CutKept (past, it.came) cut
+              (dark_call Say.CutKept committed it.cut.dark (omega (arith, below, small)) is
+              (sym (ap (λ b. cond b (Say.CutKept (steps_in c.taken)) (Say.CutLost (steps_in c.taken))) (or_true committed (state.own c) (own_is ∙ own))))),
+        ),
+        own,
       )
 
-  lost_exit : (it : CutAt) → it.writing.done ≤ count → CommitExit None Say.CutLost
-  lost_exit it before =
-      let k = it.writing.done in (
-        held_as None (state.cut_world c k it.writing.made it.high it.cut.memory most (take k queue) it.cut),
-        seen_as None it.writing Say.CutLost (before, it.came)
-            (own_absent setup.formulas (moment_now setup from) n c.entries c.some it.writing before it.came)
-            (state.cuts c k it.writing.made it.high it.cut.memory most (take k queue) it.cut few_steps),
+  lost_exit : c.answer ≡ cut_answer false → (it : CutAt) → it.writing.done ≤ count → CommitExit None Say.CutLost × (fresh ≡ false)
+  lost_exit is it before =
+      let k = it.writing.done in
+      let own : fresh ≡ false = fresh_is it ∙ own_absent setup.formulas (moment_now setup from) n c.entries c.some it.writing before it.came in
+      let small = few_steps in
+      let cut = state.cuts c k it.writing.made it.high it.cut.memory most (take k queue) it.cut in
+      let below = cut.1 in (
+        (
+          held_as None (state.cut_world c k it.writing.made it.high it.cut.memory most (take k queue) it.cut),
+          seen_as None it.writing Say.CutLost (before, it.came) cut
+              (dark_call Say.CutLost false it.cut.dark (omega (arith, below, small)) is
+              (sym (ap (λ b. cond b (Say.CutKept (steps_in c.taken)) (Say.CutLost (steps_in c.taken))) (own_is ∙ own)))),
+        ),
+        own,
       )
+
+  -- with the header's own seal among the new marks, or before it
+  cut_exit : (committed : Bool) → c.answer ≡ cut_answer committed
+      → (CommitExit None Say.CutKept × (fresh ≡ true)) ⊎ ((CommitExit None Say.CutLost × (fresh ≡ false)) × (committed ≡ false))
+  cut_exit true is = let low = (state.ends c (cut_answer true) is).low in inl (kept_exit true is (at_cut true is) (omega (arith, low)))
+  cut_exit false is =
+      let it = at_cut false is in
+      elim (cases_lt count it.writing.done) [ inl past ↦ inl (kept_exit false is it past) | inr before ↦ inr (lost_exit is it before, refl) ]
 
   pub cut_held : (committed : Bool) → c.answer ≡ Err (record { fault = Fail.Cut; committed = committed })
       → IsTxnWorld (setup_under c.formulas_of c.geometry c.keys) (left_under None)
-  cut_held committed is =
-      let it = by_end committed is in elim it.1 [ inl past ↦ (kept_exit it.0 past).0 | inr before ↦ (lost_exit it.0 before.0).0 ]
+  cut_held committed is = elim (cut_exit committed is) [ inl kept ↦ kept.0.0 | inr lost ↦ lost.0.0.0 ]
 
   -- the marks that were made are those from the old ones on
   pub cut_marks : (committed : Bool) → c.answer ≡ Err (record { fault = Fail.Cut; committed = committed })
       → length c.ledger_before.marks ≤ length c.ledger.marks
   cut_marks committed is =
-      let it = (by_end committed is).0 in
+      let it : CutAt = at_cut committed is in
       let marks : c.ledger.marks ≡ c.ledger_before.marks ++ it.writing.made = it.cut.marks in
       omega (arith, ap length marks, length-append c.ledger_before.marks it.writing.made)
 
-  has_own : (made : List Mark) → c.ledger.marks ≡ c.ledger_before.marks ++ made
-      → list_any (is_own_seal n) (drop (length c.ledger_before.marks) c.ledger.marks) ≡ list_any (is_own_seal n) made
-  has_own made marks =
-      ap (list_any (is_own_seal n))
-      (ap (drop (length c.ledger_before.marks)) marks ∙ drop_at c.ledger_before.marks made (length c.ledger_before.marks) refl)
-
-  pub kept_seen : (committed : Bool) → c.answer ≡ Err (record { fault = Fail.Cut; committed = committed })
-      → (committed ≡ true) ⊎ (list_any (is_own_seal n) (drop (length c.ledger_before.marks) c.ledger.marks) ≡ true)
+  pub kept_seen : (committed : Bool) → c.answer ≡ Err (record { fault = Fail.Cut; committed = committed }) → (committed ≡ true) ⊎ (fresh ≡ true)
       → IsTxnAnswered (txn_setup_in c.formulas_of c.now) c.now Do.Commit (Say.CutKept c.said)
       (txn_of (setup_under c.formulas_of c.geometry c.keys) (left_under None))
-  kept_seen committed is why =
-      let it = by_end committed is in
-      elim it.1 [
-        | inl past ↦ (kept_exit it.0 past).1
-        | inr before ↦
-            elim why [
-              | inl there ↦ absurd (true≢false (sym there ∙ before.1))
-              | inr own ↦
-                  absurd
-                  (true≢false
-                  (sym own ∙ has_own it.0.writing.made it.0.cut.marks
-                  ∙ own_absent setup.formulas (moment_now setup from) n c.entries c.some it.0.writing before.0 it.0.came))
-            ]
-      ]
+  kept_seen committed is why = elim (cut_exit committed is) [
+    | inl kept ↦ kept.0.1
+    | inr lost ↦ elim why [ inl there ↦ absurd (true≢false (sym there ∙ lost.1)) | inr own ↦ absurd (true≢false (sym own ∙ lost.0.1)) ]
+  ]
 
-  pub lost_seen : (committed : Bool) → c.answer ≡ Err (record { fault = Fail.Cut; committed = committed })
-      → list_any (is_own_seal n) (drop (length c.ledger_before.marks) c.ledger.marks) ≡ false
+  pub lost_seen : (committed : Bool) → c.answer ≡ Err (record { fault = Fail.Cut; committed = committed }) → fresh ≡ false
       → IsTxnAnswered (txn_setup_in c.formulas_of c.now) c.now Do.Commit (Say.CutLost c.said)
       (txn_of (setup_under c.formulas_of c.geometry c.keys) (left_under None))
   lost_seen committed is none =
-      let it = by_end committed is in
-      elim it.1 [
-        | inl past ↦
-            absurd
-            (true≢false
-            (sym (own_present setup.formulas (moment_now setup from) n c.entries c.some it.0.writing past it.0.came)
-            ∙ sym (has_own it.0.writing.made it.0.cut.marks) ∙ none))
-        | inr before ↦ (lost_exit it.0 before.0).1
-      ]
+      elim (cut_exit committed is) [ inl kept ↦ absurd (true≢false (sym kept.1 ∙ none)) | inr lost ↦ lost.0.0.1 ]
 
   -- no other fault comes
   pub sound_fault : (fault : CommitFault) → c.answer ≡ Err fault → IsCutOrSpent fault.fault

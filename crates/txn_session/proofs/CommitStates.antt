@@ -1,43 +1,9 @@
 -- A commit as the session's fields have it: the state once so many of its engine writes are done.
-use Rattle.std.proofs.Common.{ℕ, ◌≡◌, ◌≤◌, ◌+◌, ◌*◌, ◌++◌, Bool, true, false, cond, List, [], ◌∷◌, length, take, Option, Some, None, Result, refl, sym, ap, subst, ◌∙◌, arith}
-use Rattle.std.specs.Prelude.{nat_lt, ◌==◌, if◌then◌else◌}
-use Rattle.pmem_base.specs.declared.commands.Posted.{Posted}
-use Rattle.pmem_base.specs.declared.answers.Mark.{Mark}
+use Rattle.std.proofs.Common.{ℕ, ◌≡◌, ◌<◌, ◌≤◌, ◌+◌, ◌*◌, Bool, true, false, cond, List, [], ◌∷◌, length, take, Option, Some, None, Result, refl, sym, ap, ap₂, drop, subst, ◌∙◌, arith}
+use Rattle.txn_session.proofs.Common.{nat_lt, ◌==◌, unwrap_or, option_map, if◌then◌else◌, list_any, Posted, Mark, put_lines, Shape, BoardMemory, ended, Follows, LedgerState, Formulas, Setup, Memory, plain_memory, moment_after_writes, Parts, parts_of, Store, Committed, CommitFault, AreTargets, IsLogged, commit_lines_at, targets_at, commit_memory_at, targets_of, IsEditOf, IsWholeTxn, deciding_edits, applying_edits, HasStoreCommitted, logged_lines, whole_at_each_stage, deciding_fit, applying_fit, All-append, Taken, steps_in, step_limit, device_during, none_taken, IsWatched, Writing, at_most, fewer, setup_under, whole_places, moment_now, AreDone, AreCut, edits_memory, is_own_seal, Chip, chip_of, FollowsCommit, commit_plan, has_called, kept_of, TxnAnswer, IsTxnCalled, Said, commit_call, done_said, stuck_said, TxnState, Entries, commit_writes, with_commit, targets_in_force, redone_memory, TxnParts, IsTxnWorld, IsStoreOn, stuck_in, txn_of, IsTxnButForSteps, GoesToTxnState, IsTxnCutOff, after_commit, most_of_commit, few_data, with_marks, txn_without_power}
 use Rattle.pmem_base.specs.Layout as layout
-use Rattle.pmem_base.specs.Lines.{put_lines}
-use Rattle.pmem_base.specs.Shape.{Shape}
-use Rattle.board.specs.Memory.{BoardMemory}
-use Rattle.seal_ledger.specs.Ledger.{LedgerState}
-use Rattle.suite.specs.Formulas.{Formulas}
-use Rattle.suite.specs.Setup.{Setup}
-use Rattle.plain_model.specs.State.{Memory}
-use Rattle.plain_model.specs.View.{plain_memory}
-use Rattle.plain_model.specs.Asked.{moment_after_writes}
-use Rattle.pmem_engine.specs.Parts.{Parts, parts_of}
-use Rattle.line_txn.specs.declared.store.Store.{Store}
-use Rattle.line_txn.specs.declared.store.Committed.{Committed}
-use Rattle.line_txn.specs.declared.store.CommitFault.{CommitFault}
-use Rattle.line_txn.specs.Header.{AreTargets}
-use Rattle.line_txn.specs.Logged.{IsLogged, commit_lines_at, targets_at, commit_memory_at, targets_of}
-use Rattle.engine_lines.specs.Edits.{IsEditOf}
-use Rattle.line_txn.specs.Edits.{IsWholeTxn, deciding_edits, applying_edits}
-use Rattle.line_txn.specs.Store.{HasStoreCommitted, logged_lines}
-use Rattle.line_txn.proofs.LoggedLaws.{whole_at_each_stage}
-use Rattle.line_txn.proofs.EditStages.{deciding_fit, applying_fit}
-use Rattle.std.proofs.lemmas.List.Elements.{All-append}
-use Rattle.watched_board.specs.declared.taken.Taken.{Taken}
-use Rattle.watched_board.specs.Watching.{steps_in, step_limit, device_during, none_taken, IsWatched}
-use Rattle.engine_lines.specs.Writes.{Writing}
-use Rattle.watched_board.proofs.StepLaws.{at_most, fewer}
-use Rattle.engine_lines.proofs.EngineLines.{setup_under}
-use Rattle.engine_lines.proofs.SealedLines.{whole_places}
-use Rattle.engine_lines.proofs.EngineWrites.{moment_now, AreDone, AreCut}
-use Rattle.engine_lines.proofs.EditWrites.{edits_memory}
-use Rattle.txn_session.specs.State.{TxnState, Entries, commit_writes, with_commit}
-use Rattle.txn_session.specs.World.{TxnParts, IsTxnWorld, IsStoreOn, targets_in_force, redone_memory, txn_of}
-use Rattle.txn_session.specs.Answered.{IsTxnButForSteps, GoesToTxnState, IsTxnCutOff, after_commit, most_of_commit}
-use Rattle.line_session.proofs.NewDevices.{few_data}
-use Rattle.txn_session.proofs.Worlds.{targets_held, memory_held, logged_is, goes_to, cut_off, IsOpenTxn, on_in, lines_are, on_after, off_after}
+use Rattle.txn_session.specs.declared.commands.TxnCommand.TheVariants as Do
+use Rattle.txn_session.proofs.Worlds.{targets_held, memory_held, logged_is, IsOpenTxn, on_in, lines_are, on_after, off_after}
 use Rattle.txn_session.proofs.WriteLists.{posted_commit, length-commit_writes}
 use Rattle.txn_session.proofs.Stages.{commit_edits, IsAtStage, at_stage}
 use Rattle.txn_session.proofs.CommitEnds.{commit_queue, CommitEndsAt, CommitServes, commit_serves, commit_ends_at}
@@ -92,8 +58,6 @@ pub record CommitCall : Type 0 where
   pub ledger : LedgerState
   pub taken : Taken
   pub watched : IsWatched before.board board taken
-  pub tags : ℕ
-  pub digests : ℕ
   pub tags_new : ℕ
   pub digests_new : ℕ
   pub said : ℕ
@@ -101,8 +65,12 @@ pub record CommitCall : Type 0 where
   pub answer : Result Committed CommitFault
   pub was_committed :
       HasStoreCommitted (setup_under formulas_of store.engine.shape before.keys) entries store after
-      (parts_of store.engine (device_during before.board none_taken) ledger_before tags digests)
+      (parts_of store.engine (device_during before.board none_taken) ledger_before before.tags before.digests)
       (parts_of after.engine (device_during board taken) ledger tags_new digests_new) answer
+  pub plan :
+      FollowsCommit (setup_under formulas_of store.engine.shape before.keys) entries store after before.board.regs
+      (chip_of store.engine ledger_before before.tags before.digests) (chip_of after.engine ledger tags_new digests_new)
+      (device_during before.board none_taken) (device_during board taken) answer
 
 module _ (c : CommitCall) where
   abbrev pub setup : Setup
@@ -130,7 +98,7 @@ module _ (c : CommitCall) where
   most = most_of_commit c.geometry count
 
   abbrev pub from : Parts
-  from = parts_of c.store.engine (device_during c.before.board none_taken) c.ledger_before c.tags c.digests
+  from = parts_of c.store.engine (device_during c.before.board none_taken) c.ledger_before c.before.tags c.before.digests
 
   abbrev pub to : Parts
   to = parts_of c.after.engine (device_during c.board c.taken) c.ledger c.tags_new c.digests_new
@@ -243,20 +211,23 @@ module _ (c : CommitCall) where
     writing = record { done = k; made = made }
 
     -- power is on
-    module _ (limit : ℕ) (writes : List Posted) (done : AreDone setup from writes made limit to) (page : Option ℕ) (its_page : c.after.stuck ≡ page)
-        (its_log : c.after.logged.items ≡ cond (nat_lt count k) (cond (k == 2 * count + 2) [] (targets_of c.entries)) []) where
-      pub going_world : IsTxnWorld setup (left (Some c.after))
-      going_world = on_after setup p c.tags_new c.digests_new c.board c.ledger world logged c.after None done.live done.sound (its_log ∙ sym targets_now) tt
+    module _ (limit : ℕ) (writes : List Posted) (done : AreDone setup from writes made limit to) where
+      pub going_world : c.after.logged.items ≡ cond (nat_lt count k) (cond (k == 2 * count + 2) [] (targets_of c.entries)) [] → IsTxnWorld setup (left (Some c.after))
+      going_world its_log = on_after setup p c.tags_new c.digests_new c.board c.ledger world logged c.after None done.live done.sound (its_log ∙ sym targets_now) tt
 
-      becomes : IsTxnButForSteps
-          (record (with_commit old c.entries k) { stuck = page; marks = old.marks ++ made })
+      -- the store is stuck at this page, or isn't
+      at_page : (page : Option ℕ) → c.after.stuck ≡ page
+          → IsTxnButForSteps
+          (record old {
+            txn = None;
+            memory = cond (nat_lt count k) (put_lines c.entries old.memory) old.memory;
+            in_force = cond (nat_lt count k) (cond (k == 2 * count + 2) [] (targets_of c.entries)) old.in_force;
+            stuck = page;
+            session = with_marks old.session made;
+          })
           (txn_of setup (left (Some c.after)))
-      becomes =
-          subst (λ e. IsTxnButForSteps (record e { stuck = page; marks = old.marks ++ made })
-          (txn_of setup (left (Some c.after)))) (sym (with_commit_is old c.entries k))
-          (record {
-            shape = refl;
-            keys = refl;
+      at_page page its_page =
+          record {
             memory = memory_now_is;
             in_force = in_force_now;
             stuck = its_page;
@@ -264,52 +235,82 @@ module _ (c : CommitCall) where
             power = done.live ∙ sym on.powered;
             loss = done.loss;
             marks = done.marks;
-          })
+          }
 
-      pub goes_stuck : GoesToTxnState (record (after_commit old c.entries writing) { stuck = page }) (steps_in c.taken) limit old (txn_of setup (left (Some c.after)))
-      goes_stuck =
-          goes_to setup p (left (Some c.after)) c.taken c.watched (record (after_commit old c.entries writing) { stuck = page }) limit done.live
-          (at_most c.taken limit c.watched.follows.few done.takes.sum) becomes
+      pub goes_stuck : (page : ℕ) → c.after.stuck ≡ Some page
+          → GoesToTxnState (record (after_commit old c.entries writing) { stuck = Some page }) (steps_in c.taken) limit (txn_of setup (left (Some c.after)))
+      goes_stuck page its_page = (
+        subst (λ e. IsTxnButForSteps (record e { stuck = Some page; session = with_marks old.session made })
+            (txn_of setup (left (Some c.after)))) (sym (with_commit_is old c.entries k)) (at_page (Some page) its_page),
+        at_most c.taken limit c.watched.follows.few done.takes.sum,
+      )
 
-    -- where it isn't stuck
-    pub goes : (limit : ℕ) (writes : List Posted) (done : AreDone setup from writes made limit to) → c.after.stuck ≡ old.stuck
-        → GoesToTxnState (after_commit old c.entries writing) (steps_in c.taken) limit old (txn_of setup (left (Some c.after)))
-    goes limit writes done its_page =
-        goes_to setup p (left (Some c.after)) c.taken c.watched (after_commit old c.entries writing) limit done.live
-        (at_most c.taken limit c.watched.follows.few done.takes.sum)
-        (subst (λ e. IsTxnButForSteps (record e { marks = old.marks ++ made })
-        (txn_of setup (left (Some c.after)))) (sym (with_commit_is old c.entries k))
-        (record {
-          shape = refl;
-          keys = refl;
-          memory = memory_now_is;
-          in_force = in_force_now;
-          stuck = its_page;
-          txn = refl;
-          power = done.live ∙ sym on.powered;
-          loss = done.loss;
-          marks = done.marks;
-        }))
+      -- where it isn't stuck
+      pub goes : c.after.stuck ≡ old.stuck → GoesToTxnState (after_commit old c.entries writing) (steps_in c.taken) limit (txn_of setup (left (Some c.after)))
+      goes its_page = (
+        subst (λ e. IsTxnButForSteps (record e { session = with_marks old.session made })
+            (txn_of setup (left (Some c.after)))) (sym (with_commit_is old c.entries k)) (at_page old.stuck its_page),
+        at_most c.taken limit c.watched.follows.few done.takes.sum,
+      )
 
     -- power was cut
     module _ (limit : ℕ) (writes : List Posted) (cut : AreCut setup from writes made limit to) where
       pub cut_world : IsTxnWorld setup (left None)
       cut_world = off_after setup p c.tags_new c.digests_new c.board c.ledger world logged cut.dark cut.durable cut.small_group
 
-      pub cuts : limit ≤ step_limit → IsTxnCutOff (after_commit old c.entries writing) (steps_in c.taken) limit old (txn_of setup (left None))
-      cuts small =
-          cut_off setup p (left None) c.taken c.watched (after_commit old c.entries writing) limit cut.dark
-          (fewer c.taken limit c.watched.follows.few cut.takes.sum) small
-          (subst (λ e. IsTxnButForSteps (record e { marks = old.marks ++ made; stuck = None; txn = None; board = record e.board { powered = false; fuse = None } })
-          (txn_of setup (left None))) (sym (with_commit_is old c.entries k))
-          (record {
-            shape = refl;
-            keys = refl;
-            memory = memory_now_is;
-            in_force = in_force_now;
-            stuck = refl;
-            txn = refl;
-            power = cut.dark;
-            loss = cut.loss;
-            marks = cut.marks;
-          }))
+      pub cuts : IsTxnCutOff (after_commit old c.entries writing) (steps_in c.taken) limit (txn_of setup (left None))
+      cuts = (
+        subst (λ e. IsTxnButForSteps (txn_without_power (record e { session = with_marks old.session made }))
+            (txn_of setup (left None))) (sym (with_commit_is old c.entries k))
+            (record {
+              memory = memory_now_is;
+              in_force = in_force_now;
+              stuck = refl;
+              txn = refl;
+              power = cut.dark;
+              loss = cut.loss;
+              marks = cut.marks;
+            }),
+        fewer c.taken limit c.watched.follows.few cut.takes.sum,
+      )
+
+  -- ---- the call of the session
+
+  abbrev chip : Chip
+  chip = chip_of c.store.engine c.ledger_before c.before.tags c.before.digests
+
+  plan_as : FollowsCommit setup c.entries c.store c.after c.before.board.regs chip (chip_of c.after.engine c.ledger c.tags_new c.digests_new)
+      (device_during c.before.board none_taken) (device_during c.board c.taken) c.answer
+  plan_as =
+      subst (λ s. FollowsCommit (setup_under c.formulas_of s c.before.keys) c.entries c.store c.after c.before.board.regs chip
+      (chip_of c.after.engine c.ledger c.tags_new c.digests_new) (device_during c.before.board none_taken) (device_during c.board c.taken) c.answer)
+      on.its_shape c.plan
+
+  plan_is : commit_plan setup n c.entries chip c.before.board.regs ≡ commit_call setup old c.before.board.regs chip
+  plan_is =
+      ap (λ m. commit_plan setup m c.entries chip c.before.board.regs) n_is
+      ∙ ap (λ (txn : Option Entries). commit_plan setup (logged_lines c.geometry) (unwrap_or txn []) chip c.before.board.regs) (sym c.opened)
+
+  abbrev pub own : Bool
+  own = list_any (is_own_seal (logged_lines c.geometry)) (drop (length c.ledger_before.marks) c.ledger.marks)
+
+  pub called : (store : Option Store) (said : TxnAnswer) → store ≡ cond c.board.powered (Some c.after) None
+      → (c.board.powered ≡ false → steps_in c.taken < step_limit) → said ≡ done_said own (steps_in c.taken) c.answer
+      → stuck_in store ≡ cond c.board.powered (stuck_said old.stuck c.answer) None → IsTxnCalled setup old Do.Commit said (txn_of setup (left store))
+  called store said kept within is stuck = (
+    record {
+      steps = steps_in c.taken;
+      end = plan_as.end;
+      called =
+          has_called (commit_call setup old) plan_as.end old.session (txn_of setup (left store)).session c.store.engine c.after.engine
+          c.taken on.powered (ap (option_map (λ (s : Store). s.engine)) c.there) (kept_of (λ (s : Store). s.engine) store c.after c.board.powered kept) refl refl
+          c.watched within
+          (subst (λ q. Follows q (device_during c.before.board none_taken) (device_during c.board c.taken)
+          (ended plan_as.end (chip_of c.after.engine c.ledger c.tags_new c.digests_new))) plan_is plan_as.follows);
+      is_said =
+          ap₂ (λ (a : TxnAnswer) (s : Option ℕ). (let end : Said = (a, (s, None)) in end))
+          (is ∙ ap (λ r. done_said own (steps_in c.taken) r) plan_as.its_answer)
+          (stuck ∙ ap (λ r. cond c.board.powered (stuck_said old.stuck r) None) plan_as.its_answer);
+    },
+    refl,
+  )

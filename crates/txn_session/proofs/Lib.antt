@@ -1,3 +1,4 @@
+pub mod Common
 pub mod WriteLists
 pub mod Stages
 pub mod Worlds
@@ -13,3 +14,4 @@ pub mod RedoStates
 pub mod OpeningExits
 pub mod NewLaws
 pub mod Sessions
+pub mod DeterminedReplies

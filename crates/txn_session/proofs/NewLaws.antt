@@ -1,48 +1,11 @@
 -- A new session: formatting, and the opening of zero lines.
-use Rattle.std.proofs.Common.{ℕ, ◌≡◌, ◌<◌, ◌+◌, inl, inr, true, List, [], length, replicate, Option, Some, None, Result, Ok, Err, refl, sym, ap, subst, ◌∙◌, subst₂, arith, rules}
-use Rattle.std.specs.Prelude.{is_none, ⊤, ◌&&◌}
-use Rattle.std.proofs.lemmas.Bool.{true≢false, and_parts}
-use Rattle.std.proofs.lemmas.List.{append-nil, length-replicate, get_or-replicate}
-use Rattle.pmem_base.specs.declared.lines.Line.{Line}
-use Rattle.pmem_base.specs.declared.registers.Regs.{Regs}
-use Rattle.pmem_base.specs.declared.answers.Mark.{Mark}
+use Rattle.std.proofs.Common.{ℕ, ◌≡◌, ◌<◌, ◌+◌, inl, inr, true, List, [], replicate, Some, None, Result, Ok, Err, refl, sym, ap, subst, ◌∙◌, arith, rules}
+use Rattle.txn_session.proofs.Common.{⊤, true≢false, get_or-replicate, Line, Mark, line_at, zero_line, Shape, IsShape, Device, BoardMemory, device_of, LedgerState, AreInRange, Setup, plain_line, plain_memory, Fault, EngineState, IsSound, Parts, parts_of, HasReadLine, HasFormatted, Store, Opened, TxnFault, IsHeader, IsLogged, AreEdited, redoing_edits, HasStoreOpened, HasStoreStarted, HasTargetsRedone, IsOpenedBy, logged_lines, one_header, zero_logged, logged_size, IsNewTxn, targets_in_force, TxnParts, IsTxnWorld, txn_of}
 use Rattle.pmem_base.specs.Layout as layout
-use Rattle.pmem_base.specs.Layout.{page_of}
-use Rattle.pmem_base.specs.Lines.{line_at, zero_line}
-use Rattle.pmem_base.specs.Shape.{Shape, IsShape}
-use Rattle.board.specs.Counts.{RisesBy}
-use Rattle.board.specs.Device.{Device}
-use Rattle.board.specs.Memory.{BoardMemory, device_of}
-use Rattle.meta_path.specs.Fetching.{spilled}
-use Rattle.seal_ledger.specs.Ledger.{LedgerState}
-use Rattle.suite.specs.Formulas.{AreInRange}
-use Rattle.suite.specs.Setup.{Setup}
-use Rattle.plain_model.specs.View.{IsMemoryOf, plain_line, plain_memory}
-use Rattle.plain_model.specs.Bounds.{path_length}
-use Rattle.plain_model.proofs.PlainMemory.{memory_is}
-use Rattle.pmem_engine.specs.declared.fault.Fault.{Fault}
+use Rattle.line_session.proofs.NewSessions.{zero_places, marks_stay, sound_after, new_session}
+use Rattle.line_session.specs.State.{IsNewSession}
 use Rattle.pmem_engine.specs.declared.fault.Fault.TheVariants as Fail
-use Rattle.pmem_engine.specs.Engine.{EngineState}
-use Rattle.pmem_engine.specs.Invariants.{IsSound}
-use Rattle.pmem_engine.specs.Parts.{Parts, parts_of}
-use Rattle.pmem_engine.specs.Outcomes.{going, OneLossEffect}
-use Rattle.pmem_engine.specs.Calls.{HasReadLine}
-use Rattle.pmem_recovery.specs.Formatting.{HasFormatted}
-use Rattle.line_txn.specs.declared.store.Store.{Store}
-use Rattle.line_txn.specs.declared.store.Opened.{Opened}
-use Rattle.line_txn.specs.declared.store.TxnFault.{TxnFault}
 use Rattle.line_txn.specs.declared.store.TxnFault.TheVariants as Txn
-use Rattle.line_txn.specs.Header.{IsHeader}
-use Rattle.line_txn.specs.Logged.{IsLogged}
-use Rattle.engine_lines.specs.Edits.{AreEdited}
-use Rattle.line_txn.specs.Edits.{redoing_edits}
-use Rattle.line_txn.specs.Store.{HasStoreOpened, HasStoreStarted, HasTargetsRedone, IsOpenedBy, logged_lines}
-use Rattle.line_txn.proofs.Headers.{one_header}
-use Rattle.line_txn.proofs.LoggedLaws.{zero_logged}
-use Rattle.line_txn.proofs.Openings.{logged_size}
-use Rattle.line_session.proofs.NewDevices.{none_to_write}
-use Rattle.txn_session.specs.State.{IsNewTxn}
-use Rattle.txn_session.specs.World.{TxnParts, IsTxnWorld, targets_in_force, txn_of}
 use Rattle.txn_session.proofs.Worlds.{few_lines, targets_held, memory_held, logged_is, on_of}
 
 -- what formatting and the opening leave
@@ -91,22 +54,9 @@ module _ (c : NewTxnCall) where
   sound =
       subst (IsSound c.setup c.engine c.middle.lines c.middle.regs) (sym c.same_ledger) (c.formatted.sound c.middle.lines refl)
 
-  -- ---- zero lines
-
-  zeros : IsMemoryOf c.setup c.ledger_middle.marks (replicate (layout.data_lines g) zero_line)
-  zeros =
-      record {
-        count = length-replicate (layout.data_lines g) zero_line;
-        each =
-            λ a within.
-            c.formatted.plain a within
-            ∙ ap (λ (l : Line). Some l) (sym (get_or-replicate (layout.data_lines g) a zero_line zero_line within));
-      }
-
   places : plain_memory c.setup c.ledger_before.marks ≡ replicate (layout.data_lines g) zero_line
   places =
-      ap (λ ledger. plain_memory c.setup ledger.marks) c.same_ledger
-      ∙ memory_is c.setup c.ledger_middle.marks (replicate (layout.data_lines g) zero_line) zeros
+      ap (λ ledger. plain_memory c.setup ledger.marks) c.same_ledger ∙ zero_places c.setup c.start c.middle c.ledger_middle c.engine c.formatted
 
   size : n + 16 ≡ layout.data_lines g
   size = logged_size g
@@ -154,32 +104,20 @@ module _ (c : NewTxnCall) where
 
   -- ---- the answers
 
-  lit : c.middle.powered ≡ true
-  lit = (and_parts c.middle.powered (is_none c.middle.fuse) c.formatted.steady).0
-
   abbrev pub held : Store → TxnParts
   held store = record { keys = c.keys; tags = c.tags_new; digests = c.digests_new; board = c.board; ledger = c.ledger; store = Some store; txn = None }
 
   module _ (store : Store) (line : Line) (was : HasReadLine c.setup n from (to store.engine) (Ok line)) (log : store.logged.items ≡ [])
       (unstuck : store.stuck ≡ None) where
-    effect : OneLossEffect c.setup going [] from (to store.engine)
-    effect = was.done sound.trusted.not_down
-
     marks : c.ledger.marks ≡ c.ledger_before.marks
-    marks = effect.gone.marks ∙ append-nil c.ledger_before.marks
+    marks =
+        marks_stay c.setup c.start c.middle c.ledger_middle c.engine c.formatted c.board c.ledger_before c.ledger c.same_ledger store.engine c.tags
+        c.digests c.tags_new c.digests_new n line was
 
-    powered : c.board.powered ≡ true
-    powered = effect.gone.power.1 lit
-
-    steady : (c.board.powered && is_none c.board.fuse) ≡ true
-    steady = effect.gone.power.0 c.formatted.steady
-
-    no_fuse : c.board.fuse ≡ None
-    no_fuse = go c.board.fuse (and_parts c.board.powered (is_none c.board.fuse) steady).1
-      where
-        go : (fuse : Option ℕ) → is_none fuse ≡ true → fuse ≡ None
-        go None is = refl
-        go (Some k) is = absurd (true≢false (sym is))
+    new : IsNewSession c.setup (txn_of c.setup (held store)).session
+    new =
+        new_session c.setup c.start c.middle c.ledger_middle c.engine c.formatted c.board c.ledger_before c.ledger c.same_ledger store.engine c.tags
+        c.digests c.tags_new c.digests_new n line was c.start_writes c.start_latches c.start_cuts c.keys
 
     logged : IsLogged n (plain_memory c.setup c.ledger.marks) [] (replicate n zero_line)
     logged = subst (λ (m : List Mark). IsLogged n (plain_memory c.setup m) [] (replicate n zero_line)) (sym marks) begun
@@ -191,35 +129,19 @@ module _ (c : NewTxnCall) where
     new_world =
         on_of c.setup (held store) store refl c.whole_shape c.in_range
         (logged_is c.setup c.whole_shape (plain_memory c.setup c.ledger.marks) (replicate n zero_line) [] logged)
-        powered (effect.gone.sound sound) (log ∙ sym none_in_force) tt
-
-    -- no line was written back
-    no_write : c.board.writes ≡ c.middle.writes
-    no_write =
-        (was.work (search rules)).work.no_write
-        (ap (λ (l : List (ℕ × Line)). length l + 0)
-        (ap (λ (e : EngineState). spilled g e.cache (page_of n) (path_length g)) c.formatted.engine_new
-        ∙ none_to_write g (page_of n) (path_length g)))
-
-    no_latch : c.board.latches ≡ c.middle.latches
-    no_latch = (was.work (search rules)).work.no_latch refl
+        new.power
+        (sound_after c.setup c.start c.middle c.ledger_middle c.engine c.formatted c.board c.ledger_before c.ledger c.same_ledger store.engine c.tags
+        c.digests c.tags_new c.digests_new n line was)
+        (log ∙ sym none_in_force) tt
 
     pub new_state : IsNewTxn c.setup (txn_of c.setup (held store))
     new_state =
         record {
-          shape = refl;
+          session = new;
           memory = memory_held c.setup c.whole_shape (plain_memory c.setup c.ledger.marks) (replicate n zero_line) [] logged;
           in_force = none_in_force;
           stuck = unstuck;
           txn = refl;
-          power = powered;
-          fuse = no_fuse;
-          loss = effect.loss ∙ ap (λ (r : Regs). r.loss) c.formatted.regs;
-          marks = marks ∙ ap (λ ledger. ledger.marks) c.same_ledger ∙ c.formatted.marks;
-          writes =
-              subst₂ (λ before after. RisesBy (layout.device_lines g) before after) c.start_writes (sym no_write) c.formatted.writes;
-          latches = subst₂ (λ before after. RisesBy 1 before after) c.start_latches (sym no_latch) c.formatted.latches;
-          cuts = effect.gone.power.2 ∙ c.formatted.cuts ∙ c.start_cuts;
         }
 
   -- the store is opened

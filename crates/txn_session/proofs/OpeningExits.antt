@@ -1,60 +1,29 @@
 -- Power comes on, as the session's fields have it: what is held after recovery, the opening and its redo, and what is answered.
-use Rattle.std.proofs.Common.{ℕ, ◌≡◌, ◌≤◌, ◌+◌, ◌⊎◌, inl, inr, false, cond, List, [], length, take, Option, Some, None, Result, Ok, Err, refl, sym, ap, subst, ◌∙◌, arith}
-use Rattle.std.specs.Prelude.{MatchOption, ⊤}
-use Rattle.std.proofs.lemmas.Bool.{le-ltb}
-use Rattle.std.proofs.lemmas.List.{append-nil}
-use Rattle.pmem_base.specs.declared.lines.Line.{Line}
-use Rattle.pmem_base.specs.declared.answers.Exhibit.TheVariants.{Twin}
-use Rattle.pmem_base.specs.declared.commands.Posted.{Posted}
-use Rattle.board.specs.Device.{Device}
-use Rattle.board.specs.Memory.{BoardMemory}
-use Rattle.seal_ledger.specs.Ledger.{LedgerState}
-use Rattle.suite.specs.Setup.{Setup}
-use Rattle.plain_model.specs.State.{Memory}
-use Rattle.plain_model.specs.Bounds.{recovery_bound}
-use Rattle.pmem_engine.specs.declared.fault.Fault.{Fault}
+use Rattle.std.proofs.Common.{ℕ, ◌≡◌, ◌<◌, ◌≤◌, ◌+◌, ◌⊎◌, inl, inr, true, false, cond, List, [], length, take, Option, Some, None, Result, Ok, Err, refl, sym, ap, ap₂, subst, ◌∙◌, arith}
+use Rattle.txn_session.proofs.Common.{option_map, open_call, counts_of, MatchOption, le-ltb, true≢false, append-nil, Line, Twin, Posted, Device, BoardMemory, LedgerState, Setup, Memory, recovery_bound, Fault, EngineState, Parts, parts_of, HasReadLine, sound_trusted, Work, RecFault, SuiteState, HasRecovered, most_recovery_steps, Store, Opened, TxnFault, IsHeader, redoing_edits, HasStoreStarted, HasFailedRedo, IsOpenedBy, steps_in, Writing, read_steps, setup_under, few_recovery, sound_recovered, cut_left, wanted_left, untouched, twin_left, twin_of_last, twin_within, rests, fewer_within, memory_done, read_line, read_cut, StartFault, TxnAnswer, Regs, new_engine, Chip, chip_of, OpeningStop, opened_of, FollowsOpening, IsOpenedAs, LineSession, HasOpenedAfter, started_as, HasOpened, IsTxnCalled, Said, open_said, opened_said, serving_said, TxnState, txn_setup_in, TxnParts, IsTxnWorld, stuck_in, txn_of, IsTxnAnswered, IsTxnShownBy, IsTxnMemoryWanted, GoesToTxnState, HasTxnOpened, after_redo, IsCutAt, EndsAt, refused_from}
 use Rattle.pmem_engine.specs.declared.fault.Fault.TheVariants as Fail
-use Rattle.pmem_engine.specs.Engine.{EngineState}
-use Rattle.pmem_engine.specs.Parts.{Parts, parts_of}
-use Rattle.pmem_engine.specs.Calls.{HasReadLine}
-use Rattle.pmem_engine.proofs.CallEnds.StillParts.{sound_trusted}
-use Rattle.pmem_recovery.specs.declared.faults.Work.{Work}
-use Rattle.pmem_recovery.specs.declared.faults.RecFault.{RecFault}
 use Rattle.pmem_recovery.specs.declared.faults.RecFault.TheVariants as Rec
-use Rattle.pmem_recovery.specs.Parts.{SuiteState}
-use Rattle.pmem_recovery.specs.Recovered.{HasRecovered, most_recovery_steps}
-use Rattle.line_txn.specs.declared.store.Store.{Store}
-use Rattle.line_txn.specs.declared.store.Opened.{Opened}
-use Rattle.line_txn.specs.declared.store.TxnFault.{TxnFault}
 use Rattle.line_txn.specs.declared.store.TxnFault.TheVariants as Txn
-use Rattle.line_txn.specs.Header.{IsHeader}
-use Rattle.line_txn.specs.Edits.{redoing_edits}
-use Rattle.line_txn.specs.Store.{HasStoreOpened, HasStoreStarted, HasFailedRedo, IsOpenedBy}
-use Rattle.watched_board.specs.Watching.{steps_in}
-use Rattle.engine_lines.specs.Writes.{Writing, read_steps}
-use Rattle.engine_lines.proofs.EngineLines.{setup_under}
 use Rattle.line_session.proofs.Twins.{seal_twin}
-use Rattle.line_session.proofs.Recoveries.{few_recovery, sound_recovered, cut_left, wanted_left, untouched, twin_left, twin_of_last, twin_within, rests}
-use Rattle.engine_lines.proofs.EngineWrites.{fewer_within, memory_done, read_line, read_cut}
-use Rattle.line_session.specs.declared.starts.StartFault.{StartFault}
 use Rattle.line_session.specs.declared.starts.StartFault.TheVariants as Start
 use Rattle.txn_session.specs.declared.commands.TxnCommand.TheVariants as Do
-use Rattle.txn_session.specs.declared.answers.TxnAnswer.{TxnAnswer}
 use Rattle.txn_session.specs.declared.answers.TxnAnswer.TheVariants as Say
-use Rattle.line_session.specs.During.{HasOpenedAfter, started_as}
-use Rattle.txn_session.specs.State.{TxnState, txn_setup_in}
-use Rattle.txn_session.specs.World.{TxnParts, IsTxnWorld, stuck_in, txn_of}
-use Rattle.txn_session.specs.Answered.{IsTxnAnswered, IsTxnShownBy, IsTxnMemoryWanted, GoesToTxnState, HasTxnOpened, after_redo}
 use Rattle.txn_session.proofs.AnswerClauses.{on_undecided, served, seen_from, held_under}
-use Rattle.engine_lines.proofs.EngineEdits.{IsCutAt, EndsAt}
 use Rattle.txn_session.proofs.RedoLists.{none_redone, few_redone}
 use Rattle.txn_session.proofs.Starts.{OnTxnCall}
 use Rattle.txn_session.proofs.RedoStates as state
+use Rattle.line_session.proofs.StartPlans.{start_stopped}
 
 -- parts of one session that are equal one by one
 same_parts : (a b : TxnParts) → a.tags ≡ b.tags → a.digests ≡ b.digests → a.board ≡ b.board → a.ledger ≡ b.ledger → a.store ≡ b.store → a.txn ≡ b.txn
     → record a { keys = b.keys } ≡ b
 same_parts a b tags digests board ledger store txn = grind arith
+
+-- a start that comes to the opening says what the store serves
+open_is : (left : LineSession) (steps : ℕ) (end : Result (List ℕ × Regs) OpeningStop)
+    → open_said left steps (started_as end) ≡ serving_said left steps (opened_of end)
+open_is left steps (Ok redone) = refl
+open_is left steps (Err stopped) = refl
 
 module _ (c : OnTxnCall) where
   abbrev setup : Setup
@@ -111,12 +80,13 @@ module _ (c : OnTxnCall) where
   txn_as P board store it = subst (λ t. P (record (left board store) { txn = t })) (sym (state.off c).no_txn) it
 
   exit_of : (board : BoardMemory) (store : Option Store) (answer : TxnAnswer) → IsTxnWorld setup (left board store)
-      → HasTxnOpened setup old answer (txn_of setup (left board store)) → OpenExit board store answer
-  exit_of board store answer held it = (
+      → HasTxnOpened setup old answer (txn_of setup (left board store)) → IsTxnCalled setup old Do.On answer (txn_of setup (left board store))
+      → OpenExit board store answer
+  exit_of board store answer held it called = (
     held_under c.formulas_of c.geometry p (record (left board store) { txn = p.txn }) c.keys c.same_keys (txn_as (IsTxnWorld setup) board store held),
     seen_from c.formulas_of c.geometry p (record (left board store) { txn = p.txn }) c.now c.keys Do.On answer now_is c.same_keys refl
         (txn_as (λ q. IsTxnAnswered setup old Do.On answer (txn_of setup q)) board store
-        (served setup old (txn_of setup (left board store)) Do.On answer (on_undecided old (state.off c).unpowered) it)),
+        (served setup old (txn_of setup (left board store)) Do.On answer (on_undecided old (state.off c).unpowered) it called)),
   )
 
   -- what an exit says, whatever steps are answered
@@ -129,7 +99,7 @@ module _ (c : OnTxnCall) where
   rested = record c.board { powered = false }
 
   -- what holds after each answer of recovery and the opening
-  abbrev OpenOutcome : Result (Store × Opened) (StartFault TxnFault) → Type 0
+  abbrev pub OpenOutcome : Result (Store × Opened) (StartFault TxnFault) → Type 0
   OpenOutcome (Ok both) =
       MatchOption both.1.stuck (OpenExit c.board (Some both.0) (Say.Opened both.1.redone (steps_in c.taken)))
       (λ page. OpenExit c.board (Some both.0) (Say.Stuck page (steps_in c.taken)))
@@ -143,7 +113,7 @@ module _ (c : OnTxnCall) where
   -- ---- the header was read, and its transaction redone, or power was cut
 
   module _ (between : Device) (suite_between : SuiteState) (engine : EngineState) (work : Work)
-      (it : HasRecovered setup p.ledger from between c.suite_old suite_between (Ok (engine, work))) where
+      (it : HasRecovered setup p.ledger from between (state.suite_old c) suite_between (Ok (engine, work))) where
     abbrev bound : ℕ
     bound = recovery_bound c.geometry
 
@@ -156,8 +126,39 @@ module _ (c : OnTxnCall) where
     abbrev middle : Parts
     middle = state.parts_between c between suite_between engine work it
 
-    opened_exit : (store : Store) (opened : Opened) → HasStoreStarted setup middle (parts_to store.engine) store opened → OpenOutcome (Ok (store, opened))
-    opened_exit store opened its =
+    abbrev chip_between : Chip
+    chip_between = chip_of engine p.ledger suite_between.tags suite_between.digests
+
+    abbrev chip_to : EngineState → Chip
+    chip_to now = chip_of now c.ledger c.suite_new.tags c.suite_new.digests
+
+    abbrev Along : Store → Opened → Type 0
+    Along store opened = IsOpenedAs setup between.regs chip_between between to (chip_to store.engine) store opened
+
+    abbrev CutAlong : Type 0
+    CutAlong = (now : EngineState) × FollowsOpening setup between.regs chip_between between to (chip_to now) (Err (Txn.Engine Fail.Cut))
+
+    lit_call : (store : Store) (opened : Opened) (said : TxnAnswer) → Along store opened → c.board.powered ≡ true
+        → said ≡ opened_said opened.redone (steps_in c.taken) store.stuck → IsTxnCalled setup old Do.On said (txn_of setup (left c.board (Some store)))
+    lit_call store opened said along lit is =
+        state.called c (Some store) said store.engine (started_as along.opening.end) (sym (ap (λ b. cond b (Some store.engine) None) lit))
+        (λ dark. absurd (true≢false (sym lit ∙ dark)))
+        (state.opened_along c between suite_between engine work it along.opening.end store.engine along.opening.follows)
+        (ap₂ (λ (a : TxnAnswer) (s : Option ℕ). (let last : Said = (a, (s, None)) in last)) is (sym (ap (λ b. cond b store.stuck None) lit))
+        ∙ ap (serving_said (txn_of setup (left c.board (Some store))).session (steps_in c.taken)) along.opening.its_answer
+        ∙ sym (open_is (txn_of setup (left c.board (Some store))).session (steps_in c.taken) along.opening.end))
+
+    cut_call : CutAlong → c.board.powered ≡ false → steps_in c.taken < most
+        → IsTxnCalled setup old Do.On (Say.Cut (steps_in c.taken)) (txn_of setup (left c.board None))
+    cut_call along dark below =
+        state.dark_call c along.0 (started_as along.1.end) dark below
+        (state.opened_along c between suite_between engine work it along.1.end along.0 along.1.follows)
+        (ap (serving_said (txn_of setup (left c.board None)).session (steps_in c.taken)) along.1.its_answer
+        ∙ sym (open_is (txn_of setup (left c.board None)).session (steps_in c.taken) along.1.end))
+
+    opened_exit : (store : Store) (opened : Opened) → HasStoreStarted setup middle (parts_to store.engine) store opened → Along store opened
+        → OpenOutcome (Ok (store, opened))
+    opened_exit store opened its along =
         go its.redone its.its_end (state.redo_ends c between suite_between engine work it its.targets (parts_to store.engine) its.redone its.was_redone)
       where
         same : its.targets ≡ targets
@@ -180,10 +181,12 @@ module _ (c : OnTxnCall) where
               came = (sym (state.count_is c), (omega (arith, (state.count_is c)), gone.done.asked));
               ends = (
                 its.its_count ∙ ap length same,
-                subst (λ s. GoesToTxnState (record (after_redo old writing) { stuck = s }) (steps_in c.taken) most old (txn_of setup (left c.board (Some store)))) stuck
+                subst (λ s. GoesToTxnState (record (after_redo old writing) { stuck = s }) (steps_in c.taken) most (txn_of setup (left c.board (Some store)))) stuck
                     (state.goes c writing come store gone.done.live gone.done.loss gone.done.takes),
               );
-            } in said))
+            } in said)
+            (lit_call store opened (Say.Opened opened.redone (steps_in c.taken)) along gone.done.live
+            (sym (ap (opened_said opened.redone (steps_in c.taken)) by.1))))
         go (Err (Fail.Spent page)) by spent =
             let writing : Writing = record { done = spent.count; made = spent.made } in
             let come : state.HasTxnCome c writing =
@@ -200,87 +203,101 @@ module _ (c : OnTxnCall) where
               writing = writing;
               came = spent.next;
               ends =
-                  subst (λ s. GoesToTxnState (record (after_redo old writing) { stuck = s }) (steps_in c.taken) most old (txn_of setup (left c.board (Some store)))) by.1
+                  subst (λ s. GoesToTxnState (record (after_redo old writing) { stuck = s }) (steps_in c.taken) most (txn_of setup (left c.board (Some store)))) by.1
                   (state.goes c writing come store spent.done.live spent.done.loss spent.done.takes);
-            } in said))
+            } in said)
+            (lit_call store opened (Say.Stuck page (steps_in c.taken)) along spent.done.live
+            (sym (ap (opened_said opened.redone (steps_in c.taken)) by.1))))
         go (Err fault) by ends = absurd by
 
     -- power was cut in the redo
-    redo_cut_exit : (dropped : EngineState) → HasFailedRedo setup middle (parts_to dropped) Fail.Cut → OpenExit c.board None (Say.Cut (steps_in c.taken))
-    redo_cut_exit dropped redo =
+    redo_cut_exit : (dropped : EngineState) → HasFailedRedo setup middle (parts_to dropped) Fail.Cut → CutAlong
+        → OpenExit c.board None (Say.Cut (steps_in c.taken))
+    redo_cut_exit dropped redo along =
         let end : IsCutAt setup first queue 0 (length (redoing_edits n targets)) most (parts_to dropped) =
         state.redo_ends c between suite_between engine work it redo.targets (parts_to dropped) (Err Fail.Cut) redo.was_redone in
         let come : state.HasTxnCome c end.writing = state.come_to c end.writing end.cut.marks end.cut.memory in
+        let seen = state.cut_seen c end.writing come end.came end.cut.dark end.cut.loss end.cut.takes in
         exit_of c.board None (Say.Cut (steps_in c.taken)) (state.dark_world c end.writing come c.board end.cut.dark end.cut.durable end.cut.small_group)
-        (state.cut_seen c end.writing come end.came end.cut.dark end.cut.loss end.cut.takes)
+        seen (cut_call along end.cut.dark seen.ends.1)
 
     -- or in the reading of the header
-    read_cut_exit : (dropped : EngineState) → HasReadLine setup n middle (parts_to dropped) (Err Fail.Cut) → OpenExit c.board None (Say.Cut (steps_in c.taken))
-    read_cut_exit dropped was =
+    read_cut_exit : (dropped : EngineState) → HasReadLine setup n middle (parts_to dropped) (Err Fail.Cut) → CutAlong
+        → OpenExit c.board None (Say.Cut (steps_in c.taken))
+    read_cut_exit dropped was along =
         let cut = read_cut setup first middle [] [] bound (state.recovered_to c between suite_between engine work it) n (parts_to dropped) was in
         let writing : Writing = record { done = 0; made = [] } in
         let come : state.HasTxnCome c writing = state.still_come c (cut.marks ∙ append-nil p.ledger.marks) in
-        exit_of c.board None (Say.Cut (steps_in c.taken)) (state.dark_world c writing come c.board cut.dark cut.durable cut.small_group)
-        (state.cut_seen c writing come (inl (omega arith, refl)) cut.dark cut.loss
-        (fewer_within from to (bound + read_steps c.geometry) most (omega arith) cut.takes))
+        let seen =
+        state.cut_seen c writing come (inl (omega arith, refl)) cut.dark cut.loss
+        (fewer_within from to (bound + read_steps c.geometry) most (omega arith) cut.takes) in
+        exit_of c.board None (Say.Cut (steps_in c.taken)) (state.dark_world c writing come c.board cut.dark cut.durable cut.small_group) seen
+        (cut_call along cut.dark seen.ends.1)
 
-    by_opened : (opened : Result (Store × Opened) TxnFault) → HasStoreOpened setup middle parts_to opened → OpenOutcome (started_as opened)
-    by_opened (Ok both) opened = opened_exit both.0 both.1 opened
-    by_opened (Err (Txn.Engine Fail.Cut)) opened =
-        elim opened.1 [ inl read ↦ read_cut_exit opened.0 read | inr redo ↦ redo_cut_exit opened.0 redo ]
-    by_opened (Err (Txn.Engine (Fail.Spent page))) opened =
-        elim opened.1 [ inl read ↦ absurd read.possible | inr redo ↦ absurd redo.unspent ]
-    by_opened (Err (Txn.Engine fault)) opened =
-        let sound = sound_recovered setup p.ledger lit between c.suite_old suite_between engine work it (state.off c).durable in
-        elim opened.1 [
-          | inl read ↦ absurd (read.unrefused (sound_trusted setup middle sound).not_down sound)
-          | inr redo ↦ absurd (state.redo_ends c between suite_between engine work it redo.targets (parts_to opened.0) (Err fault) redo.was_redone)
+    by_opened : (opened : Result (Store × Opened) TxnFault) → HasOpened setup middle parts_to opened → OpenOutcome (started_as opened)
+    by_opened (Ok both) its = opened_exit both.0 both.1 its.was_opened its.plan
+    by_opened (Err (Txn.Engine Fail.Cut)) its =
+        elim its.was_opened.1 [
+          | inl read ↦ read_cut_exit its.was_opened.0 read its.plan
+          | inr redo ↦ redo_cut_exit its.was_opened.0 redo its.plan
         ]
-    by_opened (Err (Txn.Header line)) opened =
+    by_opened (Err (Txn.Engine (Fail.Spent page))) its =
+        elim its.was_opened.1 [ inl read ↦ absurd read.possible | inr redo ↦ absurd redo.unspent ]
+    by_opened (Err (Txn.Engine fault)) its =
+        let sound = sound_recovered setup p.ledger lit between (state.suite_old c) suite_between engine work it (state.off c).durable in
+        elim its.was_opened.1 [
+          | inl read ↦ absurd (read.unrefused (sound_trusted setup middle sound).not_down sound)
+          | inr redo ↦ absurd (state.redo_ends c between suite_between engine work it redo.targets (parts_to its.was_opened.0) (Err fault) redo.was_redone)
+        ]
+    by_opened (Err (Txn.Header line)) its =
         absurd
-        (opened.1.none targets
+        (its.was_opened.1.none targets
         (subst (λ l. IsHeader n l targets)
         (sym
-        (read_line setup first middle [] [] bound (state.recovered_to c between suite_between engine work it) n (parts_to opened.0) line
-        (state.header_inside c between suite_between engine work it) opened.1.was_read)) (state.world c).logged.header))
+        (read_line setup first middle [] [] bound (state.recovered_to c between suite_between engine work it) n (parts_to its.was_opened.0) line
+        (state.header_inside c between suite_between engine work it) its.was_opened.1.was_read)) (state.world c).logged.header))
 
   -- ---- recovery wasn't done
 
   abbrev nothing_done : Writing
   nothing_done = record { done = 0; made = [] }
 
-  recovery_cut : (suite_between : SuiteState) → HasRecovered setup p.ledger from to c.suite_old suite_between (Err Rec.Cut) → c.ledger ≡ p.ledger
-      → OpenExit c.board None (Say.Cut (steps_in c.taken))
-  recovery_cut suite_between it ledger =
+  recovery_cut : (suite_between : SuiteState) → HasRecovered setup p.ledger from to (state.suite_old c) suite_between (Err Rec.Cut) → c.ledger ≡ p.ledger
+      → c.suite_new ≡ suite_between → OpenExit c.board None (Say.Cut (steps_in c.taken))
+  recovery_cut suite_between it ledger suite =
       let come = state.still_come c (ap (λ (l : LedgerState). l.marks) ledger) in
-      let is = cut_left setup p.ledger c.ledger lit c.board c.taken c.suite_old suite_between ledger (state.off c).durable (state.world c).few_armed it in
+      let is = cut_left setup p.ledger c.ledger lit c.board c.taken (state.suite_old c) suite_between ledger (state.off c).durable (state.world c).few_armed it in
       let dark : c.board.powered ≡ false = it.power.off in
-      exit_of c.board None (Say.Cut (steps_in c.taken)) (state.dark_world c nothing_done come c.board dark is.durable is.few_armed)
-      (state.cut_seen c nothing_done come (inl (omega arith, refl)) dark is.loss
+      let seen =
+      state.cut_seen c nothing_done come (inl (omega arith, refl)) dark is.loss
       (fewer_within from to (most_recovery_steps setup lit.regs) most
-      (let few = few_recovery setup lit.regs (state.world c).few_armed in omega (arith, few)) it.steps))
+      (let few = few_recovery setup lit.regs (state.world c).few_armed in omega (arith, few)) it.steps) in
+      exit_of c.board None (Say.Cut (steps_in c.taken)) (state.dark_world c nothing_done come c.board dark is.durable is.few_armed) seen
+      (state.dark_call c (new_engine setup.shape) (Err (Start.Recovery Rec.Cut)) dark seen.ends.1
+      (start_stopped setup p.ledger (open_call setup) (state.from c) (state.to c) (counts_of (state.suite_old c)) suite_between Rec.Cut c.ledger c.suite_new it.plan
+      ledger suite) refl)
 
   -- nothing was done, for want of memory
-  recovery_wanted : (suite_between : SuiteState) → HasRecovered setup p.ledger from to c.suite_old suite_between (Err Rec.Memory)
+  recovery_wanted : (suite_between : SuiteState) → HasRecovered setup p.ledger from to (state.suite_old c) suite_between (Err Rec.Memory)
       → c.ledger ≡ p.ledger → c.suite_new ≡ suite_between → OpenOutcome (Err (Start.Recovery Rec.Memory))
   recovery_wanted suite_between it ledger suite =
       let marks : c.ledger.marks ≡ p.ledger.marks = ap (λ (l : LedgerState). l.marks) ledger in
-      let is = wanted_left setup p.ledger c.ledger lit c.board c.taken c.suite_old suite_between ledger (state.off c).durable (state.world c).few_armed it in
+      let is = wanted_left setup p.ledger c.ledger lit c.board c.taken (state.suite_old c) suite_between ledger (state.off c).durable (state.world c).few_armed it in
       let board = rests p.board lit c.board refl (state.off c).unpowered (untouched lit c.board c.taken (state.watched c) it.unchanged refl) in
-      let uncounted : c.suite_new ≡ c.suite_old = suite ∙ it.uncounted in (
+      let uncounted : c.suite_new ≡ (state.suite_old c) = suite ∙ it.uncounted in (
         state.dark_world c nothing_done (state.still_come c marks) rested refl is.durable is.few_armed,
         ap (txn_of setup)
-            (same_parts (left rested None) p (ap (λ (s : SuiteState). s.tags) uncounted ∙ c.tags_old) (ap (λ (s : SuiteState). s.digests) uncounted ∙ c.digests_old)
+            (same_parts (left rested None) p (ap (λ (s : SuiteState). s.tags) uncounted) (ap (λ (s : SuiteState). s.digests) uncounted)
             board ledger (sym c.there) (sym (state.off c).no_txn)),
       )
 
   recovery_twin : (suite_between : SuiteState) (at major low high : ℕ) (cipher : Line) (tag : List ℕ)
-      → HasRecovered setup p.ledger from to c.suite_old suite_between (Err (Rec.Twin at major low high cipher tag)) → c.ledger ≡ p.ledger
-      → OpenOutcome (Err (Start.Recovery (Rec.Twin at major low high cipher tag)))
-  recovery_twin suite_between at major low high cipher tag it ledger =
+      → HasRecovered setup p.ledger from to (state.suite_old c) suite_between (Err (Rec.Twin at major low high cipher tag)) → c.ledger ≡ p.ledger
+      → c.suite_new ≡ suite_between → OpenOutcome (Err (Start.Recovery (Rec.Twin at major low high cipher tag)))
+  recovery_twin suite_between at major low high cipher tag it ledger suite =
       let marks : c.ledger.marks ≡ p.ledger.marks = ap (λ (l : LedgerState). l.marks) ledger in
-      let is = twin_left setup p.ledger c.ledger lit c.board c.taken c.suite_old suite_between ledger (state.off c).durable (state.world c).few_armed at major low high cipher tag it in
-      let within = twin_within setup p.ledger c.ledger lit c.board c.taken c.suite_old suite_between ledger (state.off c).durable (state.world c).few_armed at major low high cipher tag it in (
+      let is = twin_left setup p.ledger c.ledger lit c.board c.taken (state.suite_old c) suite_between ledger (state.off c).durable (state.world c).few_armed at major low high cipher tag it in
+      let within = twin_within setup p.ledger c.ledger lit c.board c.taken (state.suite_old c) suite_between ledger (state.off c).durable (state.world c).few_armed at major low high cipher tag it in (
         state.dark_world c nothing_done (state.still_come c marks) rested refl is.durable is.few_armed,
         (
           (state.off c).unpowered,
@@ -288,37 +305,39 @@ module _ (c : OnTxnCall) where
           it.twin,
           seal_twin setup p.board.regs p.ledger places p.board.regs.loss at major low high cipher tag
               (state.world c).whole_formulas (state.off c).durable.mendable.anchored (state.world c).places within
-              (twin_of_last setup p.ledger c.ledger lit c.board c.taken c.suite_old suite_between ledger (state.off c).durable (state.world c).few_armed at major low high cipher tag it),
+              (twin_of_last setup p.ledger c.ledger lit c.board c.taken (state.suite_old c) suite_between ledger (state.off c).durable (state.world c).few_armed at major low high cipher tag it),
+          refused_from setup (open_call setup) old.session c.board c.ledger suite_between c.suite_new c.taken (Rec.Twin at major low high cipher tag)
+              (ap (option_map (λ (s : Store). s.engine)) c.there) (state.watched c) (it.power.live refl) it.plan ledger suite,
         ),
       )
 
   outcome : OpenOutcome c.answer
   outcome = go (state.started c).recovery (state.started c).recovered (state.started c).then
     where
-      refused : (fault : RecFault) → HasRecovered setup p.ledger from (state.started c).between c.suite_old (state.started c).suite_between (Err fault) → to ≡ (state.started c).between
-          → HasRecovered setup p.ledger from to c.suite_old (state.started c).suite_between (Err fault)
+      refused : (fault : RecFault) → HasRecovered setup p.ledger from (state.started c).between (state.suite_old c) (state.started c).suite_between (Err fault) → to ≡ (state.started c).between
+          → HasRecovered setup p.ledger from to (state.suite_old c) (state.started c).suite_between (Err fault)
       refused fault it same =
-          subst (λ d. HasRecovered setup p.ledger from d c.suite_old (state.started c).suite_between (Err fault)) (sym same) it
+          subst (λ d. HasRecovered setup p.ledger from d (state.suite_old c) (state.started c).suite_between (Err fault)) (sym same) it
 
       go : (recovery : Result (EngineState × Work) RecFault)
-          → HasRecovered setup p.ledger from (state.started c).between c.suite_old (state.started c).suite_between recovery
+          → HasRecovered setup p.ledger from (state.started c).between (state.suite_old c) (state.started c).suite_between recovery
           → HasOpenedAfter recovery (state.opens c) (state.started c).between to p.ledger c.ledger (state.started c).suite_between c.suite_new c.answer
           → OpenOutcome c.answer
       go (Ok done) it later =
-          subst OpenOutcome (sym later.2) (by_opened (state.started c).between (state.started c).suite_between done.0 done.1 it later.0 later.1.was_opened)
+          subst OpenOutcome (sym later.2) (by_opened (state.started c).between (state.started c).suite_between done.0 done.1 it later.0 later.1)
       go (Err Rec.Cut) it later =
-          subst OpenOutcome (sym later.0) (recovery_cut (state.started c).suite_between (refused Rec.Cut it later.1) later.2)
+          subst OpenOutcome (sym later.0) (recovery_cut (state.started c).suite_between (refused Rec.Cut it later.1) later.2 later.3)
       go (Err Rec.Memory) it later =
           subst OpenOutcome (sym later.0) (recovery_wanted (state.started c).suite_between (refused Rec.Memory it later.1) later.2 later.3)
       go (Err (Rec.Twin at major low high cipher tag)) it later =
           subst OpenOutcome (sym later.0)
-          (recovery_twin (state.started c).suite_between at major low high cipher tag (refused (Rec.Twin at major low high cipher tag) it later.1) later.2)
+          (recovery_twin (state.started c).suite_between at major low high cipher tag (refused (Rec.Twin at major low high cipher tag) it later.1) later.2 later.3)
       go (Err fault) it later =
           absurd (((refused fault it later.1).lines p.board.lines refl c.board.lines refl).from_durable (state.off c).durable)
 
   -- ---- as contracts write it
 
-  outcome_as : (answer : Result (Store × Opened) (StartFault TxnFault)) → c.answer ≡ answer → OpenOutcome answer
+  pub outcome_as : (answer : Result (Store × Opened) (StartFault TxnFault)) → c.answer ≡ answer → OpenOutcome answer
   outcome_as answer is = subst OpenOutcome is outcome
 
   -- what is held, whether the store is stuck or not
@@ -389,23 +408,3 @@ module _ (c : OnTxnCall) where
           held_rested it.0,
           subst (λ (w : TxnState). IsTxnShownBy (txn_setup_in c.formulas_of w) w Do.On (Twin at major low high cipher tag)) now_is it.1,
         )
-
-  -- no other answer comes
-  abbrev pub IsTxnPossible : Result (Store × Opened) (StartFault TxnFault) → Type 0
-  IsTxnPossible (Ok both) = ⊤
-  IsTxnPossible (Err (Start.Recovery Rec.Cut)) = ⊤
-  IsTxnPossible (Err (Start.Opening (Txn.Engine Fail.Cut))) = ⊤
-  IsTxnPossible (Err (Start.Recovery Rec.Memory)) = ⊤
-  IsTxnPossible (Err (Start.Recovery (Rec.Twin at major low high cipher tag))) = ⊤
-  IsTxnPossible answer = ⊥
-
-  pub possible : (answer : Result (Store × Opened) (StartFault TxnFault)) → c.answer ≡ answer → IsTxnPossible answer
-  possible answer is = go answer (outcome_as answer is)
-    where
-      go : (answer : Result (Store × Opened) (StartFault TxnFault)) → OpenOutcome answer → IsTxnPossible answer
-      go (Ok both) it = tt
-      go (Err (Start.Recovery Rec.Cut)) it = tt
-      go (Err (Start.Opening (Txn.Engine Fail.Cut))) it = tt
-      go (Err (Start.Recovery Rec.Memory)) it = tt
-      go (Err (Start.Recovery (Rec.Twin at major low high cipher tag))) it = tt
-      go answer it = absurd it

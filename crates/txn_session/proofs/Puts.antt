@@ -1,21 +1,9 @@
 -- A line that is put into a transaction: where it goes, and which targets the transaction has then.
 use Rattle.std.proofs.Common.{ℕ, suc, ◌≡◌, ◌<◌, ◌≤◌, ◌+◌, ◌++◌, inl, inr, Bool, true, false, cond, [], ◌∷◌, length, drop, Option, Some, None, refl, sym, ap, subst, ◌∙◌, arith}
-use Rattle.std.specs.Prelude.{◌≢◌, All, is_some, not, nat_lt, slice_set, ◌==◌}
-use Rattle.std.specs.List.{position_or_len, position_from, refill}
 use Rattle.std.proofs.lemmas.Iterator.Adapters.{position_from-zero}
-use Rattle.std.proofs.lemmas.Bool.{eqb-true, eqb-false, cases_lt, lt-ltb, le-ltb}
-use Rattle.std.proofs.lemmas.Option.{none-some, same_Some}
-use Rattle.std.proofs.lemmas.List.{length-append, length-map, length-set, take_at}
-use Rattle.std.proofs.lemmas.List.Elements.{All-nil, All-cons, All-push}
 use Rattle.std.proofs.lemmas.List.Quantifiers.{all_pairs_push}
 use Rattle.std.proofs.lemmas.List.Recursion.{is_position_or_len}
-use Rattle.pmem_base.specs.declared.lines.Line.{Line}
-use Rattle.line_txn.specs.Header.{AreTargets}
-use Rattle.line_txn.specs.Logged.{targets_of}
-use Rattle.suite.specs.Setup.{Setup}
-use Rattle.line_txn.specs.Store.{logged_lines}
-use Rattle.txn_session.specs.State.{Entries, entry_in, with_put_line}
-use Rattle.txn_session.specs.Answered.{is_txn_full}
+use Rattle.txn_session.proofs.Common.{◌≢◌, All, is_some, not, nat_lt, slice_set, ◌==◌, position_or_len, position_from, refill, eqb-true, eqb-false, cases_lt, lt-ltb, le-ltb, none-some, same_Some, length-append, length-map, length-set, take_at, All-nil, All-cons, All-push, Line, AreTargets, targets_of, Setup, logged_lines, Entries, entry_in, with_put_line, is_txn_full}
 use Rattle.txn_session.proofs.Worlds.{IsOpenTxn}
 
 -- ---- its targets

@@ -1,40 +1,11 @@
 -- A read of a data line: it shows memory's line, or power is cut.
-use Rattle.std.proofs.Common.{ℕ, ◌≡◌, ◌<◌, ◌++◌, true, false, List, [], Option, Some, None, Result, Ok, Err, refl, sym, ap, subst, ◌∙◌, arith}
-use Rattle.std.specs.Prelude.{unwrap_or, IfOk}
-use Rattle.std.proofs.lemmas.List.{append-nil}
-use Rattle.pmem_base.specs.declared.lines.Line.{Line}
-use Rattle.pmem_base.specs.declared.answers.Mark.{Mark}
-use Rattle.pmem_base.specs.Lines.{line_at}
-use Rattle.pmem_base.specs.Shape.{Shape}
-use Rattle.board.specs.Memory.{BoardMemory}
-use Rattle.seal_ledger.specs.Ledger.{LedgerState}
-use Rattle.suite.specs.Formulas.{Formulas}
-use Rattle.suite.specs.Setup.{Setup}
-use Rattle.plain_model.specs.State.{Memory}
-use Rattle.plain_model.specs.View.{plain_memory}
-use Rattle.plain_model.specs.Bounds.{path_length}
-use Rattle.pmem_engine.specs.declared.fault.Fault.{Fault}
+use Rattle.std.proofs.Common.{ℕ, ◌≡◌, ◌<◌, true, false, cond, List, [], Option, Some, None, Result, Ok, Err, refl, sym, ap, ap₂, subst, ◌∙◌, arith}
+use Rattle.txn_session.proofs.Common.{unwrap_or, option_map, IfOk, true≢false, append-nil, Line, Mark, line_at, Shape, BoardMemory, ended, Follows, LedgerState, Formulas, Setup, Memory, plain_memory, path_length, Fault, Parts, parts_of, AreTrusted, chip_of, read_plan, going, cut_short, OneLossEffect, HasReadLine, HasLines, Store, IsLogged, IsServedAs, logged_lines, Taken, steps_in, step_limit, device_during, none_taken, IsWatched, at_most, fewer, whole_places, setup_under, has_called, kept_of, TxnAnswer, IsTxnCalled, Said, read_call, read_said, TxnState, Entries, txn_setup_in, entry_in, targets_in_force, redone_memory, TxnParts, IsTxnWorld, IsStoreOn, stuck_in, txn_of, IsTxnAnswered}
 use Rattle.pmem_engine.specs.declared.fault.Fault.TheVariants as Fail
-use Rattle.pmem_engine.specs.Parts.{Parts, parts_of, AreTrusted}
-use Rattle.pmem_engine.specs.Outcomes.{going, cut_short, OneLossEffect}
-use Rattle.pmem_engine.specs.Calls.{HasReadLine}
-use Rattle.engine_lines.specs.Lines.{HasLines}
-use Rattle.line_txn.specs.declared.store.Store.{Store}
-use Rattle.line_txn.specs.Logged.{IsLogged}
 use Rattle.line_txn.specs.Serving.{served_from}
-use Rattle.line_txn.specs.Store.{IsServedAs, logged_lines}
-use Rattle.watched_board.specs.declared.taken.Taken.{Taken}
-use Rattle.watched_board.specs.Watching.{steps_in, device_during, none_taken, IsWatched}
-use Rattle.engine_lines.specs.Writes.{read_steps}
-use Rattle.watched_board.proofs.StepLaws.{at_most, fewer}
-use Rattle.engine_lines.proofs.SealedLines.{whole_places}
-use Rattle.engine_lines.proofs.EngineLines.{setup_under}
 use Rattle.txn_session.specs.declared.commands.TxnCommand.TheVariants as Do
 use Rattle.txn_session.specs.declared.answers.TxnAnswer.TheVariants as Say
-use Rattle.txn_session.specs.State.{TxnState, Entries, txn_setup_in, entry_in}
-use Rattle.txn_session.specs.World.{TxnParts, IsTxnWorld, IsStoreOn, stuck_in, targets_in_force, redone_memory, txn_of}
-use Rattle.txn_session.specs.Answered.{IsTxnAnswered}
-use Rattle.txn_session.proofs.Worlds.{IsOpenTxn, goes_to, cut_off, on_in, lines_are, on_after, off_after}
+use Rattle.txn_session.proofs.Worlds.{IsOpenTxn, on_in, lines_are, on_after, off_after}
 use Rattle.txn_session.proofs.AnswerClauses.{read_undecided, served, seen_from, held_under}
 
 -- the session's parts as the read finds them, what it leaves and answers
@@ -59,8 +30,6 @@ pub record ReadTxnCall : Type 0 where
   pub ledger : LedgerState
   pub taken : Taken
   pub watched : IsWatched parts.board board taken
-  pub tags : ℕ
-  pub digests : ℕ
   pub tags_new : ℕ
   pub digests_new : ℕ
   pub said : ℕ
@@ -68,16 +37,20 @@ pub record ReadTxnCall : Type 0 where
   pub answer : Result Line Fault
   pub was_read :
       HasReadLine (setup_under formulas_of store.engine.shape parts.keys) (served_from store.lines store.logged.items at)
-      (parts_of store.engine (device_during parts.board none_taken) parts.ledger tags digests)
+      (parts_of store.engine (device_during parts.board none_taken) parts.ledger parts.tags parts.digests)
       (parts_of after.engine (device_during board taken) ledger tags_new digests_new) answer
   pub read_logged :
       AreTrusted (setup_under formulas_of store.engine.shape parts.keys)
-      (parts_of store.engine (device_during parts.board none_taken) parts.ledger tags digests)
+      (parts_of store.engine (device_during parts.board none_taken) parts.ledger parts.tags parts.digests)
       → (lines memory : List Line)
       → HasLines (setup_under formulas_of store.engine.shape parts.keys) lines
-      (parts_of store.engine (device_during parts.board none_taken) parts.ledger tags digests)
+      (parts_of store.engine (device_during parts.board none_taken) parts.ledger parts.tags parts.digests)
       → IsLogged store.lines lines store.logged.items memory
       → IfOk answer (λ read. read ≡ line_at memory at)
+  pub plan :
+      Follows (read_plan (setup_under formulas_of store.engine.shape parts.keys) parts.board.regs (served_from store.lines store.logged.items at)
+      (chip_of store.engine parts.ledger parts.tags parts.digests))
+      (device_during parts.board none_taken) (device_during board taken) (ended answer (chip_of after.engine ledger tags_new digests_new))
 
 module _ (c : ReadTxnCall) where
   abbrev setup : Setup
@@ -96,7 +69,7 @@ module _ (c : ReadTxnCall) where
   place = served_from c.store.lines c.store.logged.items c.at
 
   abbrev from : Parts
-  from = parts_of c.store.engine (device_during p.board none_taken) p.ledger c.tags c.digests
+  from = parts_of c.store.engine (device_during p.board none_taken) p.ledger p.tags p.digests
 
   abbrev to : Parts
   to = parts_of c.after.engine (device_during c.board c.taken) c.ledger c.tags_new c.digests_new
@@ -139,6 +112,36 @@ module _ (c : ReadTxnCall) where
           subst (λ n. IsLogged n places c.store.logged.items old.memory) (sym n_is)
           (subst (λ ts. IsLogged (logged_lines c.geometry) places ts old.memory) (sym on.its_log) c.world.logged)
 
+  -- ---- the call of the session
+
+  abbrev FollowsFrom : Setup → ℕ → Type 0
+  FollowsFrom its at =
+      Follows (read_plan its p.board.regs at (chip_of c.store.engine p.ledger p.tags p.digests)) (device_during p.board none_taken) (device_during c.board c.taken)
+      (ended c.answer (chip_of c.after.engine c.ledger c.tags_new c.digests_new))
+
+  follows : FollowsFrom setup (served_from (logged_lines c.geometry) old.in_force c.at)
+  follows =
+      subst (λ ts. FollowsFrom setup (served_from (logged_lines c.geometry) ts c.at)) on.its_log
+      (subst (λ n. FollowsFrom setup (served_from n c.store.logged.items c.at)) n_is
+      (subst (λ s. FollowsFrom (setup_under c.formulas_of s p.keys) place) on.its_shape c.plan))
+
+  called : (store : Option Store) (txn : Option Entries) (said : TxnAnswer) → store ≡ cond c.board.powered (Some c.after) None
+      → (c.board.powered ≡ false → steps_in c.taken < step_limit)
+      → (let end : Said = (said, (stuck_in store, txn)) in end ≡ read_said old (txn_of setup (left store txn)).session (steps_in c.taken) c.answer)
+      → IsTxnCalled setup old (Do.Read c.at) said (txn_of setup (left store txn))
+  called store txn said kept within is = (
+    record {
+      steps = steps_in c.taken;
+      end = c.answer;
+      called =
+          has_called (read_call setup old c.at) c.answer old.session (txn_of setup (left store txn)).session c.store.engine c.after.engine
+          c.taken on.powered (ap (option_map (λ (s : Store). s.engine)) c.there) (kept_of (λ (s : Store). s.engine) store c.after c.board.powered kept) refl refl
+          c.watched within follows;
+      is_said = is;
+    },
+    refl,
+  )
+
   -- ---- where no mark is made
 
   module _ (marks : c.ledger.marks ≡ p.ledger.marks) where
@@ -154,9 +157,6 @@ module _ (c : ReadTxnCall) where
     same_targets : targets_in_force setup (plain_memory setup c.ledger.marks) ≡ old.in_force
     same_targets = ap (λ (m : List Mark). targets_in_force setup (plain_memory setup m)) marks
 
-  same_marks : c.ledger.marks ≡ p.ledger.marks ++ [] → c.ledger.marks ≡ p.ledger.marks
-  same_marks marks = marks ∙ append-nil p.ledger.marks
-
   -- ---- answered
 
   module _ (line : Line) (is : c.answer ≡ Ok line) where
@@ -167,7 +167,7 @@ module _ (c : ReadTxnCall) where
     done = it.done on.running
 
     marks_on : c.ledger.marks ≡ p.ledger.marks
-    marks_on = same_marks done.gone.marks
+    marks_on = done.gone.marks ∙ append-nil p.ledger.marks
 
     powered : c.board.powered ≡ true
     powered = done.gone.power.1 on.powered
@@ -191,20 +191,24 @@ module _ (c : ReadTxnCall) where
         (served setup old (txn_of setup (left (Some c.after) p.txn)) (Do.Read c.at) (Say.Got line (steps_in c.taken))
         (read_undecided old c.at on.powered (let n = n_is in let low = c.within in omega (arith, n, low)) c.unheld) (
           shown line is,
-          goes_to setup p (left (Some c.after) p.txn) c.taken c.watched old (read_steps c.geometry) powered
-              (at_most c.taken (path_length c.geometry) c.watched.follows.few (it.steps_of_path on.running).0.sum)
-              (record {
-                shape = refl;
-                keys = refl;
-                memory = same_memory marks_on;
-                in_force = same_targets marks_on;
-                stuck = c.served_as.its_page ∙ sym (ap stuck_in c.there);
-                txn = refl;
-                power = powered ∙ sym on.powered;
-                loss = done.loss;
-                marks = marks_on;
-              }),
-        )))
+          (
+            record {
+              memory = same_memory marks_on;
+              in_force = same_targets marks_on;
+              stuck = c.served_as.its_page ∙ sym (ap stuck_in c.there);
+              txn = refl;
+              power = powered ∙ sym on.powered;
+              loss = done.loss;
+              marks = marks_on;
+            },
+            at_most c.taken (path_length c.geometry) c.watched.follows.few (it.steps_of_path on.running).0.sum,
+          ),
+        )
+        (called (Some c.after) p.txn (Say.Got line (steps_in c.taken)) (sym (ap (λ b. cond b (Some c.after) None) powered))
+        (λ dark. absurd (true≢false (sym powered ∙ dark)))
+        (ap₂ (λ (s : Option ℕ) (t : Option Entries). (let end : Said = (Say.Got line (steps_in c.taken), (s, t)) in end))
+        (c.served_as.its_page ∙ sym (ap stuck_in c.there) ∙ sym (ap (λ b. cond b old.stuck None) powered)) (sym (ap (λ b. cond b old.txn None) powered))
+        ∙ sym (ap (read_said old (txn_of setup (left (Some c.after) p.txn)).session (steps_in c.taken)) is)))))
 
   -- ---- cut
 
@@ -216,7 +220,7 @@ module _ (c : ReadTxnCall) where
     cut_done = cut.done on.running
 
     marks_off : c.ledger.marks ≡ p.ledger.marks
-    marks_off = same_marks cut_done.gone.marks
+    marks_off = cut_done.gone.marks ∙ append-nil p.ledger.marks
 
     off : c.board.powered ≡ false
     off = cut_done.gone.power.1
@@ -233,22 +237,25 @@ module _ (c : ReadTxnCall) where
         (txn_of (setup_under c.formulas_of c.geometry c.keys) (left_under None None))
     cut_seen =
         let levels = c.world.whole_shape.at_most_six_levels in
+        let below : steps_in c.taken < path_length c.geometry =
+        fewer c.taken (path_length c.geometry) c.watched.follows.few ((cut.steps_of_path on.running).1 on.powered).sum in
         subst (λ (k : ℕ). IsTxnAnswered (txn_setup_in c.formulas_of c.now) c.now (Do.Read c.at) (Say.Cut k)
         (txn_of (setup_under c.formulas_of c.geometry c.keys) (left_under None None))) (sym c.counted)
         (seen_from c.formulas_of c.geometry p (left None None) c.now c.keys (Do.Read c.at) (Say.Cut (steps_in c.taken)) c.is c.same_keys refl
         (served setup old (txn_of setup (left None None)) (Do.Read c.at) (Say.Cut (steps_in c.taken))
-        (read_undecided old c.at on.powered (let n = n_is in let low = c.within in omega (arith, n, low)) c.unheld)
-        (cut_off setup p (left None None) c.taken c.watched old (read_steps c.geometry) off
-        (fewer c.taken (path_length c.geometry) c.watched.follows.few ((cut.steps_of_path on.running).1 on.powered).sum)
-        (omega (arith, levels))
-        (record {
-          shape = refl;
-          keys = refl;
-          memory = same_memory marks_off;
-          in_force = same_targets marks_off;
-          stuck = refl;
-          txn = refl;
-          power = off;
-          loss = cut_done.loss;
-          marks = marks_off;
-        }))))
+        (read_undecided old c.at on.powered (let n = n_is in let low = c.within in omega (arith, n, low)) c.unheld) (
+          record {
+            memory = same_memory marks_off;
+            in_force = same_targets marks_off;
+            stuck = refl;
+            txn = refl;
+            power = off;
+            loss = cut_done.loss;
+            marks = marks_off;
+          },
+          below,
+        )
+        (called None None (Say.Cut (steps_in c.taken)) (sym (ap (λ b. cond b (Some c.after) None) off)) (λ dark. omega (arith, levels, below))
+        (ap₂ (λ (s : Option ℕ) (t : Option Entries). (let end : Said = (Say.Cut (steps_in c.taken), (s, t)) in end))
+        (sym (ap (λ b. cond b old.stuck None) off)) (sym (ap (λ b. cond b old.txn None) off))
+        ∙ sym (ap (read_said old (txn_of setup (left None None)).session (steps_in c.taken)) is)))))

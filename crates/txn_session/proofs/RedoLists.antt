@@ -1,20 +1,7 @@
 -- How long a redo is, and how many steps it takes.
 use Rattle.std.proofs.Common.{ℕ, ◌≡◌, ◌<◌, ◌≤◌, ◌+◌, ◌*◌, ◌++◌, Bool, true, false, cond, List, [], ◌∷◌, length, refl, sym, ap, ◌∙◌, arith}
-use Rattle.std.specs.Prelude.{All, nat_lt, if◌then◌else◌}
-use Rattle.std.proofs.lemmas.Bool.{lt-ltb, ne_eqb}
-use Rattle.std.proofs.lemmas.List.{length-append}
-use Rattle.pmem_base.specs.Lines.{zero_line}
-use Rattle.pmem_base.specs.Shape.{Shape}
-use Rattle.plain_model.specs.State.{Memory}
-use Rattle.engine_lines.specs.declared.edits.Edit.{Edit}
+use Rattle.txn_session.proofs.Common.{All, nat_lt, if◌then◌else◌, lt-ltb, ne_eqb, length-append, zero_line, Shape, Memory, Edit, copy_edits, redoing_edits, length-copy_edits, read_steps, write_steps, redo_writes, most_of_redo, cost, length-all_posted}
 use Rattle.engine_lines.specs.declared.edits.Edit.TheVariants as Make
-use Rattle.line_txn.specs.Edits.{copy_edits, redoing_edits}
-use Rattle.line_txn.proofs.EditStages.{length-copy_edits}
-use Rattle.engine_lines.specs.Writes.{read_steps, write_steps}
-use Rattle.txn_session.specs.State.{redo_writes}
-use Rattle.txn_session.specs.Answered.{most_of_redo}
-use Rattle.engine_lines.proofs.EngineEdits.{cost}
-use Rattle.engine_lines.proofs.EditWrites.{length-all_posted}
 use Rattle.txn_session.proofs.WriteLists.{posted_redo}
 
 -- as many writes as changes

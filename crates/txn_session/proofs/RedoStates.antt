@@ -1,57 +1,12 @@
 -- Power comes on, as the session's fields have it: the state once so many writes of the redo are done.
 use Rattle.std.proofs.Common.{ℕ, ◌≡◌, ◌<◌, ◌≤◌, ◌+◌, ◌^◌, ◌++◌, true, false, cond, List, [], length, take, Option, Some, None, Result, Ok, refl, sym, ap, subst, ◌∙◌, arith}
-use Rattle.std.specs.Prelude.{nat_lt}
-use Rattle.std.proofs.lemmas.Bool.{le-ltb}
-use Rattle.std.proofs.lemmas.List.{append-nil}
-use Rattle.pmem_base.specs.declared.lines.Line.{Line}
-use Rattle.pmem_base.specs.declared.answers.Mark.{Mark}
-use Rattle.pmem_base.specs.declared.commands.Posted.{Posted}
+use Rattle.txn_session.proofs.Common.{option_map, nat_lt, le-ltb, append-nil, Line, Mark, Posted, Device, BoardMemory, Setup, Memory, plain_memory, Moment, moment_after_writes, recovery_bound, Fault, EngineState, Parts, parts_of, IsDurable, IsSound, TakesAtMost, TakesFewer, HasReadLine, Work, suite_state, SuiteState, HasRecovered, Store, Opened, TxnFault, AreTargets, IsHeader, IsLogged, lines_opened, targets_opened, AreEdited, redoing_edits, HasTargetsRedone, logged_lines, one_header, kept_by_opening, logged_size, redoing_fit, steps_in, step_limit, device_during, none_taken, IsWatched, at_most, fewer, Writing, IsCutAmong, read_steps, setup_under, recovered, whole_places, memory_now, AreDone, memory_done, read_line, read_done, Regs, ended, Follows, Chip, chip_of, suite_counts, counts_of, OpeningStop, open_plan, StartFault, has_started, TxnAnswer, IsTxnCalled, Said, open_call, open_said, OpeningRelation, HasStartedBy, started_as, HasOpened, TxnState, moment_in, redo_writes, targets_in_force, redone_memory, TxnParts, IsTxnWorld, IsStoreOff, IsStoredBy, stuck_in, txn_of, GoesToTxnState, HasTxnOpened, after_redo, txn_most_of_on, few_data, all_posted, cost, EndsAt, edits_go, edits_memory}
 use Rattle.pmem_base.specs.Layout as layout
-use Rattle.board.specs.Device.{Device}
-use Rattle.board.specs.Memory.{BoardMemory}
-use Rattle.suite.specs.Setup.{Setup}
-use Rattle.plain_model.specs.State.{Memory}
-use Rattle.plain_model.specs.View.{plain_memory}
-use Rattle.plain_model.specs.Asked.{Moment, moment_after_writes}
-use Rattle.plain_model.specs.Bounds.{recovery_bound}
-use Rattle.pmem_engine.specs.declared.fault.Fault.{Fault}
-use Rattle.pmem_engine.specs.Engine.{EngineState}
-use Rattle.pmem_engine.specs.Parts.{Parts, parts_of}
-use Rattle.pmem_engine.specs.Invariants.{IsDurable, IsSound}
-use Rattle.pmem_engine.specs.Outcomes.{TakesAtMost, TakesFewer}
-use Rattle.pmem_engine.specs.Calls.{HasReadLine}
-use Rattle.pmem_recovery.specs.declared.faults.Work.{Work}
-use Rattle.pmem_recovery.specs.Parts.{SuiteState}
-use Rattle.pmem_recovery.specs.Recovered.{HasRecovered}
-use Rattle.line_txn.specs.declared.store.Store.{Store}
-use Rattle.line_txn.specs.declared.store.Opened.{Opened}
-use Rattle.line_txn.specs.declared.store.TxnFault.{TxnFault}
-use Rattle.line_txn.specs.Header.{AreTargets, IsHeader}
-use Rattle.line_txn.specs.Logged.{IsLogged, lines_opened, targets_opened}
-use Rattle.engine_lines.specs.Edits.{AreEdited}
-use Rattle.line_txn.specs.Edits.{redoing_edits}
-use Rattle.line_txn.specs.Store.{HasTargetsRedone, logged_lines}
-use Rattle.line_txn.proofs.Headers.{one_header}
-use Rattle.line_txn.proofs.LoggedLaws.{kept_by_opening}
-use Rattle.line_txn.proofs.Openings.{logged_size}
-use Rattle.line_txn.proofs.EditStages.{redoing_fit}
-use Rattle.watched_board.specs.Watching.{steps_in, device_during, none_taken, IsWatched}
-use Rattle.watched_board.proofs.StepLaws.{at_most, fewer}
-use Rattle.engine_lines.specs.Writes.{Writing, IsCutAmong, read_steps}
-use Rattle.engine_lines.proofs.EngineLines.{setup_under}
-use Rattle.line_session.proofs.Recoveries.{recovered}
-use Rattle.engine_lines.proofs.SealedLines.{whole_places}
-use Rattle.engine_lines.proofs.EngineWrites.{memory_now, AreDone, memory_done, read_line, read_done}
+use Rattle.line_session.specs.Started.{start_plan}
+use Rattle.line_session.proofs.StartPlans.{start_follows}
+use Rattle.txn_session.specs.declared.commands.TxnCommand.TheVariants as Do
 use Rattle.txn_session.specs.declared.answers.TxnAnswer.TheVariants as Say
-use Rattle.line_session.specs.During.{OpeningRelation, HasStartedBy}
-use Rattle.txn_session.specs.StoreCalls.{HasOpened}
-use Rattle.txn_session.specs.State.{TxnState, txn_moment_in, redo_writes}
-use Rattle.txn_session.specs.World.{TxnParts, IsTxnWorld, IsStoreOff, IsStoredBy, targets_in_force, redone_memory, txn_of}
-use Rattle.txn_session.specs.Answered.{GoesToTxnState, HasTxnOpened, after_redo, txn_most_of_on}
-use Rattle.line_session.proofs.NewDevices.{few_data}
-use Rattle.txn_session.proofs.Worlds.{few_lines, targets_held, memory_held, logged_is, goes_to, cut_off, on_after, off_after}
-use Rattle.engine_lines.proofs.EngineEdits.{all_posted, cost, EndsAt, edits_go}
-use Rattle.engine_lines.proofs.EditWrites.{edits_memory}
+use Rattle.txn_session.proofs.Worlds.{few_lines, targets_held, memory_held, logged_is, on_after, off_after}
 use Rattle.txn_session.proofs.WriteLists.{posted_redo}
 use Rattle.txn_session.proofs.Stages.{IsRedoneTo, redone_at}
 use Rattle.txn_session.proofs.RedoLists.{cost_redo, length-redo}
@@ -86,13 +41,16 @@ module _ (c : OnTxnCall) where
   queue = redo_writes n targets places
 
   abbrev start : Moment
-  start = txn_moment_in setup old
+  start = moment_in setup old.session
 
   abbrev pub from : Device
   from = device_during lit none_taken
 
   abbrev pub to : Device
   to = device_during c.board c.taken
+
+  abbrev pub suite_old : SuiteState
+  suite_old = suite_state p.keys c.pads_old p.tags p.digests
 
   abbrev pub most : ℕ
   most = txn_most_of_on old
@@ -115,8 +73,44 @@ module _ (c : OnTxnCall) where
   abbrev pub opens : OpeningRelation (Store × Opened) TxnFault
   opens = λ start now. HasOpened setup start now
 
-  pub started : HasStartedBy setup opens from to p.ledger c.ledger c.suite_old c.suite_new c.answer
-  started = subst (λ b. HasStartedBy setup opens (device_during b none_taken) to p.ledger c.ledger c.suite_old c.suite_new c.answer) c.lit_is c.started
+  pub started : HasStartedBy setup opens from to p.ledger c.ledger suite_old c.suite_new c.answer
+  started = subst (λ b. HasStartedBy setup opens (device_during b none_taken) to p.ledger c.ledger suite_old c.suite_new c.answer) c.lit_is c.started
+
+  -- ---- the call of the session
+
+  abbrev chip : EngineState → Chip
+  chip now = chip_of now c.ledger c.suite_new.tags c.suite_new.digests
+
+  -- power was turned on along this plan
+  abbrev pub IsStartedBy : Result (List ℕ × Regs) (StartFault OpeningStop) → EngineState → Type 0
+  IsStartedBy end now =
+      Follows (start_plan setup p.ledger (open_call setup) lit.regs (suite_counts p.tags p.digests)) from to (ended end (chip now))
+
+  pub called : (store : Option Store) (said : TxnAnswer) (now : EngineState) (end : Result (List ℕ × Regs) (StartFault OpeningStop))
+      → (txn_of setup (left c.board store)).session.engine ≡ cond c.board.powered (Some now) None → (c.board.powered ≡ false → steps_in c.taken < step_limit)
+      → IsStartedBy end now
+      → (let last : Said = (said, (stuck_in store, None)) in last ≡ open_said (txn_of setup (left c.board store)).session (steps_in c.taken) end)
+      → IsTxnCalled setup old Do.On said (txn_of setup (left c.board store))
+  called store said now end kept within along is = (
+    record {
+      steps = steps_in c.taken;
+      end = end;
+      called =
+          has_started setup (open_call setup) end old.session (txn_of setup (left c.board store)).session now c.taken
+          (ap (option_map (λ (s : Store). s.engine)) c.there) kept refl refl watched within along;
+      is_said = is;
+    },
+    refl,
+  )
+
+  pub dark_call : (now : EngineState) (end : Result (List ℕ × Regs) (StartFault OpeningStop)) → c.board.powered ≡ false → steps_in c.taken < most
+      → IsStartedBy end now
+      → (let last : Said = (Say.Cut (steps_in c.taken), (None, None)) in
+      last ≡ open_said (txn_of setup (left c.board None)).session (steps_in c.taken) end)
+      → IsTxnCalled setup old Do.On (Say.Cut (steps_in c.taken)) (txn_of setup (left c.board None))
+  dark_call now end dark below along is =
+      let small = few_of_on c.geometry world.whole_shape (length targets) world.logged.header.its_targets.few in
+      called None (Say.Cut (steps_in c.taken)) now end (sym (ap (λ b. cond b (Some now) None) dark)) (λ off. omega (arith, small, below)) along is
 
   its_targets : AreTargets n targets
   its_targets = world.logged.header.its_targets
@@ -203,57 +197,30 @@ module _ (c : OnTxnCall) where
     pub cut_seen : IsCutAmong setup.formulas start queue writing → c.board.powered ≡ false → c.board.regs.loss ≡ p.board.regs.loss
         → TakesFewer most from to → HasTxnOpened setup old (Say.Cut (steps_in c.taken)) (txn_of setup (left c.board None))
     cut_seen came dark loss takes =
-        let it =
-        cut_off setup (record p { board = lit }) (left c.board None) c.taken watched (after_redo old writing) most dark
-        (fewer c.taken most watched.follows.few takes.sum)
-        (few_of_on c.geometry world.whole_shape (length targets) its_targets.few)
-        (record {
-          shape = refl;
-          keys = refl;
-          memory = come.its_memory;
-          in_force = come.in_force;
-          stuck = refl;
-          txn = refl;
-          power = dark;
-          loss = loss;
-          marks = come.marks;
-        }) in
         record {
           writing = writing;
           came = came;
-          ends =
-              record {
-                becomes = it.becomes;
-                rises = it.rises;
-                below = it.below;
-                fuse = it.fuse;
-              };
+          ends = (
+            record { memory = come.its_memory; in_force = come.in_force; stuck = refl; txn = refl; power = dark; loss = loss; marks = come.marks },
+            fewer c.taken most watched.follows.few takes.sum,
+          );
         }
 
     -- power is on, and the store is stuck at this page, or isn't
     pub goes : (store : Store) → c.board.powered ≡ true → c.board.regs.loss ≡ p.board.regs.loss → TakesAtMost most from to
-        → GoesToTxnState (record (after_redo old writing) { stuck = store.stuck }) (steps_in c.taken) most old (txn_of setup (left c.board (Some store)))
-    goes store powered loss takes =
-        let it =
-        goes_to setup (record p { board = lit }) (left c.board (Some store)) c.taken watched (record (after_redo old writing) { stuck = store.stuck }) most
-        powered (at_most c.taken most watched.follows.few takes.sum)
-        (record {
-          shape = refl;
-          keys = refl;
-          memory = come.its_memory;
-          in_force = come.in_force;
-          stuck = refl;
-          txn = sym off.no_txn;
-          power = powered;
-          loss = loss;
-          marks = come.marks;
-        }) in
-        record {
-          becomes = it.becomes;
-          rises = it.rises;
-          few = it.few;
-          fuse = it.fuse;
-        }
+        → GoesToTxnState (record (after_redo old writing) { stuck = store.stuck }) (steps_in c.taken) most (txn_of setup (left c.board (Some store)))
+    goes store powered loss takes = (
+      record {
+        memory = come.its_memory;
+        in_force = come.in_force;
+        stuck = refl;
+        txn = sym off.no_txn;
+        power = powered;
+        loss = loss;
+        marks = come.marks;
+      },
+      at_most c.taken most watched.follows.few takes.sum,
+    )
 
     pub lit_world : (store : Store) → c.board.powered ≡ true → IsSound setup store.engine c.board.lines c.board.regs c.ledger
         → store.logged.items ≡ cond (nat_lt (length targets) writing.done) [] targets → IsTxnWorld setup (left c.board (Some store))
@@ -262,15 +229,22 @@ module _ (c : OnTxnCall) where
   -- ---- recovery is done
 
   module _ (between : Device) (suite_between : SuiteState) (engine : EngineState) (work : Work)
-      (it : HasRecovered setup p.ledger from between c.suite_old suite_between (Ok (engine, work))) where
+      (it : HasRecovered setup p.ledger from between suite_old suite_between (Ok (engine, work))) where
     abbrev pub parts_from : Parts
     parts_from = parts_of engine from p.ledger suite_between.tags suite_between.digests
 
     abbrev pub parts_between : Parts
     parts_between = parts_of engine between p.ledger suite_between.tags suite_between.digests
 
+    -- the store was opened along its plan
+    pub opened_along : (answer : Result (List ℕ × Regs) OpeningStop) (now : EngineState)
+        → Follows (open_plan setup between.regs (chip_of engine p.ledger suite_between.tags suite_between.digests)) between to (ended answer (chip now))
+        → IsStartedBy (started_as answer) now
+    opened_along answer now opens =
+        start_follows setup p.ledger (open_call setup) (counts_of suite_old) (counts_of suite_between) (engine, work) answer (chip now) it.plan opens
+
     abbrev pub recovered_to : AreDone setup parts_from [] [] (recovery_bound c.geometry) parts_between
-    recovered_to = recovered setup p.ledger lit between c.suite_old suite_between engine work it off.durable refl world.few_armed
+    recovered_to = recovered setup p.ledger lit between suite_old suite_between engine work it off.durable refl world.few_armed
 
     pub header_inside : n < layout.data_lines c.geometry
     header_inside = let its = size in omega (arith, its)

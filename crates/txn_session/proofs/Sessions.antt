@@ -1,20 +1,8 @@
 -- What the answers of a session promise: of one answer, and of each chain of them.
 use Rattle.std.proofs.Common.{ℕ, ◌≡◌, ◌<◌, ◌≤◌, ◌+◌, ◌*◌, Bool, true, false, List, [], ◌∷◌, length, Option, Some, None, refl, sym, ap, subst, ◌∙◌, arith}
-use Rattle.std.specs.Prelude.{All, nat_lt, replicate, unwrap_or, MatchOption, ◌==◌, if◌then◌else◌}
-use Rattle.std.proofs.lemmas.Bool.{lt-ltb, le-ltb}
-use Rattle.std.proofs.lemmas.List.Elements.{All-nil, All-cons}
-use Rattle.pmem_base.specs.declared.lines.Line.{Line}
-use Rattle.pmem_base.specs.Lines.{line_at, put_lines, zero_line}
-use Rattle.suite.specs.Setup.{Setup}
-use Rattle.plain_model.specs.State.{Memory}
-use Rattle.line_txn.specs.Logged.{targets_of}
-use Rattle.line_txn.specs.Store.{logged_lines}
-use Rattle.txn_session.specs.declared.commands.TxnCommand.{TxnCommand}
+use Rattle.txn_session.proofs.Common.{All, nat_lt, replicate, unwrap_or, MatchOption, ◌==◌, if◌then◌else◌, lt-ltb, le-ltb, All-nil, All-cons, Line, line_at, put_lines, zero_line, Setup, Memory, targets_of, logged_lines, TxnCommand, TxnAnswer, TxnState, Entries, txn_lines_in, moment_in, commit_writes, with_commit, begun_txn, of_open, txn_of_line, is_txn_full, committed, held, line_held, txn_after_decided, HasTxnCommitted, HasTxnRead, HasTxnOpened, IsCommitting, EndsCommit, IsTxnAnswered, IsTxnAnsweredAs, after_commit, most_of_commit}
 use Rattle.txn_session.specs.declared.commands.TxnCommand.TheVariants as Do
-use Rattle.txn_session.specs.declared.answers.TxnAnswer.{TxnAnswer}
 use Rattle.txn_session.specs.declared.answers.TxnAnswer.TheVariants as Say
-use Rattle.txn_session.specs.State.{TxnState, Entries, txn_lines_in, txn_moment_in, commit_writes, with_commit}
-use Rattle.txn_session.specs.Answered.{begun_txn, of_open, txn_of_line, is_txn_full, committed, held, line_held, txn_after_decided, HasTxnCommitted, HasTxnRead, HasTxnOpened, IsCommitting, EndsCommit, IsTxnAnswered, IsTxnAnsweredAs, after_commit, most_of_commit}
 use Rattle.txn_session.proofs.WriteLists.{length-commit_writes}
 use Rattle.txn_session.specs.Guarantees.{TxnReply, AreTxnAnswered, Seen, seen_after, IsTxnReadOf, AreReadAsCommitted, IsTxnMendedAnswer, stuck_after, IsStuckAnswer, AreStuckAnswers, IsTxnSpentAnswer, AreTxnSpentAsUsedUp, AreTxnsKept, AreTxnsSpent}
 
@@ -104,16 +92,16 @@ module _ (old : TxnState) where
       → TxnStep old (Do.Read a) answer new
   read_done setup a (Say.Got line steps) new none it =
       record {
-        seen = seen_is new old.memory old.txn it.1.becomes.memory it.1.becomes.txn;
-        its_stuck = it.1.becomes.stuck;
+        seen = seen_is new old.memory old.txn it.1.0.memory it.1.0.txn;
+        its_stuck = it.1.0.stuck;
         read = subst (λ h. MatchOption h (line ≡ line_at old.memory a) (λ held. (line ≡ held) × (steps ≡ 0))) (sym none) it.0;
         mended = tt;
         refused = tt;
       }
   read_done setup a (Say.Cut steps) new none it =
       record {
-        seen = seen_is new old.memory None it.becomes.memory it.becomes.txn;
-        its_stuck = it.becomes.stuck;
+        seen = seen_is new old.memory None it.0.memory it.0.txn;
+        its_stuck = it.0.stuck;
         read = tt;
         mended = tt;
         refused = tt;
@@ -132,7 +120,7 @@ module _ (old : TxnState) where
         mended = tt;
         refused = tt;
       })
-  read_line setup a answer new true None e it = read_done setup a answer new e it
+  read_line setup a answer new true None e it = read_done setup a answer new e it.0
   read_line setup a answer new false line e it =
       fixed_step (Do.Read a) Say.Range answer new it.0 it.1 (record { seen = refl; its_stuck = refl; read = tt; mended = tt; refused = tt })
 
@@ -147,7 +135,7 @@ module _ (old : TxnState) where
 
   opened_step : (setup : Setup) (answer : TxnAnswer) (new : TxnState) → HasTxnOpened setup old answer new → TxnStep old Do.On answer new
   opened_step setup (Say.Opened redone steps) new it =
-      let becomes = it.ends.1.becomes in
+      let becomes = it.ends.1.0 in
       record {
         seen = seen_is new old.memory old.txn becomes.memory becomes.txn;
         its_stuck = becomes.stuck;
@@ -156,7 +144,7 @@ module _ (old : TxnState) where
         refused = tt;
       }
   opened_step setup (Say.Stuck page steps) new it =
-      let becomes = it.ends.becomes in
+      let becomes = it.ends.0 in
       record {
         seen = seen_is new old.memory old.txn becomes.memory becomes.txn;
         its_stuck = becomes.stuck;
@@ -165,7 +153,7 @@ module _ (old : TxnState) where
         refused = tt;
       }
   opened_step setup (Say.Cut steps) new it =
-      let becomes = it.ends.becomes in
+      let becomes = it.ends.0 in
       record {
         seen = seen_is new old.memory None becomes.memory becomes.txn;
         its_stuck = becomes.stuck;
@@ -179,7 +167,7 @@ module _ (old : TxnState) where
       → IsTxnAnsweredAs (if power then Some Say.Already else None) setup old Do.On answer new → TxnStep old Do.On answer new
   on_step setup answer new true it =
       fixed_step Do.On Say.Already answer new it.0 it.1 (record { seen = refl; its_stuck = refl; read = tt; mended = tt; refused = tt })
-  on_step setup answer new false it = opened_step setup answer new it
+  on_step setup answer new false it = opened_step setup answer new it.0
 
   -- ---- commits
 
@@ -246,47 +234,47 @@ committed_step setup old entry rest answer new opened it = go answer it.came it.
     closing = closed_after old (entry ∷ rest) it.writing.done
 
     go : (answer : TxnAnswer)
-        → IsCommitting (length (entry ∷ rest)) setup.formulas (txn_moment_in setup old) (commit_writes (txn_lines_in old) (entry ∷ rest)) it.writing answer
-        → EndsCommit (after_commit old (entry ∷ rest) it.writing) (most_of_commit old.shape (length (entry ∷ rest))) answer old new
+        → IsCommitting (length (entry ∷ rest)) setup.formulas (moment_in setup old.session) (commit_writes (txn_lines_in old) (entry ∷ rest)) it.writing answer
+        → EndsCommit (after_commit old (entry ∷ rest) it.writing) (most_of_commit old.session.shape (length (entry ∷ rest))) answer new
         → TxnStep old Do.Commit answer new
     go (Say.Applied steps) came ends =
         let through = came.0 in
         let long = length-commit_writes (txn_lines_in old) entry rest in
         record {
-          seen = is_written ends.becomes.memory ends.becomes.txn (omega (arith, through, long));
-          its_stuck = ends.becomes.stuck ∙ closing.1;
+          seen = is_written ends.0.memory ends.0.txn (omega (arith, through, long));
+          its_stuck = ends.0.stuck ∙ closing.1;
           read = tt;
           mended = tt;
           refused = tt;
         }
     go (Say.Stuck page steps) came ends =
         record {
-          seen = is_written ends.becomes.memory ends.becomes.txn came.0;
-          its_stuck = ends.becomes.stuck;
+          seen = is_written ends.0.memory ends.0.txn came.0;
+          its_stuck = ends.0.stuck;
           read = tt;
           mended = tt;
           refused = tt;
         }
     go (Say.Spent page steps) came ends =
         record {
-          seen = isnt_written ends.becomes.memory (ends.becomes.txn ∙ closing.0) came.0;
-          its_stuck = ends.becomes.stuck ∙ closing.1;
+          seen = isnt_written ends.0.memory (ends.0.txn ∙ closing.0) came.0;
+          its_stuck = ends.0.stuck ∙ closing.1;
           read = tt;
           mended = tt;
           refused = tt;
         }
     go (Say.CutKept steps) came ends =
         record {
-          seen = is_cut ends.becomes.memory ends.becomes.txn came.0;
-          its_stuck = ends.becomes.stuck;
+          seen = is_cut ends.0.memory ends.0.txn came.0;
+          its_stuck = ends.0.stuck;
           read = tt;
           mended = tt;
           refused = tt;
         }
     go (Say.CutLost steps) came ends =
         record {
-          seen = isnt_written ends.becomes.memory ends.becomes.txn came.0;
-          its_stuck = ends.becomes.stuck;
+          seen = isnt_written ends.0.memory ends.0.txn came.0;
+          its_stuck = ends.0.stuck;
           read = tt;
           mended = tt;
           refused = tt;
@@ -306,7 +294,7 @@ commit_step setup old answer new true (Some []) e it =
     })
 commit_step setup old answer new true (Some (entry ∷ rest)) e it =
     committed_step setup old entry rest answer new e
-    (subst (λ es. HasTxnCommitted setup old es answer new) (ap (λ t. unwrap_or t []) e) it)
+    (subst (λ es. HasTxnCommitted setup old es answer new) (ap (λ t. unwrap_or t []) e) it.0)
 commit_step setup old answer new true None e it =
     fixed_step old Do.Commit Say.Closed answer new it.0 it.1 (record { seen = refl; its_stuck = refl; read = tt; mended = tt; refused = tt })
 commit_step setup old answer new false txn e it =
@@ -314,15 +302,15 @@ commit_step setup old answer new false txn e it =
 
 step : (setup : Setup) (old : TxnState) (command : TxnCommand) (answer : TxnAnswer) (new : TxnState) → IsTxnAnswered setup old command answer new
     → TxnStep old command answer new
-step setup old Do.Begin answer new it = begin_step old setup answer new old.board.powered it
-step setup old (Do.Put a line) answer new it = put_step old setup a line answer new old.board.powered old.txn it
-step setup old Do.Commit answer new it = commit_step setup old answer new old.board.powered old.txn refl it
-step setup old Do.Abort answer new it = abort_step old setup answer new old.board.powered old.txn it
-step setup old (Do.Read a) answer new it = read_step old setup a answer new old.board.powered it
+step setup old Do.Begin answer new it = begin_step old setup answer new old.session.board.powered it
+step setup old (Do.Put a line) answer new it = put_step old setup a line answer new old.session.board.powered old.txn it
+step setup old Do.Commit answer new it = commit_step setup old answer new old.session.board.powered old.txn refl it
+step setup old Do.Abort answer new it = abort_step old setup answer new old.session.board.powered old.txn it
+step setup old (Do.Read a) answer new it = read_step old setup a answer new old.session.board.powered it
 step setup old (Do.Cut n) answer new it =
     fixed_step old (Do.Cut n) Say.Ok answer new it.0 it.1 (record { seen = refl; its_stuck = refl; read = tt; mended = tt; refused = tt })
-step setup old Do.Off answer new it = off_step old setup answer new old.board.powered it
-step setup old Do.On answer new it = on_step old setup answer new old.board.powered it
+step setup old Do.Off answer new it = off_step old setup answer new old.session.board.powered it
+step setup old Do.On answer new it = on_step old setup answer new old.session.board.powered it
 
 -- ---- a chain of answers
 
@@ -366,7 +354,7 @@ module _ (setup : Setup) (first next : TxnState) where
   commit_spent : (answer : TxnAnswer) → HasTxnCommitted setup first (unwrap_or first.txn []) answer next
       → IsTxnSpentAnswer setup first Do.Commit answer next
   commit_spent (Say.Spent page steps) it =
-      let became = it.ends.becomes.memory in (
+      let became = it.ends.0.memory in (
         it.writing.done,
         it.came.0,
         record { used_up = it.came.1.spent; its_page = it.came.1.its_page },
@@ -380,7 +368,7 @@ module _ (setup : Setup) (first next : TxnState) where
       → IsTxnAnsweredAs (if power then of_open txn committed else Some Say.Off) setup first Do.Commit answer next
       → IsTxnSpentAnswer setup first Do.Commit answer next
   by_txn answer true (Some []) it = subst (λ a. IsTxnSpentAnswer setup first Do.Commit a next) (sym it.0) tt
-  by_txn answer true (Some (entry ∷ rest)) it = commit_spent answer it
+  by_txn answer true (Some (entry ∷ rest)) it = commit_spent answer it.0
   by_txn answer true None it = subst (λ a. IsTxnSpentAnswer setup first Do.Commit a next) (sym it.0) tt
   by_txn answer false txn it = subst (λ a. IsTxnSpentAnswer setup first Do.Commit a next) (sym it.0) tt
 
@@ -391,12 +379,12 @@ module _ (setup : Setup) (first next : TxnState) where
   by_power : (answer : TxnAnswer) (power : Bool) → IsTxnAnsweredAs (if power then Some Say.Already else None) setup first Do.On answer next
       → IsTxnSpentAnswer setup first Do.On answer next
   by_power answer true it = subst (λ a. IsTxnSpentAnswer setup first Do.On a next) (sym it.0) tt
-  by_power answer false it = opened_spent answer it
+  by_power answer false it = opened_spent answer it.0
 
   spent_answer : (command : TxnCommand) (answer : TxnAnswer) → IsTxnAnswered setup first command answer next
       → IsTxnSpentAnswer setup first command answer next
-  spent_answer Do.Commit answer it = by_txn answer first.board.powered first.txn it
-  spent_answer Do.On answer it = by_power answer first.board.powered it
+  spent_answer Do.Commit answer it = by_txn answer first.session.board.powered first.txn it
+  spent_answer Do.On answer it = by_power answer first.session.board.powered it
   spent_answer command answer it = tt
 
 all_spent : (setup : Setup) (first last : TxnState) (replies : List TxnReply) → AreTxnAnswered setup first replies last

@@ -1,21 +1,8 @@
 -- The lines once so many of the changes of a commit or a redo are made: at which stage they are, and what memory they hold.
 use Rattle.std.proofs.Common.{ℕ, zero, suc, ◌≡◌, ◌<◌, ◌≤◌, ◌+◌, ◌-◌, ◌*◌, ◌++◌, inl, inr, Bool, true, false, cond, List, [], ◌∷◌, length, take, refl, sym, ap, ◌∙◌, arith}
-use Rattle.std.specs.Prelude.{nat_lt, ◌==◌, slice_set}
-use Rattle.std.proofs.Math.Seq.{take-append-add}
-use Rattle.std.proofs.lemmas.Bool.{cases_lt, lt-ltb, le-ltb, eq-eqb, ne_eqb}
-use Rattle.std.proofs.lemmas.List.{take-append-le, take_all, length-append}
-use Rattle.pmem_base.specs.Lines.{put_lines, zero_line}
-use Rattle.plain_model.specs.State.{Memory}
-use Rattle.engine_lines.specs.declared.edits.Edit.{Edit}
+use Rattle.txn_session.proofs.Common.{nat_lt, ◌==◌, slice_set, take-append-add, cases_lt, lt-ltb, le-ltb, eq-eqb, ne_eqb, take-append-le, take_all, length-append, put_lines, zero_line, Memory, Edit, AreTargets, header_of, CommitStage, logged, decided, cleared, commit_lines_at, lines_decided, targets_at, commit_memory_at, with_header, targets_of, bodies_of, Opening, partly, through, lines_opened, targets_opened, all_edited, body_edits, target_edits, copy_edits, deciding_edits, applying_edits, redoing_edits, zero_header, after_bodies, after_all_bodies, after_targets, after_all_targets, after_copies, length-bodies, length-targets, length-deciding, length-applying, length-copy_edits, Entries}
 use Rattle.engine_lines.specs.declared.edits.Edit.TheVariants as Make
-use Rattle.line_txn.specs.Header.{AreTargets, header_of}
-use Rattle.line_txn.specs.Logged.{CommitStage, logged, decided, cleared, commit_lines_at, lines_decided, targets_at, commit_memory_at, with_header, targets_of, bodies_of, Opening, partly, through, lines_opened, targets_opened}
-use Rattle.engine_lines.specs.Edits.{all_edited}
-use Rattle.line_txn.specs.Edits.{body_edits, target_edits, copy_edits, deciding_edits, applying_edits, redoing_edits}
-use Rattle.line_txn.proofs.LoggedLaws.{zero_header}
 use Rattle.engine_lines.proofs.EditStages.{all_edited-append, after_last}
-use Rattle.line_txn.proofs.EditStages.{after_bodies, after_all_bodies, after_targets, after_all_targets, after_copies, length-bodies, length-targets, length-deciding, length-applying, length-copy_edits}
-use Rattle.txn_session.specs.State.{Entries}
 
 -- ---- a commit
 

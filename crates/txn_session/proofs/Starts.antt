@@ -1,35 +1,11 @@
 -- Recovery, and then the opening of the store: the steps of both, and what is known of them.
-use Rattle.std.proofs.Common.{ℕ, ◌≡◌, ◌≤◌, ◌+◌, ◌*◌, Bool, true, false, List, None, Result, mul-le-mul_left, mul-le-mul_right, arith}
-use Rattle.std.specs.Prelude.{◌==◌, if◌then◌else◌}
-use Rattle.pmem_base.specs.Layout as layout
-use Rattle.pmem_base.specs.Shape.{Shape, IsShape}
-use Rattle.board.specs.Memory.{BoardMemory}
-use Rattle.seal_ledger.specs.Ledger.{LedgerState}
-use Rattle.suite.specs.Formulas.{Formulas}
-use Rattle.plain_model.specs.Bounds.{path_length, recovery_bound}
-use Rattle.pmem_recovery.specs.Parts.{SuiteState}
-use Rattle.line_txn.specs.declared.store.Store.{Store}
-use Rattle.line_txn.specs.declared.store.Opened.{Opened}
-use Rattle.line_txn.specs.declared.store.TxnFault.{TxnFault}
-use Rattle.watched_board.specs.declared.taken.Taken.{Taken}
-use Rattle.watched_board.specs.Watching.{steps_in, step_limit, device_during, none_taken, IsWatched}
-use Rattle.engine_lines.specs.Writes.{read_steps, write_steps}
-use Rattle.engine_lines.proofs.EngineLines.{setup_under}
-use Rattle.line_session.specs.declared.starts.StartFault.{StartFault}
-use Rattle.line_session.specs.During.{HasStartedBy}
-use Rattle.txn_session.specs.State.{TxnState}
-use Rattle.txn_session.specs.World.{TxnParts, IsTxnWorld, txn_of}
-use Rattle.txn_session.specs.StoreCalls.{HasOpened}
-use Rattle.txn_session.specs.Answered.{most_of_redo}
+use Rattle.std.proofs.Common.{ℕ, ◌≡◌, ◌≤◌, ◌+◌, ◌*◌, Bool, true, false, List, None, Result, mul-le-mul_right, arith}
+use Rattle.txn_session.proofs.Common.{◌==◌, if◌then◌else◌, Shape, IsShape, BoardMemory, LedgerState, Formulas, recovery_bound, SuiteState, suite_state, Store, Opened, TxnFault, Taken, steps_in, step_limit, device_during, none_taken, IsWatched, read_steps, write_steps, setup_under, StartFault, HasStartedBy, TxnState, TxnParts, IsTxnWorld, txn_of, HasOpened, most_of_redo}
+use Rattle.line_session.proofs.NewDevices.{few_of_start}
 
 pub few_of_on : (g : Shape) → IsShape g → (count : ℕ) → count ≤ 15 → recovery_bound g + read_steps g + most_of_redo g count ≤ step_limit
 few_of_on g shape count few =
-    let slots : layout.slots g ≤ 512 =
-    omega (arith, mul-le-mul_left g.sets shape.at_most_eight_ways, mul-le-mul_right 8 shape.at_most_64_sets) in
-    let path : path_length g * layout.slots g ≤ 3584 =
-    omega (arith, mul-le-mul_left (path_length g) slots, shape.at_most_six_levels) in
-    let banks : g.levels * layout.slots g ≤ 3072 = omega (arith, mul-le-mul_left g.levels slots, shape.at_most_six_levels) in
-    let recovery : recovery_bound g + read_steps g ≤ 16384 = omega (arith, slots, path, banks, shape.at_most_six_levels) in
+    let recovery = few_of_start g shape in
     let write : read_steps g + write_steps g ≤ 400 = omega (arith, shape.at_most_six_levels) in
     let copies : count * (read_steps g + write_steps g) ≤ 15 * (read_steps g + write_steps g) =
     mul-le-mul_right (read_steps g + write_steps g) few in
@@ -61,9 +37,7 @@ pub record OnTxnCall : Type 0 where
   pub ledger : LedgerState
   pub taken : Taken
   pub watched : IsWatched lit board taken
-  pub suite_old : SuiteState
-  pub tags_old : suite_old.tags ≡ before.tags
-  pub digests_old : suite_old.digests ≡ before.digests
+  pub pads_old : ℕ
   pub suite_new : SuiteState
   pub said : ℕ
   pub counted : said ≡ steps_in taken
@@ -71,4 +45,4 @@ pub record OnTxnCall : Type 0 where
   pub started :
       HasStartedBy (setup_under formulas_of geometry before.keys)
       (λ old now. HasOpened (setup_under formulas_of geometry before.keys) old now) (device_during lit none_taken) (device_during board taken)
-      ledger_before ledger suite_old suite_new answer
+      ledger_before ledger (suite_state before.keys pads_old before.tags before.digests) suite_new answer

@@ -1,30 +1,7 @@
--- What a session holds after a call that goes on or is cut, and how its state stands to the one before.
+-- What a session holds after a call that goes on or is cut.
 use Rattle.std.proofs.Common.{rules, ℕ, ◌≡◌, ◌<◌, ◌≤◌, ◌^◌, true, false, List, length, Option, Some, None, refl, sym, ap, subst, subst₂, ◌∙◌, arith}
-use Rattle.std.specs.Prelude.{IfSome}
+use Rattle.txn_session.proofs.Common.{IfSome, line_at, Shape, IsShape, BoardMemory, LedgerState, AreInRange, Setup, Memory, plain_memory, IsDurable, IsSound, Store, AreTargets, IsLogged, memory_in, targets_of, logged_lines, targets_of_header, logged_size, sealed_in, places_of, few_data, Entries, targets_in_force, redone_memory, TxnParts, IsTxnWorld, IsStoreOn, IsStoredBy}
 use Rattle.pmem_base.specs.Layout as layout
-use Rattle.pmem_base.specs.Lines.{line_at}
-use Rattle.pmem_base.specs.Shape.{Shape, IsShape}
-use Rattle.board.specs.Memory.{BoardMemory}
-use Rattle.seal_ledger.specs.Ledger.{LedgerState}
-use Rattle.suite.specs.Formulas.{AreInRange}
-use Rattle.suite.specs.Setup.{Setup}
-use Rattle.plain_model.specs.State.{Memory}
-use Rattle.plain_model.specs.View.{plain_memory}
-use Rattle.pmem_engine.specs.Invariants.{IsDurable, IsSound}
-use Rattle.line_txn.specs.declared.store.Store.{Store}
-use Rattle.line_txn.specs.Header.{AreTargets}
-use Rattle.line_txn.specs.Logged.{IsLogged, memory_in, targets_of}
-use Rattle.line_txn.specs.Store.{logged_lines}
-use Rattle.line_txn.proofs.Headers.{targets_of_header}
-use Rattle.line_txn.proofs.Openings.{logged_size}
-use Rattle.watched_board.specs.declared.taken.Taken.{Taken}
-use Rattle.watched_board.specs.Watching.{steps_in, step_limit, IsWatched}
-use Rattle.engine_lines.proofs.SealedLines.{sealed_in, places_of}
-use Rattle.line_session.proofs.StepCounts.{rises_by, has_burnt, has_run_out}
-use Rattle.line_session.proofs.NewDevices.{few_data}
-use Rattle.txn_session.specs.State.{TxnState, Entries, txn_without_power}
-use Rattle.txn_session.specs.World.{TxnParts, IsTxnWorld, IsStoreOn, IsStoredBy, targets_in_force, redone_memory, txn_of}
-use Rattle.txn_session.specs.Answered.{IsTxnButForSteps, GoesToTxnState, IsTxnCutOff}
 
 -- ---- the log
 
@@ -44,31 +21,6 @@ module _ (setup : Setup) (shape : IsShape setup.shape) (lines memory : Memory) (
 
   pub logged_is : IsLogged (logged_lines setup.shape) lines (targets_in_force setup lines) (redone_memory setup lines)
   logged_is = subst₂ (λ ts m. IsLogged (logged_lines setup.shape) lines ts m) (sym targets_held) (sym memory_held) it
-
--- ---- states
-
-module _ (setup : Setup) (old new : TxnParts) (taken : Taken) (watched : IsWatched old.board new.board taken) (expected : TxnState) (most : ℕ) where
-  -- a call that goes on
-  pub goes_to : new.board.powered ≡ true → steps_in taken ≤ most → IsTxnButForSteps expected (txn_of setup new)
-      → GoesToTxnState expected (steps_in taken) most (txn_of setup old) (txn_of setup new)
-  goes_to powered few becomes =
-      record {
-        becomes = becomes;
-        rises = rises_by old.board new.board taken watched.follows;
-        few = few;
-        fuse = has_burnt old.board new.board taken watched.follows powered;
-      }
-
-  -- a call that is cut
-  pub cut_off : new.board.powered ≡ false → steps_in taken < most → most ≤ step_limit → IsTxnButForSteps (txn_without_power expected) (txn_of setup new)
-      → IsTxnCutOff expected (steps_in taken) most (txn_of setup old) (txn_of setup new)
-  cut_off off below bounded becomes =
-      record {
-        becomes = becomes;
-        rises = rises_by old.board new.board taken watched.follows;
-        below = below;
-        fuse = has_run_out old.board new.board taken watched.follows off (omega (arith, below, bounded));
-      }
 
 -- ---- what is held
 

@@ -1,24 +1,10 @@
 -- The engine writes of a commit and of a redo, in order: those of the changes that they are made of, and memory once so many
 -- of them are done.
 use Rattle.std.proofs.Common.{ℕ, suc, ◌≡◌, ◌<◌, ◌≤◌, ◌+◌, ◌*◌, ◌++◌, List, [], ◌∷◌, length, drop, drop-cons, refl, sym, ap, ◌∙◌, arith}
-use Rattle.std.specs.Prelude.{All}
-use Rattle.std.specs.List.{zip}
-use Rattle.std.proofs.lemmas.List.{append_assoc, length-append, length-map}
-use Rattle.std.proofs.lemmas.List.Elements.{All-head, All-tail}
-use Rattle.pmem_base.specs.declared.lines.Line.{Line}
-use Rattle.pmem_base.specs.declared.commands.Posted.{Posted}
-use Rattle.pmem_base.specs.Lines.{line_at, zero_line}
+use Rattle.txn_session.proofs.Common.{All, zip, append_assoc, length-append, length-map, All-head, All-tail, Line, Posted, line_at, zero_line, Memory, memory_with, whole_write, Edit, header_of, targets_of, bodies_of, body_edits, target_edits, copy_edits, deciding_edits, applying_edits, redoing_edits, Entries, body_writes, target_writes, commit_writes, redo_writes, all_posted}
 use Rattle.pmem_base.proofs.LineSets.{line_at-set_other}
 use Rattle.pmem_base.specs.WaitingWrites.{put_write}
-use Rattle.plain_model.specs.State.{Memory, memory_with}
-use Rattle.pmem_engine.specs.Calls.{whole_write}
-use Rattle.engine_lines.specs.declared.edits.Edit.{Edit}
 use Rattle.engine_lines.specs.declared.edits.Edit.TheVariants as Make
-use Rattle.line_txn.specs.Header.{header_of}
-use Rattle.line_txn.specs.Logged.{targets_of, bodies_of}
-use Rattle.line_txn.specs.Edits.{body_edits, target_edits, copy_edits, deciding_edits, applying_edits, redoing_edits}
-use Rattle.txn_session.specs.State.{Entries, body_writes, target_writes, commit_writes, redo_writes}
-use Rattle.engine_lines.proofs.EngineEdits.{all_posted}
 
 -- ---- of a commit
 

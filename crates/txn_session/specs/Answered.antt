@@ -1,10 +1,8 @@
 -- Which answers a command has in which states, and the state after: where the state alone decides, the first
--- condition that holds does; else the engine gives one of the answers that are listed.
-use Rattle.std.specs.Prelude.{ℕ, ◌≡◌, ◌≤◌, ◌<◌, ◌+◌, ◌*◌, ◌==◌, nat_lt, Bool, true, false, List, [], ◌∷◌, ◌++◌, length, Option, Some, None, option_map, is_some, unwrap_or, Ok, ⊤, IsTrue, if◌then◌else◌}
-use Rattle.std.specs.List.{list_any}
+-- condition that holds does; else the engine's call does, by how it ended, and what the answer says is listed.
+use Rattle.std.specs.Prelude.{ℕ, ◌≡◌, ◌≤◌, ◌<◌, ◌+◌, ◌*◌, ◌==◌, nat_lt, Bool, true, false, List, [], ◌∷◌, length, Option, Some, None, option_map, is_some, unwrap_or, Ok, IsTrue, if◌then◌else◌}
 use Rattle.pmem_base.specs.declared.lines.Line.{Line}
 use Rattle.pmem_base.specs.declared.commands.Posted.{Posted}
-use Rattle.pmem_base.specs.declared.answers.Mark.{Mark}
 use Rattle.pmem_base.specs.declared.answers.Exhibit.{Exhibit}
 use Rattle.pmem_base.specs.declared.answers.Exhibit.TheVariants.{Twin}
 use Rattle.pmem_base.specs.Shape.{Shape}
@@ -17,24 +15,26 @@ use Rattle.plain_model.specs.Bounds.{recovery_bound}
 use Rattle.plain_model.specs.Asked.{Moment}
 use Rattle.plain_model.specs.Fits.{IsSpentNext}
 use Rattle.plain_model.specs.Shown.{IsTwinOfSeal}
-use Rattle.engine_lines.specs.Writes.{write_steps, read_steps, Writing, AreAllWritesMade, IsCutAmong, is_own_seal}
-use Rattle.line_session.specs.Steps.{RisesBySteps}
+use Rattle.engine_lines.specs.Writes.{write_steps, read_steps, Writing, AreAllWritesMade, IsCutAmong}
+use Rattle.pmem_recovery.specs.declared.faults.RecFault.TheVariants as Rec
+use Rattle.line_session.specs.State.{view_in, places_in, moment_in, with_fuse, with_power, with_marks}
+use Rattle.line_session.specs.Started.{IsRefusedFrom}
 use Rattle.txn_session.specs.declared.commands.TxnCommand.{TxnCommand}
 use Rattle.txn_session.specs.declared.commands.TxnCommand.TheVariants as Do
 use Rattle.txn_session.specs.declared.answers.TxnAnswer.{TxnAnswer}
 use Rattle.txn_session.specs.declared.answers.TxnAnswer.TheVariants as Say
-use Rattle.trace_text.specs.Sessions.{HasBurnt, HasRunOut}
 use Rattle.trace_text.specs.declared.talk.Halt.{Halt}
 use Rattle.trace_text.specs.declared.talk.Halt.TheVariants as Stop
 use Rattle.txn_session.specs.Answers.{txn_text}
 use Rattle.txn_session.specs.Commands.{reading_of_txn}
-use Rattle.txn_session.specs.State.{TxnState, Entries, txn_lines_in, txn_view_in, txn_places_in, txn_moment_in, entry_in, with_put_line, commit_writes, redo_writes, txn_without_power, with_commit, with_redo}
+use Rattle.txn_session.specs.Planned.{IsTxnCalled, open_call}
+use Rattle.txn_session.specs.State.{TxnState, Entries, txn_lines_in, entry_in, with_put_line, commit_writes, redo_writes, txn_without_power, with_commit, with_redo}
 
 -- ---- answers that the state decides
 
 -- the answer, where power is on
 abbrev pub of_power : TxnState → Option TxnAnswer → Option TxnAnswer
-of_power state answer = if state.board.powered then answer else Some Say.Off
+of_power state answer = if state.session.board.powered then answer else Some Say.Off
 
 -- the answer, where there is such a line
 abbrev pub txn_of_line : TxnState → ℕ → Option TxnAnswer → Option TxnAnswer
@@ -81,7 +81,7 @@ txn_decided state Do.Abort = of_power state (of_open state.txn (λ entries. Some
 txn_decided state (Do.Read a) = of_power state (txn_of_line state a (held (line_held state a)))
 txn_decided state (Do.Cut n) = Some Say.Ok
 txn_decided state Do.Off = of_power state (Some Say.Ok)
-txn_decided state Do.On = if state.board.powered then Some Say.Already else None
+txn_decided state Do.On = if state.session.board.powered then Some Say.Already else None
 
 -- the state after such an answer
 abbrev pub txn_after_decided : TxnState → TxnCommand → TxnAnswer → TxnState
@@ -90,37 +90,29 @@ txn_after_decided state (Do.Put a line) Say.Ok =
     record state { txn = option_map (λ entries. with_put_line entries a line) state.txn }
 txn_after_decided state Do.Commit (Say.Applied steps) = record state { txn = None }
 txn_after_decided state Do.Abort Say.Ok = record state { txn = None }
-txn_after_decided state (Do.Cut n) answer = record state { board = record state.board { fuse = Some n } }
+txn_after_decided state (Do.Cut n) answer = record state { session = with_fuse state.session n }
 txn_after_decided state Do.Off Say.Ok = txn_without_power state
 txn_after_decided state command answer = state
 
--- ---- steps
+-- ---- what is left
 
--- a state that is another but for the fuse, and for what steps and reads change and count
+-- a state that is another but for what the call's plan alone says
 pub record IsTxnButForSteps (expected new : TxnState) : Type 0 where
-  pub shape : new.shape ≡ expected.shape
-  pub keys : new.keys ≡ expected.keys
   pub memory : new.memory ≡ expected.memory
   pub in_force : new.in_force ≡ expected.in_force
   pub stuck : new.stuck ≡ expected.stuck
   pub txn : new.txn ≡ expected.txn
-  pub power : new.board.powered ≡ expected.board.powered
-  pub loss : new.board.regs.loss ≡ expected.board.regs.loss
-  pub marks : new.marks ≡ expected.marks
+  pub power : new.session.board.powered ≡ expected.session.board.powered
+  pub loss : new.session.board.regs.loss ≡ expected.session.board.regs.loss
+  pub marks : new.session.ledger.marks ≡ expected.session.ledger.marks
 
--- steps were done, at most `most` and no more than the fuse had left, and nothing was cut
-pub record GoesToTxnState (expected : TxnState) (steps most : ℕ) (old new : TxnState) : Type 0 where
-  pub becomes : IsTxnButForSteps expected new
-  pub rises : RisesBySteps steps old.board.writes old.board.latches new.board.writes new.board.latches
-  pub few : steps ≤ most
-  pub fuse : HasBurnt steps old.board.fuse new.board.fuse old.board.cuts new.board.cuts
+-- after at most `most` steps
+abbrev pub GoesToTxnState : TxnState → ℕ → ℕ → TxnState → Type 0
+GoesToTxnState expected steps most new = IsTxnButForSteps expected new × (steps ≤ most)
 
--- power was cut with the fuse used up, after fewer than `most` steps
-pub record IsTxnCutOff (expected : TxnState) (steps most : ℕ) (old new : TxnState) : Type 0 where
-  pub becomes : IsTxnButForSteps (txn_without_power expected) new
-  pub rises : RisesBySteps steps old.board.writes old.board.latches new.board.writes new.board.latches
-  pub below : steps < most
-  pub fuse : HasRunOut steps old.board.fuse new.board.fuse old.board.cuts new.board.cuts
+-- power was cut, after fewer than `most` steps
+abbrev pub IsTxnCutOff : TxnState → ℕ → ℕ → TxnState → Type 0
+IsTxnCutOff expected steps most new = IsTxnButForSteps (txn_without_power expected) new × (steps < most)
 
 -- the most steps of a commit of so many lines
 abbrev pub most_of_commit : Shape → ℕ → ℕ
@@ -134,7 +126,7 @@ most_of_redo g count =
 -- those of recovery, the header's read and the redo
 abbrev pub txn_most_of_on : TxnState → ℕ
 txn_most_of_on state =
-    recovery_bound state.shape + read_steps state.shape + most_of_redo state.shape (length state.in_force)
+    recovery_bound state.session.shape + read_steps state.session.shape + most_of_redo state.session.shape (length state.in_force)
 
 -- ---- writes in order
 
@@ -158,42 +150,33 @@ IsCommitting count f now writes writing (Say.CutLost steps) =
     (writing.done ≤ count) × IsCutAmong f now writes writing
 IsCommitting count f now writes writing answer = ⊥
 
--- whether the header's own seal is among the marks, after a cut
-abbrev pub IsTxnCommitKept : ℕ → List Mark → TxnAnswer → Type 0
-IsTxnCommitKept header made (Say.CutKept steps) = list_any (is_own_seal header) made ≡ true
-IsTxnCommitKept header made (Say.CutLost steps) = list_any (is_own_seal header) made ≡ false
-IsTxnCommitKept header made answer = ⊤
-
 -- the state that so many done writes leave, but for power, fuse and counts
 abbrev pub after_commit : TxnState → Entries → Writing → TxnState
 after_commit old entries writing =
-    record (with_commit old entries writing.done) { marks = old.marks ++ writing.made }
+    record (with_commit old entries writing.done) { session = with_marks old.session writing.made }
 
-abbrev pub EndsCommit : TxnState → ℕ → TxnAnswer → TxnState → TxnState → Type 0
-EndsCommit expected most (Say.Applied steps) old new = GoesToTxnState expected steps most old new
-EndsCommit expected most (Say.Stuck page steps) old new =
-    GoesToTxnState (record expected { stuck = Some page }) steps most old new
-EndsCommit expected most (Say.Spent page steps) old new = GoesToTxnState expected steps most old new
-EndsCommit expected most (Say.CutKept steps) old new = IsTxnCutOff expected steps most old new
-EndsCommit expected most (Say.CutLost steps) old new = IsTxnCutOff expected steps most old new
-EndsCommit expected most answer old new = ⊥
+abbrev pub EndsCommit : TxnState → ℕ → TxnAnswer → TxnState → Type 0
+EndsCommit expected most (Say.Applied steps) new = GoesToTxnState expected steps most new
+EndsCommit expected most (Say.Stuck page steps) new = GoesToTxnState (record expected { stuck = Some page }) steps most new
+EndsCommit expected most (Say.Spent page steps) new = GoesToTxnState expected steps most new
+EndsCommit expected most (Say.CutKept steps) new = IsTxnCutOff expected steps most new
+EndsCommit expected most (Say.CutLost steps) new = IsTxnCutOff expected steps most new
+EndsCommit expected most answer new = ⊥
 
 pub record HasTxnCommitted (setup : Setup) (old : TxnState) (entries : Entries) (answer : TxnAnswer) (new : TxnState) :
     Type 0 where
   pub writing : Writing
   pub came :
-      IsCommitting (length entries) setup.formulas (txn_moment_in setup old) (commit_writes (txn_lines_in old) entries)
+      IsCommitting (length entries) setup.formulas (moment_in setup old.session) (commit_writes (txn_lines_in old) entries)
       writing answer
-  pub kept : IsTxnCommitKept (txn_lines_in old) writing.made answer
-  pub ends :
-      EndsCommit (after_commit old entries writing) (most_of_commit old.shape (length entries)) answer old new
+  pub ends : EndsCommit (after_commit old entries writing) (most_of_commit old.session.shape (length entries)) answer new
 
 -- ---- a read, and recovery
 
 abbrev pub HasTxnRead : TxnState → ℕ → TxnAnswer → TxnState → Type 0
 HasTxnRead old a (Say.Got line steps) new =
-    (line ≡ line_at old.memory a) × GoesToTxnState old steps (read_steps old.shape) old new
-HasTxnRead old a (Say.Cut steps) new = IsTxnCutOff old steps (read_steps old.shape) old new
+    (line ≡ line_at old.memory a) × GoesToTxnState old steps (read_steps old.session.shape) new
+HasTxnRead old a (Say.Cut steps) new = IsTxnCutOff old steps (read_steps old.session.shape) new
 HasTxnRead old a answer new = ⊥
 
 -- how far a redo came, by its answer: through; or up to a line that is spent; or up to a cut
@@ -206,24 +189,21 @@ IsRedoing f now writes writing answer = ⊥
 -- the state that so many done writes of a redo leave, with power on
 abbrev pub after_redo : TxnState → Writing → TxnState
 after_redo old writing =
-    record (with_redo old writing.done) {
-      board = record old.board { powered = true };
-      marks = old.marks ++ writing.made;
-    }
+    record (with_redo old writing.done) { session = with_marks (with_power old.session) writing.made }
 
 abbrev pub EndsRedo : TxnState → TxnAnswer → TxnState → TxnState → Type 0
 EndsRedo expected (Say.Opened redone steps) old new =
-    (redone ≡ length old.in_force) × GoesToTxnState expected steps (txn_most_of_on old) old new
+    (redone ≡ length old.in_force) × GoesToTxnState expected steps (txn_most_of_on old) new
 EndsRedo expected (Say.Stuck page steps) old new =
-    GoesToTxnState (record expected { stuck = Some page }) steps (txn_most_of_on old) old new
-EndsRedo expected (Say.Cut steps) old new = IsTxnCutOff expected steps (txn_most_of_on old) old new
+    GoesToTxnState (record expected { stuck = Some page }) steps (txn_most_of_on old) new
+EndsRedo expected (Say.Cut steps) old new = IsTxnCutOff expected steps (txn_most_of_on old) new
 EndsRedo expected answer old new = ⊥
 
 pub record HasTxnOpened (setup : Setup) (old : TxnState) (answer : TxnAnswer) (new : TxnState) : Type 0 where
   pub writing : Writing
   pub came :
-      IsRedoing setup.formulas (txn_moment_in setup old)
-      (redo_writes (txn_lines_in old) old.in_force (txn_places_in setup old)) writing answer
+      IsRedoing setup.formulas (moment_in setup old.session)
+      (redo_writes (txn_lines_in old) old.in_force (places_in setup old.session)) writing answer
   pub ends : EndsRedo (after_redo old writing) answer old new
 
 -- ---- the relation
@@ -235,24 +215,26 @@ IsTxnServed setup old (Do.Read a) answer new = HasTxnRead old a answer new
 IsTxnServed setup old Do.On answer new = HasTxnOpened setup old answer new
 IsTxnServed setup old command answer new = ⊥
 
--- a txn_decided answer leaves the counts as they are
+-- A decided answer leaves the counts as they are. Any other is the one by which the command's call ended.
 abbrev pub IsTxnAnsweredAs :
     Option TxnAnswer → Setup → TxnState → TxnCommand → TxnAnswer → TxnState → Type 0
 IsTxnAnsweredAs (Some fixed) setup old command answer new =
     (answer ≡ fixed) × (new ≡ txn_after_decided old command fixed)
-IsTxnAnsweredAs None setup old command answer new = IsTxnServed setup old command answer new
+IsTxnAnsweredAs None setup old command answer new =
+    IsTxnServed setup old command answer new × IsTxnCalled setup old command answer new
 
--- the answer that the state decides, or else one that the engine may give
+-- the answer that the state decides, or else the one that the engine gives
 abbrev pub IsTxnAnswered : Setup → TxnState → TxnCommand → TxnAnswer → TxnState → Type 0
 IsTxnAnswered setup old command answer new =
     IsTxnAnsweredAs (txn_decided old command) setup old command answer new
 
--- an exhibit comes of recovery alone: a twin that holds, of the last seal of one of the data lines
+-- an exhibit comes of recovery alone: a twin that holds, of the last seal of one of the data lines, which recovery finds first
 abbrev pub IsTxnShownBy : Setup → TxnState → TxnCommand → Exhibit → Type 0
 IsTxnShownBy setup old Do.On (Twin at major low high cipher tag) =
-    (old.board.powered ≡ false) × (at < data_lines setup.shape)
+    (old.session.board.powered ≡ false) × (at < data_lines setup.shape)
     × IsExhibit setup.formulas (Twin at major low high cipher tag)
-    × IsTwinOfSeal setup (txn_places_in setup old) old.board.regs.loss (txn_view_in old) at major low high cipher tag
+    × IsTwinOfSeal setup (places_in setup old.session) old.session.board.regs.loss (view_in old.session) at major low high cipher tag
+    × IsRefusedFrom setup (open_call setup) old.session (Rec.Twin at major low high cipher tag)
 IsTxnShownBy setup old command exhibit = ⊥
 
 -- whether a command may want memory

@@ -13,7 +13,8 @@ use Rattle.txn_session.specs.declared.commands.TxnCommand.{TxnCommand}
 use Rattle.txn_session.specs.declared.commands.TxnCommand.TheVariants as Do
 use Rattle.txn_session.specs.declared.answers.TxnAnswer.{TxnAnswer}
 use Rattle.txn_session.specs.declared.answers.TxnAnswer.TheVariants as Say
-use Rattle.txn_session.specs.State.{TxnState, Entries, IsNewTxn, txn_moment_in, txn_lines_in, txn_places_in, entry_in, with_put_line, commit_writes, redo_writes}
+use Rattle.line_session.specs.State.{moment_in, places_in}
+use Rattle.txn_session.specs.State.{TxnState, Entries, IsNewTxn, txn_lines_in, entry_in, with_put_line, commit_writes, redo_writes}
 use Rattle.txn_session.specs.Answered.{IsTxnAnswered}
 
 -- ---- chains of answers
@@ -123,7 +124,7 @@ AreStuckAnswers stuck (reply ∷ replies) =
 
 -- the next of these writes was answered as used up, and its line lies in this page
 pub record WasTxnSpent (setup : Setup) (old : TxnState) (writes : List Posted) (done page : ℕ) : Type 0 where
-  pub used_up : next_marks setup.formulas (txn_moment_in setup old) writes done ≡ None
+  pub used_up : next_marks setup.formulas (moment_in setup old.session) writes done ≡ None
   pub its_page : MatchOption (slice_get writes done) ⊥ (λ write. page_of write.at ≡ page)
 
 abbrev pub writes_of_commit : TxnState → List Posted
@@ -139,7 +140,7 @@ IsTxnSpentAnswer setup old Do.Commit (Say.Stuck page steps) new =
     (done : ℕ) × (length (unwrap_or old.txn []) < done) × WasTxnSpent setup old (writes_of_commit old) done page
 IsTxnSpentAnswer setup old Do.On (Say.Stuck page steps) new =
     (done : ℕ)
-    × WasTxnSpent setup old (redo_writes (txn_lines_in old) old.in_force (txn_places_in setup old)) done page
+    × WasTxnSpent setup old (redo_writes (txn_lines_in old) old.in_force (places_in setup old.session)) done page
 IsTxnSpentAnswer setup old command answer new = ⊤
 
 -- so it is of each answer of a chain

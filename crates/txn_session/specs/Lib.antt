@@ -3,6 +3,8 @@ pub mod Answers
 pub mod State
 pub mod World
 pub mod StoreCalls
+pub mod Planned
 pub mod Answered
+pub mod Determined
 pub mod Logged
 pub mod Guarantees

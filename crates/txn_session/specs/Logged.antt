@@ -10,9 +10,9 @@ use Rattle.txn_session.specs.State.{TxnState}
 -- The log goes on from the board before the command to the board after it: through all calls of the engine, in
 -- their order. A command that makes none leaves it as it was.
 abbrev pub IsTxnLogged : TxnCommand → Option (List Access) → TxnState → Option (List Access) → TxnState → Type 0
-IsTxnLogged Do.Commit log_old old log_new new = GoesOn log_old old.board log_new new.board
-IsTxnLogged (Do.Read a) log_old old log_new new = GoesOn log_old old.board log_new new.board
-IsTxnLogged Do.On log_old old log_new new = GoesOn log_old old.board log_new new.board
+IsTxnLogged Do.Commit log_old old log_new new = GoesOn log_old old.session.board log_new new.session.board
+IsTxnLogged (Do.Read a) log_old old log_new new = GoesOn log_old old.session.board log_new new.session.board
+IsTxnLogged Do.On log_old old log_new new = GoesOn log_old old.session.board log_new new.session.board
 IsTxnLogged command log_old old log_new new = log_new ≡ log_old
 
 -- so it is of the command that a line is read as; one without a command leaves the log as it was

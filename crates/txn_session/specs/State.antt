@@ -1,23 +1,15 @@
 -- The state of a session of transactions, which is plain data, and what it says of the memory.
-use Rattle.std.specs.Prelude.{ℕ, ◌≡◌, ◌+◌, ◌*◌, ◌==◌, nat_lt, true, false, List, [], ◌∷◌, ◌++◌, length, map, replicate, Option, Some, None, if◌then◌else◌}
-use Rattle.std.specs.List.{range_with_len}
+use Rattle.std.specs.Prelude.{ℕ, ◌≡◌, ◌+◌, ◌*◌, ◌==◌, nat_lt, List, [], ◌∷◌, ◌++◌, length, map, replicate, Option, Some, None, slice_index, if◌then◌else◌}
 use Rattle.pmem_base.specs.declared.lines.Line.{Line}
 use Rattle.pmem_base.specs.declared.commands.Posted.{Posted}
-use Rattle.pmem_base.specs.declared.answers.Mark.{Mark}
-use Rattle.pmem_base.specs.Shape.{Shape}
-use Rattle.pmem_base.specs.Layout as layout
-use Rattle.pmem_base.specs.Lines.{put_lines, zero_line}
-use Rattle.board.specs.Counts.{RisesBy}
-use Rattle.board.specs.Memory.{BoardMemory}
+use Rattle.pmem_base.specs.Lines.{line_at, put_lines, zero_line}
 use Rattle.suite.specs.Formulas.{Formulas}
 use Rattle.suite.specs.Setup.{Setup}
 use Rattle.plain_model.specs.State.{Memory}
-use Rattle.plain_model.specs.View.{DeviceView, view_of, plain_memory}
-use Rattle.plain_model.specs.Asked.{Moment}
-use Rattle.pmem_engine.specs.Formatted.{first_seal}
 use Rattle.pmem_engine.specs.Calls.{whole_write}
-use Rattle.line_txn.specs.Header.{header_of}
-use Rattle.line_txn.specs.Logged.{targets_of, bodies_of, entries_in}
+use Rattle.line_session.specs.State.{LineSession, IsNewSession, setup_in, places_in, without_power}
+use Rattle.line_txn.specs.Header.{header_of, targets_in}
+use Rattle.line_txn.specs.Logged.{targets_of, bodies_of, entries_in, memory_in}
 use Rattle.line_txn.specs.Store.{logged_lines}
 
 -- data lines and what is to be written to them, in order
@@ -25,9 +17,8 @@ abbrev pub Entries : Type 0
 Entries = List (ℕ × Line)
 
 pub record TxnState : Type 0 where
-  -- the geometry, and the keys of the suite
-  pub shape : Shape
-  pub keys : List ℕ
+  -- geometry, keys, device, engine and marks
+  pub session : LineSession
   -- the data lines with the transaction in force, and the targets of that
   pub memory : Memory
   pub in_force : List ℕ
@@ -35,35 +26,38 @@ pub record TxnState : Type 0 where
   pub stuck : Option ℕ
   -- the open transaction; none without power
   pub txn : Option Entries
-  -- the device with its registers, its power, a cut that is set, and its counts
-  pub board : BoardMemory
-  -- all marks in order, those of formatting first
-  pub marks : List Mark
-  -- how many tags and digests were made
-  pub tags : ℕ
-  pub digests : ℕ
 
 -- ---- what it says
 
 -- the geometry, and a suite's formulas under the session's keys
 abbrev pub txn_setup_in : (List ℕ → Formulas) → TxnState → Setup
-txn_setup_in formulas_of state = record { shape = state.shape; formulas = formulas_of state.keys }
+txn_setup_in formulas_of state = setup_in formulas_of state.session
 
 -- how many data lines there are
 abbrev pub txn_lines_in : TxnState → ℕ
-txn_lines_in state = logged_lines state.shape
+txn_lines_in state = logged_lines state.session.shape
 
--- what the marks say of counters and of pages under re-encryption
-abbrev pub txn_view_in : TxnState → DeviceView
-txn_view_in state = view_of state.shape state.marks
+-- the targets of the header
+abbrev pub targets_in_force : Setup → Memory → List ℕ
+targets_in_force setup places =
+    let header = line_at places (logged_lines setup.shape) in targets_in header (slice_index header.0 0)
 
--- the data lines and the log, as they were last sealed
-abbrev pub txn_places_in : Setup → TxnState → Memory
-txn_places_in setup state = plain_memory setup state.marks
+-- the data lines with the bodies put into those
+abbrev pub redone_memory : Setup → Memory → Memory
+redone_memory setup places =
+    memory_in (logged_lines setup.shape) (targets_in_force setup places) places
 
--- what a write of the engine finds
-abbrev pub txn_moment_in : Setup → TxnState → Moment
-txn_moment_in setup state = record { memory = txn_places_in setup state; view = txn_view_in state }
+-- the state of a session, stuck at a page or not, with this transaction open: memory and targets are what its marks say
+abbrev pub txn_left : Setup → LineSession → Option ℕ → Option Entries → TxnState
+txn_left setup session stuck txn =
+    let places = places_in setup session in
+    record {
+      session = session;
+      memory = redone_memory setup places;
+      in_force = targets_in_force setup places;
+      stuck = stuck;
+      txn = txn;
+    }
 
 -- ---- a transaction
 
@@ -106,7 +100,7 @@ redo_writes n (target ∷ targets) places =
 
 abbrev pub txn_without_power : TxnState → TxnState
 txn_without_power state =
-    record state { stuck = None; txn = None; board = record state.board { powered = false; fuse = None } }
+    record state { stuck = None; txn = None; session = without_power state.session }
 
 -- So many of a commit's writes were done. With the header, which comes after the bodies, the transaction is in
 -- memory and in force; with the last one it is in force no more.
@@ -127,18 +121,10 @@ with_redo state done =
 
 -- ---- the beginning
 
--- A formatted device with power on: all lines are zeros, no transaction is in force or open, and nothing waits to
--- be cut. Marks and counts are those of formatting, and each count stands still at its end.
+-- A new session's device, whose lines are all zeros, with no transaction in force or open.
 pub record IsNewTxn (setup : Setup) (state : TxnState) : Type 0 where
-  pub shape : state.shape ≡ setup.shape
+  pub session : IsNewSession setup state.session
   pub memory : state.memory ≡ replicate (logged_lines setup.shape) zero_line
   pub in_force : state.in_force ≡ []
   pub stuck : state.stuck ≡ None
   pub txn : state.txn ≡ None
-  pub power : state.board.powered ≡ true
-  pub fuse : state.board.fuse ≡ None
-  pub loss : state.board.regs.loss ≡ setup.shape.loss
-  pub marks : state.marks ≡ map (first_seal setup) (range_with_len 0 (layout.data_lines setup.shape))
-  pub writes : RisesBy (layout.device_lines setup.shape) 0 state.board.writes
-  pub latches : RisesBy 1 0 state.board.latches
-  pub cuts : state.board.cuts ≡ 0

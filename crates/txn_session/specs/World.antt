@@ -1,35 +1,21 @@
 -- The state of a session made from the parts that it keeps, and what always holds of these.
-use Rattle.std.specs.Prelude.{ℕ, ◌≡◌, ◌≤◌, true, false, List, length, is_none, Option, Some, None, slice_index, IfSome, IsTrue}
+use Rattle.std.specs.Prelude.{ℕ, ◌≡◌, ◌≤◌, true, false, List, length, is_none, Option, Some, None, option_map, IfSome, IsTrue}
 use Rattle.pmem_base.specs.Shape.{IsShape}
 use Rattle.pmem_base.specs.Layout as layout
-use Rattle.pmem_base.specs.Lines.{line_at}
 use Rattle.pmem_base.specs.Registers.{IsValidRegs}
 use Rattle.board.specs.Device.{AreLinesOf}
 use Rattle.board.specs.Memory.{BoardMemory, device_of}
 use Rattle.seal_ledger.specs.Ledger.{LedgerState, IsOfShape}
 use Rattle.suite.specs.Formulas.{AreInRange}
 use Rattle.suite.specs.Setup.{Setup}
-use Rattle.plain_model.specs.State.{Memory}
 use Rattle.plain_model.specs.View.{IsMemoryOf, plain_memory}
 use Rattle.pmem_engine.specs.Invariants.{IsDurable, IsSound}
 use Rattle.pmem_engine.specs.Calls.{IsUsable}
 use Rattle.line_txn.specs.declared.store.Store.{Store}
-use Rattle.line_txn.specs.Header.{AreTargets, targets_in}
-use Rattle.line_txn.specs.Logged.{IsLogged, memory_in, targets_of}
+use Rattle.line_txn.specs.Header.{AreTargets}
+use Rattle.line_txn.specs.Logged.{IsLogged, targets_of}
 use Rattle.line_txn.specs.Store.{logged_lines}
-use Rattle.txn_session.specs.State.{TxnState, Entries}
-
--- ---- what the marks say
-
--- the targets of the header
-abbrev pub targets_in_force : Setup → Memory → List ℕ
-targets_in_force setup places =
-    let header = line_at places (logged_lines setup.shape) in targets_in header (slice_index header.0 0)
-
--- the data lines with the bodies put into those
-abbrev pub redone_memory : Setup → Memory → Memory
-redone_memory setup places =
-    memory_in (logged_lines setup.shape) (targets_in_force setup places) places
+use Rattle.txn_session.specs.State.{TxnState, txn_left, Entries, targets_in_force, redone_memory}
 
 -- ---- a state of its parts
 
@@ -50,19 +36,17 @@ stuck_in (Some store) = store.stuck
 
 abbrev pub txn_of : Setup → TxnParts → TxnState
 txn_of setup parts =
-    let places = plain_memory setup parts.ledger.marks in
-    record {
+    txn_left setup
+    (record {
       shape = setup.shape;
       keys = parts.keys;
-      memory = redone_memory setup places;
-      in_force = targets_in_force setup places;
-      stuck = stuck_in parts.store;
-      txn = parts.txn;
       board = parts.board;
-      marks = parts.ledger.marks;
+      engine = option_map (λ store. store.engine) parts.store;
+      ledger = parts.ledger;
       tags = parts.tags;
       digests = parts.digests;
-    }
+    })
+    (stuck_in parts.store) parts.txn
 
 -- ---- what it always holds
 

@@ -112,7 +112,7 @@ impl<S: Suite + Drop> TxnWorld<S> {
         ensures answered { IfOk result (λ answer. IsTxnAnswered (txn_setup_in S.formulas_of self.old) self.old Do.Commit answer self.new) }
         ensures err { OnErr result (self.new ≡ self.old) }
         ensures wanting { OnErr result (IsTxnMemoryWanted self.old Do.Commit) }
-        ensures logged { GoesOn log.old self.old.board log.new self.new.board }
+        ensures logged { GoesOn log.old self.old.session.board log.new self.new.session.board }
     {
         let Some(store) = &mut self.store else {
             return Ok(TxnAnswer::Off);

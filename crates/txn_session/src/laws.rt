@@ -1,5 +1,6 @@
 //! Laws of whole sessions.
 ghost use Rattle.pmem_base.specs.Geo.{shape_of};
+ghost use Rattle.txn_session.specs.Determined.{TxnExhibitsAreDetermined, TxnRepliesAreDetermined};
 ghost use Rattle.txn_session.specs.Guarantees.{AreTxnsKept, AreTxnsSpent};
 
 use pmem_base::Geo;
@@ -11,6 +12,17 @@ use suite::Suite;
 pub fn sessions_keep_transactions<S: Suite>(geo: &Geo, suite: &S)
     ensures kept { AreTxnsKept (record { shape = shape_of geo.now; formulas = S.formulas_of (S.keys suite.now) }) }
     ensures spent { AreTxnsSpent (record { shape = shape_of geo.now; formulas = S.formulas_of (S.keys suite.now) }) }
+{
+    let _ = geo.lines();
+    let _ = suite;
+}
+
+/// A law: a command has one answer in each state, and leaves one state, wherever power is cut, want of memory and
+/// exhibits apart; and it shows one exhibit at most. So power is cut exactly where a step meets a fuse of 0, a cut keeps
+/// exactly what was written, and which of several twins is shown is settled.
+pub fn txn_replies_are_determined<S: Suite>(geo: &Geo, suite: &S)
+    ensures replies { TxnRepliesAreDetermined (record { shape = shape_of geo.now; formulas = S.formulas_of (S.keys suite.now) }) }
+    ensures exhibits { TxnExhibitsAreDetermined (record { shape = shape_of geo.now; formulas = S.formulas_of (S.keys suite.now) }) }
 {
     let _ = geo.lines();
     let _ = suite;

@@ -14,5 +14,5 @@ mod world;
 
 pub use answers::{TxnAnswer, write_txn_answer};
 pub use commands::{TxnCommand, read_txn_command};
-pub use laws::sessions_keep_transactions;
+pub use laws::{sessions_keep_transactions, txn_replies_are_determined};
 pub use world::TxnWorld;

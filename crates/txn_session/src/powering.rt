@@ -46,7 +46,7 @@ impl<S: Suite + Drop> TxnWorld<S> {
     pub(crate) fn on(&mut self, alloc: Global, log: &mut AccessLog) -> Result<TxnAnswer, Halt>
         ensures answered { IfOk result (λ answer. IsTxnAnswered (txn_setup_in S.formulas_of self.old) self.old Do.On answer self.new) }
         ensures halted { IfErr result (λ halt. IsTxnHalt (txn_setup_in S.formulas_of self.old) self.old Do.On halt self.new) }
-        ensures logged { GoesOn log.old self.old.board log.new self.new.board }
+        ensures logged { GoesOn log.old self.old.session.board log.new self.new.session.board }
     {
         if self.store.is_some() {
             return Ok(TxnAnswer::Already);

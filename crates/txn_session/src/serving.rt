@@ -41,7 +41,7 @@ impl<S: Suite + Drop> TxnWorld<S> {
     /// A data line is read: as the open transaction has it, where that holds it.
     pub(crate) fn read(&mut self, at: u64, log: &mut AccessLog) -> TxnAnswer
         ensures answered { IsTxnAnswered (txn_setup_in S.formulas_of self.old) self.old (Do.Read at) result self.new }
-        ensures logged { GoesOn log.old self.old.board log.new self.new.board }
+        ensures logged { GoesOn log.old self.old.session.board log.new self.new.session.board }
     {
         let Some(store) = &mut self.store else {
             return TxnAnswer::Off;

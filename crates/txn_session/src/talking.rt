@@ -58,7 +58,7 @@ impl<S: Counted + Drop> Talk for TxnWorld<S> {
 
     ghost logs = { λ old line log_old log_new new. IsTxnLogOf (reading_of_txn line) log_old old log_new new };
 
-    ghost work = { λ state. (state.tags, state.digests) };
+    ghost work = { λ state. (state.session.tags, state.session.digests) };
 
     fn talk(
         &mut self,

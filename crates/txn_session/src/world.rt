@@ -65,7 +65,7 @@ impl<S: Suite + Drop> TxnWorld<S> {
     /// open. The one error is want of memory.
     pub fn new(alloc: Global, geo: Geo, suite: S) -> Result<TxnWorld<S>, MemFault>
         ensures new { IfOk result (λ world. IsNewTxn (record { shape = shape_of geo; formulas = S.formulas_of (S.keys suite) }) world) }
-        ensures keys { IfOk result (λ world. world.keys ≡ S.keys suite) }
+        ensures keys { IfOk result (λ world. world.session.keys ≡ S.keys suite) }
     {
         geo.layout_is_one_to_one();
         let mut suite = suite;

@@ -1,17 +1,7 @@
 -- Lines that are levelled tell the wear that they record and the logical lines that they hold.
 use Rattle.std.proofs.Common.{ℕ, ◌≡◌, ◌<◌, List, length, Option, sym, ap, subst₂, ◌∙◌, arith, zero-add}
-use Rattle.std.specs.Prelude.{map, unwrap_or}
-use Rattle.std.specs.List.{range_with_len}
-use Rattle.std.proofs.lemmas.List.{ext_get_or}
 use Rattle.std.proofs.lemmas.List.FromFn.{length-map-range_with_len, get_or-map-range_with_len}
-use Rattle.pmem_base.specs.declared.lines.Line.{Line}
-use Rattle.pmem_base.specs.Lines.{line_at, zero_line}
-use Rattle.suite.specs.Setup.{Setup}
-use Rattle.start_gap.specs.declared.wear.Wear.{Wear}
-use Rattle.start_gap.specs.Wear.{place_of, first_wear}
-use Rattle.start_gap.specs.Logical.{IsLevelled}
-use Rattle.start_gap.specs.Gapped.{logical_lines}
-use Rattle.wear_session.specs.World.{wear_in, levelled_memory}
+use Rattle.wear_session.proofs.Common.{map, unwrap_or, range_with_len, ext_get_or, Line, line_at, zero_line, Setup, Wear, place_of, first_wear, IsLevelled, logical_lines, wear_in, levelled_memory}
 
 module _ (setup : Setup) (lines memory : List Line) (wear : Wear) (it : IsLevelled (logical_lines setup.shape) lines wear memory) where
   pub wear_is : wear_in setup lines ≡ wear

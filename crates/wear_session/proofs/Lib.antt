@@ -1,3 +1,4 @@
+pub mod Common
 pub mod Starts
 pub mod Worlds
 pub mod ReadLaws
@@ -5,8 +6,10 @@ pub mod AnswerClauses
 pub mod Levels
 pub mod WriteEnds
 pub mod WriteLaws
+pub mod WriteStates
 pub mod WriteExits
 pub mod Turns
 pub mod Sessions
 pub mod OpeningExits
 pub mod NewLaws
+pub mod DeterminedReplies

@@ -1,45 +1,12 @@
 -- A new session: formatting, and the opening of zero lines.
-use Rattle.std.proofs.Common.{ℕ, zero, ◌≡◌, ◌<◌, ◌≤◌, ◌+◌, true, List, [], length, replicate, Option, Some, None, Result, Ok, Err, refl, sym, ap, subst, ◌∙◌, subst₂, arith, rules}
-use Rattle.std.specs.Prelude.{is_none, ◌&&◌}
-use Rattle.std.proofs.lemmas.Option.{none-some}
-use Rattle.std.proofs.lemmas.Bool.{true≢false, and_parts}
-use Rattle.std.proofs.lemmas.List.{append-nil, length-replicate, get_or-replicate}
-use Rattle.pmem_base.specs.declared.lines.Line.{Line}
-use Rattle.pmem_base.specs.declared.registers.Regs.{Regs}
-use Rattle.pmem_base.specs.declared.answers.Mark.{Mark}
+use Rattle.std.proofs.Common.{ℕ, zero, ◌≡◌, ◌<◌, ◌≤◌, ◌+◌, true, List, replicate, Some, Result, Ok, Err, refl, sym, ap, subst, ◌∙◌, arith, rules}
+use Rattle.wear_session.proofs.Common.{none-some, true≢false, get_or-replicate, Line, Mark, line_at, zero_line, Shape, IsShape, Device, BoardMemory, device_of, LedgerState, AreInRange, Setup, plain_memory, EngineState, IsSound, Parts, parts_of, HasReadLine, HasFormatted, Gapped, GapFault, first_wear, recorded, IsLevelled, HasGappedOpened, HasReadRecord, logical_lines, zero_levelled, least_lines, IsNewWear, wear_in, WearParts, IsWearWorld, wear_of}
 use Rattle.pmem_base.specs.Layout as layout
-use Rattle.pmem_base.specs.Layout.{page_of}
-use Rattle.pmem_base.specs.Lines.{line_at, zero_line}
-use Rattle.pmem_base.specs.Shape.{Shape, IsShape}
-use Rattle.board.specs.Counts.{RisesBy}
-use Rattle.board.specs.Device.{Device}
-use Rattle.board.specs.Memory.{BoardMemory, device_of}
-use Rattle.meta_path.specs.Fetching.{spilled}
-use Rattle.seal_ledger.specs.Ledger.{LedgerState}
-use Rattle.suite.specs.Formulas.{AreInRange}
-use Rattle.suite.specs.Setup.{Setup}
-use Rattle.plain_model.specs.View.{IsMemoryOf, plain_memory}
-use Rattle.plain_model.specs.Bounds.{path_length}
-use Rattle.plain_model.proofs.PlainMemory.{memory_is}
+use Rattle.line_session.specs.State.{IsNewSession}
 use Rattle.pmem_engine.specs.declared.fault.Fault.TheVariants as Fail
-use Rattle.pmem_engine.specs.Engine.{EngineState}
-use Rattle.pmem_engine.specs.Invariants.{IsSound}
-use Rattle.pmem_engine.specs.Parts.{Parts, parts_of}
-use Rattle.pmem_engine.specs.Outcomes.{going, OneLossEffect}
-use Rattle.pmem_engine.specs.Calls.{HasReadLine}
-use Rattle.pmem_recovery.specs.Formatting.{HasFormatted}
-use Rattle.start_gap.specs.declared.gapped.Gapped.{Gapped}
-use Rattle.start_gap.specs.declared.gapped.GapFault.{GapFault}
 use Rattle.start_gap.specs.declared.gapped.GapFault.TheVariants as Gap
-use Rattle.start_gap.specs.Wear.{first_wear}
-use Rattle.start_gap.specs.Record.{recorded}
-use Rattle.start_gap.specs.Logical.{IsLevelled}
-use Rattle.start_gap.specs.Gapped.{HasGappedOpened, HasReadRecord, logical_lines}
-use Rattle.start_gap.proofs.LevelledMemory.{zero_levelled}
-use Rattle.engine_lines.proofs.EngineLines.{least_lines}
-use Rattle.line_session.proofs.NewDevices.{none_to_write, few_data}
-use Rattle.wear_session.specs.State.{IsNewWear}
-use Rattle.wear_session.specs.World.{WearParts, IsWearWorld, wear_in, wear_of}
+use Rattle.line_session.proofs.NewDevices.{few_data}
+use Rattle.line_session.proofs.NewSessions.{zero_places, marks_stay, sound_after, new_session}
 use Rattle.wear_session.proofs.Levels.{wear_is, memory_held, levelled_is}
 use Rattle.wear_session.proofs.Worlds.{on_of}
 
@@ -87,20 +54,8 @@ module _ (c : NewWearCall) where
   sound : IsSound c.setup c.engine c.middle.lines c.middle.regs c.ledger_middle
   sound = c.formatted.sound c.middle.lines refl
 
-  -- ---- zero lines
-
-  zeros : IsMemoryOf c.setup c.ledger_middle.marks (replicate (layout.data_lines g) zero_line)
-  zeros =
-      record {
-        count = length-replicate (layout.data_lines g) zero_line;
-        each =
-            λ a within.
-            c.formatted.plain a within
-            ∙ ap (λ (l : Line). Some l) (sym (get_or-replicate (layout.data_lines g) a zero_line zero_line within));
-      }
-
   places : plain_memory c.setup c.ledger_middle.marks ≡ replicate (layout.data_lines g) zero_line
-  places = memory_is c.setup c.ledger_middle.marks (replicate (layout.data_lines g) zero_line) zeros
+  places = zero_places c.setup c.start c.middle c.ledger_middle c.engine c.formatted
 
   size : n + 2 ≡ layout.data_lines g
   size = let least = least_lines g in omega (arith, least)
@@ -126,9 +81,6 @@ module _ (c : NewWearCall) where
 
   -- ---- the answers
 
-  lit : c.middle.powered ≡ true
-  lit = (and_parts c.middle.powered (is_none c.middle.fuse) c.formatted.steady).0
-
   abbrev pub held : Gapped → WearParts
   held gapped = record { keys = c.keys; tags = c.tags_new; digests = c.digests_new; every = c.every; board = c.board; ledger = c.ledger; gapped = Some gapped }
 
@@ -136,24 +88,15 @@ module _ (c : NewWearCall) where
     was : HasReadLine c.setup (n + 1) from (to gapped.engine) (Ok line)
     was = subst (λ k. HasReadLine c.setup (k + 1) from (to gapped.engine) (Ok line)) read.its_lines read.was_read
 
-    effect : OneLossEffect c.setup going [] from (to gapped.engine)
-    effect = was.done sound.trusted.not_down
-
     marks : c.ledger.marks ≡ c.ledger_middle.marks
-    marks = effect.gone.marks ∙ append-nil c.ledger_middle.marks
+    marks =
+        marks_stay c.setup c.start c.middle c.ledger_middle c.engine c.formatted c.board c.ledger_middle c.ledger refl gapped.engine c.tags c.digests
+        c.tags_new c.digests_new (n + 1) line was
 
-    powered : c.board.powered ≡ true
-    powered = effect.gone.power.1 lit
-
-    steady : (c.board.powered && is_none c.board.fuse) ≡ true
-    steady = effect.gone.power.0 c.formatted.steady
-
-    no_fuse : c.board.fuse ≡ None
-    no_fuse = go c.board.fuse (and_parts c.board.powered (is_none c.board.fuse) steady).1
-      where
-        go : (fuse : Option ℕ) → is_none fuse ≡ true → fuse ≡ None
-        go None is = refl
-        go (Some k) is = absurd (true≢false (sym is))
+    new : IsNewSession c.setup (wear_of c.setup (held gapped)).session
+    new =
+        new_session c.setup c.start c.middle c.ledger_middle c.engine c.formatted c.board c.ledger_middle c.ledger refl gapped.engine c.tags c.digests
+        c.tags_new c.digests_new (n + 1) line was c.start_writes c.start_latches c.start_cuts c.keys
 
     its_wear : gapped.wear ≡ first_wear n
     its_wear =
@@ -172,36 +115,20 @@ module _ (c : NewWearCall) where
     new_world =
         on_of c.setup (held gapped) gapped refl c.whole_shape c.in_range c.some_every
         (levelled_is c.setup (plain_memory c.setup c.ledger.marks) (replicate n zero_line) (first_wear n) levelled)
-        powered (effect.gone.sound sound) read.its_every (its_wear ∙ sym wear_first)
-
-    -- no line was written back
-    no_write : c.board.writes ≡ c.middle.writes
-    no_write =
-        (was.work (search rules)).work.no_write
-        (ap (λ (l : List (ℕ × Line)). length l + 0)
-        (ap (λ (e : EngineState). spilled g e.cache (page_of (n + 1)) (path_length g)) c.formatted.engine_new
-        ∙ none_to_write g (page_of (n + 1)) (path_length g)))
-
-    no_latch : c.board.latches ≡ c.middle.latches
-    no_latch = (was.work (search rules)).work.no_latch refl
+        new.power
+        (sound_after c.setup c.start c.middle c.ledger_middle c.engine c.formatted c.board c.ledger_middle c.ledger refl gapped.engine c.tags c.digests
+        c.tags_new c.digests_new (n + 1) line was)
+        read.its_every (its_wear ∙ sym wear_first)
 
     pub new_state : IsNewWear c.setup c.every (wear_of c.setup (held gapped))
     new_state =
         record {
-          shape = refl;
+          session = new;
           its_every = refl;
           some_every = c.some_every;
           memory = memory_held c.setup (plain_memory c.setup c.ledger.marks) (replicate n zero_line) (first_wear n) levelled;
           wear = wear_first;
           count = read.no_writes;
-          power = powered;
-          fuse = no_fuse;
-          loss = effect.loss ∙ ap (λ (r : Regs). r.loss) c.formatted.regs;
-          marks = marks ∙ c.formatted.marks;
-          writes =
-              subst₂ (λ before after. RisesBy (layout.device_lines g) before after) c.start_writes (sym no_write) c.formatted.writes;
-          latches = subst₂ (λ before after. RisesBy 1 before after) c.start_latches (sym no_latch) c.formatted.latches;
-          cuts = effect.gone.power.2 ∙ c.formatted.cuts ∙ c.start_cuts;
         }
 
   -- the lines are opened

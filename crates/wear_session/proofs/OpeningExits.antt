@@ -1,53 +1,16 @@
 -- Power comes on, as the session's fields have it: what is held after recovery and the opening, and what is answered.
-use Rattle.std.proofs.Common.{ℕ, ◌≡◌, ◌<◌, ◌≤◌, ◌+◌, ◌++◌, ◌⊎◌, inl, inr, true, false, List, [], length, Option, Some, None, Result, Ok, Err, refl, sym, ap, subst, ◌∙◌, arith}
-use Rattle.std.specs.Prelude.{unwrap_or, option_map, ⊤, if◌then◌else◌}
-use Rattle.std.proofs.lemmas.Option.{none-some, same_Some}
-use Rattle.std.proofs.lemmas.List.{append-nil}
-use Rattle.pmem_base.specs.declared.lines.Line.{Line}
-use Rattle.pmem_base.specs.declared.answers.Mark.{Mark}
-use Rattle.pmem_base.specs.declared.answers.Exhibit.TheVariants.{Twin}
+use Rattle.std.proofs.Common.{ℕ, ◌≡◌, ◌<◌, ◌≤◌, ◌+◌, ◌++◌, ◌⊎◌, inl, inr, true, false, cond, List, [], length, Option, Some, None, Result, Ok, Err, refl, sym, ap, subst, ◌∙◌, arith}
+use Rattle.wear_session.proofs.Common.{unwrap_or, option_map, if◌then◌else◌, true≢false, none-some, same_Some, append-nil, Line, Mark, Twin, Device, BoardMemory, ended, Follows, LedgerState, Setup, plain_memory, recovery_bound, EngineState, Parts, parts_of, new_engine, Chip, chip_of, IsDurable, TakesAtMost, TakesFewer, HasReadLine, sound_trusted, Work, RecFault, suite_state, SuiteState, suite_counts, counts_of, HasRecovered, most_recovery_steps, Wear, Gapped, GapFault, recorded, IsLevelled, HasReadRecord, logical_lines, open_plan, steps_in, step_limit, device_during, none_taken, IsWatched, at_most, fewer, StartFault, WearAnswer, OpeningRelation, HasStartedBy, HasOpenedAfter, started_as, has_started, HasLinesOpened, IsWearCalled, open_call, open_said, WearState, wear_setup_in, wear_in, levelled_memory, WearParts, IsWearWorld, IsLevelledOff, IsLevelledBy, wear_of, IsWearAnswered, IsWearShownBy, IsWearMemoryWanted, HasWearOpened, wear_decided, read_steps, setup_under, fewer_within, AreDone, read_line, read_done, read_cut, refused_from}
 use Rattle.pmem_base.specs.Layout as layout
-use Rattle.board.specs.Device.{Device}
-use Rattle.board.specs.Memory.{BoardMemory}
-use Rattle.seal_ledger.specs.Ledger.{LedgerState}
-use Rattle.suite.specs.Setup.{Setup}
-use Rattle.plain_model.specs.View.{plain_memory}
-use Rattle.plain_model.specs.Bounds.{recovery_bound}
 use Rattle.pmem_engine.specs.declared.fault.Fault.TheVariants as Fail
-use Rattle.pmem_engine.specs.Engine.{EngineState}
-use Rattle.pmem_engine.specs.Parts.{Parts, parts_of}
-use Rattle.pmem_engine.specs.Invariants.{IsDurable}
-use Rattle.pmem_engine.specs.Outcomes.{TakesAtMost, TakesFewer}
-use Rattle.pmem_engine.specs.Calls.{HasReadLine}
-use Rattle.pmem_engine.proofs.CallEnds.StillParts.{sound_trusted}
-use Rattle.pmem_recovery.specs.declared.faults.Work.{Work}
-use Rattle.pmem_recovery.specs.declared.faults.RecFault.{RecFault}
 use Rattle.pmem_recovery.specs.declared.faults.RecFault.TheVariants as Rec
-use Rattle.pmem_recovery.specs.Parts.{SuiteState}
-use Rattle.pmem_recovery.specs.Recovered.{HasRecovered, most_recovery_steps}
-use Rattle.start_gap.specs.declared.wear.Wear.{Wear}
-use Rattle.start_gap.specs.declared.gapped.Gapped.{Gapped}
-use Rattle.start_gap.specs.declared.gapped.GapFault.{GapFault}
 use Rattle.start_gap.specs.declared.gapped.GapFault.TheVariants as Gap
-use Rattle.start_gap.specs.Record.{recorded}
-use Rattle.start_gap.specs.Logical.{IsLevelled}
-use Rattle.start_gap.specs.Gapped.{HasGappedOpened, HasReadRecord, logical_lines}
-use Rattle.watched_board.specs.Watching.{steps_in, device_during, none_taken, IsWatched}
-use Rattle.watched_board.proofs.StepLaws.{at_most, fewer}
-use Rattle.line_session.specs.declared.starts.StartFault.{StartFault}
 use Rattle.line_session.specs.declared.starts.StartFault.TheVariants as Start
 use Rattle.wear_session.specs.declared.commands.WearCommand.TheVariants as Do
-use Rattle.wear_session.specs.declared.answers.WearAnswer.{WearAnswer}
 use Rattle.wear_session.specs.declared.answers.WearAnswer.TheVariants as Say
-use Rattle.line_session.specs.During.{OpeningRelation, HasStartedBy, HasOpenedAfter, started_as}
-use Rattle.wear_session.specs.StoreCalls.{HasLinesOpened}
-use Rattle.wear_session.specs.State.{WearState, wear_setup_in}
-use Rattle.wear_session.specs.World.{WearParts, IsWearWorld, IsLevelledOff, IsLevelledBy, wear_in, levelled_memory, wear_of}
-use Rattle.wear_session.specs.Answered.{IsWearAnswered, IsWearShownBy, IsWearMemoryWanted, HasWearOpened, wear_decided, with_power}
-use Rattle.wear_session.proofs.Worlds.{goes_to, cut_off, on_after, off_after}
-use Rattle.engine_lines.specs.Writes.{read_steps}
-use Rattle.engine_lines.proofs.EngineLines.{setup_under}
-use Rattle.engine_lines.proofs.EngineWrites.{fewer_within, AreDone, read_line, read_done, read_cut}
+use Rattle.line_session.specs.Started.{start_plan}
+use Rattle.line_session.proofs.StartPlans.{start_follows, start_stopped}
+use Rattle.wear_session.proofs.Worlds.{on_after, off_after}
 use Rattle.wear_session.proofs.AnswerClauses.{served, seen_from, held_under}
 use Rattle.wear_session.proofs.Starts.{OnWearCall, few_of_on}
 use Rattle.line_session.proofs.Twins.{seal_twin}
@@ -77,6 +40,9 @@ module _ (c : OnWearCall) where
   abbrev to : Device
   to = device_during c.board c.taken
 
+  abbrev suite_old : SuiteState
+  suite_old = suite_state p.keys c.pads_old p.tags p.digests
+
   abbrev most : ℕ
   most = recovery_bound c.geometry + read_steps c.geometry
 
@@ -95,8 +61,8 @@ module _ (c : OnWearCall) where
   abbrev opens : OpeningRelation Gapped GapFault
   opens = λ start now. HasLinesOpened setup p.every start now
 
-  started : HasStartedBy setup opens from to p.ledger c.ledger c.suite_old c.suite_new c.answer
-  started = subst (λ b. HasStartedBy setup opens (device_during b none_taken) to p.ledger c.ledger c.suite_old c.suite_new c.answer) c.lit_is c.started
+  started : HasStartedBy setup opens from to p.ledger c.ledger suite_old c.suite_new c.answer
+  started = subst (λ b. HasStartedBy setup opens (device_during b none_taken) to p.ledger c.ledger suite_old c.suite_new c.answer) c.lit_is c.started
 
   no_count : old.count ≡ 0
   no_count = ap (λ (g : Option Gapped). unwrap_or (option_map (λ (k : Gapped). k.count) g) 0) c.there
@@ -104,8 +70,48 @@ module _ (c : OnWearCall) where
   on_decided : wear_decided old Do.On ≡ None
   on_decided = ap (λ b. if b then Some Say.Already else None) off.unpowered
 
-  undecided : (answer : WearAnswer) (new : WearState) → HasWearOpened old answer new → IsWearAnswered setup old Do.On answer new
-  undecided answer new it = served setup old new Do.On answer on_decided it
+  undecided : (answer : WearAnswer) (new : WearState) → HasWearOpened old answer new → IsWearCalled setup old Do.On answer new
+      → IsWearAnswered setup old Do.On answer new
+  undecided answer new it called = served setup old new Do.On answer on_decided it called
+
+  -- ---- the call of the session
+
+  abbrev chip : EngineState → Chip
+  chip now = chip_of now c.ledger c.suite_new.tags c.suite_new.digests
+
+  -- power was turned on along this plan
+  abbrev IsStartedBy : Result Wear (StartFault GapFault) → EngineState → Type 0
+  IsStartedBy end now =
+      Follows (start_plan setup p.ledger (open_call setup) lit.regs (suite_counts p.tags p.digests)) from to (ended end (chip now))
+
+  called : (gapped : Option Gapped) (said : WearAnswer) (now : EngineState) (end : Result Wear (StartFault GapFault))
+      → (wear_of setup (left c.board gapped)).session.engine ≡ cond c.board.powered (Some now) None → (c.board.powered ≡ false → steps_in c.taken < step_limit)
+      → IsStartedBy end now
+      → (let last : WearAnswer × ℕ = (said, (wear_of setup (left c.board gapped)).count) in
+      last ≡ open_said (wear_of setup (left c.board gapped)).session (steps_in c.taken) end)
+      → IsWearCalled setup old Do.On said (wear_of setup (left c.board gapped))
+  called gapped said now end kept within follows is = (
+    record {
+      steps = steps_in c.taken;
+      end = end;
+      called =
+          has_started setup (open_call setup) end old.session (wear_of setup (left c.board gapped)).session now c.taken
+          (ap (option_map (λ (k : Gapped). k.engine)) c.there) kept refl refl watched within follows;
+      is_said = is;
+    },
+    refl,
+  )
+
+  dark_call : (now : EngineState) (end : Result Wear (StartFault GapFault)) → HasWearOpened old (Say.Cut (steps_in c.taken)) (wear_of setup (left c.board None))
+      → IsStartedBy end now
+      → (let last : WearAnswer × ℕ = (Say.Cut (steps_in c.taken), 0) in
+      last ≡ open_said (wear_of setup (left c.board None)).session (steps_in c.taken) end)
+      → IsWearCalled setup old Do.On (Say.Cut (steps_in c.taken)) (wear_of setup (left c.board None))
+  dark_call now end cut follows is =
+      let small = few_of_on c.geometry c.world.whole_shape in
+      let below = cut.1 in
+      called None (Say.Cut (steps_in c.taken)) now end (sym (ap (λ b. cond b (Some now) None) cut.0.power)) (λ dark. omega (arith, small, below))
+      follows is
 
   -- ---- where no mark is made
 
@@ -129,60 +135,27 @@ module _ (c : OnWearCall) where
     -- power was cut
     cut_seen : c.board.powered ≡ false → c.board.regs.loss ≡ p.board.regs.loss → TakesFewer most from to
         → HasWearOpened old (Say.Cut (steps_in c.taken)) (wear_of setup (left c.board None))
-    cut_seen dark loss takes =
-        let it =
-        cut_off setup (record p { board = lit }) (left c.board None) c.taken watched old most dark
-        (fewer c.taken most watched.follows.few takes.sum) (few_of_on c.geometry c.world.whole_shape)
-        (record {
-          shape = refl;
-          keys = refl;
-          every = refl;
-          memory = same_memory;
-          wear = same_wear;
-          count = refl;
-          power = dark;
-          loss = loss;
-          marks = marks;
-        }) in
-        record {
-          becomes = it.becomes;
-          rises = it.rises;
-          below = it.below;
-          fuse = it.fuse;
-        }
+    cut_seen dark loss takes = (
+      record { memory = same_memory; wear = same_wear; count = refl; power = dark; loss = loss; marks = marks },
+      fewer c.taken most watched.follows.few takes.sum,
+    )
 
     open_seen : (gapped : Gapped) → c.board.powered ≡ true → c.board.regs.loss ≡ p.board.regs.loss → TakesAtMost most from to
         → gapped.count ≡ 0 → gapped.wear ≡ old.wear
         → HasWearOpened old (Say.Opened gapped.wear.start gapped.wear.gap (steps_in c.taken)) (wear_of setup (left c.board (Some gapped)))
-    open_seen gapped powered loss takes none its_wear =
-        let it =
-        goes_to setup (record p { board = lit }) (left c.board (Some gapped)) c.taken watched (with_power old) most powered
-        (at_most c.taken most watched.follows.few takes.sum)
-        (record {
-          shape = refl;
-          keys = refl;
-          every = refl;
-          memory = same_memory;
-          wear = same_wear;
-          count = none;
-          power = powered;
-          loss = loss;
-          marks = marks;
-        }) in (
-          ap (λ (w : Wear). w.start) its_wear,
-          ap (λ (w : Wear). w.gap) its_wear,
-          record {
-            becomes = it.becomes;
-            rises = it.rises;
-            few = it.few;
-            fuse = it.fuse;
-          },
-        )
+    open_seen gapped powered loss takes none its_wear = (
+      ap (λ (w : Wear). w.start) its_wear,
+      ap (λ (w : Wear). w.gap) its_wear,
+      (
+        record { memory = same_memory; wear = same_wear; count = none; power = powered; loss = loss; marks = marks },
+        at_most c.taken most watched.follows.few takes.sum,
+      ),
+    )
 
   -- ---- recovery is done
 
   module _ (between : Device) (suite_between : SuiteState) (engine : EngineState) (work : Work)
-      (it : HasRecovered setup p.ledger from between c.suite_old suite_between (Ok (engine, work))) where
+      (it : HasRecovered setup p.ledger from between suite_old suite_between (Ok (engine, work))) where
     abbrev parts_from : Parts
     parts_from = parts_of engine from p.ledger suite_between.tags suite_between.digests
 
@@ -190,7 +163,7 @@ module _ (c : OnWearCall) where
     parts_between = parts_of engine between p.ledger suite_between.tags suite_between.digests
 
     abbrev recovered_to : AreDone setup parts_from [] [] (recovery_bound c.geometry) parts_between
-    recovered_to = recovered setup p.ledger lit between c.suite_old suite_between engine work it off.durable refl c.world.few_armed
+    recovered_to = recovered setup p.ledger lit between suite_old suite_between engine work it off.durable refl c.world.few_armed
 
     record_inside : logical_lines c.geometry + 1 < layout.data_lines c.geometry
     record_inside =
@@ -214,11 +187,12 @@ module _ (c : OnWearCall) where
       × IsWearAnswered (wear_setup_in c.formulas_of c.now) c.now Do.On answer (wear_of (setup_under c.formulas_of c.geometry c.keys) (left_under board gapped))
 
   exit_of : (board : BoardMemory) (gapped : Option Gapped) (answer : WearAnswer) → IsWearWorld setup (left board gapped)
-      → HasWearOpened old answer (wear_of setup (left board gapped)) → WearExit board gapped answer
-  exit_of board gapped answer world it = (
+      → HasWearOpened old answer (wear_of setup (left board gapped)) → IsWearCalled setup old Do.On answer (wear_of setup (left board gapped))
+      → WearExit board gapped answer
+  exit_of board gapped answer world it called = (
     held_under c.formulas_of c.geometry p (left board gapped) c.keys c.same_keys world,
     seen_from c.formulas_of c.geometry p (left board gapped) c.now c.keys Do.On answer c.is c.same_keys refl
-        (undecided answer (wear_of setup (left board gapped)) it),
+        (undecided answer (wear_of setup (left board gapped)) it called),
   )
 
   -- what an exit says, whatever steps are answered
@@ -231,7 +205,7 @@ module _ (c : OnWearCall) where
   rested = record c.board { powered = false }
 
   -- what holds after each answer of recovery and the opening
-  abbrev WearOutcome : Result Gapped (StartFault GapFault) → Type 0
+  abbrev pub WearOutcome : Result Gapped (StartFault GapFault) → Type 0
   WearOutcome (Ok gapped) = WearExit c.board (Some gapped) (Say.Opened gapped.wear.start gapped.wear.gap (steps_in c.taken))
   WearOutcome (Err (Start.Recovery Rec.Cut)) = WearExit c.board None (Say.Cut (steps_in c.taken))
   WearOutcome (Err (Start.Opening (Gap.Engine Fail.Cut))) = WearExit c.board None (Say.Cut (steps_in c.taken))
@@ -243,7 +217,7 @@ module _ (c : OnWearCall) where
   -- ---- the record was read, or power was cut in the reading
 
   module _ (between : Device) (suite_between : SuiteState) (engine : EngineState) (work : Work)
-      (it : HasRecovered setup p.ledger from between c.suite_old suite_between (Ok (engine, work))) where
+      (it : HasRecovered setup p.ledger from between suite_old suite_between (Ok (engine, work))) where
     abbrev bound : ℕ
     bound = recovery_bound c.geometry
 
@@ -253,10 +227,16 @@ module _ (c : OnWearCall) where
     no_marks : (marks : List Mark) → c.ledger.marks ≡ p.ledger.marks ++ [] → c.ledger.marks ≡ p.ledger.marks
     no_marks marks same = same ∙ append-nil p.ledger.marks
 
+    started_along : (answer : Result Wear GapFault) (now : EngineState)
+        → Follows (open_plan setup between.regs (chip_of engine p.ledger suite_between.tags suite_between.digests)) between to (ended answer (chip now))
+        → IsStartedBy (started_as answer) now
+    started_along answer now opens =
+        start_follows setup p.ledger (open_call setup) (counts_of suite_old) (counts_of suite_between) (engine, work) answer (chip now) it.plan opens
+
     opened_exit : (gapped : Gapped) (line : Line)
         → HasReadRecord setup p.every line (parts_between between suite_between engine work it) (parts_to gapped.engine) gapped
-        → WearOutcome (Ok gapped)
-    opened_exit gapped line read =
+        → IsStartedBy (Ok gapped.wear) gapped.engine → WearOutcome (Ok gapped)
+    opened_exit gapped line read along =
         let start = parts_from between suite_between engine work it in
         let middle = parts_between between suite_between engine work it in
         let was : HasReadLine setup (logical_lines c.geometry + 1) middle (parts_to gapped.engine) (Ok line) =
@@ -269,63 +249,71 @@ module _ (c : OnWearCall) where
         exit_of c.board (Some gapped) (Say.Opened gapped.wear.start gapped.wear.gap (steps_in c.taken))
         (on_after setup p c.suite_new.tags c.suite_new.digests c.board c.ledger c.world (levelled marks) gapped done.live done.sound read.its_every (its_wear ∙ sym (same_wear marks)))
         (open_seen marks gapped done.live done.loss done.takes read.no_writes its_wear)
+        (called (Some gapped) (Say.Opened gapped.wear.start gapped.wear.gap (steps_in c.taken)) gapped.engine (Ok gapped.wear)
+        (sym (ap (λ b. cond b (Some gapped.engine) None) done.live)) (λ dark. absurd (true≢false (sym done.live ∙ dark))) along
+        (ap (λ (k : ℕ). (let last : WearAnswer × ℕ = (Say.Opened gapped.wear.start gapped.wear.gap (steps_in c.taken), k) in last)) read.no_writes))
 
     read_cut_exit : (dropped : EngineState)
         → HasReadLine setup (logical_lines c.geometry + 1) (parts_between between suite_between engine work it) (parts_to dropped) (Err Fail.Cut)
-        → WearExit c.board None (Say.Cut (steps_in c.taken))
-    read_cut_exit dropped was =
+        → (now : EngineState) → IsStartedBy (Err (Start.Opening (Gap.Engine Fail.Cut))) now → WearExit c.board None (Say.Cut (steps_in c.taken))
+    read_cut_exit dropped was now along =
         let start = parts_from between suite_between engine work it in
         let middle = parts_between between suite_between engine work it in
         let cut = read_cut setup start middle [] [] bound (recovered_to between suite_between engine work it) (logical_lines c.geometry + 1) (parts_to dropped) was in
         let marks = no_marks [] cut.marks in
-        exit_of c.board None (Say.Cut (steps_in c.taken)) (dark_world marks c.board cut.dark cut.durable cut.small_group)
-        (cut_seen marks cut.dark cut.loss cut.takes)
+        let seen = cut_seen marks cut.dark cut.loss cut.takes in
+        exit_of c.board None (Say.Cut (steps_in c.taken)) (dark_world marks c.board cut.dark cut.durable cut.small_group) seen
+        (dark_call now (Err (Start.Opening (Gap.Engine Fail.Cut))) seen along refl)
 
-    by_opened : (opened : Result Gapped GapFault) → HasGappedOpened setup p.every (parts_between between suite_between engine work it) parts_to opened
+    by_opened : (opened : Result Gapped GapFault) → HasLinesOpened setup p.every (parts_between between suite_between engine work it) parts_to opened
         → WearOutcome (started_as opened)
-    by_opened (Ok gapped) opened = opened_exit gapped opened.0 opened.1
-    by_opened (Err (Gap.Engine Fail.Cut)) opened = read_cut_exit opened.0 opened.1
-    by_opened (Err (Gap.Engine (Fail.Spent page))) opened = absurd opened.1.possible
-    by_opened (Err (Gap.BadWear line)) opened =
-        absurd (none-some old.wear (sym opened.2 ∙ record_read between suite_between engine work it (parts_to opened.0) line opened.1))
-    by_opened (Err (Gap.Engine fault)) opened =
-        let sound = sound_recovered setup p.ledger lit between c.suite_old suite_between engine work it off.durable in
-        absurd (opened.1.unrefused (sound_trusted setup (parts_between between suite_between engine work it) sound).not_down sound)
+    by_opened (Ok gapped) its = opened_exit gapped its.was_opened.0 its.was_opened.1 (started_along (Ok gapped.wear) gapped.engine its.plan)
+    by_opened (Err (Gap.Engine Fail.Cut)) its =
+        read_cut_exit its.was_opened.0 its.was_opened.1 its.plan.0 (started_along (Err (Gap.Engine Fail.Cut)) its.plan.0 its.plan.1)
+    by_opened (Err (Gap.Engine (Fail.Spent page))) its = absurd its.was_opened.1.possible
+    by_opened (Err (Gap.BadWear line)) its =
+        absurd (none-some old.wear (sym its.was_opened.2 ∙ record_read between suite_between engine work it (parts_to its.was_opened.0) line its.was_opened.1))
+    by_opened (Err (Gap.Engine fault)) its =
+        let sound = sound_recovered setup p.ledger lit between suite_old suite_between engine work it off.durable in
+        absurd (its.was_opened.1.unrefused (sound_trusted setup (parts_between between suite_between engine work it) sound).not_down sound)
 
   -- ---- recovery wasn't done
 
-  recovery_cut : (suite_between : SuiteState) → HasRecovered setup p.ledger from to c.suite_old suite_between (Err Rec.Cut) → c.ledger ≡ p.ledger
-      → WearExit c.board None (Say.Cut (steps_in c.taken))
-  recovery_cut suite_between it ledger =
+  recovery_cut : (suite_between : SuiteState) → HasRecovered setup p.ledger from to suite_old suite_between (Err Rec.Cut) → c.ledger ≡ p.ledger
+      → c.suite_new ≡ suite_between → WearExit c.board None (Say.Cut (steps_in c.taken))
+  recovery_cut suite_between it ledger suite =
       let marks : c.ledger.marks ≡ p.ledger.marks = ap (λ (l : LedgerState). l.marks) ledger in
-      let is = cut_left setup p.ledger c.ledger lit c.board c.taken c.suite_old suite_between ledger off.durable c.world.few_armed it in
+      let is = cut_left setup p.ledger c.ledger lit c.board c.taken suite_old suite_between ledger off.durable c.world.few_armed it in
       let dark : c.board.powered ≡ false = it.power.off in
-      exit_of c.board None (Say.Cut (steps_in c.taken)) (dark_world marks c.board dark is.durable is.few_armed)
-      (cut_seen marks dark is.loss
+      let seen =
+      cut_seen marks dark is.loss
       (fewer_within from to (most_recovery_steps setup lit.regs) most
-      (let few = few_recovery setup lit.regs c.world.few_armed in omega (arith, few)) it.steps))
+      (let few = few_recovery setup lit.regs c.world.few_armed in omega (arith, few)) it.steps) in
+      exit_of c.board None (Say.Cut (steps_in c.taken)) (dark_world marks c.board dark is.durable is.few_armed) seen
+      (dark_call (new_engine setup.shape) (Err (Start.Recovery Rec.Cut)) seen
+      (start_stopped setup p.ledger (open_call setup) from to (counts_of suite_old) suite_between Rec.Cut c.ledger c.suite_new it.plan ledger suite) refl)
 
   -- nothing was done, for want of memory
-  recovery_wanted : (suite_between : SuiteState) → HasRecovered setup p.ledger from to c.suite_old suite_between (Err Rec.Memory)
+  recovery_wanted : (suite_between : SuiteState) → HasRecovered setup p.ledger from to suite_old suite_between (Err Rec.Memory)
       → c.ledger ≡ p.ledger → c.suite_new ≡ suite_between → WearOutcome (Err (Start.Recovery Rec.Memory))
   recovery_wanted suite_between it ledger suite =
       let marks : c.ledger.marks ≡ p.ledger.marks = ap (λ (l : LedgerState). l.marks) ledger in
-      let is = wanted_left setup p.ledger c.ledger lit c.board c.taken c.suite_old suite_between ledger off.durable c.world.few_armed it in
+      let is = wanted_left setup p.ledger c.ledger lit c.board c.taken suite_old suite_between ledger off.durable c.world.few_armed it in
       let board = rests p.board lit c.board refl off.unpowered (untouched lit c.board c.taken watched it.unchanged refl) in
-      let uncounted : c.suite_new ≡ c.suite_old = suite ∙ it.uncounted in (
+      let uncounted : c.suite_new ≡ suite_old = suite ∙ it.uncounted in (
         dark_world marks rested refl is.durable is.few_armed,
         ap (wear_of setup)
-            (same_parts (left rested None) p (ap (λ (s : SuiteState). s.tags) uncounted ∙ c.tags_old) (ap (λ (s : SuiteState). s.digests) uncounted ∙ c.digests_old)
+            (same_parts (left rested None) p (ap (λ (s : SuiteState). s.tags) uncounted) (ap (λ (s : SuiteState). s.digests) uncounted)
             board ledger (sym c.there)),
       )
 
   recovery_twin : (suite_between : SuiteState) (at major low high : ℕ) (cipher : Line) (tag : List ℕ)
-      → HasRecovered setup p.ledger from to c.suite_old suite_between (Err (Rec.Twin at major low high cipher tag)) → c.ledger ≡ p.ledger
-      → WearOutcome (Err (Start.Recovery (Rec.Twin at major low high cipher tag)))
-  recovery_twin suite_between at major low high cipher tag it ledger =
+      → HasRecovered setup p.ledger from to suite_old suite_between (Err (Rec.Twin at major low high cipher tag)) → c.ledger ≡ p.ledger
+      → c.suite_new ≡ suite_between → WearOutcome (Err (Start.Recovery (Rec.Twin at major low high cipher tag)))
+  recovery_twin suite_between at major low high cipher tag it ledger suite =
       let marks : c.ledger.marks ≡ p.ledger.marks = ap (λ (l : LedgerState). l.marks) ledger in
-      let is = twin_left setup p.ledger c.ledger lit c.board c.taken c.suite_old suite_between ledger off.durable c.world.few_armed at major low high cipher tag it in
-      let within = twin_within setup p.ledger c.ledger lit c.board c.taken c.suite_old suite_between ledger off.durable c.world.few_armed at major low high cipher tag it in (
+      let is = twin_left setup p.ledger c.ledger lit c.board c.taken suite_old suite_between ledger off.durable c.world.few_armed at major low high cipher tag it in
+      let within = twin_within setup p.ledger c.ledger lit c.board c.taken suite_old suite_between ledger off.durable c.world.few_armed at major low high cipher tag it in (
         dark_world marks rested refl is.durable is.few_armed,
         (
           off.unpowered,
@@ -333,37 +321,39 @@ module _ (c : OnWearCall) where
           it.twin,
           seal_twin setup p.board.regs p.ledger (plain_memory setup p.ledger.marks) p.board.regs.loss at major low high cipher tag
               c.world.whole_formulas off.durable.mendable.anchored c.world.places within
-              (twin_of_last setup p.ledger c.ledger lit c.board c.taken c.suite_old suite_between ledger off.durable c.world.few_armed at major low high cipher tag it),
+              (twin_of_last setup p.ledger c.ledger lit c.board c.taken suite_old suite_between ledger off.durable c.world.few_armed at major low high cipher tag it),
+          refused_from setup (open_call setup) old.session c.board c.ledger suite_between c.suite_new c.taken (Rec.Twin at major low high cipher tag)
+              (ap (option_map (λ (k : Gapped). k.engine)) c.there) watched (it.power.live refl) it.plan ledger suite,
         ),
       )
 
   outcome : WearOutcome c.answer
   outcome = go started.recovery started.recovered started.then
     where
-      refused : (fault : RecFault) → HasRecovered setup p.ledger from started.between c.suite_old started.suite_between (Err fault) → to ≡ started.between
-          → HasRecovered setup p.ledger from to c.suite_old started.suite_between (Err fault)
+      refused : (fault : RecFault) → HasRecovered setup p.ledger from started.between suite_old started.suite_between (Err fault) → to ≡ started.between
+          → HasRecovered setup p.ledger from to suite_old started.suite_between (Err fault)
       refused fault it same =
-          subst (λ d. HasRecovered setup p.ledger from d c.suite_old started.suite_between (Err fault)) (sym same) it
+          subst (λ d. HasRecovered setup p.ledger from d suite_old started.suite_between (Err fault)) (sym same) it
 
       go : (recovery : Result (EngineState × Work) RecFault)
-          → HasRecovered setup p.ledger from started.between c.suite_old started.suite_between recovery
+          → HasRecovered setup p.ledger from started.between suite_old started.suite_between recovery
           → HasOpenedAfter recovery opens started.between to p.ledger c.ledger started.suite_between c.suite_new c.answer
           → WearOutcome c.answer
       go (Ok done) it later =
-          subst WearOutcome (sym later.2) (by_opened started.between started.suite_between done.0 done.1 it later.0 later.1.was_opened)
+          subst WearOutcome (sym later.2) (by_opened started.between started.suite_between done.0 done.1 it later.0 later.1)
       go (Err Rec.Cut) it later =
-          subst WearOutcome (sym later.0) (recovery_cut started.suite_between (refused Rec.Cut it later.1) later.2)
+          subst WearOutcome (sym later.0) (recovery_cut started.suite_between (refused Rec.Cut it later.1) later.2 later.3)
       go (Err Rec.Memory) it later =
           subst WearOutcome (sym later.0) (recovery_wanted started.suite_between (refused Rec.Memory it later.1) later.2 later.3)
       go (Err (Rec.Twin at major low high cipher tag)) it later =
           subst WearOutcome (sym later.0)
-          (recovery_twin started.suite_between at major low high cipher tag (refused (Rec.Twin at major low high cipher tag) it later.1) later.2)
+          (recovery_twin started.suite_between at major low high cipher tag (refused (Rec.Twin at major low high cipher tag) it later.1) later.2 later.3)
       go (Err fault) it later =
           absurd (((refused fault it later.1).lines p.board.lines refl c.board.lines refl).from_durable off.durable)
 
   -- ---- as contracts write it
 
-  outcome_as : (answer : Result Gapped (StartFault GapFault)) → c.answer ≡ answer → WearOutcome answer
+  pub outcome_as : (answer : Result Gapped (StartFault GapFault)) → c.answer ≡ answer → WearOutcome answer
   outcome_as answer is = subst WearOutcome is outcome
 
   pub open_exit : (gapped : Gapped) → c.answer ≡ Ok gapped
@@ -410,23 +400,3 @@ module _ (c : OnWearCall) where
           held_rested it.0,
           subst (λ (w : WearState). IsWearShownBy (wear_setup_in c.formulas_of w) w Do.On (Twin at major low high cipher tag)) c.is it.1,
         )
-
-  -- no other answer comes
-  abbrev pub IsWearPossible : Result Gapped (StartFault GapFault) → Type 0
-  IsWearPossible (Ok gapped) = ⊤
-  IsWearPossible (Err (Start.Recovery Rec.Cut)) = ⊤
-  IsWearPossible (Err (Start.Opening (Gap.Engine Fail.Cut))) = ⊤
-  IsWearPossible (Err (Start.Recovery Rec.Memory)) = ⊤
-  IsWearPossible (Err (Start.Recovery (Rec.Twin at major low high cipher tag))) = ⊤
-  IsWearPossible answer = ⊥
-
-  pub possible : (answer : Result Gapped (StartFault GapFault)) → c.answer ≡ answer → IsWearPossible answer
-  possible answer is = go answer (outcome_as answer is)
-    where
-      go : (answer : Result Gapped (StartFault GapFault)) → WearOutcome answer → IsWearPossible answer
-      go (Ok gapped) it = tt
-      go (Err (Start.Recovery Rec.Cut)) it = tt
-      go (Err (Start.Opening (Gap.Engine Fail.Cut))) it = tt
-      go (Err (Start.Recovery Rec.Memory)) it = tt
-      go (Err (Start.Recovery (Rec.Twin at major low high cipher tag))) it = tt
-      go answer it = absurd it

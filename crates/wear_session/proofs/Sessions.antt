@@ -1,26 +1,9 @@
 -- What the answers of a session promise: of one answer, and of each chain of them.
 use Rattle.std.proofs.Common.{ℕ, ◌≡◌, ◌<◌, ◌≤◌, ◌+◌, ◌%◌, ◌≢◌, ◌++◌, ◌⊎◌, inl, inr, Bool, true, false, cond, List, [], ◌∷◌, length, Some, None, refl, sym, ap, subst, subst₂, ◌∙◌, arith}
-use Rattle.std.specs.Prelude.{All, nat_lt, slice_set, ◌==◌, if◌then◌else◌}
-use Rattle.std.proofs.Math.Nat.{mod-eq_of_lt}
-use Rattle.std.proofs.lemmas.Bool.{true≢false, cases_eq, eq-eqb, ne_eqb}
-use Rattle.std.proofs.lemmas.Option.{same_Some}
-use Rattle.std.proofs.lemmas.List.{append-nil}
-use Rattle.std.proofs.lemmas.List.Elements.{All-nil, All-cons}
-use Rattle.pmem_base.specs.declared.lines.Line.{Line}
-use Rattle.pmem_base.specs.declared.commands.Posted.{Posted}
-use Rattle.suite.specs.Setup.{Setup}
-use Rattle.plain_model.specs.State.{Memory, memory_with}
-use Rattle.plain_model.specs.Fits.{IsSpentNext}
-use Rattle.start_gap.specs.declared.wear.Wear.{Wear}
-use Rattle.start_gap.specs.Wear.{next_wear}
-use Rattle.start_gap.specs.Gapped.{logical_lines}
-use Rattle.wear_session.specs.declared.commands.WearCommand.{WearCommand}
+use Rattle.wear_session.proofs.Common.{All, nat_lt, slice_set, ◌==◌, if◌then◌else◌, mod-eq_of_lt, true≢false, cases_eq, eq-eqb, ne_eqb, same_Some, append-nil, All-nil, All-cons, Line, Posted, Setup, Memory, memory_with, IsSpentNext, Wear, next_wear, logical_lines, WearCommand, WearAnswer, WearState, wear_lines_in, places_in, place_in, is_due, moment_in, moving_writes, own_write, engine_writes, Writing, IsWearButForSteps, wear_without_power, IsWriting, HasWearWritten, HasWearRead, HasWearOpened, EndsWriting, IsWearAnswered, IsWearAnsweredAs, after_writing}
 use Rattle.wear_session.specs.declared.commands.WearCommand.TheVariants as Do
-use Rattle.wear_session.specs.declared.answers.WearAnswer.{WearAnswer}
 use Rattle.wear_session.specs.declared.answers.WearAnswer.TheVariants as Say
-use Rattle.wear_session.specs.State.{WearState, wear_lines_in, wear_places_in, place_in, is_due, wear_moment_in, moving_writes, own_write, engine_writes}
-use Rattle.engine_lines.specs.Writes.{Writing}
-use Rattle.wear_session.specs.Answered.{GoesToWearState, IsWearCutOff, IsWriting, HasWearWritten, HasWearRead, HasWearOpened, EndsWriting, IsWearAnswered, IsWearAnsweredAs, after_writing}
+use Rattle.wear_session.proofs.AnswerClauses.{kept_always}
 use Rattle.wear_session.proofs.Turns.{IsCounted, counted_by}
 use Rattle.wear_session.proofs.WriteLaws.{some_of, with_writes_is}
 use Rattle.wear_session.specs.Guarantees.{WearReply, AreWearAnswered, memory_with_reply, IsWearReadOf, AreReadAsWritten, Turning, is_turn, wear_turned, TurnsTo, AreTurned, no_turning, IsWearMendedAnswer, IsWearSpentAnswer, AreWearSpentAsUsedUp, IsWearKept, IsWearSpent}
@@ -31,56 +14,41 @@ abbrev turning_of : WearState → ℕ → Turning
 turning_of state w = record { wear = state.wear; written = w }
 
 -- the writes that the answers count, up to whole turns, are those that the session counts
-abbrev Counts : WearState → ℕ → Type 0
-Counts state w = state.board.powered ≡ true → state.count ≡ w % state.every
+abbrev Counts : ℕ → WearState → ℕ → Type 0
+Counts every state w = state.session.board.powered ≡ true → state.count ≡ w % every
 
 record IsWearStep (first next : WearState) (w : ℕ) (command : WearCommand) (answer : WearAnswer) : Type 0 where
-  shape : next.shape ≡ first.shape
-  its_every : next.every ≡ first.every
   read : IsWearReadOf first.memory command answer
   memory : next.memory ≡ memory_with_reply first.memory command answer
   after : ℕ
   turns : TurnsTo (wear_lines_in first) first.every (turning_of first w) command answer (turning_of next after)
-  count : Counts next after
+  count : Counts first.every next after
   mended : IsWearMendedAnswer command answer
 
 -- nothing changes that the answers tell
 record IsStill (first next : WearState) : Type 0 where
-  shape : next.shape ≡ first.shape
-  its_every : next.every ≡ first.every
   memory : next.memory ≡ first.memory
   wear : next.wear ≡ first.wear
-  count : next.board.powered ≡ true → (first.board.powered ≡ true) × (next.count ≡ first.count)
+  count : next.session.board.powered ≡ true → (first.session.board.powered ≡ true) × (next.count ≡ first.count)
 
 still_same : (first next : WearState) → next ≡ first → IsStill first next
 still_same first next is =
     subst (λ (s : WearState). IsStill first s) (sym is)
-    (record { shape = refl; its_every = refl; memory = refl; wear = refl; count = λ lit. (lit, refl) })
+    (record { memory = refl; wear = refl; count = λ lit. (lit, refl) })
 
-still_cut : (expected first next : WearState) (steps most : ℕ) → IsStill first expected → IsWearCutOff expected steps most first next → IsStill first next
-still_cut expected first next steps most same cut =
-    let it = cut.becomes in
-    record {
-      shape = it.shape ∙ same.shape;
-      its_every = it.every ∙ same.its_every;
-      memory = it.memory ∙ same.memory;
-      wear = it.wear ∙ same.wear;
-      count = λ lit. absurd (true≢false (sym lit ∙ it.power));
-    }
+still_cut : (first next : WearState) → IsWearButForSteps (wear_without_power first) next → IsStill first next
+still_cut first next it = record { memory = it.memory; wear = it.wear; count = λ lit. absurd (true≢false (sym lit ∙ it.power)) }
 
-still_counts : (first next : WearState) (w : ℕ) → Counts first w → IsStill first next → Counts next w
-still_counts first next w counts same lit =
-    let had = same.count lit in had.1 ∙ counts had.0 ∙ ap (λ e. w % e) (sym same.its_every)
+still_counts : (first next : WearState) (w : ℕ) → Counts first.every first w → IsStill first next → Counts first.every next w
+still_counts first next w counts same lit = let had = same.count lit in had.1 ∙ counts had.0
 
 -- an answer by which nothing of that changes
 still_step : (first next : WearState) (w : ℕ) (command : WearCommand) (answer : WearAnswer) → IsWearReadOf first.memory command answer
     → memory_with_reply first.memory command answer ≡ first.memory
     → ((new : Turning) → (new.wear ≡ first.wear) × (new.written ≡ w) → TurnsTo (wear_lines_in first) first.every (turning_of first w) command answer new)
-    → IsWearMendedAnswer command answer → Counts first w → IsStill first next → IsWearStep first next w command answer
+    → IsWearMendedAnswer command answer → Counts first.every first w → IsStill first next → IsWearStep first next w command answer
 still_step first next w command answer read memory turns mended counts same =
     record {
-      shape = same.shape;
-      its_every = same.its_every;
       read = read;
       memory = same.memory ∙ sym memory;
       after = w;
@@ -93,11 +61,9 @@ still_step first next w command answer read memory turns mended counts same =
 dark_step : (first next : WearState) (w : ℕ) (command : WearCommand) (answer : WearAnswer) → IsWearReadOf first.memory command answer
     → memory_with_reply first.memory command answer ≡ first.memory
     → ((new : Turning) → (new.wear ≡ first.wear) × (new.written ≡ 0) → TurnsTo (wear_lines_in first) first.every (turning_of first w) command answer new)
-    → IsWearMendedAnswer command answer → next.board.powered ≡ false → IsStill first next → IsWearStep first next w command answer
+    → IsWearMendedAnswer command answer → next.session.board.powered ≡ false → IsStill first next → IsWearStep first next w command answer
 dark_step first next w command answer read memory turns mended dark same =
     record {
-      shape = same.shape;
-      its_every = same.its_every;
       read = read;
       memory = same.memory ∙ sym memory;
       after = 0;
@@ -110,35 +76,27 @@ dark_step first next w command answer read memory turns mended dark same =
 
 -- so many engine writes were done
 record IsLeft (first next : WearState) (a : ℕ) (plain : Line) (k : ℕ) : Type 0 where
-  shape : next.shape ≡ first.shape
-  its_every : next.every ≡ first.every
   memory : next.memory ≡ cond (k == 0) first.memory (slice_set first.memory a plain)
   wear : next.wear ≡ cond (k == 0) first.wear (cond (k == 3) (next_wear (wear_lines_in first) first.wear) first.wear)
   count :
-      next.board.powered ≡ true
-      → (first.board.powered ≡ true) × (next.count ≡ cond (k == 0) first.count (cond (is_due first) 0 (first.count + 1)))
+      next.session.board.powered ≡ true
+      → (first.session.board.powered ≡ true) × (next.count ≡ cond (k == 0) first.count (cond (is_due first) 0 (first.count + 1)))
 
-left_going : (first next : WearState) (a : ℕ) (plain : Line) (writing : Writing) (steps most : ℕ)
-    → GoesToWearState (after_writing first a plain writing) steps most first next → IsLeft first next a plain writing.done
-left_going first next a plain writing steps most goes =
-    let it = goes.becomes in
+left_going : (first next : WearState) (a : ℕ) (plain : Line) (writing : Writing) → IsWearButForSteps (after_writing first a plain writing) next
+    → IsLeft first next a plain writing.done
+left_going first next a plain writing it =
     let is = with_writes_is first a plain writing.done in
     record {
-      shape = it.shape ∙ ap (λ (s : WearState). s.shape) is;
-      its_every = it.every ∙ ap (λ (s : WearState). s.every) is;
       memory = it.memory ∙ ap (λ (s : WearState). s.memory) is;
       wear = it.wear ∙ ap (λ (s : WearState). s.wear) is;
-      count = λ lit. (sym (it.power ∙ ap (λ (s : WearState). s.board.powered) is) ∙ lit, it.count ∙ ap (λ (s : WearState). s.count) is);
+      count = λ lit. (sym it.power ∙ lit, it.count ∙ ap (λ (s : WearState). s.count) is);
     }
 
-left_cut : (first next : WearState) (a : ℕ) (plain : Line) (writing : Writing) (steps most : ℕ)
-    → IsWearCutOff (after_writing first a plain writing) steps most first next → IsLeft first next a plain writing.done
-left_cut first next a plain writing steps most cut =
-    let it = cut.becomes in
+left_cut : (first next : WearState) (a : ℕ) (plain : Line) (writing : Writing)
+    → IsWearButForSteps (wear_without_power (after_writing first a plain writing)) next → IsLeft first next a plain writing.done
+left_cut first next a plain writing it =
     let is = with_writes_is first a plain writing.done in
     record {
-      shape = it.shape ∙ ap (λ (s : WearState). s.shape) is;
-      its_every = it.every ∙ ap (λ (s : WearState). s.every) is;
       memory = it.memory ∙ ap (λ (s : WearState). s.memory) is;
       wear = it.wear ∙ ap (λ (s : WearState). s.wear) is;
       count = λ lit. absurd (true≢false (sym lit ∙ it.power));
@@ -147,9 +105,9 @@ left_cut first next a plain writing steps most cut =
 still_left : (first next : WearState) (a : ℕ) (plain : Line) (k : ℕ) → k ≡ 0 → IsLeft first next a plain k → IsStill first next
 still_left first next a plain k none left =
     let it : IsLeft first next a plain 0 = subst (IsLeft first next a plain) none left in
-    record { shape = it.shape; its_every = it.its_every; memory = it.memory; wear = it.wear; count = it.count }
+    record { memory = it.memory; wear = it.wear; count = it.count }
 
-module _ (setup : Setup) (first next : WearState) (w a : ℕ) (plain : Line) (some : 1 ≤ first.every) (lit : first.board.powered ≡ true) (counts : Counts first w) where
+module _ (setup : Setup) (first next : WearState) (w a : ℕ) (plain : Line) (some : 1 ≤ first.every) (lit : first.session.board.powered ≡ true) (counts : Counts first.every first w) where
   abbrev writes : List Posted
   writes = engine_writes setup first a plain
 
@@ -164,7 +122,7 @@ module _ (setup : Setup) (first next : WearState) (w a : ℕ) (plain : Line) (so
   writes_long due is = long (is_due first) is
     where
       long : (d : Bool) → d ≡ due
-          → length (own_write first a plain ∷ (if d then moving_writes (wear_lines_in first) first.wear (memory_with (wear_places_in setup first) (own_write first a plain)) else []))
+          → length (own_write first a plain ∷ (if d then moving_writes (wear_lines_in first) first.wear (memory_with (places_in setup first.session) (own_write first a plain)) else []))
           ≡ (if due then 3 else 1)
       long true e = ap (λ b. if b then 3 else 1) e
       long false e = ap (λ b. if b then 3 else 1) e
@@ -177,16 +135,13 @@ module _ (setup : Setup) (first next : WearState) (w a : ℕ) (plain : Line) (so
       → IsWearStep first next w (Do.Write a plain) answer
   written_step k answer done left memory read mended turns =
       record {
-        shape = left.shape;
-        its_every = left.its_every;
         read = read;
         memory = left.memory ∙ some_of k first.memory (slice_set first.memory a plain) done ∙ sym memory;
         after = w + 1;
         turns = turns;
         count =
             λ lit.
-            (left.count lit).1 ∙ some_of k first.count (cond (is_due first) 0 (first.count + 1)) done ∙ its.next
-            ∙ ap (λ e. (w + 1) % e) (sym left.its_every);
+            (left.count lit).1 ∙ some_of k first.count (cond (is_due first) 0 (first.count + 1)) done ∙ its.next;
         mended = mended;
       }
 
@@ -233,7 +188,7 @@ module _ (setup : Setup) (first next : WearState) (w a : ℕ) (plain : Line) (so
       absurd (omega (arith, long, waits, done))
 
   kept_step : (writing : Writing) (steps : ℕ) (due : Bool) → is_due first ≡ due → 0 < writing.done → writing.done ≤ length writes
-      → next.board.powered ≡ false → IsLeft first next a plain writing.done → IsWearStep first next w (Do.Write a plain) (Say.CutKept steps)
+      → next.session.board.powered ≡ false → IsLeft first next a plain writing.done → IsWearStep first next w (Do.Write a plain) (Say.CutKept steps)
   kept_step writing steps due is done few dark left =
       let wears : (next.wear ≡ first.wear) ⊎ (next.wear ≡ wear_turned (wear_lines_in first) first.every (turning_of first w)) =
       elim (cases_eq writing.done 3) [
@@ -241,8 +196,6 @@ module _ (setup : Setup) (first next : WearState) (w a : ℕ) (plain : Line) (so
         | inr other ↦ inl (wear_kept writing.done done other left)
       ] in
       record {
-        shape = left.shape;
-        its_every = left.its_every;
         read = tt;
         memory = left.memory ∙ some_of writing.done first.memory (slice_set first.memory a plain) done;
         after = 0;
@@ -261,72 +214,56 @@ module _ (setup : Setup) (first next : WearState) (w a : ℕ) (plain : Line) (so
       writing : Writing
       writing = it.writing
 
-      go : (answer : WearAnswer) → IsWriting setup.formulas (wear_moment_in setup first) writes writing answer
+      go : (answer : WearAnswer) → IsWriting setup.formulas (moment_in setup first.session) writes writing answer
           → EndsWriting (after_writing first a plain writing) answer first next → IsWearStep first next w (Do.Write a plain) answer
-      go (Say.Written steps) came ends = all_step writing steps (is_due first) refl came.0 (left_going first next a plain writing steps _ ends)
+      go (Say.Written steps) came ends = all_step writing steps (is_due first) refl came.0 (left_going first next a plain writing ends.0)
       go (Say.Held page steps) came ends =
-          held_step writing page steps (is_due first) refl came.0 came.1.one_waits (left_going first next a plain writing steps _ ends)
+          held_step writing page steps (is_due first) refl came.0 came.1.one_waits (left_going first next a plain writing ends.0)
       go (Say.Spent page steps) came ends =
           still_step first next w (Do.Write a plain) (Say.Spent page steps) tt refl (λ new h. h) tt counts
-          (still_left first next a plain writing.done came.0 (left_going first next a plain writing steps _ ends))
+          (still_left first next a plain writing.done came.0 (left_going first next a plain writing ends.0))
       go (Say.CutKept steps) came ends =
           kept_step writing steps (is_due first) refl came.0
           (elim came.1 [ inl all ↦ all.0 | inr stopped ↦ (let waits = stopped.one_waits in omega (arith, waits)) ])
-          ends.becomes.power (left_cut first next a plain writing steps _ ends)
+          ends.0.power (left_cut first next a plain writing ends.0)
       go (Say.CutLost steps) came ends =
-          dark_step first next w (Do.Write a plain) (Say.CutLost steps) tt refl (λ new h. h) tt ends.becomes.power
-          (still_left first next a plain writing.done came.0 (left_cut first next a plain writing steps _ ends))
+          dark_step first next w (Do.Write a plain) (Say.CutLost steps) tt refl (λ new h. h) tt ends.0.power
+          (still_left first next a plain writing.done came.0 (left_cut first next a plain writing ends.0))
       go answer came ends = absurd came
 
 -- ---- the other commands
 
-module _ (setup : Setup) (first next : WearState) (w : ℕ) (some : 1 ≤ first.every) (counts : Counts first w) where
-  still_going : (expected : WearState) (steps most : ℕ) → IsStill first expected → GoesToWearState expected steps most first next → IsStill first next
-  still_going expected steps most same goes =
-      let it = goes.becomes in
-      record {
-        shape = it.shape ∙ same.shape;
-        its_every = it.every ∙ same.its_every;
-        memory = it.memory ∙ same.memory;
-        wear = it.wear ∙ same.wear;
-        count = λ lit. let had = same.count (sym it.power ∙ lit) in (had.0, it.count ∙ had.1);
-      }
-
-  as_it_is : IsStill first first
-  as_it_is = still_same first first refl
+module _ (setup : Setup) (first next : WearState) (w : ℕ) (some : 1 ≤ first.every) (counts : Counts first.every first w) where
+  still_going : IsWearButForSteps first next → IsStill first next
+  still_going it = record { memory = it.memory; wear = it.wear; count = λ lit. (sym it.power ∙ lit, it.count) }
 
   read_step : (a : ℕ) (answer : WearAnswer) → HasWearRead first a answer next → IsWearStep first next w (Do.Read a) answer
   read_step a (Say.Got line steps) it =
-      still_step first next w (Do.Read a) (Say.Got line steps) it.0 refl (λ new h. h) tt counts (still_going first steps _ as_it_is it.1)
+      still_step first next w (Do.Read a) (Say.Got line steps) it.0 refl (λ new h. h) tt counts (still_going it.1.0)
   read_step a (Say.Cut steps) it =
-      dark_step first next w (Do.Read a) (Say.Cut steps) tt refl (λ new h. h) tt it.becomes.power (still_cut first first next steps _ as_it_is it)
+      dark_step first next w (Do.Read a) (Say.Cut steps) tt refl (λ new h. h) tt it.0.power (still_cut first next it.0)
   read_step a answer it = absurd it
 
   open_step : (answer : WearAnswer) → HasWearOpened first answer next → IsWearStep first next w Do.On answer
   open_step (Say.Opened start gap steps) it =
-      let goes = it.2.becomes in
+      let goes = it.2.0 in
       record {
-        shape = goes.shape;
-        its_every = goes.every;
         read = tt;
         memory = goes.memory;
         after = 0;
         turns = (it.0, it.1, goes.wear, refl);
-        count =
-            λ lit.
-            let least : 0 < next.every = let same = goes.every in omega (arith, same, some) in
-            goes.count ∙ sym (mod-eq_of_lt least);
+        count = λ lit. goes.count ∙ sym (mod-eq_of_lt some);
         mended = tt;
       }
   open_step (Say.Cut steps) it =
-      dark_step first next w Do.On (Say.Cut steps) tt refl (λ new h. h) tt it.becomes.power (still_cut first first next steps _ as_it_is it)
+      dark_step first next w Do.On (Say.Cut steps) tt refl (λ new h. h) tt it.0.power (still_cut first next it.0)
   open_step answer it = absurd it
 
   -- a line's command, where power is on and there is such a line, or else
-  write_by : (p b : Bool) (a : ℕ) (plain : Line) (answer : WearAnswer) → first.board.powered ≡ p
+  write_by : (p b : Bool) (a : ℕ) (plain : Line) (answer : WearAnswer) → first.session.board.powered ≡ p
       → IsWearAnsweredAs (if p then (if b then None else Some Say.Range) else Some Say.Off) setup first (Do.Write a plain) answer next
       → IsWearStep first next w (Do.Write a plain) answer
-  write_by true true a plain answer lit it = write_step setup first next w a plain some lit counts answer it
+  write_by true true a plain answer lit it = write_step setup first next w a plain some lit counts answer it.0
   write_by true false a plain answer lit it =
       subst (IsWearStep first next w (Do.Write a plain)) (sym it.0)
       (still_step first next w (Do.Write a plain) Say.Range tt refl (λ new h. h) tt counts (still_same first next it.1))
@@ -337,7 +274,7 @@ module _ (setup : Setup) (first next : WearState) (w : ℕ) (some : 1 ≤ first.
   read_by : (p b : Bool) (a : ℕ) (answer : WearAnswer)
       → IsWearAnsweredAs (if p then (if b then None else Some Say.Range) else Some Say.Off) setup first (Do.Read a) answer next
       → IsWearStep first next w (Do.Read a) answer
-  read_by true true a answer it = read_step a answer it
+  read_by true true a answer it = read_step a answer it.0
   read_by true false a answer it =
       subst (IsWearStep first next w (Do.Read a)) (sym it.0)
       (still_step first next w (Do.Read a) Say.Range tt refl (λ new h. h) tt counts (still_same first next it.1))
@@ -352,8 +289,6 @@ module _ (setup : Setup) (first next : WearState) (w : ℕ) (some : 1 ≤ first.
       let same = still_same first next it.1 in
       subst (IsWearStep first next w (Do.Place a)) (sym it.0)
       (record {
-        shape = same.shape;
-        its_every = same.its_every;
         read = tt;
         memory = same.memory;
         after = w;
@@ -368,15 +303,15 @@ module _ (setup : Setup) (first next : WearState) (w : ℕ) (some : 1 ≤ first.
       subst (IsWearStep first next w (Do.Place a)) (sym it.0)
       (still_step first next w (Do.Place a) Say.Off tt refl (λ new h. h) tt counts (still_same first next it.1))
 
-  off_by : (p : Bool) (answer : WearAnswer) → first.board.powered ≡ p
+  off_by : (p : Bool) (answer : WearAnswer) → first.session.board.powered ≡ p
       → (fixed : WearAnswer) → fixed ≡ (if p then Say.Ok else Say.Off) → answer ≡ fixed
-      → next ≡ (if p then record first { count = 0; board = record first.board { powered = false; fuse = None } } else first)
+      → next ≡ (if p then wear_without_power first else first)
       → IsWearStep first next w Do.Off answer
   off_by true answer lit fixed same is it =
       subst (IsWearStep first next w Do.Off) (sym (is ∙ same))
-      (dark_step first next w Do.Off Say.Ok tt refl (λ new h. h) tt (ap (λ (s : WearState). s.board.powered) it)
+      (dark_step first next w Do.Off Say.Ok tt refl (λ new h. h) tt (ap (λ (s : WearState). s.session.board.powered) it)
       (subst (λ (s : WearState). IsStill first s) (sym it)
-      (record { shape = refl; its_every = refl; memory = refl; wear = refl; count = λ lit. absurd (true≢false (sym lit)) })))
+      (record { memory = refl; wear = refl; count = λ lit. absurd (true≢false (sym lit)) })))
   off_by false answer dark fixed same is it =
       subst (IsWearStep first next w Do.Off) (sym (is ∙ same))
       (still_step first next w Do.Off Say.Off tt refl (λ new h. h) tt counts (still_same first next it))
@@ -386,24 +321,24 @@ module _ (setup : Setup) (first next : WearState) (w : ℕ) (some : 1 ≤ first.
   on_by true answer it =
       subst (IsWearStep first next w Do.On) (sym it.0)
       (still_step first next w Do.On Say.Already tt refl (λ new h. h) tt counts (still_same first next it.1))
-  on_by false answer it = open_step answer it
+  on_by false answer it = open_step answer it.0
 
   step : (command : WearCommand) (answer : WearAnswer) → IsWearAnswered setup first command answer next → IsWearStep first next w command answer
-  step (Do.Write a plain) answer it = write_by first.board.powered (nat_lt a (wear_lines_in first)) a plain answer refl it
-  step (Do.Read a) answer it = read_by first.board.powered (nat_lt a (wear_lines_in first)) a answer it
-  step (Do.Place a) answer it = place_by first.board.powered (nat_lt a (wear_lines_in first)) a answer it
+  step (Do.Write a plain) answer it = write_by first.session.board.powered (nat_lt a (wear_lines_in first)) a plain answer refl it
+  step (Do.Read a) answer it = read_by first.session.board.powered (nat_lt a (wear_lines_in first)) a answer it
+  step (Do.Place a) answer it = place_by first.session.board.powered (nat_lt a (wear_lines_in first)) a answer it
   step (Do.Cut n) answer it =
       subst (IsWearStep first next w (Do.Cut n)) (sym it.0)
       (still_step first next w (Do.Cut n) Say.Ok tt refl (λ new h. h) tt counts
       (subst (λ (s : WearState). IsStill first s) (sym it.1)
-      (record { shape = refl; its_every = refl; memory = refl; wear = refl; count = λ lit. (lit, refl) })))
-  step Do.Off answer it = off_as first.board.powered refl it
+      (record { memory = refl; wear = refl; count = λ lit. (lit, refl) })))
+  step Do.Off answer it = off_as first.session.board.powered refl it
     where
-      off_as : (p : Bool) → first.board.powered ≡ p
+      off_as : (p : Bool) → first.session.board.powered ≡ p
           → IsWearAnsweredAs (if p then Some Say.Ok else Some Say.Off) setup first Do.Off answer next → IsWearStep first next w Do.Off answer
-      off_as true lit it = off_by true answer lit Say.Ok refl it.0 (it.1 ∙ ap (λ b. if b then record first { count = 0; board = record first.board { powered = false; fuse = None } } else first) lit)
-      off_as false dark it = off_by false answer dark Say.Off refl it.0 (it.1 ∙ ap (λ b. if b then record first { count = 0; board = record first.board { powered = false; fuse = None } } else first) dark)
-  step Do.On answer it = on_by first.board.powered answer it
+      off_as true lit it = off_by true answer lit Say.Ok refl it.0 (it.1 ∙ ap (λ b. if b then wear_without_power first else first) lit)
+      off_as false dark it = off_by false answer dark Say.Off refl it.0 (it.1 ∙ ap (λ b. if b then wear_without_power first else first) dark)
+  step Do.On answer it = on_by first.session.board.powered answer it
 
 -- ---- chains
 
@@ -414,16 +349,18 @@ record SayAll (n every : ℕ) (memory : Memory) (turning : Turning) (replies : L
   turned : AreTurned n every turning replies last
   mended : All (λ (reply : WearReply). IsWearMendedAnswer reply.command reply.answer) replies
 
-say_all : (setup : Setup) (first last : WearState) (replies : List WearReply) (w : ℕ) → 1 ≤ first.every → Counts first w
+say_all : (setup : Setup) (first last : WearState) (replies : List WearReply) (w : ℕ) → 1 ≤ first.every → Counts first.every first w
     → AreWearAnswered setup first replies last → SayAll (wear_lines_in first) first.every first.memory (turning_of first w) replies
 say_all setup first last [] w some counts chain =
     record { reads = tt; last = turning_of first w; turned = refl; mended = All-nil (λ (reply : WearReply). IsWearMendedAnswer reply.command reply.answer) }
 say_all setup first last (reply ∷ replies) w some counts chain =
     let next = chain.0 in
     let it = step setup first next w some counts reply.command reply.answer chain.1 in
-    let later = say_all setup next last replies it.after (subst (λ e. 1 ≤ e) (sym it.its_every) some) it.count chain.2 in
+    let kept = kept_always setup first next reply.command reply.answer chain.1 in
+    let later =
+    say_all setup next last replies it.after (subst (λ e. 1 ≤ e) (sym kept.every) some) (subst (λ e. Counts e next it.after) (sym kept.every) it.count) chain.2 in
     let turned : AreTurned (wear_lines_in first) first.every (turning_of next it.after) replies later.last =
-    subst₂ (λ n e. AreTurned n e (turning_of next it.after) replies later.last) (ap logical_lines it.shape) it.its_every later.turned in
+    subst₂ (λ n e. AreTurned n e (turning_of next it.after) replies later.last) (ap logical_lines kept.shape) kept.every later.turned in
     record {
       reads = (it.read, subst (λ m. AreReadAsWritten m replies) it.memory later.reads);
       last = later.last;
@@ -435,7 +372,7 @@ pub wear_kept_always : (setup : Setup) → IsWearKept setup
 wear_kept_always setup every replies last session =
     let first = session.first in
     let new = session.is_new in
-    let n_is : wear_lines_in first ≡ logical_lines setup.shape = ap logical_lines new.shape in
+    let n_is : wear_lines_in first ≡ logical_lines setup.shape = ap logical_lines new.session.shape in
     let some : 1 ≤ first.every = subst (λ e. 1 ≤ e) (sym new.its_every) new.some_every in
     let all = say_all setup first last replies 0 some (λ lit. new.count ∙ sym (mod-eq_of_lt some)) session.answered in
     let begins : turning_of first 0 ≡ no_turning (logical_lines setup.shape) = ap (λ (wear : Wear). record { wear = wear; written = 0 }) new.wear in
@@ -457,27 +394,27 @@ spent_by setup first next a plain answer it = go answer it.came it.ends
     writing : Writing
     writing = it.writing
 
-    go : (answer : WearAnswer) → IsWriting setup.formulas (wear_moment_in setup first) (engine_writes setup first a plain) writing answer
+    go : (answer : WearAnswer) → IsWriting setup.formulas (moment_in setup first.session) (engine_writes setup first a plain) writing answer
         → EndsWriting (after_writing first a plain writing) answer first next → IsWearSpentAnswer setup first (Do.Write a plain) answer next
     go (Say.Held page steps) came ends = (writing.done, came.0, record { used_up = came.1.spent; its_page = came.1.its_page })
     go (Say.Spent page steps) came ends =
-        let next_spent = subst (λ k. IsSpentNext setup.formulas (wear_moment_in setup first) (engine_writes setup first a plain) k page writing.made) came.0 came.1 in
-        let same = still_left first next a plain writing.done came.0 (left_going first next a plain writing steps _ ends) in
+        let next_spent = subst (λ k. IsSpentNext setup.formulas (moment_in setup first.session) (engine_writes setup first a plain) k page writing.made) came.0 came.1 in
+        let same = still_left first next a plain writing.done came.0 (left_going first next a plain writing ends.0) in
         let none : writing.made ≡ [] = sym (same_Some [] writing.made next_spent.all_drained) in (
           record { used_up = next_spent.spent; its_page = next_spent.its_page },
           same.memory,
           same.wear,
-          ends.becomes.marks ∙ ap (λ m. first.marks ++ m) none ∙ append-nil first.marks,
+          ends.0.marks ∙ ap (λ m. first.session.ledger.marks ++ m) none ∙ append-nil first.session.ledger.marks,
         )
     go answer came ends = tt
 
 spent_answer : (setup : Setup) (first next : WearState) (command : WearCommand) (answer : WearAnswer) → IsWearAnswered setup first command answer next
     → IsWearSpentAnswer setup first command answer next
-spent_answer setup first next (Do.Write a plain) answer it = by_line first.board.powered (nat_lt a (wear_lines_in first)) it
+spent_answer setup first next (Do.Write a plain) answer it = by_line first.session.board.powered (nat_lt a (wear_lines_in first)) it
   where
     by_line : (p b : Bool) → IsWearAnsweredAs (if p then (if b then None else Some Say.Range) else Some Say.Off) setup first (Do.Write a plain) answer next
         → IsWearSpentAnswer setup first (Do.Write a plain) answer next
-    by_line true true it = spent_by setup first next a plain answer it
+    by_line true true it = spent_by setup first next a plain answer it.0
     by_line true false it = subst (λ r. IsWearSpentAnswer setup first (Do.Write a plain) r next) (sym it.0) tt
     by_line false b it = subst (λ r. IsWearSpentAnswer setup first (Do.Write a plain) r next) (sym it.0) tt
 spent_answer setup first next command answer it = tt

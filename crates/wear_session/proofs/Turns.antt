@@ -1,8 +1,6 @@
 -- Writes that are counted, and the moves that are due by the count.
 use Rattle.std.proofs.Common.{ℕ, ◌≡◌, ◌<◌, ◌≤◌, ◌+◌, ◌*◌, ◌/◌, ◌%◌, inl, inr, true, false, sym, ap, ◌∙◌, arith}
-use Rattle.std.specs.Prelude.{nat_lt, not, ◌==◌, if◌then◌else◌}
-use Rattle.std.proofs.Math.Nat.{mod-lt, mod-eq_of_lt, mul-add-mod_self_left, div-add-mod, add-mod_left}
-use Rattle.std.proofs.lemmas.Bool.{cases_lt, lt-ltb, le-ltb, ne_eqb}
+use Rattle.wear_session.proofs.Common.{nat_lt, not, ◌==◌, if◌then◌else◌, mod-lt, mod-eq_of_lt, mul-add-mod_self_left, div-add-mod, add-mod_left, cases_lt, lt-ltb, le-ltb, ne_eqb}
 
 next_mod : (w every : ℕ) → 1 ≤ every → (w + 1) % every ≡ (w % every + 1) % every
 next_mod w every some =

@@ -1,50 +1,20 @@
--- What a session holds after a call that goes on or is cut, and how its state stands to the one before.
-use Rattle.std.proofs.Common.{rules, ℕ, ◌≡◌, ◌<◌, ◌≤◌, true, false, length, Some, None, refl, sym, ap, subst, arith}
+-- What a session holds after a call that goes on or is cut.
+use Rattle.std.proofs.Common.{rules, ℕ, ◌≡◌, ◌≤◌, true, false, length, Some, None, refl, sym, ap, subst, arith}
+use Rattle.wear_session.proofs.Common.{IsShape, BoardMemory, LedgerState, AreInRange, Setup, plain_memory, IsDurable, IsSound, sealed_in, places_of, Gapped, IsLevelled, logical_lines, wear_in, levelled_memory, WearParts, IsWearWorld, IsLevelledOn, IsLevelledBy}
 use Rattle.pmem_base.specs.Layout as layout
-use Rattle.pmem_base.specs.Shape.{IsShape}
-use Rattle.board.specs.Memory.{BoardMemory}
-use Rattle.seal_ledger.specs.Ledger.{LedgerState}
-use Rattle.suite.specs.Formulas.{AreInRange}
-use Rattle.suite.specs.Setup.{Setup}
-use Rattle.plain_model.specs.View.{plain_memory}
-use Rattle.pmem_engine.specs.Invariants.{IsDurable, IsSound}
-use Rattle.engine_lines.proofs.SealedLines.{sealed_in, places_of}
-use Rattle.start_gap.specs.declared.gapped.Gapped.{Gapped}
-use Rattle.start_gap.specs.Logical.{IsLevelled}
-use Rattle.start_gap.specs.Gapped.{logical_lines}
-use Rattle.watched_board.specs.declared.taken.Taken.{Taken}
-use Rattle.watched_board.specs.Watching.{steps_in, step_limit, IsWatched}
-use Rattle.line_session.proofs.StepCounts.{rises_by, has_burnt, has_run_out}
-use Rattle.wear_session.specs.State.{WearState, wear_without_power}
-use Rattle.wear_session.specs.World.{WearParts, IsWearWorld, IsLevelledOn, IsLevelledBy, wear_in, levelled_memory, wear_of}
-use Rattle.wear_session.specs.Answered.{IsWearButForSteps, GoesToWearState, IsWearCutOff}
-
--- ---- states
-
-module _ (setup : Setup) (old new : WearParts) (taken : Taken) (watched : IsWatched old.board new.board taken) (expected : WearState) (most : ℕ) where
-  -- a call that goes on
-  pub goes_to : new.board.powered ≡ true → steps_in taken ≤ most → IsWearButForSteps expected (wear_of setup new)
-      → GoesToWearState expected (steps_in taken) most (wear_of setup old) (wear_of setup new)
-  goes_to powered few becomes =
-      record {
-        becomes = becomes;
-        rises = rises_by old.board new.board taken watched.follows;
-        few = few;
-        fuse = has_burnt old.board new.board taken watched.follows powered;
-      }
-
-  -- a call that is cut
-  pub cut_off : new.board.powered ≡ false → steps_in taken < most → most ≤ step_limit → IsWearButForSteps (wear_without_power expected) (wear_of setup new)
-      → IsWearCutOff expected (steps_in taken) most (wear_of setup old) (wear_of setup new)
-  cut_off off below bounded becomes =
-      record {
-        becomes = becomes;
-        rises = rises_by old.board new.board taken watched.follows;
-        below = below;
-        fuse = has_run_out old.board new.board taken watched.follows off (omega (arith, below, bounded));
-      }
 
 -- ---- what is held
+
+-- with power on, what is held of the levelled lines
+pub on_in : (setup : Setup) (p : WearParts) (gapped : Gapped) → IsWearWorld setup p → p.gapped ≡ Some gapped → IsLevelledOn setup p gapped
+on_in setup p gapped world there = subst (λ g. IsLevelledBy setup p g) there world.chip
+
+-- there are as many lines as the geometry says
+pub lines_are : (setup : Setup) (p : WearParts) (gapped : Gapped) → IsLevelledOn setup p gapped → gapped.lines ≡ logical_lines setup.shape
+lines_are setup p gapped on =
+    let size = gapped.its_lines in
+    let same : layout.data_lines gapped.engine.shape ≡ layout.data_lines setup.shape = ap layout.data_lines on.its_shape in
+    omega (arith, size, same)
 
 -- with power on, where all is sound
 pub on_of : (setup : Setup) (parts : WearParts) (gapped : Gapped) → parts.gapped ≡ Some gapped → IsShape setup.shape → AreInRange setup.formulas

@@ -1,42 +1,8 @@
 -- How far a write with its move came, by its answer: how many of its engine writes are done, and all their marks.
 use Rattle.std.proofs.Common.{ℕ, zero, suc, ◌≡◌, ◌<◌, ◌≤◌, ◌+◌, ◌*◌, ◌⊎◌, inl, inr, Bool, true, false, List, [], ◌∷◌, ◌++◌, length, take, drop, Some, Result, Ok, Err, refl, sym, ap, subst, arith}
-use Rattle.std.specs.Prelude.{All, nat_lt, not, MatchBool, if◌then◌else◌}
-use Rattle.std.specs.List.{list_any}
-use Rattle.std.proofs.lemmas.Bool.{true≢false}
-use Rattle.std.proofs.lemmas.List.Elements.{All-nil}
-use Rattle.pmem_base.specs.declared.lines.Line.{Line}
-use Rattle.pmem_base.specs.declared.lines.Ctr.{Ctr}
-use Rattle.pmem_base.specs.declared.commands.Posted.{Posted}
-use Rattle.pmem_base.specs.declared.answers.Mark.{Mark}
-use Rattle.pmem_base.specs.Shape.{Shape}
-use Rattle.pmem_base.specs.Layout.{data_lines}
-use Rattle.suite.specs.Formulas.{Formulas}
-use Rattle.suite.specs.Setup.{Setup}
-use Rattle.plain_model.specs.State.{Memory, memory_with}
-use Rattle.plain_model.specs.Asked.{Moment}
-use Rattle.plain_model.specs.Bounds.{path_length}
-use Rattle.plain_model.specs.Fits.{drained_marks, IsSpentNext}
-use Rattle.pmem_engine.specs.declared.fault.Fault.{Fault}
+use Rattle.wear_session.proofs.Common.{All, nat_lt, not, MatchBool, if◌then◌else◌, list_any, true≢false, All-nil, Line, Ctr, Posted, Mark, Shape, data_lines, Formulas, Setup, Memory, memory_with, Moment, path_length, drained_marks, IsSpentNext, Fault, Parts, AreSound, whole_write, HasWrittenLine, sound_trusted, AreEdited, IsEditOf, Writing, is_own_seal, IsCutAmong, write_steps, read_steps, writes_none, writes_own, own_at_cut, memory_now, moment_now, within_done, within_cut, AreDone, none_done, memory_done, spent_path, all_posted, cost, AreGone, IsSpentAt, IsCutAt, IsStoppedAt, EndsAt, gone_within, ends_within, write_gone, write_spent_next, write_stopped, edits_go, Wear, Gapped, Moved, WriteFault, place_of, next_wear, move_edits, HasWriteGoneOn, HasLevelledWrite, HasCounted, HasTriedMove, HasWear, write_answer_by, wear_by, places, move_fits, moving_writes}
 use Rattle.pmem_engine.specs.declared.fault.Fault.TheVariants as Fail
-use Rattle.pmem_engine.specs.Parts.{Parts, AreSound}
-use Rattle.pmem_engine.specs.Calls.{whole_write, HasWrittenLine}
-use Rattle.pmem_engine.proofs.CallEnds.StillParts.{sound_trusted}
-use Rattle.engine_lines.specs.Edits.{AreEdited, IsEditOf}
-use Rattle.engine_lines.specs.Writes.{Writing, is_own_seal, IsCutAmong, write_steps, read_steps}
-use Rattle.engine_lines.proofs.OwnSeals.{writes_none, writes_own, own_at_cut}
-use Rattle.engine_lines.proofs.EngineWrites.{memory_now, moment_now, within_done, within_cut, AreDone, none_done, memory_done, spent_path}
-use Rattle.engine_lines.proofs.EngineEdits.{all_posted, cost, AreGone, IsSpentAt, IsCutAt, IsStoppedAt, EndsAt, gone_within, ends_within, write_gone, write_spent_next, write_stopped, edits_go}
-use Rattle.start_gap.specs.declared.wear.Wear.{Wear}
-use Rattle.start_gap.specs.declared.gapped.Gapped.{Gapped}
-use Rattle.start_gap.specs.declared.gapped.Moved.{Moved}
 use Rattle.start_gap.specs.declared.gapped.Moved.TheVariants as Move
-use Rattle.start_gap.specs.declared.gapped.WriteFault.{WriteFault}
-use Rattle.start_gap.specs.Wear.{place_of, next_wear}
-use Rattle.start_gap.specs.Logical.{move_edits}
-use Rattle.start_gap.specs.Gapped.{HasWriteGoneOn, HasLevelledWrite, HasCounted, HasTriedMove, HasWear, write_answer_by, wear_by}
-use Rattle.start_gap.proofs.Places.{places}
-use Rattle.start_gap.proofs.LevelledWrites.{move_fits}
-use Rattle.wear_session.specs.State.{moving_writes}
 
 -- ---- the engine writes of a write
 

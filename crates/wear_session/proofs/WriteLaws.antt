@@ -1,28 +1,7 @@
 -- What a session's memory and wear are once so many engine writes of a write are done.
 use Rattle.std.proofs.Common.{ℕ, zero, suc, ◌≡◌, ◌<◌, ◌≤◌, ◌+◌, ◌^◌, Bool, true, false, cond, List, [], ◌∷◌, length, take, refl, sym, ap, subst₂, ◌∙◌, arith}
-use Rattle.std.specs.Prelude.{All, slice_set, ◌==◌, if◌then◌else◌}
-use Rattle.std.proofs.lemmas.Bool.{cond-false, ne_eqb}
-use Rattle.std.proofs.lemmas.List.Elements.{All-nil, All-cons}
-use Rattle.pmem_base.specs.declared.lines.Line.{Line}
-use Rattle.pmem_base.specs.Lines.{IsLine}
-use Rattle.suite.specs.Formulas.{Formulas}
-use Rattle.suite.specs.Setup.{Setup}
-use Rattle.plain_model.specs.State.{Memory}
-use Rattle.plain_model.specs.Asked.{Moment, moment_after_writes}
-use Rattle.engine_lines.specs.declared.edits.Edit.{Edit}
+use Rattle.wear_session.proofs.Common.{All, slice_set, ◌==◌, if◌then◌else◌, cond-false, ne_eqb, All-nil, All-cons, Line, IsLine, Formulas, Setup, Memory, Moment, moment_after_writes, Edit, IsEditOf, all_edited, all_posted, length-all_posted, edits_memory, Wear, place_of, next_wear, IsLevelled, move_edits, MoveStage, begun, written, copied, moved, write_lines_at, write_memory_at, wear_at, logical_lines, safe_at_each_stage, move_fits, places, WearState, wear_lines_in, is_due, with_writes, wear_in, levelled_memory}
 use Rattle.engine_lines.specs.declared.edits.Edit.TheVariants as Make
-use Rattle.engine_lines.specs.Edits.{IsEditOf, all_edited}
-use Rattle.engine_lines.proofs.EngineEdits.{all_posted}
-use Rattle.engine_lines.proofs.EditWrites.{length-all_posted, edits_memory}
-use Rattle.start_gap.specs.declared.wear.Wear.{Wear}
-use Rattle.start_gap.specs.Wear.{place_of, next_wear}
-use Rattle.start_gap.specs.Logical.{IsLevelled, move_edits, MoveStage, begun, written, copied, moved, write_lines_at, write_memory_at, wear_at}
-use Rattle.start_gap.specs.Gapped.{logical_lines}
-use Rattle.start_gap.proofs.LevelledMemory.{safe_at_each_stage}
-use Rattle.start_gap.proofs.LevelledWrites.{move_fits}
-use Rattle.start_gap.proofs.Places.{places}
-use Rattle.wear_session.specs.State.{WearState, wear_lines_in, is_due, with_writes}
-use Rattle.wear_session.specs.World.{wear_in, levelled_memory}
 use Rattle.wear_session.proofs.Levels.{wear_is, memory_held, levelled_is}
 use Rattle.wear_session.proofs.WriteEnds.{writes_of}
 

@@ -1,10 +1,8 @@
 -- Which answers a command has in which states, and the state after: where the state alone decides, the first
--- condition that holds does; else the engine gives one of the answers that are listed.
-use Rattle.std.specs.Prelude.{ℕ, ◌≡◌, ◌≤◌, ◌<◌, ◌+◌, ◌*◌, nat_lt, Bool, true, false, List, ◌++◌, length, Option, Some, None, Ok, ⊤, IsTrue, if◌then◌else◌}
-use Rattle.std.specs.List.{list_any}
+-- condition that holds does; else the engine's call does, by how it ended, and what the answer says is listed.
+use Rattle.std.specs.Prelude.{ℕ, ◌≡◌, ◌≤◌, ◌<◌, ◌+◌, ◌*◌, nat_lt, Bool, true, false, List, length, Option, Some, None, Ok, IsTrue, if◌then◌else◌}
 use Rattle.pmem_base.specs.declared.lines.Line.{Line}
 use Rattle.pmem_base.specs.declared.commands.Posted.{Posted}
-use Rattle.pmem_base.specs.declared.answers.Mark.{Mark}
 use Rattle.pmem_base.specs.declared.answers.Exhibit.{Exhibit}
 use Rattle.pmem_base.specs.declared.answers.Exhibit.TheVariants.{Twin}
 use Rattle.pmem_base.specs.Layout.{data_lines}
@@ -15,26 +13,28 @@ use Rattle.collision_witness.specs.Exhibits.{IsExhibit}
 use Rattle.plain_model.specs.Bounds.{path_length, recovery_bound}
 use Rattle.plain_model.specs.Asked.{Moment}
 use Rattle.plain_model.specs.Fits.{IsStopped, IsSpentNext}
-use Rattle.engine_lines.specs.Writes.{read_steps, write_steps, Writing, AreAllWritesMade, IsCutAmong, is_own_seal}
+use Rattle.engine_lines.specs.Writes.{read_steps, write_steps, Writing, AreAllWritesMade, IsCutAmong}
 use Rattle.plain_model.specs.Shown.{IsTwinOfSeal}
 use Rattle.wear_session.specs.declared.commands.WearCommand.{WearCommand}
 use Rattle.wear_session.specs.declared.commands.WearCommand.TheVariants as Do
 use Rattle.wear_session.specs.declared.answers.WearAnswer.{WearAnswer}
 use Rattle.wear_session.specs.declared.answers.WearAnswer.TheVariants as Say
-use Rattle.trace_text.specs.Sessions.{HasBurnt, HasRunOut}
-use Rattle.line_session.specs.Steps.{RisesBySteps}
+use Rattle.pmem_recovery.specs.declared.faults.RecFault.TheVariants as Rec
+use Rattle.line_session.specs.State.{view_in, places_in, moment_in, with_fuse, with_power, with_marks}
+use Rattle.line_session.specs.Started.{IsRefusedFrom}
 use Rattle.trace_text.specs.declared.talk.Halt.{Halt}
 use Rattle.trace_text.specs.declared.talk.Halt.TheVariants as Stop
 use Rattle.wear_session.specs.Answers.{wear_text}
 use Rattle.wear_session.specs.Commands.{reading_of_wear}
-use Rattle.wear_session.specs.State.{WearState, wear_lines_in, wear_view_in, wear_places_in, wear_moment_in, place_in, is_due, engine_writes, wear_without_power, with_writes}
+use Rattle.wear_session.specs.Planned.{IsWearCalled, open_call}
+use Rattle.wear_session.specs.State.{WearState, wear_lines_in, place_in, is_due, engine_writes, wear_without_power, with_writes}
 
 -- ---- answers that the state decides
 
 -- the answer, where power is on and there is such a line
 abbrev pub wear_of_line : WearState → ℕ → Option WearAnswer → Option WearAnswer
 wear_of_line state a answer =
-    if state.board.powered then (if nat_lt a (wear_lines_in state) then answer else Some Say.Range) else Some Say.Off
+    if state.session.board.powered then (if nat_lt a (wear_lines_in state) then answer else Some Say.Range) else Some Say.Off
 
 -- the answer that the state alone decides; none where the engine decides
 abbrev pub wear_decided : WearState → WearCommand → Option WearAnswer
@@ -42,49 +42,40 @@ wear_decided state (Do.Write a plain) = wear_of_line state a None
 wear_decided state (Do.Read a) = wear_of_line state a None
 wear_decided state (Do.Place a) = wear_of_line state a (Some (Say.At (place_in state a)))
 wear_decided state (Do.Cut n) = Some Say.Ok
-wear_decided state Do.Off = if state.board.powered then Some Say.Ok else Some Say.Off
-wear_decided state Do.On = if state.board.powered then Some Say.Already else None
+wear_decided state Do.Off = if state.session.board.powered then Some Say.Ok else Some Say.Off
+wear_decided state Do.On = if state.session.board.powered then Some Say.Already else None
 
 abbrev pub wear_after_decided : WearState → WearCommand → WearState
-wear_after_decided state (Do.Cut n) = record state { board = record state.board { fuse = Some n } }
-wear_after_decided state Do.Off = if state.board.powered then wear_without_power state else state
+wear_after_decided state (Do.Cut n) = record state { session = with_fuse state.session n }
+wear_after_decided state Do.Off = if state.session.board.powered then wear_without_power state else state
 wear_after_decided state command = state
 
--- ---- steps
+-- ---- what is left
 
--- a state that is another but for the fuse, and for what steps and reads change and count
+-- a state that is another but for what the call's plan alone says
 pub record IsWearButForSteps (expected new : WearState) : Type 0 where
-  pub shape : new.shape ≡ expected.shape
-  pub keys : new.keys ≡ expected.keys
-  pub every : new.every ≡ expected.every
   pub memory : new.memory ≡ expected.memory
   pub wear : new.wear ≡ expected.wear
   pub count : new.count ≡ expected.count
-  pub power : new.board.powered ≡ expected.board.powered
-  pub loss : new.board.regs.loss ≡ expected.board.regs.loss
-  pub marks : new.marks ≡ expected.marks
+  pub power : new.session.board.powered ≡ expected.session.board.powered
+  pub loss : new.session.board.regs.loss ≡ expected.session.board.regs.loss
+  pub marks : new.session.ledger.marks ≡ expected.session.ledger.marks
 
--- steps were done, at most `most` and no more than the fuse had left, and nothing was cut
-pub record GoesToWearState (expected : WearState) (steps most : ℕ) (old new : WearState) : Type 0 where
-  pub becomes : IsWearButForSteps expected new
-  pub rises : RisesBySteps steps old.board.writes old.board.latches new.board.writes new.board.latches
-  pub few : steps ≤ most
-  pub fuse : HasBurnt steps old.board.fuse new.board.fuse old.board.cuts new.board.cuts
+-- after at most `most` steps
+abbrev pub GoesToWearState : WearState → ℕ → ℕ → WearState → Type 0
+GoesToWearState expected steps most new = IsWearButForSteps expected new × (steps ≤ most)
 
--- power was cut with the fuse used up, after fewer than `most` steps
-pub record IsWearCutOff (expected : WearState) (steps most : ℕ) (old new : WearState) : Type 0 where
-  pub becomes : IsWearButForSteps (wear_without_power expected) new
-  pub rises : RisesBySteps steps old.board.writes old.board.latches new.board.writes new.board.latches
-  pub below : steps < most
-  pub fuse : HasRunOut steps old.board.fuse new.board.fuse old.board.cuts new.board.cuts
+-- power was cut, after fewer than `most` steps
+abbrev pub IsWearCutOff : WearState → ℕ → ℕ → WearState → Type 0
+IsWearCutOff expected steps most new = IsWearButForSteps (wear_without_power expected) new × (steps < most)
 
 -- those of a write, with its move where one is due, and of recovery with the opening
 abbrev pub most_of_write : WearState → ℕ
 most_of_write state =
-    if is_due state then 3 * write_steps state.shape + read_steps state.shape else write_steps state.shape
+    if is_due state then 3 * write_steps state.session.shape + read_steps state.session.shape else write_steps state.session.shape
 
 abbrev pub wear_most_of_on : WearState → ℕ
-wear_most_of_on state = recovery_bound state.shape + read_steps state.shape
+wear_most_of_on state = recovery_bound state.session.shape + read_steps state.session.shape
 
 -- ---- a write
 
@@ -103,48 +94,38 @@ IsWriting f now writes writing (Say.CutLost steps) =
     (writing.done ≡ 0) × IsStopped f now writes writing.done writing.made
 IsWriting f now writes writing answer = ⊥
 
--- whether the line's own seal is among the marks, after a cut
-abbrev pub IsWearWriteKept : ℕ → List Mark → WearAnswer → Type 0
-IsWearWriteKept place made (Say.CutKept steps) = list_any (is_own_seal place) made ≡ true
-IsWearWriteKept place made (Say.CutLost steps) = list_any (is_own_seal place) made ≡ false
-IsWearWriteKept place made answer = ⊤
-
 -- the state that so many done writes leave, but for power, fuse and counts
 abbrev pub after_writing : WearState → ℕ → Line → Writing → WearState
 after_writing old a plain writing =
-    record (with_writes old a plain writing.done) { marks = old.marks ++ writing.made }
+    record (with_writes old a plain writing.done) { session = with_marks old.session writing.made }
 
 abbrev pub EndsWriting : WearState → WearAnswer → WearState → WearState → Type 0
-EndsWriting expected (Say.CutKept steps) old new = IsWearCutOff expected steps (most_of_write old) old new
-EndsWriting expected (Say.CutLost steps) old new = IsWearCutOff expected steps (write_steps old.shape) old new
-EndsWriting expected (Say.Written steps) old new = GoesToWearState expected steps (most_of_write old) old new
-EndsWriting expected (Say.Held page steps) old new = GoesToWearState expected steps (most_of_write old) old new
-EndsWriting expected (Say.Spent page steps) old new = GoesToWearState expected steps (path_length old.shape) old new
+EndsWriting expected (Say.CutKept steps) old new = IsWearCutOff expected steps (most_of_write old) new
+EndsWriting expected (Say.CutLost steps) old new = IsWearCutOff expected steps (write_steps old.session.shape) new
+EndsWriting expected (Say.Written steps) old new = GoesToWearState expected steps (most_of_write old) new
+EndsWriting expected (Say.Held page steps) old new = GoesToWearState expected steps (most_of_write old) new
+EndsWriting expected (Say.Spent page steps) old new = GoesToWearState expected steps (path_length old.session.shape) new
 EndsWriting expected answer old new = ⊥
 
 pub record HasWearWritten (setup : Setup) (old : WearState) (a : ℕ) (plain : Line) (answer : WearAnswer) (new : WearState) :
     Type 0 where
   pub writing : Writing
-  pub came : IsWriting setup.formulas (wear_moment_in setup old) (engine_writes setup old a plain) writing answer
-  pub kept : IsWearWriteKept (place_in old a) writing.made answer
+  pub came : IsWriting setup.formulas (moment_in setup old.session) (engine_writes setup old a plain) writing answer
   pub ends : EndsWriting (after_writing old a plain writing) answer old new
 
 -- ---- a read, and recovery
 
 abbrev pub HasWearRead : WearState → ℕ → WearAnswer → WearState → Type 0
 HasWearRead old a (Say.Got line steps) new =
-    (line ≡ line_at old.memory a) × GoesToWearState old steps (read_steps old.shape) old new
-HasWearRead old a (Say.Cut steps) new = IsWearCutOff old steps (read_steps old.shape) old new
+    (line ≡ line_at old.memory a) × GoesToWearState old steps (read_steps old.session.shape) new
+HasWearRead old a (Say.Cut steps) new = IsWearCutOff old steps (read_steps old.session.shape) new
 HasWearRead old a answer new = ⊥
-
--- no write was done since power came on
-abbrev pub with_power : WearState → WearState
-with_power state = record state { count = 0; board = record state.board { powered = true } }
 
 abbrev pub HasWearOpened : WearState → WearAnswer → WearState → Type 0
 HasWearOpened old (Say.Opened start gap steps) new =
-    (start ≡ old.wear.start) × (gap ≡ old.wear.gap) × GoesToWearState (with_power old) steps (wear_most_of_on old) old new
-HasWearOpened old (Say.Cut steps) new = IsWearCutOff old steps (wear_most_of_on old) old new
+    (start ≡ old.wear.start) × (gap ≡ old.wear.gap)
+    × GoesToWearState (record old { count = 0; session = with_power old.session }) steps (wear_most_of_on old) new
+HasWearOpened old (Say.Cut steps) new = IsWearCutOff old steps (wear_most_of_on old) new
 HasWearOpened old answer new = ⊥
 
 -- ---- the relation
@@ -156,24 +137,26 @@ IsWearServed setup old (Do.Read a) answer new = HasWearRead old a answer new
 IsWearServed setup old Do.On answer new = HasWearOpened old answer new
 IsWearServed setup old command answer new = ⊥
 
--- a wear_decided answer leaves the counts as they are
+-- A decided answer leaves the counts as they are. Any other is the one by which the command's call ended.
 abbrev pub IsWearAnsweredAs :
     Option WearAnswer → Setup → WearState → WearCommand → WearAnswer → WearState → Type 0
 IsWearAnsweredAs (Some fixed) setup old command answer new =
     (answer ≡ fixed) × (new ≡ wear_after_decided old command)
-IsWearAnsweredAs None setup old command answer new = IsWearServed setup old command answer new
+IsWearAnsweredAs None setup old command answer new =
+    IsWearServed setup old command answer new × IsWearCalled setup old command answer new
 
--- the answer that the state decides, or else one that the engine may give
+-- the answer that the state decides, or else the one that the engine gives
 abbrev pub IsWearAnswered : Setup → WearState → WearCommand → WearAnswer → WearState → Type 0
 IsWearAnswered setup old command answer new =
     IsWearAnsweredAs (wear_decided old command) setup old command answer new
 
--- an exhibit comes of recovery alone: a twin that holds, of the last seal of one of the data lines
+-- an exhibit comes of recovery alone: a twin that holds, of the last seal of one of the data lines, which recovery finds first
 abbrev pub IsWearShownBy : Setup → WearState → WearCommand → Exhibit → Type 0
 IsWearShownBy setup old Do.On (Twin at major low high cipher tag) =
-    (old.board.powered ≡ false) × (at < data_lines setup.shape)
+    (old.session.board.powered ≡ false) × (at < data_lines setup.shape)
     × IsExhibit setup.formulas (Twin at major low high cipher tag)
-    × IsTwinOfSeal setup (wear_places_in setup old) old.board.regs.loss (wear_view_in old) at major low high cipher tag
+    × IsTwinOfSeal setup (places_in setup old.session) old.session.board.regs.loss (view_in old.session) at major low high cipher tag
+    × IsRefusedFrom setup (open_call setup) old.session (Rec.Twin at major low high cipher tag)
 IsWearShownBy setup old command exhibit = ⊥
 
 -- whether a command may want memory

@@ -15,7 +15,8 @@ use Rattle.wear_session.specs.declared.commands.WearCommand.{WearCommand}
 use Rattle.wear_session.specs.declared.commands.WearCommand.TheVariants as Do
 use Rattle.wear_session.specs.declared.answers.WearAnswer.{WearAnswer}
 use Rattle.wear_session.specs.declared.answers.WearAnswer.TheVariants as Say
-use Rattle.wear_session.specs.State.{WearState, IsNewWear, wear_moment_in, engine_writes}
+use Rattle.line_session.specs.State.{moment_in}
+use Rattle.wear_session.specs.State.{WearState, IsNewWear, engine_writes}
 use Rattle.wear_session.specs.Answered.{IsWearAnswered}
 
 -- ---- chains of answers
@@ -117,7 +118,7 @@ IsWearMendedAnswer command answer = ⊤
 -- one of the command's engine writes was answered as used up: of the line's place, or after the line's own write
 -- of the gap or of the record
 pub record WasWearSpent (setup : Setup) (old : WearState) (a : ℕ) (plain : Line) (done page : ℕ) : Type 0 where
-  pub used_up : next_marks setup.formulas (wear_moment_in setup old) (engine_writes setup old a plain) done ≡ None
+  pub used_up : next_marks setup.formulas (moment_in setup old.session) (engine_writes setup old a plain) done ≡ None
   pub its_page :
       MatchOption (slice_get (engine_writes setup old a plain) done) ⊥ (λ write. page_of write.at ≡ page)
 
@@ -127,7 +128,7 @@ IsWearSpentAnswer setup old (Do.Write a plain) (Say.Held page steps) new =
     (done : ℕ) × (0 < done) × WasWearSpent setup old a plain done page
 IsWearSpentAnswer setup old (Do.Write a plain) (Say.Spent page steps) new =
     WasWearSpent setup old a plain 0 page × (new.memory ≡ old.memory) × (new.wear ≡ old.wear)
-    × (new.marks ≡ old.marks)
+    × (new.session.ledger.marks ≡ old.session.ledger.marks)
 IsWearSpentAnswer setup old command answer new = ⊤
 
 -- so it is of each answer of a chain

@@ -10,9 +10,9 @@ use Rattle.wear_session.specs.State.{WearState}
 -- The log goes on from the board before the command to the board after it: through all calls of the engine, in
 -- their order. A command that makes none leaves it as it was.
 abbrev pub IsWearLogged : WearCommand → Option (List Access) → WearState → Option (List Access) → WearState → Type 0
-IsWearLogged (Do.Write a plain) log_old old log_new new = GoesOn log_old old.board log_new new.board
-IsWearLogged (Do.Read a) log_old old log_new new = GoesOn log_old old.board log_new new.board
-IsWearLogged Do.On log_old old log_new new = GoesOn log_old old.board log_new new.board
+IsWearLogged (Do.Write a plain) log_old old log_new new = GoesOn log_old old.session.board log_new new.session.board
+IsWearLogged (Do.Read a) log_old old log_new new = GoesOn log_old old.session.board log_new new.session.board
+IsWearLogged Do.On log_old old log_new new = GoesOn log_old old.session.board log_new new.session.board
 IsWearLogged command log_old old log_new new = log_new ≡ log_old
 
 -- so it is of the command that a line is read as; one without a command leaves the log as it was

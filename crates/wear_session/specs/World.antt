@@ -1,39 +1,20 @@
 -- The state of a session made from the parts that it keeps, and what always holds of these.
-use Rattle.std.specs.Prelude.{ℕ, ◌≡◌, ◌≤◌, ◌+◌, true, false, List, map, length, is_none, Option, Some, None, unwrap_or, option_map, IsTrue}
-use Rattle.std.specs.List.{range_with_len}
+use Rattle.std.specs.Prelude.{ℕ, ◌≡◌, ◌≤◌, true, false, List, length, is_none, Option, Some, None, unwrap_or, option_map, IsTrue}
 use Rattle.pmem_base.specs.Shape.{IsShape}
 use Rattle.pmem_base.specs.Layout as layout
-use Rattle.pmem_base.specs.Lines.{line_at}
 use Rattle.pmem_base.specs.Registers.{IsValidRegs}
 use Rattle.board.specs.Device.{AreLinesOf}
 use Rattle.board.specs.Memory.{BoardMemory, device_of}
 use Rattle.seal_ledger.specs.Ledger.{LedgerState, IsOfShape}
 use Rattle.suite.specs.Formulas.{AreInRange}
 use Rattle.suite.specs.Setup.{Setup}
-use Rattle.plain_model.specs.State.{Memory}
 use Rattle.plain_model.specs.View.{IsMemoryOf, plain_memory}
 use Rattle.pmem_engine.specs.Invariants.{IsDurable, IsSound}
 use Rattle.pmem_engine.specs.Calls.{IsUsable}
-use Rattle.start_gap.specs.declared.wear.Wear.{Wear}
 use Rattle.start_gap.specs.declared.gapped.Gapped.{Gapped}
-use Rattle.start_gap.specs.Wear.{place_of, first_wear}
-use Rattle.start_gap.specs.Record.{recorded}
 use Rattle.start_gap.specs.Logical.{IsLevelled}
 use Rattle.start_gap.specs.Gapped.{logical_lines}
-use Rattle.wear_session.specs.State.{WearState}
-
--- ---- what the marks say
-
--- the wear that is recorded
-abbrev pub wear_in : Setup → Memory → Wear
-wear_in setup places =
-    let n = logical_lines setup.shape in unwrap_or (recorded n (line_at places (n + 1))) (first_wear n)
-
--- the logical lines, each at its place
-abbrev pub levelled_memory : Setup → Memory → Memory
-levelled_memory setup places =
-    let n = logical_lines setup.shape in
-    map (λ a. line_at places (place_of n (wear_in setup places) a)) (range_with_len 0 n)
+use Rattle.wear_session.specs.State.{WearState, wear_left, wear_in, levelled_memory}
 
 -- ---- a state of its parts
 
@@ -49,19 +30,17 @@ pub record WearParts : Type 0 where
 
 abbrev pub wear_of : Setup → WearParts → WearState
 wear_of setup parts =
-    let places = plain_memory setup parts.ledger.marks in
-    record {
+    wear_left setup parts.every
+    (record {
       shape = setup.shape;
       keys = parts.keys;
-      every = parts.every;
-      memory = levelled_memory setup places;
-      wear = wear_in setup places;
-      count = unwrap_or (option_map (λ gapped. gapped.count) parts.gapped) 0;
       board = parts.board;
-      marks = parts.ledger.marks;
+      engine = option_map (λ gapped. gapped.engine) parts.gapped;
+      ledger = parts.ledger;
       tags = parts.tags;
       digests = parts.digests;
-    }
+    })
+    (unwrap_or (option_map (λ gapped. gapped.count) parts.gapped) 0)
 
 -- ---- what it always holds
 

@@ -13,5 +13,5 @@ mod world;
 
 pub use answers::{WearAnswer, write_wear_answer};
 pub use commands::{WearCommand, read_wear_command};
-pub use laws::sessions_keep_lines;
+pub use laws::{sessions_keep_lines, wear_replies_are_determined};
 pub use world::WearWorld;

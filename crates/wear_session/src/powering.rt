@@ -43,7 +43,7 @@ impl<S: Suite + Drop> WearWorld<S> {
     pub(crate) fn on(&mut self, alloc: Global, log: &mut AccessLog) -> Result<WearAnswer, Halt>
         ensures answered { IfOk result (λ answer. IsWearAnswered (wear_setup_in S.formulas_of self.old) self.old Do.On answer self.new) }
         ensures halted { IfErr result (λ halt. IsWearHalt (wear_setup_in S.formulas_of self.old) self.old Do.On halt self.new) }
-        ensures logged { GoesOn log.old self.old.board log.new self.new.board }
+        ensures logged { GoesOn log.old self.old.session.board log.new self.new.session.board }
     {
         if self.gapped.is_some() {
             return Ok(WearAnswer::Already);

@@ -30,7 +30,7 @@ impl<S: Suite + Drop> WearWorld<S> {
         ensures answered { IfOk result (λ answer. IsWearAnswered (wear_setup_in S.formulas_of self.old) self.old (Do.Write at line.now) answer self.new) }
         ensures err { OnErr result (self.new ≡ self.old) }
         ensures wanting { OnErr result (IsWearMemoryWanted self.old (Do.Write at line.now)) }
-        ensures logged { GoesOn log.old self.old.board log.new self.new.board }
+        ensures logged { GoesOn log.old self.old.session.board log.new self.new.session.board }
     {
         let Some(gapped) = &mut self.gapped else {
             return Ok(WearAnswer::Off);
@@ -79,7 +79,7 @@ impl<S: Suite + Drop> WearWorld<S> {
     /// A logical line is read.
     pub(crate) fn read(&mut self, at: u64, log: &mut AccessLog) -> WearAnswer
         ensures answered { IsWearAnswered (wear_setup_in S.formulas_of self.old) self.old (Do.Read at) result self.new }
-        ensures logged { GoesOn log.old self.old.board log.new self.new.board }
+        ensures logged { GoesOn log.old self.old.session.board log.new self.new.session.board }
     {
         let Some(gapped) = &mut self.gapped else {
             return WearAnswer::Off;

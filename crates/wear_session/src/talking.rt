@@ -56,7 +56,7 @@ impl<S: Counted + Drop> Talk for WearWorld<S> {
 
     ghost logs = { λ old line log_old log_new new. IsWearLogOf (reading_of_wear line) log_old old log_new new };
 
-    ghost work = { λ state. (state.tags, state.digests) };
+    ghost work = { λ state. (state.session.tags, state.session.digests) };
 
     fn talk(
         &mut self,

@@ -62,7 +62,7 @@ impl<S: Suite + Drop> WearWorld<S> {
     pub fn new(alloc: Global, geo: Geo, suite: S, every: u32) -> Result<WearWorld<S>, MemFault>
         requires { 1 ≤ every }
         ensures new { IfOk result (λ world. IsNewWear (record { shape = shape_of geo; formulas = S.formulas_of (S.keys suite) }) every world) }
-        ensures keys { IfOk result (λ world. world.keys ≡ S.keys suite) }
+        ensures keys { IfOk result (λ world. world.session.keys ≡ S.keys suite) }
     {
         geo.layout_is_one_to_one();
         let mut suite = suite;

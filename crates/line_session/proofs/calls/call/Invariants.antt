@@ -1,5 +1,5 @@
 -- The board as the call finds it, the reference to it, and the log.
-use Rattle.board.specs.MemBoard.{memory_of}
+use Rattle.line_session.proofs.Common.{memory_of}
 use Rattle.line_session.proofs.calls.call.Given as goal
 
 abbrev pub ghosts-call_logged-K-Start : goal.ghosts-call_logged-K-Start

@@ -1,7 +1,6 @@
 -- None of the marks so far is a write's own seal of the line.
 use Rattle.std.proofs.Common.{◌≡◌, false, take}
-use Rattle.std.specs.List.{list_any}
-use Rattle.engine_lines.specs.Writes.{is_own_seal}
+use Rattle.line_session.proofs.Common.{list_any, is_own_seal}
 use Rattle.line_session.proofs.marks.has_own_seal.Given as goal
 
 abbrev pub invariant-loop-mark : goal.invariant-loop-mark

@@ -1,8 +1,6 @@
 -- Recovery was done, and the opening answers.
 use Rattle.std.proofs.Common.{rules, Ok, Err}
-use Rattle.pmem_base.specs.Geo.{shape_of}
-use Rattle.seal_ledger.specs.View.{ledger_of}
-use Rattle.pmem_recovery.specs.Parts.{SuiteState, suite_state}
+use Rattle.line_session.proofs.Common.{shape_of, ledger_of, SuiteState, suite_state}
 use Rattle.line_session.proofs.Openings.{has_started}
 use Rattle.line_session.proofs.starts.recover_and_open.Given.{Over}
 use Rattle.line_session.proofs.starts.recover_and_open.Goals as goal

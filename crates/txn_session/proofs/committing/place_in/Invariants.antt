@@ -1,7 +1,6 @@
 -- None of the entries so far is of the line.
 use Rattle.std.proofs.Common.{◌≡◌, drop}
-use Rattle.std.specs.Prelude.{◌==◌}
-use Rattle.std.specs.List.{position_from}
+use Rattle.txn_session.proofs.Common.{◌==◌, position_from}
 use Rattle.txn_session.proofs.committing.place_in.Given as goal
 
 abbrev pub invariant-entries : goal.invariant-entries

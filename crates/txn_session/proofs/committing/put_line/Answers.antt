@@ -1,6 +1,6 @@
 -- A line goes to its place, or to the end.
 use Rattle.std.proofs.Common.{true, false, Some, None, sym, ap, ◌∙◌}
-use Rattle.std.specs.Prelude.{not, is_some}
+use Rattle.txn_session.proofs.Common.{not, is_some}
 use Rattle.txn_session.proofs.Puts.{seen_as, found_at, found_none, with_new, full_is, refilled}
 use Rattle.txn_session.proofs.committing.put_line.Goals as goal
 

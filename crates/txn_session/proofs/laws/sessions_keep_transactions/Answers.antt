@@ -1,4 +1,4 @@
-use Rattle.pmem_base.specs.Geo.{shape_of}
+use Rattle.txn_session.proofs.Common.{shape_of}
 use Rattle.txn_session.proofs.Sessions.{txns_kept_always, txns_spent_always}
 use Rattle.txn_session.proofs.laws.sessions_keep_transactions.Goals as goal
 

@@ -1,5 +1,5 @@
 -- The laws of sessions.
-use Rattle.pmem_base.specs.Geo.{shape_of}
+use Rattle.wear_session.proofs.Common.{shape_of}
 use Rattle.wear_session.proofs.Sessions.{wear_kept_always, wear_spent_always}
 use Rattle.wear_session.proofs.laws.sessions_keep_lines.Goals as goal
 

@@ -1,16 +1,6 @@
 -- A new session.
 use Rattle.std.proofs.Common.{◌≡◌, Ok, Err, List, ℕ, sym, ap, subst, ◌∙◌}
-use Rattle.pmem_base.specs.Geo.{shape_of}
-use Rattle.pmem_base.specs.Shape.{Shape}
-use Rattle.board.specs.MemBoard.{memory_of}
-use Rattle.board.specs.Memory.{BoardMemory, device_of}
-use Rattle.seal_ledger.specs.View.{ledger_of}
-use Rattle.suite.specs.Setup.{Setup}
-use Rattle.pmem_engine.specs.Engine.{EngineState}
-use Rattle.pmem_engine.specs.Parts.{parts_of}
-use Rattle.line_txn.specs.Store.{HasStoreOpened}
-use Rattle.txn_session.specs.State.{IsNewTxn}
-use Rattle.txn_session.specs.World.{IsTxnWorld, txn_of}
+use Rattle.txn_session.proofs.Common.{shape_of, Shape, memory_of, BoardMemory, device_of, ledger_of, Setup, EngineState, parts_of, HasStoreOpened, IsNewTxn, IsTxnWorld, txn_of}
 use Rattle.txn_session.proofs.NewLaws.{NewTxnCall, held, new_outcome}
 use Rattle.txn_session.proofs.world.TxnWorld.new.Given.{Over}
 use Rattle.txn_session.proofs.world.TxnWorld.new.Goals.{After-open}

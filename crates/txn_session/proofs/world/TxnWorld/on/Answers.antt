@@ -1,20 +1,12 @@
 -- Power comes on, and the store may be stuck; or it is cut, memory is wanted, or a twin is shown.
 use Rattle.std.proofs.Common.{rules, ◌≡◌, inl, inr, Err, ap, ◌∙◌, refl}
-use Rattle.std.specs.Prelude.{option_map}
-use Rattle.pmem_base.specs.Geo.{shape_of}
-use Rattle.board.specs.MemBoard.{memory_of}
-use Rattle.seal_ledger.specs.View.{ledger_of}
+use Rattle.txn_session.proofs.Common.{option_map, shape_of, memory_of, ledger_of, suite_state, none_of, GoesOn, traced_of, goes_on-between, TxnState}
 use Rattle.pmem_engine.specs.declared.fault.Fault.TheVariants as Fail
 use Rattle.pmem_recovery.specs.declared.faults.RecFault.TheVariants as Rec
-use Rattle.pmem_recovery.specs.Parts.{suite_state}
 use Rattle.line_txn.specs.declared.store.TxnFault.TheVariants as Txn
-use Rattle.pmem_recovery.proofs.ResultLaws.{none_of}
 use Rattle.line_session.specs.declared.starts.StartFault.TheVariants as Start
-use Rattle.access_log.specs.Traced.{GoesOn, traced_of}
-use Rattle.access_log.proofs.TraceLemmas.{goes_on-between}
-use Rattle.txn_session.specs.State.{TxnState}
 use Rattle.txn_session.proofs.Starts.{OnTxnCall}
-use Rattle.txn_session.proofs.OpeningExits.{open_held, open_exit, stuck_exit, cut_exit, wanted_on, wanted_exit, twin_exit, possible}
+use Rattle.txn_session.proofs.OpeningExits.{open_held, open_exit, stuck_exit, cut_exit, wanted_on, wanted_exit, twin_exit, outcome_as}
 use Rattle.txn_session.proofs.world.TxnWorld.on.Given.{Over}
 use Rattle.txn_session.proofs.world.TxnWorld.on.Goals.{After-steps-steps, in-Some, in-None, In-Err-Recovery, In-Err-Opening, In-Engine}
 use Rattle.txn_session.proofs.world.TxnWorld.on.Goals as goal
@@ -50,11 +42,7 @@ module _ (g : Over) (c : After-steps-steps g) where
         ledger = ledger_of c.start-done.new.ledger;
         taken = c.start-done.result.taken;
         watched = c.start-done.ensures.watched;
-        suite_old =
-            suite_state (g.S.Suite.keys c.self.inside.suite) (g.S.Suite.pads c.self.inside.suite) (g.S.Suite.tags c.self.inside.suite)
-            (g.S.Suite.digests c.self.inside.suite);
-        tags_old = refl;
-        digests_old = refl;
+        pads_old = g.S.Suite.pads c.self.inside.suite;
         suite_new =
             suite_state (g.S.Suite.keys c.start-done.new.suite) (g.S.Suite.pads c.start-done.new.suite) (g.S.Suite.tags c.start-done.new.suite)
             (g.S.Suite.digests c.start-done.new.suite);
@@ -65,10 +53,10 @@ module _ (g : Over) (c : After-steps-steps g) where
       }
 
   -- the log goes on from the board before to the board as the call left it
-  logged : GoesOn c.args.log.now c.args.self.now.board c.start-done.new.log (memory_of c.start-done.new.board)
+  logged : GoesOn c.args.log.now c.args.self.now.session.board c.start-done.new.log (memory_of c.start-done.new.board)
   logged =
-      goes_on-between c.args.log.now c.start-done.new.log c.args.self.now.board (memory_of c.power.new.self) (memory_of c.start-done.new.board)
-      (memory_of c.start-done.new.board) (ap traced_of c.power.ensures ∙ ap (λ (w : TxnState). traced_of w.board) c.self.view_is) refl
+      goes_on-between c.args.log.now c.start-done.new.log c.args.self.now.session.board (memory_of c.power.new.self) (memory_of c.start-done.new.board)
+      (memory_of c.start-done.new.board) (ap traced_of c.power.ensures ∙ ap (λ (w : TxnState). traced_of w.session.board) c.self.view_is) refl
       c.start-done.ensures.logged
 
 pub invariant_of-self-in-Ok : goal.invariant_of-self-in-Ok
@@ -135,8 +123,8 @@ unreachable-requires g c =
     let its = call g ((goal.at.unreachable-requires g c).After-steps-steps) in
     let is = recovery_fault g ((goal.at.unreachable-requires g c).In-Err-Recovery) in
     elim c.in-NoCounter.is [
-      | inl counter ↦ possible its (Err (Start.Recovery (Rec.NoCounter counter.0))) (is ∙ ap (λ f. Err (Start.Recovery f)) counter.1)
-      | inr root ↦ possible its (Err (Start.Recovery (Rec.Root root.0 root.1))) (is ∙ ap (λ f. Err (Start.Recovery f)) root.2)
+      | inl counter ↦ outcome_as its (Err (Start.Recovery (Rec.NoCounter counter.0))) (is ∙ ap (λ f. Err (Start.Recovery f)) counter.1)
+      | inr root ↦ outcome_as its (Err (Start.Recovery (Rec.Root root.0 root.1))) (is ∙ ap (λ f. Err (Start.Recovery f)) root.2)
     ]
 
 -- ---- the store wasn't opened
@@ -164,17 +152,17 @@ unreachable-requires-in-Down g c =
     let its = call g ((goal.at.unreachable-requires-in-Down g c).After-steps-steps) in
     let is = engine_fault g ((goal.at.unreachable-requires-in-Down g c).In-Engine) in
     elim c.in-Down.is [
-      | inl down ↦ possible its (Err (Start.Opening (Txn.Engine Fail.Down))) (is ∙ ap (λ f. Err (Start.Opening (Txn.Engine f))) down)
+      | inl down ↦ outcome_as its (Err (Start.Opening (Txn.Engine Fail.Down))) (is ∙ ap (λ f. Err (Start.Opening (Txn.Engine f))) down)
       | inr others ↦
           elim others [
-            | inl meta ↦ possible its (Err (Start.Opening (Txn.Engine (Fail.Meta meta.0)))) (is ∙ ap (λ f. Err (Start.Opening (Txn.Engine f))) meta.1)
+            | inl meta ↦ outcome_as its (Err (Start.Opening (Txn.Engine (Fail.Meta meta.0)))) (is ∙ ap (λ f. Err (Start.Opening (Txn.Engine f))) meta.1)
             | inr more ↦
                 elim more [
-                  | inl tag ↦ possible its (Err (Start.Opening (Txn.Engine (Fail.Tag tag.0)))) (is ∙ ap (λ f. Err (Start.Opening (Txn.Engine f))) tag.1)
+                  | inl tag ↦ outcome_as its (Err (Start.Opening (Txn.Engine (Fail.Tag tag.0)))) (is ∙ ap (λ f. Err (Start.Opening (Txn.Engine f))) tag.1)
                   | inr last ↦
                       elim last [
-                        | inl shown ↦ possible its (Err (Start.Opening (Txn.Engine Fail.Shown))) (is ∙ ap (λ f. Err (Start.Opening (Txn.Engine f))) shown)
-                        | inr spent ↦ possible its (Err (Start.Opening (Txn.Engine (Fail.Spent spent.0)))) (is ∙ ap (λ f. Err (Start.Opening (Txn.Engine f))) spent.1)
+                        | inl shown ↦ outcome_as its (Err (Start.Opening (Txn.Engine Fail.Shown))) (is ∙ ap (λ f. Err (Start.Opening (Txn.Engine f))) shown)
+                        | inr spent ↦ outcome_as its (Err (Start.Opening (Txn.Engine (Fail.Spent spent.0)))) (is ∙ ap (λ f. Err (Start.Opening (Txn.Engine f))) spent.1)
                       ]
                 ]
           ]
@@ -182,7 +170,7 @@ unreachable-requires-in-Down g c =
 
 pub unreachable-requires-in-Header : goal.unreachable-requires-in-Header
 unreachable-requires-in-Header g c =
-    possible (call g ((goal.at.unreachable-requires-in-Header g c).After-steps-steps)) (Err (Start.Opening (Txn.Header c.in-Header.line)))
+    outcome_as (call g ((goal.at.unreachable-requires-in-Header g c).After-steps-steps)) (Err (Start.Opening (Txn.Header c.in-Header.line)))
     (opening_fault g ((goal.at.unreachable-requires-in-Header g c).In-Err-Opening) ∙ ap (λ f. Err (Start.Opening f)) c.in-Header.is)
 
 -- ---- the log
@@ -198,10 +186,10 @@ returns-in-Cut-fault-clause-logged g c = logged g ((goal.at.returns-in-Cut-fault
 
 pub returns-in-Memory-clause-logged : goal.returns-in-Memory-clause-logged
 returns-in-Memory-clause-logged g c =
-    goes_on-between c.args.log.now c.start-done.new.log c.args.self.now.board c.args.self.now.board (memory_of c.start-done.new.board)
+    goes_on-between c.args.log.now c.start-done.new.log c.args.self.now.session.board c.args.self.now.session.board (memory_of c.start-done.new.board)
     (memory_of c.rest.new.self) refl (ap traced_of c.rest.ensures) (logged g ((goal.at.returns-in-Memory-clause-logged g c).After-steps-steps))
 
 pub returns-in-Twin-clause-logged : goal.returns-in-Twin-clause-logged
 returns-in-Twin-clause-logged g c =
-    goes_on-between c.args.log.now c.start-done.new.log c.args.self.now.board c.args.self.now.board (memory_of c.start-done.new.board)
+    goes_on-between c.args.log.now c.start-done.new.log c.args.self.now.session.board c.args.self.now.session.board (memory_of c.start-done.new.board)
     (memory_of c.rest-in-Twin.new.self) refl (ap traced_of c.rest-in-Twin.ensures) (logged g ((goal.at.returns-in-Twin-clause-logged g c).After-steps-steps))

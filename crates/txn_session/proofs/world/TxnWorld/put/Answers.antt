@@ -1,11 +1,6 @@
 -- A line is put, or isn't, where the transaction is full.
 use Rattle.std.proofs.Common.{Some, ap, subst, arith}
-use Rattle.std.specs.Prelude.{option_map}
-use Rattle.pmem_base.specs.Geo.{shape_of}
-use Rattle.board.specs.MemBoard.{memory_of}
-use Rattle.seal_ledger.specs.View.{ledger_of}
-use Rattle.suite.specs.Setup.{Setup}
-use Rattle.txn_session.specs.World.{TxnParts}
+use Rattle.txn_session.proofs.Common.{option_map, shape_of, memory_of, ledger_of, Setup, TxnParts}
 use Rattle.txn_session.proofs.Puts.{put_txn}
 use Rattle.txn_session.proofs.Worlds.{IsOpenTxn, on_in, lines_are, put_world}
 use Rattle.txn_session.proofs.world.TxnWorld.put.Goals as goal

@@ -1,12 +1,6 @@
 -- A line is read, or power is cut.
 use Rattle.std.proofs.Common.{rules, arith, refl, ap}
-use Rattle.std.specs.Prelude.{option_map}
-use Rattle.pmem_base.specs.Geo.{shape_of}
-use Rattle.board.specs.MemBoard.{memory_of}
-use Rattle.seal_ledger.specs.View.{ledger_of}
-use Rattle.access_log.specs.Traced.{GoesOn, traced_of}
-use Rattle.access_log.proofs.TraceLemmas.{goes_on-between}
-use Rattle.txn_session.specs.State.{TxnState}
+use Rattle.txn_session.proofs.Common.{option_map, shape_of, memory_of, ledger_of, GoesOn, traced_of, goes_on-between, TxnState}
 use Rattle.txn_session.proofs.ReadLaws.{ReadTxnCall, got_held, got_seen, cut_held, cut_seen}
 use Rattle.txn_session.proofs.world.TxnWorld.read.Given.{Over}
 use Rattle.txn_session.proofs.world.TxnWorld.read.Goals.{After-steps-steps}
@@ -45,8 +39,6 @@ module _ (g : Over) (c : After-steps-steps g) where
         ledger = ledger_of c.call-done.new.ledger;
         taken = c.call-done.result.taken;
         watched = c.call-done.ensures.watched;
-        tags = g.S.Suite.tags c.self.inside.suite;
-        digests = g.S.Suite.digests c.self.inside.suite;
         tags_new = g.S.Suite.tags c.call-done.new.suite;
         digests_new = g.S.Suite.digests c.call-done.new.suite;
         said = c.steps-steps.result;
@@ -54,13 +46,14 @@ module _ (g : Over) (c : After-steps-steps g) where
         answer = c.call-done.result.answer;
         was_read = c.call-done.ensures.made.was_read;
         read_logged = c.call-done.ensures.made.logged;
+        plan = c.call-done.ensures.made.plan;
       }
 
   -- the log goes on by that call
-  logged : GoesOn c.args.log.now c.args.self.now.board c.call-done.new.log (memory_of c.call-done.new.board)
+  logged : GoesOn c.args.log.now c.args.self.now.session.board c.call-done.new.log (memory_of c.call-done.new.board)
   logged =
-      goes_on-between c.args.log.now c.call-done.new.log c.args.self.now.board (memory_of c.self.inside.board) (memory_of c.call-done.new.board)
-      (memory_of c.call-done.new.board) (ap (λ (w : TxnState). traced_of w.board) c.self.view_is) refl c.call-done.ensures.logged
+      goes_on-between c.args.log.now c.call-done.new.log c.args.self.now.session.board (memory_of c.self.inside.board) (memory_of c.call-done.new.board)
+      (memory_of c.call-done.new.board) (ap (λ (w : TxnState). traced_of w.session.board) c.self.view_is) refl c.call-done.ensures.logged
 
 pub invariant_of-self-in-Ok : goal.invariant_of-self-in-Ok
 invariant_of-self-in-Ok g c =

@@ -1,16 +1,6 @@
 -- A new session.
 use Rattle.std.proofs.Common.{◌≡◌, Ok, Err, List, ℕ, sym, ap, subst, ◌∙◌}
-use Rattle.pmem_base.specs.Geo.{shape_of}
-use Rattle.pmem_base.specs.Shape.{Shape}
-use Rattle.board.specs.MemBoard.{memory_of}
-use Rattle.board.specs.Memory.{BoardMemory, device_of}
-use Rattle.seal_ledger.specs.View.{ledger_of}
-use Rattle.suite.specs.Setup.{Setup}
-use Rattle.pmem_engine.specs.Engine.{EngineState}
-use Rattle.pmem_engine.specs.Parts.{parts_of}
-use Rattle.start_gap.specs.Gapped.{HasGappedOpened}
-use Rattle.wear_session.specs.State.{IsNewWear}
-use Rattle.wear_session.specs.World.{IsWearWorld, wear_of}
+use Rattle.wear_session.proofs.Common.{shape_of, Shape, memory_of, BoardMemory, device_of, ledger_of, Setup, EngineState, parts_of, HasGappedOpened, IsNewWear, IsWearWorld, wear_of}
 use Rattle.wear_session.proofs.NewLaws.{NewWearCall, held, new_outcome}
 use Rattle.wear_session.proofs.world.WearWorld.new.Given.{Over}
 use Rattle.wear_session.proofs.world.WearWorld.new.Goals.{After-open}

@@ -1,20 +1,12 @@
 -- Power comes on; or it is cut, memory is wanted, or a twin is shown.
 use Rattle.std.proofs.Common.{rules, ◌≡◌, refl, inl, inr, Err, ap, ◌∙◌}
-use Rattle.pmem_base.specs.Geo.{shape_of}
-use Rattle.board.specs.MemBoard.{memory_of}
-use Rattle.seal_ledger.specs.View.{ledger_of}
+use Rattle.wear_session.proofs.Common.{shape_of, memory_of, ledger_of, suite_state, Gapped, GoesOn, traced_of, goes_on-between, WearState, none_of}
 use Rattle.pmem_engine.specs.declared.fault.Fault.TheVariants as Fail
 use Rattle.pmem_recovery.specs.declared.faults.RecFault.TheVariants as Rec
-use Rattle.pmem_recovery.specs.Parts.{suite_state}
-use Rattle.start_gap.specs.declared.gapped.Gapped.{Gapped}
 use Rattle.start_gap.specs.declared.gapped.GapFault.TheVariants as Gap
 use Rattle.line_session.specs.declared.starts.StartFault.TheVariants as Start
-use Rattle.access_log.specs.Traced.{GoesOn, traced_of}
-use Rattle.access_log.proofs.TraceLemmas.{goes_on-between}
-use Rattle.wear_session.specs.State.{WearState}
 use Rattle.wear_session.proofs.Starts.{OnWearCall}
-use Rattle.pmem_recovery.proofs.ResultLaws.{none_of}
-use Rattle.wear_session.proofs.OpeningExits.{open_exit, cut_exit, wanted_on, wanted_exit, twin_exit, possible}
+use Rattle.wear_session.proofs.OpeningExits.{open_exit, cut_exit, wanted_on, wanted_exit, twin_exit, outcome_as}
 use Rattle.wear_session.proofs.world.WearWorld.on.Given.{Over}
 use Rattle.wear_session.proofs.world.WearWorld.on.Goals.{After-steps-steps, In-Err-Recovery, In-Err-Opening, In-Engine}
 use Rattle.wear_session.proofs.world.WearWorld.on.Goals as goal
@@ -48,11 +40,7 @@ module _ (g : Over) (c : After-steps-steps g) where
         ledger = ledger_of c.start-done.new.ledger;
         taken = c.start-done.result.taken;
         watched = c.start-done.ensures.watched;
-        suite_old =
-            suite_state (g.S.Suite.keys c.self.inside.suite) (g.S.Suite.pads c.self.inside.suite) (g.S.Suite.tags c.self.inside.suite)
-            (g.S.Suite.digests c.self.inside.suite);
-        tags_old = refl;
-        digests_old = refl;
+        pads_old = g.S.Suite.pads c.self.inside.suite;
         suite_new =
             suite_state (g.S.Suite.keys c.start-done.new.suite) (g.S.Suite.pads c.start-done.new.suite) (g.S.Suite.tags c.start-done.new.suite)
             (g.S.Suite.digests c.start-done.new.suite);
@@ -63,10 +51,10 @@ module _ (g : Over) (c : After-steps-steps g) where
       }
 
   -- the log goes on from the board before to the board as the call left it
-  logged : GoesOn c.args.log.now c.args.self.now.board c.start-done.new.log (memory_of c.start-done.new.board)
+  logged : GoesOn c.args.log.now c.args.self.now.session.board c.start-done.new.log (memory_of c.start-done.new.board)
   logged =
-      goes_on-between c.args.log.now c.start-done.new.log c.args.self.now.board (memory_of c.power.new.self) (memory_of c.start-done.new.board)
-      (memory_of c.start-done.new.board) (ap traced_of c.power.ensures ∙ ap (λ (w : WearState). traced_of w.board) c.self.view_is) refl
+      goes_on-between c.args.log.now c.start-done.new.log c.args.self.now.session.board (memory_of c.power.new.self) (memory_of c.start-done.new.board)
+      (memory_of c.start-done.new.board) (ap traced_of c.power.ensures ∙ ap (λ (w : WearState). traced_of w.session.board) c.self.view_is) refl
       c.start-done.ensures.logged
 
 pub invariant_of-self : goal.invariant_of-self
@@ -123,8 +111,8 @@ unreachable-requires g c =
     let its = call g ((goal.at.unreachable-requires g c).After-steps-steps) in
     let is = recovery_fault g ((goal.at.unreachable-requires g c).In-Err-Recovery) in
     elim c.in-NoCounter.is [
-      | inl counter ↦ possible its (Err (Start.Recovery (Rec.NoCounter counter.0))) (is ∙ ap (λ f. Err (Start.Recovery f)) counter.1)
-      | inr root ↦ possible its (Err (Start.Recovery (Rec.Root root.0 root.1))) (is ∙ ap (λ f. Err (Start.Recovery f)) root.2)
+      | inl counter ↦ outcome_as its (Err (Start.Recovery (Rec.NoCounter counter.0))) (is ∙ ap (λ f. Err (Start.Recovery f)) counter.1)
+      | inr root ↦ outcome_as its (Err (Start.Recovery (Rec.Root root.0 root.1))) (is ∙ ap (λ f. Err (Start.Recovery f)) root.2)
     ]
 
 -- ---- the lines weren't opened
@@ -152,17 +140,17 @@ unreachable-requires-in-Down g c =
     let its = call g ((goal.at.unreachable-requires-in-Down g c).After-steps-steps) in
     let is = engine_fault g ((goal.at.unreachable-requires-in-Down g c).In-Engine) in
     elim c.in-Down.is [
-      | inl down ↦ possible its (Err (Start.Opening (Gap.Engine Fail.Down))) (is ∙ ap (λ f. Err (Start.Opening (Gap.Engine f))) down)
+      | inl down ↦ outcome_as its (Err (Start.Opening (Gap.Engine Fail.Down))) (is ∙ ap (λ f. Err (Start.Opening (Gap.Engine f))) down)
       | inr others ↦
           elim others [
-            | inl meta ↦ possible its (Err (Start.Opening (Gap.Engine (Fail.Meta meta.0)))) (is ∙ ap (λ f. Err (Start.Opening (Gap.Engine f))) meta.1)
+            | inl meta ↦ outcome_as its (Err (Start.Opening (Gap.Engine (Fail.Meta meta.0)))) (is ∙ ap (λ f. Err (Start.Opening (Gap.Engine f))) meta.1)
             | inr more ↦
                 elim more [
-                  | inl tag ↦ possible its (Err (Start.Opening (Gap.Engine (Fail.Tag tag.0)))) (is ∙ ap (λ f. Err (Start.Opening (Gap.Engine f))) tag.1)
+                  | inl tag ↦ outcome_as its (Err (Start.Opening (Gap.Engine (Fail.Tag tag.0)))) (is ∙ ap (λ f. Err (Start.Opening (Gap.Engine f))) tag.1)
                   | inr last ↦
                       elim last [
-                        | inl shown ↦ possible its (Err (Start.Opening (Gap.Engine Fail.Shown))) (is ∙ ap (λ f. Err (Start.Opening (Gap.Engine f))) shown)
-                        | inr spent ↦ possible its (Err (Start.Opening (Gap.Engine (Fail.Spent spent.0)))) (is ∙ ap (λ f. Err (Start.Opening (Gap.Engine f))) spent.1)
+                        | inl shown ↦ outcome_as its (Err (Start.Opening (Gap.Engine Fail.Shown))) (is ∙ ap (λ f. Err (Start.Opening (Gap.Engine f))) shown)
+                        | inr spent ↦ outcome_as its (Err (Start.Opening (Gap.Engine (Fail.Spent spent.0)))) (is ∙ ap (λ f. Err (Start.Opening (Gap.Engine f))) spent.1)
                       ]
                 ]
           ]
@@ -170,7 +158,7 @@ unreachable-requires-in-Down g c =
 
 pub unreachable-requires-in-BadWear : goal.unreachable-requires-in-BadWear
 unreachable-requires-in-BadWear g c =
-    possible (call g ((goal.at.unreachable-requires-in-BadWear g c).After-steps-steps)) (Err (Start.Opening (Gap.BadWear c.in-BadWear.line)))
+    outcome_as (call g ((goal.at.unreachable-requires-in-BadWear g c).After-steps-steps)) (Err (Start.Opening (Gap.BadWear c.in-BadWear.line)))
     (opening_fault g ((goal.at.unreachable-requires-in-BadWear g c).In-Err-Opening) ∙ ap (λ f. Err (Start.Opening f)) c.in-BadWear.is)
 
 -- ---- the log
@@ -186,10 +174,10 @@ returns-in-Cut-fault-clause-logged g c = logged g ((goal.at.returns-in-Cut-fault
 
 pub returns-in-Memory-clause-logged : goal.returns-in-Memory-clause-logged
 returns-in-Memory-clause-logged g c =
-    goes_on-between c.args.log.now c.start-done.new.log c.args.self.now.board c.args.self.now.board (memory_of c.start-done.new.board)
+    goes_on-between c.args.log.now c.start-done.new.log c.args.self.now.session.board c.args.self.now.session.board (memory_of c.start-done.new.board)
     (memory_of c.rest.new.self) refl (ap traced_of c.rest.ensures) (logged g ((goal.at.returns-in-Memory-clause-logged g c).After-steps-steps))
 
 pub returns-in-Twin-clause-logged : goal.returns-in-Twin-clause-logged
 returns-in-Twin-clause-logged g c =
-    goes_on-between c.args.log.now c.start-done.new.log c.args.self.now.board c.args.self.now.board (memory_of c.start-done.new.board)
+    goes_on-between c.args.log.now c.start-done.new.log c.args.self.now.session.board c.args.self.now.session.board (memory_of c.start-done.new.board)
     (memory_of c.rest-in-Twin.new.self) refl (ap traced_of c.rest-in-Twin.ensures) (logged g ((goal.at.returns-in-Twin-clause-logged g c).After-steps-steps))

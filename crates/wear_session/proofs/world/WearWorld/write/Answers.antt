@@ -1,20 +1,9 @@
 -- A line is written, with its move where one is due; or its move is held, it is spent, or power is cut.
 use Rattle.std.proofs.Common.{rules, arith, ◌≡◌, ◌⊎◌, inl, inr, true, false, length, drop, Err, sym, ap, subst, ◌∙◌, refl}
-use Rattle.std.specs.List.{list_any}
-use Rattle.std.proofs.lemmas.Bool.{true≢false}
-use Rattle.pmem_base.specs.Geo.{shape_of}
-use Rattle.board.specs.MemBoard.{memory_of}
-use Rattle.seal_ledger.specs.View.{ledger_of}
+use Rattle.wear_session.proofs.Common.{list_any, true≢false, shape_of, memory_of, ledger_of, IsCutOrSpent, is_own_seal, place_of, own_marks, GoesOn, traced_of, goes_on-between, WearState}
 use Rattle.pmem_engine.specs.declared.fault.Fault.TheVariants as Fail
-use Rattle.engine_lines.specs.Lines.{IsCutOrSpent}
-use Rattle.engine_lines.specs.Writes.{is_own_seal}
-use Rattle.start_gap.specs.Wear.{place_of}
-use Rattle.engine_lines.proofs.OwnSeals.{own_marks}
-use Rattle.wear_session.proofs.WriteExits.{WriteWearCall, made_exit, held_exit, spent_exit, cut_held, cut_marks, kept_seen, lost_seen, sound_fault}
-use Rattle.engine_lines.specs.Writes.{is_own_seal}
-use Rattle.access_log.specs.Traced.{GoesOn, traced_of}
-use Rattle.access_log.proofs.TraceLemmas.{goes_on-between}
-use Rattle.wear_session.specs.State.{WearState}
+use Rattle.wear_session.proofs.WriteStates.{WriteWearCall}
+use Rattle.wear_session.proofs.WriteExits.{made_exit, held_exit, spent_exit, cut_held, cut_marks, kept_seen, lost_seen, sound_fault}
 use Rattle.wear_session.proofs.world.WearWorld.write.Given.{Over}
 use Rattle.wear_session.proofs.world.WearWorld.write.Goals.{After-steps-steps, then-written, else-written, then-has_own_seal, else-has_own_seal}
 use Rattle.wear_session.proofs.world.WearWorld.write.Goals as goal
@@ -54,21 +43,20 @@ module _ (g : Over) (c : After-steps-steps g) where
         ledger = ledger_of c.call-done.new.ledger;
         taken = c.call-done.result.taken;
         watched = c.call-done.ensures.watched;
-        tags = g.S.Suite.tags c.self.inside.suite;
-        digests = g.S.Suite.digests c.self.inside.suite;
         tags_new = g.S.Suite.tags c.call-done.new.suite;
         digests_new = g.S.Suite.digests c.call-done.new.suite;
         said = c.steps-steps.result;
         counted = c.steps-steps.ensures;
         answer = c.call-done.result.answer;
         was_written = c.call-done.ensures.made.was_written;
+        plan = c.call-done.ensures.made.plan;
       }
 
   -- the log goes on by that call
-  logged : GoesOn c.args.log.now c.args.self.now.board c.call-done.new.log (memory_of c.call-done.new.board)
+  logged : GoesOn c.args.log.now c.args.self.now.session.board c.call-done.new.log (memory_of c.call-done.new.board)
   logged =
-      goes_on-between c.args.log.now c.call-done.new.log c.args.self.now.board (memory_of c.self.inside.board) (memory_of c.call-done.new.board)
-      (memory_of c.call-done.new.board) (ap (λ (w : WearState). traced_of w.board) c.self.view_is) refl c.call-done.ensures.logged
+      goes_on-between c.args.log.now c.call-done.new.log c.args.self.now.session.board (memory_of c.self.inside.board) (memory_of c.call-done.new.board)
+      (memory_of c.call-done.new.board) (ap (λ (w : WearState). traced_of w.session.board) c.self.view_is) refl c.call-done.ensures.logged
 
 pub invariant_of-self-in-Ok-Not : goal.invariant_of-self-in-Ok-Not
 invariant_of-self-in-Ok-Not g c =
