@@ -75,7 +75,7 @@ armed-path setup a latches plain seal pairs regs old mid new it lines others lat
           ∙ (ap (λ (group : List (ℕ × Line)). redone_told group mid.device.lines) (armed-group setup a plain seal pairs regs old mid new it)
           ∙ ap (redone_told (write_group setup.shape a seal new.watch.nodes)) it.path.done.lines);
       others =
-          others-then old.device.regs regs new.device.regs (subst (λ (r : Regs). KeepsOtherRegisters r regs) it.path.regs it.made.others) others;
+          others-then old.device.regs regs new.device.regs (subst (λ (r : Regs). KeepsOtherRegisters r regs) it.path.done.regs it.made.others) others;
       latched = latched;
       reads =
           subst (RisesBy (absent_nodes setup.shape old.engine.cache a setup.shape.levels) old.device.reads) (sym reads) it.path.reads;

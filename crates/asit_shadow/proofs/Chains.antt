@@ -1,26 +1,14 @@
 -- One part of a call after another: what holds of both.
-use Rattle.std.proofs.Common.{ℕ, ◌≡◌, ◌≢◌, ◌+◌, Bool, true, false, List, [], sym, ap, subst, ◌∙◌, arith}
+use Rattle.std.proofs.Common.{◌≡◌, ◌≢◌, Bool, true, false, List, [], sym, ap, subst, ◌∙◌}
 use Rattle.std.specs.Prelude.{Option, Some, IfSome, is_some}
 use Rattle.std.proofs.lemmas.Bool.{true≢false}
 use Rattle.pmem_base.specs.declared.lines.Line.{Line}
 use Rattle.suite.specs.Setup.{Setup}
-use Rattle.board.specs.Device.{Device}
-use Rattle.board.proofs.CountLemmas.{RisesBy-then}
 use Rattle.pmem_engine.specs.Outcomes.{Outcome, going, cut_short, shown, is_going}
 use Rattle.pmem_engine.proofs.CallEnds.CallChains.{power_chained}
 use Rattle.pmem_engine.proofs.CallEnds.ToldLines.{told_cases, unarmed}
 use Rattle.asit_shadow.specs.Parts.{TreeEngineParts, tree_lines_redone}
-use Rattle.asit_shadow.specs.Calls.{KeepsNodes, KeepsTreePlaces, TreeCallEffect, TakesWriteBacks}
-
-pub write_backs-then : (m n : ℕ) (outcome : Outcome) (old mid new : Device) → (old.live ≡ true → mid.live ≡ true) → TakesWriteBacks m going old mid → TakesWriteBacks n outcome mid new → TakesWriteBacks (m + n) outcome old new
-write_backs-then m n outcome old mid new live first second =
-    record {
-      count = first.count + second.count;
-      at_most = omega (arith, first.at_most, second.at_most);
-      fewer = λ cut was. omega (arith, first.at_most, second.fewer cut (live was));
-      writes = RisesBy-then first.count second.count old.writes mid.writes new.writes first.writes second.writes;
-      latches = second.latches ∙ first.latches;
-    }
+use Rattle.asit_shadow.specs.Calls.{KeepsNodes, KeepsTreePlaces, TreeCallEffect}
 
 nodes-then : (setup : Setup) (outcome : Outcome) (old mid new : TreeEngineParts) → KeepsNodes setup going old mid → KeepsNodes setup outcome mid new → KeepsNodes setup outcome old new
 nodes-then setup going old mid new first second = λ x inside it. second x inside (first x inside it)

@@ -26,7 +26,7 @@ use Rattle.asit_shadow.specs.State.{TreeState, IsCached}
 use Rattle.asit_shadow.specs.Invariants.{IsTreeAnchored, IsTreeTrusted, IsTreeDurable, IsTreeSound, IsTreeSealStored, IsSlotStored}
 use Rattle.asit_shadow.specs.Places.{IsNodeHeld, IsNodeHeldBy}
 use Rattle.asit_shadow.specs.Parts.{TreeEngineParts, AreTreeTrusted, AreTreeSound, HoldsTreeSeal, HoldsSlot, HoldsNode, tree_lines_redone}
-use Rattle.asit_shadow.specs.Calls.{TreeCallEffect, KeepsWatch, TakesWriteBacks}
+use Rattle.asit_shadow.specs.Calls.{TreeCallEffect, KeepsWatch}
 use Rattle.asit_shadow.specs.Work.{spilled_nodes, HasFetchedNodes}
 use Rattle.asit_shadow.specs.Fetching.{IsNodeCutOff}
 use Rattle.asit_shadow.proofs.Chains.{told-of}
@@ -247,16 +247,6 @@ held-read setup a j x version line old now next uncached tells trusted lines are
         ∙ (node_read-place setup now.engine ls now.device.regs now.watch x ready.shape ready.in_range here (omega (arith, ready.not_top)) ready.on_tree uncached it).0)
 
 -- ---- a level that wasn't had ends the fetch
-
-pub stopped-steps : (setup : Setup) (a j x version : ℕ) (outcome : Outcome) (old now new : TreeEngineParts) → IsNextLevel setup a j x version old now → AreUnwritten now.device new.device → TakesWriteBacks setup.shape.levels outcome old.device new.device
-stopped-steps setup a j x version outcome old now new next same =
-    record {
-      count = next.before.steps.count;
-      at_most = omega (arith, next.before.steps.at_most, next.level);
-      fewer = λ cut live. omega (arith, next.before.steps.at_most, next.level);
-      writes = subst (λ n. RisesBy next.before.steps.count old.device.writes n) (sym same.writes) next.before.steps.writes;
-      latches = same.latches ∙ next.before.steps.latches;
-    }
 
 pub kept-watch : (outcome : Outcome) (old new : WatchState) → outcome ≢ shown → new ≡ old → KeepsWatch outcome old new
 kept-watch outcome old new other same =

@@ -1,5 +1,5 @@
 -- The plans of a fetch, at each of their ends.
-use Rattle.std.proofs.Common.{refl, inl, ◌∙◌, ◌≡◌, ℕ, true, false, Option, Some, None, Result, Ok, Err, sym, subst, subst₂}
+use Rattle.std.proofs.Common.{refl, ◌∙◌, ◌≡◌, ℕ, true, false, Option, Some, None, Result, Ok, Err, sym, subst, subst₂}
 use Rattle.std.specs.Prelude.{OnOk, OnErr}
 use Rattle.std.proofs.lemmas.Bool.{false≢true}
 use Rattle.pmem_base.specs.declared.faults.Cut.{Cut}
@@ -107,31 +107,29 @@ pub same_engine : (a b : TreeState) → a.shape ≡ b.shape → a.cache ≡ b.ca
 same_engine a b shape cache tree down = λ i. record { shape = shape i; cache = cache i; tree = tree i; down = down i }
 
 -- why a node that isn't cached wasn't had, by why its line wasn't accepted
-pub not_taken : (setup : Setup) (x version : ℕ) (engine : TreeState) (old new : Device) (watch after : WatchState) (tags made : ℕ) (fault : TreeFault)
-    → (IsCached setup.shape engine.cache x → ⊥) → IsNodeTaken setup x version old new watch after tags made (Err fault)
-    → HasNoNode setup x version (tree_parts_of engine old watch) (tree_parts_of engine new after) tags made fault
-not_taken setup x version engine old new watch after tags made Fail.Cut none it =
-    let on : old.live ≡ true → ⊥ = λ live. false≢true (sym it.1 ∙ live) in (
-      record {
-        uncached = none;
-        victim = λ live. absurd (on live);
-        one_read = λ live. absurd (on live);
-        between = old;
-        cut = it.0;
-        lines = refl;
-        regs = refl;
-        size = refl;
-        writes = refl;
-        latches = refl;
-        cuts = refl;
-        steady = λ steady. steady;
-        engine = refl;
-        watch = it.2;
-      },
-      inl (it.1, it.3),
-    )
-not_taken setup x version engine old new watch after tags made Fail.Down none it = absurd it
-not_taken setup x version engine old new watch after tags made (Fail.Node y) none it = (it.0, none, refl, it.1)
-not_taken setup x version engine old new watch after tags made (Fail.Tag b) none it = absurd it
-not_taken setup x version engine old new watch after tags made Fail.Spent none it = absurd it
-not_taken setup x version engine old new watch after tags made Fail.Shown none it = (none, refl, it.0, it.1)
+pub not_taken : (setup : Setup) (x version : ℕ) (engine : TreeState) (old new : Device) (watch after : WatchState) (fault : TreeFault)
+    → (IsCached setup.shape engine.cache x → ⊥) → IsNodeTaken setup x version old new watch after (Err fault)
+    → HasNoNode setup x version (tree_parts_of engine old watch) (tree_parts_of engine new after) fault
+not_taken setup x version engine old new watch after Fail.Cut none it =
+    let on : old.live ≡ true → ⊥ = λ live. false≢true (sym it.1 ∙ live) in
+    record {
+      uncached = none;
+      victim = λ live. absurd (on live);
+      one_read = λ live. absurd (on live);
+      between = old;
+      cut = it.0;
+      lines = refl;
+      regs = refl;
+      size = refl;
+      writes = refl;
+      latches = refl;
+      cuts = refl;
+      steady = λ steady. steady;
+      engine = refl;
+      watch = it.2;
+    }
+not_taken setup x version engine old new watch after Fail.Down none it = absurd it
+not_taken setup x version engine old new watch after (Fail.Node y) none it = (it.0, none, refl, it.1)
+not_taken setup x version engine old new watch after (Fail.Tag b) none it = absurd it
+not_taken setup x version engine old new watch after Fail.Spent none it = absurd it
+not_taken setup x version engine old new watch after Fail.Shown none it = (none, refl, it)

@@ -22,13 +22,11 @@ use Rattle.asit_shadow.specs.State.{TreeState, IsCached, cache_at}
 use Rattle.asit_shadow.specs.Parts.{TreeEngineParts, AreTreeTrusted}
 use Rattle.asit_shadow.specs.Calls.{IsNodeLineRead}
 use Rattle.asit_shadow.specs.Work.{holds_dirty, is_node_cached, absent_nodes, HasStoppedAt, IsNodeShownAt, IsCutInNodeFetch}
-use Rattle.asit_shadow.specs.Counts.{fetch_tags}
-use Rattle.asit_shadow.specs.Fetching.{AreTagsCutOff, IsNodeCutOff, HasNoNode, IsFetchStopped}
+use Rattle.asit_shadow.specs.Fetching.{IsNodeCutOff, HasNoNode, IsFetchStopped}
 use Rattle.asit_shadow.proofs.Chains.{effect-then, going-unshown, cut-unshown}
 use Rattle.asit_shadow.proofs.LevelWork.{next-on_path, is_cached-false}
 use Rattle.asit_shadow.proofs.PathSteps.{IsNextLevel, level-ready, next-work, cached-after}
-use Rattle.asit_shadow.proofs.TagLaws.{one-more}
-use Rattle.asit_shadow.proofs.FetchEnds.{read-unwritten, cut-unwritten, cut-power, cut-effect, refused-effect, first-none, shown-some, sound-read, shown-effect, held-read, stopped-steps, kept-watch, unwritten-levels}
+use Rattle.asit_shadow.proofs.FetchEnds.{read-unwritten, cut-unwritten, cut-power, cut-effect, refused-effect, first-none, shown-some, sound-read, shown-effect, held-read, kept-watch, unwritten-levels}
 
 -- the line of the next node was read
 stopped-at : (setup : Setup) (a j x version : ℕ) (line : Line) (old now new : TreeEngineParts) → IsNextLevel setup a j x version old now → (IsCached setup.shape now.engine.cache x → ⊥) → new.engine ≡ now.engine → HasRead now.device (line_of_node setup.shape x) line new.device → HasStoppedAt setup a x old new
@@ -69,53 +67,19 @@ cut-work setup a j x version old now new next cut =
           };
     }
 
-cut_stop : (setup : Setup) (a j x version : ℕ) (old now new : TreeEngineParts) (start count made : ℕ) → IsNextLevel setup a j x version old now → count ≡ risen_times (fetch_tags setup old.engine.cache a j) start → IsNodeCutOff setup.shape x now new
-    → AreTagsCutOff (cache_at now.engine.cache (slot_of setup.shape x)) now.device.live count made → IsFetchStopped setup a old new start made Fail.Cut
-unfolding cut-work
-cut_stop setup a j x version old now new start count made next before cut tags =
+cut_stop : (setup : Setup) (a j x version : ℕ) (old now new : TreeEngineParts) → IsNextLevel setup a j x version old now → IsNodeCutOff setup.shape x now new → IsFetchStopped setup a old new Fail.Cut
+cut_stop setup a j x version old now new next cut =
     let same = cut-unwritten setup.shape x now new cut in
-    let work = next-work setup a j x version old now next in
     record {
       kind = tt;
       effect =
           effect-then setup cut_short old now new next.before.effect
           (cut-effect setup now new same (cut-power setup.shape x now new cut) (ap (λ (e : TreeState). e.shape) cut.engine) cut.watch);
       down = ap (λ (e : TreeState). e.down) cut.engine ∙ next.before.down;
-      regs = same.regs ∙ next.before.regs;
-      steps = stopped-steps setup a j x version cut_short old now new next same;
+      regs = same.regs ∙ next.before.done.regs;
       watch = kept-watch cut_short old.watch new.watch cut-unshown (cut.watch ∙ next.before.watch);
       same_watch = cut.watch ∙ next.before.watch;
       work = cut-work setup a j x version old now new next cut;
-      its_tags =
-          elim tags [
-            | inl none ↦
-                record {
-                  tags = fetch_tags setup old.engine.cache a j;
-                  so_many =
-                      record {
-                        cut = cut-work setup a j x version old now new next cut;
-                        its_tags = inl (false_from_ne_true old.device.live (λ was. true≢false (sym (next.before.effect.power.1 was) ∙ none.0)), refl);
-                      };
-                  made = none.1 ∙ before;
-                }
-            | inr two ↦
-                record {
-                  tags = fetch_tags setup old.engine.cache a j + 2;
-                  so_many =
-                      record {
-                        cut = cut-work setup a j x version old now new next cut;
-                        its_tags =
-                            inr (record {
-                              below = next.level;
-                              victim =
-                                  subst (λ y. holds_dirty (cache_at old.engine.cache (slot_of setup.shape y)) ≡ true) next.place
-                                  (ap holds_dirty (sym work.slot) ∙ two.0);
-                              its_tags = refl;
-                            });
-                      };
-                  made = two.1 ∙ (ap (risen_times 2) before ∙ risen_times-then (fetch_tags setup old.engine.cache a j) 2 start);
-                }
-          ];
       answered = λ trusted. tt;
       unrefused = λ sound. tt;
     }
@@ -140,11 +104,9 @@ true_version setup a j x version old now next trusted =
     ∙ (sym (here.anchored.tree.versions x (omega (arith, ready.not_top)) ready.on_tree)
     ∙ ap (λ (w : WatchState). total (node_at w.nodes x)) next.before.watch)
 
-refused_stop : (setup : Setup) (a j x version : ℕ) (old now new : TreeEngineParts) (start count made : ℕ) → IsNextLevel setup a j x version old now → count ≡ risen_times (fetch_tags setup old.engine.cache a j) start
-    → (IsCached setup.shape now.engine.cache x → ⊥) → new.engine ≡ now.engine → IsNodeUnaccepted setup x version now.device new.device now.watch new.watch count made
-    → IsFetchStopped setup a old new start made (Fail.Node x)
-unfolding stopped-at
-refused_stop setup a j x version old now new start count made next before uncached engine it =
+refused_stop : (setup : Setup) (a j x version : ℕ) (old now new : TreeEngineParts) → IsNextLevel setup a j x version old now → (IsCached setup.shape now.engine.cache x → ⊥) → new.engine ≡ now.engine
+    → IsNodeUnaccepted setup x version now.device new.device now.watch new.watch → IsFetchStopped setup a old new (Fail.Node x)
+refused_stop setup a j x version old now new next uncached engine it =
     let ready = level-ready setup a j x version old now next in
     let same = read-unwritten now.device new.device (line_of_node setup.shape x) it.line it.read in
     record {
@@ -153,26 +115,10 @@ refused_stop setup a j x version old now new start count made next before uncach
           effect-then setup going old now new next.before.effect
           (refused-effect setup now new same (λ s. it.read.steady ∙ s, λ l. it.read.live ∙ l, it.read.cuts) engine it.watch_kept);
       down = ap (λ (e : TreeState). e.down) engine ∙ next.before.down;
-      regs = same.regs ∙ next.before.regs;
-      steps = stopped-steps setup a j x version going old now new next same;
+      regs = same.regs ∙ next.before.done.regs;
       watch = kept-watch going old.watch new.watch going-unshown (it.watch_kept ∙ next.before.watch);
       same_watch = it.watch_kept ∙ next.before.watch;
       work = stopped-at setup a j x version it.line old now new next uncached engine it.read;
-      its_tags =
-          record {
-            tags = fetch_tags setup old.engine.cache a j + (if makes_node_tag it.line version then 1 else 0);
-            so_many =
-                record {
-                  stopped = stopped-at setup a j x version it.line old now new next uncached engine it.read;
-                  line = it.line;
-                  version = version;
-                  read = (stopped-read setup a j x version it.line old now new next uncached it.read).read;
-                  refused = it.refused;
-                  true_version = true_version setup a j x version old now next;
-                  its_tags = refl;
-                };
-            made = it.its_tags ∙ one-more (makes_node_tag it.line version) (fetch_tags setup old.engine.cache a j) start count before;
-          };
       answered =
           λ trusted.
           record {
@@ -200,11 +146,9 @@ shown-work setup a j x version old now new next uncached engine it =
       shown = subst (λ (w : WatchState). HasShown w new.watch (forged_node w x it.line)) next.before.watch it.exhibit;
     }
 
-shown_stop : (setup : Setup) (a j x version : ℕ) (old now new : TreeEngineParts) (start count made : ℕ) → IsNextLevel setup a j x version old now → count ≡ risen_times (fetch_tags setup old.engine.cache a j) start
-    → (IsCached setup.shape now.engine.cache x → ⊥) → new.engine ≡ now.engine → IsNodeForged setup x version now.device new.device now.watch new.watch → made ≡ risen count
-    → IsFetchStopped setup a old new start made Fail.Shown
-unfolding stopped-at shown-work
-shown_stop setup a j x version old now new start count made next before uncached engine it tag =
+shown_stop : (setup : Setup) (a j x version : ℕ) (old now new : TreeEngineParts) → IsNextLevel setup a j x version old now → (IsCached setup.shape now.engine.cache x → ⊥) → new.engine ≡ now.engine
+    → IsNodeForged setup x version now.device new.device now.watch new.watch → IsFetchStopped setup a old new Fail.Shown
+shown_stop setup a j x version old now new next uncached engine it =
     let ready = level-ready setup a j x version old now next in
     let same = read-unwritten now.device new.device (line_of_node setup.shape x) it.line it.read in
     let effect = shown-effect setup x version now new ready uncached engine it in
@@ -212,8 +156,7 @@ shown_stop setup a j x version old now new start count made next before uncached
       kind = tt;
       effect = effect-then setup shown old now new next.before.effect effect;
       down = ap (λ (e : TreeState). e.down) engine ∙ next.before.down;
-      regs = same.regs ∙ next.before.regs;
-      steps = stopped-steps setup a j x version shown old now new next same;
+      regs = same.regs ∙ next.before.done.regs;
       watch =
           record {
             setup = it.exhibit.setup ∙ ap (λ (w : WatchState). w.setup) next.before.watch;
@@ -225,12 +168,6 @@ shown_stop setup a j x version old now new start count made next before uncached
           };
       same_watch = tt;
       work = shown-work setup a j x version old now new next uncached engine it;
-      its_tags =
-          record {
-            tags = fetch_tags setup old.engine.cache a j + 1;
-            so_many = record { shown = shown-work setup a j x version old now new next uncached engine it; its_tags = refl };
-            made = tag ∙ (ap risen before ∙ risen_times-then (fetch_tags setup old.engine.cache a j) 1 start);
-          };
       answered =
           λ trusted.
           record {
@@ -252,15 +189,11 @@ shown_stop setup a j x version old now new start count made next before uncached
       unrefused = λ sound. effect.sound (next.before.effect.sound sound);
     }
 
-pub fetch-stopped : (setup : Setup) (a j x version : ℕ) (old now new : TreeEngineParts) (start count made : ℕ) (fault : TreeFault) → IsNextLevel setup a j x version old now → count ≡ risen_times (fetch_tags setup old.engine.cache a j) start
-    → HasNoNode setup x version now new count made fault → IsFetchStopped setup a old new start made fault
-fetch-stopped setup a j x version old now new start count made Fail.Cut next before missed =
-    cut_stop setup a j x version old now new start count made next before missed.0 missed.1
-fetch-stopped setup a j x version old now new start count made (Fail.Node y) next before missed =
-    subst (λ z. IsFetchStopped setup a old new start made (Fail.Node z)) (sym missed.0)
-    (refused_stop setup a j x version old now new start count made next before missed.1 missed.2 missed.3)
-fetch-stopped setup a j x version old now new start count made Fail.Shown next before missed =
-    shown_stop setup a j x version old now new start count made next before missed.0 missed.1 missed.2 missed.3
-fetch-stopped setup a j x version old now new start count made Fail.Down next before missed = absurd missed
-fetch-stopped setup a j x version old now new start count made (Fail.Tag at) next before missed = absurd missed
-fetch-stopped setup a j x version old now new start count made Fail.Spent next before missed = absurd missed
+pub fetch-stopped : (setup : Setup) (a j x version : ℕ) (old now new : TreeEngineParts) (fault : TreeFault) → IsNextLevel setup a j x version old now → HasNoNode setup x version now new fault → IsFetchStopped setup a old new fault
+fetch-stopped setup a j x version old now new Fail.Cut next missed = cut_stop setup a j x version old now new next missed
+fetch-stopped setup a j x version old now new (Fail.Node y) next missed =
+    subst (λ z. IsFetchStopped setup a old new (Fail.Node z)) (sym missed.0) (refused_stop setup a j x version old now new next missed.1 missed.2 missed.3)
+fetch-stopped setup a j x version old now new Fail.Shown next missed = shown_stop setup a j x version old now new next missed.0 missed.1 missed.2
+fetch-stopped setup a j x version old now new Fail.Down next missed = absurd missed
+fetch-stopped setup a j x version old now new (Fail.Tag at) next missed = absurd missed
+fetch-stopped setup a j x version old now new Fail.Spent next missed = absurd missed

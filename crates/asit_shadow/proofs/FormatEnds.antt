@@ -1,6 +1,6 @@
 -- What formatting leaves.
 use Rattle.std.proofs.Common.{ℕ, ◌≡◌, ◌<◌, ◌+◌, ◌*◌, List, [], length, Some, None, refl, sym, ap, subst, ◌∙◌, arith, lit<, replicate}
-use Rattle.std.specs.Prelude.{Option, All, IfSome, IsNone, IsSome, option_map, true, false}
+use Rattle.std.specs.Prelude.{Option, Ok, All, IfSome, IsNone, IsSome, option_map, true, false}
 use Rattle.std.proofs.lemmas.List.{length-replicate, length-set}
 use Rattle.std.proofs.lemmas.Option.{none-some}
 use Rattle.pmem_base.specs.declared.lines.Line.{Line}
@@ -15,6 +15,10 @@ use Rattle.board.proofs.CountLemmas.{RisesBy-once}
 use Rattle.board.specs.Counts.{RisesBy}
 use Rattle.board.specs.Device.{Device, AreToldLines}
 use Rattle.board.specs.Steps.{HasLatched}
+use Rattle.call_plan.specs.Plans.{the_cut}
+use Rattle.call_plan.specs.Following.{Follows}
+use Rattle.call_plan.proofs.Steps.{is_done, latch_then}
+use Rattle.call_plan.proofs.Bind.{bind_ok}
 use Rattle.suite.specs.Formulas.{AreInRange}
 use Rattle.suite.specs.Setup.{Setup}
 use Rattle.pmem_engine.proofs.Laws.AnchoredLatches.{IsGroup-nil}
@@ -32,6 +36,7 @@ use Rattle.asit_shadow.specs.State.{TreeState, IsHeldNode, IsTreeEngine}
 use Rattle.asit_shadow.specs.Invariants.{IsTreeSound}
 use Rattle.asit_shadow.specs.Parts.{tree_parts_of, IsTreeUsable}
 use Rattle.asit_shadow.specs.Recovering.{Rest}
+use Rattle.asit_shadow.specs.Formatting.{sealing_plan, nodes_plan, naming_plan, after_sealing, after_nodes, after_naming, tree_format_plan}
 use Rattle.asit_shadow.specs.Formatting.{first_held, first_cache, first_slots, tree_sealed_lines, node_lines_written, slot_lines_written, AreSealsTold, AreNodesTold, AreSlotsTold, IsChipFormatted, IsFirstEngine, AreLinesFormatted, HasDeviceFormatted, HasTreeFormatted}
 use Rattle.asit_shadow.proofs.FormatLaws.{replicate-default, IsTrusted-formatted, IsSound-formatted}
 use Rattle.asit_shadow.proofs.EngineLemmas.{held-set}
@@ -55,6 +60,9 @@ pub record IsFilled (setup : Setup) (old new : Rest) (sealed noded slotted : Dev
   pub slots_steady : StaysSteady (tree_slots setup.shape) noded slotted
   pub slots_written : slotted.lines ≡ option_map (slot_lines_written setup.shape (first_slots setup.shape) (tree_slots setup.shape)) noded.lines
   pub slots_told : AreSlotsTold (first_slots setup.shape) (tree_slots setup.shape) noding new.watch
+  pub seals_followed : Follows (sealing_plan setup) old.device sealed (Ok tt)
+  pub nodes_followed : Follows (nodes_plan setup) sealed noded (Ok tt)
+  pub slots_followed : Follows (naming_plan setup.shape (first_slots setup.shape)) noded slotted (Ok tt)
   pub latched : HasLatched slotted (record empty_regs { root = root }) new.device
   pub its_root : root ≡ root_of setup.formulas (shadow_height setup.shape) (first_slots setup.shape)
 
@@ -67,7 +75,7 @@ lines-written setup old sealed noded slotted first second third =
 
 pub device-formatted : (setup : Setup) (old new : Rest) (sealed noded slotted : Device) (sealing noding : WatchState) (root : List ℕ) (tree : ChipTree) → IsFilled setup old new sealed noded slotted sealing noding root → tree.height ≡ shadow_height setup.shape → IsShadowTree setup.formulas (shadow_height setup.shape) (first_slots setup.shape) tree.lines
     → HasDeviceFormatted setup old new tree
-unfolding shadow_root
+unfolding shadow_root tree_format_plan
 device-formatted setup old new sealed noded slotted sealing noding root tree it height over =
     let all = StaysSteady-then (2 * tree_lines setup.shape + meta_lines setup.shape) (tree_slots setup.shape) old.device noded slotted (StaysSteady-then (2 * tree_lines setup.shape) (meta_lines setup.shape) old.device sealed noded it.seals_steady it.nodes_steady) it.slots_steady in
     let lines : new.device.lines ≡ option_map (lines_formatted setup) old.device.lines =
@@ -89,14 +97,20 @@ device-formatted setup old new sealed noded slotted sealing noding root tree it 
       latches = subst (λ n. RisesBy 1 n new.device.latches) all.latches (RisesBy-once it.latched.latches);
       reads = it.latched.reads ∙ all.reads;
       cuts = it.latched.cuts ∙ all.cuts;
+      plan =
+          bind_ok (after_sealing setup) it.seals_followed
+          (bind_ok (after_nodes setup) it.nodes_followed
+          (bind_ok (after_naming setup) it.slots_followed
+          (latch_then the_cut (subst (λ (r : List ℕ). HasLatched slotted (record empty_regs { root = r }) new.device) it.its_root it.latched) (is_done tt new.device))));
     }
 
 -- with its engine
-pub tree-formatted : (setup : Setup) (old new : Rest) (engine : TreeState) → IsShape setup.shape → AreInRange setup.formulas → length old.watch.seals ≡ tree_lines setup.shape → All IsLine new.watch.slots → IsFirstEngine setup engine → HasDeviceFormatted setup old new engine.tree → HasTreeFormatted setup old new engine
-tree-formatted setup old new engine shape in_range seals whole first it =
+pub tree-formatted : (setup : Setup) (old new : Rest) (engine : TreeState) → IsShape setup.shape → AreInRange setup.formulas → length old.watch.seals ≡ tree_lines setup.shape → All IsLine new.watch.slots → IsFirstEngine setup engine → IsChipTree engine.tree → HasDeviceFormatted setup old new engine.tree → HasTreeFormatted setup old new engine
+tree-formatted setup old new engine shape in_range seals whole first tree it =
     record {
       engine_new = first;
       device = it;
+      tree_whole = tree;
       trusted = λ its none. IsTrusted-formatted setup engine new.device.regs new.watch shape in_range (chip its none);
       sound = λ its none. each new.device.lines it.lines (chip its none);
     }

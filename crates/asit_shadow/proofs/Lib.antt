@@ -16,7 +16,6 @@ pub mod Chains
 pub mod LevelSteps
 pub mod LevelWork
 pub mod PathSteps
-pub mod TagLaws
 pub mod FetchEnds
 pub mod FetchStops
 pub mod ReadEnds
@@ -32,9 +31,10 @@ pub mod WriteLoops
 pub mod WriteEnds
 pub mod WriteOutcomes
 pub mod WriteCalls
-pub mod CallCounts
 pub mod FormatSteps
 pub mod FormatEnds
 pub mod FetchPlans
 pub mod CalledPlans
 pub mod WritePlans
+pub mod RecoverPlans
+pub mod FormatPlans

@@ -22,10 +22,10 @@ use Rattle.asit_shadow.specs.declared.cache.CachedNode.{CachedNode}
 use Rattle.asit_shadow.specs.State.{cache_at, IsCached, IsCachedAs}
 use Rattle.asit_shadow.specs.Parts.{TreeEngineParts, AreTreeTrusted}
 use Rattle.asit_shadow.specs.Paths.{line_path}
-use Rattle.asit_shadow.specs.Calls.{TreeCallEffect, IsNodeRead, TakesWriteBacks}
+use Rattle.asit_shadow.specs.Calls.{TreeCallEffect, IsNodeRead}
 use Rattle.asit_shadow.specs.Fetching.{IsNodeFound, HasFetchedNode, KeepsPathLines, IsPathFetchedTo}
 use Rattle.asit_shadow.proofs.SlotPlaces.{slot_of-inside, page_of_line, on_path-inside, path_slots-apart}
-use Rattle.asit_shadow.proofs.Chains.{write_backs-then, effect-then}
+use Rattle.asit_shadow.proofs.Chains.{effect-then}
 use Rattle.asit_shadow.proofs.LevelWork.{IsNextWork, next-on_path, next-level, at_level, up_to, is_cached-true, is_cached-false, levels-start, reads-start, levels-cached, reads-cached, levels-found, reads-found}
 use Rattle.asit_shadow.proofs.LevelSteps.{IsRoomStep, IsLevelReady, found-step, found-effect, found-path_lines}
 
@@ -69,16 +69,6 @@ level-ready setup a j x version old now next =
 
 -- ---- the first level
 
-no_write_backs : (n : ℕ) (device : Device) → TakesWriteBacks n going device device
-no_write_backs n device =
-    record {
-      count = 0;
-      at_most = omega arith;
-      fewer = λ cut live. absurd (going_uncut cut);
-      writes = record { never_falls = omega arith; exact = λ _. omega arith };
-      latches = refl;
-    }
-
 still_effect : (setup : Setup) (old : TreeEngineParts) → TreeCallEffect setup going old old
 still_effect setup old =
     record {
@@ -109,10 +99,6 @@ path-start setup a old ready =
       effect = still_effect setup old;
       tree = refl;
       down = refl;
-      slot_count = refl;
-      slots_below = λ x on low. refl;
-      regs = refl;
-      steps = no_write_backs 0 old.device;
       done = levels-start setup a old;
       reads = reads-start setup.shape old.engine.cache a old.device.reads;
       watch = refl;
@@ -165,38 +151,31 @@ read-kept setup a x old mid new kept it =
 
 -- ---- a level that was cached
 
--- a slot of a level below is as it was before
-cached-before : (setup : Setup) (a j x version : ℕ) (old now : TreeEngineParts) → IsNextLevel setup a j x version old now → IsCached setup.shape now.engine.cache x → IsCached setup.shape old.engine.cache x
-cached-before setup a j x version old now next it =
+-- the slot of the next level is as it was before
+slot_below : (setup : Setup) (a j x version : ℕ) (old now : TreeEngineParts) → IsNextLevel setup a j x version old now → cache_at now.engine.cache (slot_of setup.shape x) ≡ cache_at old.engine.cache (slot_of setup.shape x)
+slot_below setup a j x version old now next =
     let on = next-on_path setup.shape a j x next.level next.place in
     let level = next-level setup.shape a j x next.ready.shape next.ready.its_line next.level next.place in
-    record {
-      held = it.held;
-      stands = sym (next.before.slots_below x on (omega (arith, level))) ∙ it.stands;
-      position = it.position;
-    }
+    next.before.done.cache.elsewhere (slot_of setup.shape x)
+    (λ y on_y low high same. omega (arith, high, level, ap level_of (path_slots-apart setup.shape a x y next.ready.shape next.ready.its_line on on_y same)))
+
+cached-before : (setup : Setup) (a j x version : ℕ) (old now : TreeEngineParts) → IsNextLevel setup a j x version old now → IsCached setup.shape now.engine.cache x → IsCached setup.shape old.engine.cache x
+cached-before setup a j x version old now next it =
+    record { held = it.held; stands = sym (slot_below setup a j x version old now next) ∙ it.stands; position = it.position }
 
 pub cached-after : (setup : Setup) (a j x version : ℕ) (old now : TreeEngineParts) → IsNextLevel setup a j x version old now → IsCached setup.shape old.engine.cache x → IsCached setup.shape now.engine.cache x
 cached-after setup a j x version old now next it =
-    let on = next-on_path setup.shape a j x next.level next.place in
-    let level = next-level setup.shape a j x next.ready.shape next.ready.its_line next.level next.place in
-    record {
-      held = it.held;
-      stands = next.before.slots_below x on (omega (arith, level)) ∙ it.stands;
-      position = it.position;
-    }
+    record { held = it.held; stands = slot_below setup a j x version old now next ∙ it.stands; position = it.position }
 
 -- what the levels so far did, as the next one's work asks
 pub next-work : (setup : Setup) (a j x version : ℕ) (old now : TreeEngineParts) → IsNextLevel setup a j x version old now → IsNextWork setup a j x old now
 next-work setup a j x version old now next =
-    let on = next-on_path setup.shape a j x next.level next.place in
-    let level = next-level setup.shape a j x next.ready.shape next.ready.its_line next.level next.place in
     record {
       shape = next.ready.shape;
       inside = next.ready.its_line;
       level = next.level;
       place = next.place;
-      slot = next.before.slots_below x on (omega (arith, level));
+      slot = slot_below setup a j x version old now next;
       watch = next.before.watch;
       done = next.before.done;
       reads = next.before.reads;
@@ -212,17 +191,6 @@ next-cached setup a j x version node old now next in_slot =
       effect = before.effect;
       tree = before.tree;
       down = before.down;
-      slot_count = before.slot_count;
-      slots_below = λ y on low. before.slots_below y on (omega (arith, low));
-      regs = before.regs;
-      steps =
-          record {
-            count = before.steps.count;
-            at_most = omega (arith, before.steps.at_most);
-            fewer = λ cut live. absurd (going_uncut cut);
-            writes = before.steps.writes;
-            latches = before.steps.latches;
-          };
       done = levels-cached setup a j x old now work was;
       reads = reads-cached setup a j x old now work was;
       watch = before.watch;
@@ -248,16 +216,6 @@ next-cached setup a j x version node old now next in_slot =
 
 -- ---- a level that was found
 
-step_write_backs : (setup : Setup) (slot : Option CachedNode) (old new : Device) → IsRoomStep setup slot old new → TakesWriteBacks 1 going old new
-step_write_backs setup slot old new step =
-    record {
-      count = step.count;
-      at_most = step.at_most;
-      fewer = λ cut live. absurd (going_uncut cut);
-      writes = step.writes;
-      latches = step.latches;
-    }
-
 -- the slots of the other nodes of the path are as they were
 other_slot : (setup : Setup) (a j x version : ℕ) (node : Node) (old now new : TreeEngineParts) (y : ℕ) → IsNextLevel setup a j x version old now → IsNodeFound setup x version node now new → is_on_line_path setup.shape a y ≡ true → level_of y ≢ suc j
     → cache_at new.engine.cache (slot_of setup.shape y) ≡ cache_at now.engine.cache (slot_of setup.shape y)
@@ -272,7 +230,7 @@ other_slot setup a j x version node old now new y next found on_y other =
 next-room : (setup : Setup) (a j x version : ℕ) (old now : TreeEngineParts) → IsNextLevel setup a j x version old now → slot_of setup.shape x < length now.engine.cache
 next-room setup a j x version old now next =
     let on = next-on_path setup.shape a j x next.level next.place in
-    omega (arith, slot_of-inside setup.shape x next.ready.shape (on_path-inside setup.shape a x next.ready.its_line on), next.before.slot_count, next.ready.slots)
+    omega (arith, slot_of-inside setup.shape x next.ready.shape (on_path-inside setup.shape a x next.ready.its_line on), next.before.done.cache.count, next.ready.slots)
 
 found-in : (setup : Setup) (a j x version : ℕ) (node : Node) (old now new : TreeEngineParts) → IsNextLevel setup a j x version old now → IsNodeFound setup x version node now new → IsCachedAs setup.shape new.engine.cache x node
 found-in setup a j x version node old now new next found =
@@ -316,7 +274,6 @@ next-found setup a j x version node old now new next found =
     let on = next-on_path setup.shape a j x next.level next.place in
     let step = found-step setup x version node now new found in
     let kept = λ (trusted : AreTreeTrusted setup now). found-path_lines setup a x version node now new ready next.ready.its_line on found trusted in
-    let one : j + 1 ≡ suc j = omega arith in
     let work = next-work setup a j x version old now next in
     let wasnt = is_cached-false setup.shape old.engine.cache x (λ it. found.uncached (cached-after setup a j x version old now next it)) in
     let room : slot_of setup.shape x < length now.engine.cache = next-room setup a j x version old now next in
@@ -324,18 +281,6 @@ next-found setup a j x version node old now new next found =
       effect = effect-then setup going old now new before.effect (found-effect setup x version node now new ready found);
       tree = found.tree ∙ before.tree;
       down = found.down ∙ before.down;
-      slot_count =
-          ap length found.cache
-          ∙ (length-set now.engine.cache (slot_of setup.shape x) (Some (record { x = x; node = node; dirty = false })) ∙ before.slot_count);
-      slots_below =
-          λ y on_y low.
-          other_slot setup a j x version node old now new y next found on_y (λ e. omega (arith, low, e))
-          ∙ before.slots_below y on_y (omega (arith, low));
-      regs = step.regs ∙ before.regs;
-      steps =
-          subst (λ n. TakesWriteBacks n going old.device new.device) one
-          (write_backs-then j 1 going old.device now.device new.device before.effect.power.1 before.steps
-          (step_write_backs setup (cache_at now.engine.cache (slot_of setup.shape x)) now.device new.device step));
       done = levels-found setup a j x version node old now new work wasnt room step.latches step.regs found;
       reads = reads-found setup a j x version node old now new work wasnt found;
       watch = found.taken.watch_kept ∙ before.watch;

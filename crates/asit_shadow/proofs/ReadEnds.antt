@@ -33,7 +33,7 @@ use Rattle.asit_shadow.specs.declared.fault.TreeFault.TheVariants as Fail
 use Rattle.asit_shadow.specs.State.{TreeState}
 use Rattle.asit_shadow.specs.Invariants.{IsTreeSound}
 use Rattle.asit_shadow.specs.Parts.{TreeEngineParts, AreTreeTrusted, AreTreeSound}
-use Rattle.asit_shadow.specs.Calls.{IsPathAccepted, IsDataLineRead, TakesWriteBacks, IsLineRead}
+use Rattle.asit_shadow.specs.Calls.{IsPathAccepted, IsDataLineRead, IsLineRead}
 use Rattle.asit_shadow.specs.Work.{absent_nodes, HasFetchedPath, IsCutInNodeFetch, IsLineShownAt}
 use Rattle.asit_shadow.specs.Fetching.{KeepsPathLines, IsPathFetchedTo}
 use Rattle.asit_shadow.proofs.SlotPlaces.{page_of_line}
@@ -109,16 +109,6 @@ line-told setup a cipher tags mid new read =
       tags_read = subst (λ told. Tells told (line_of_tag setup.shape a) tags) (sym read.second.lines) read.second.tells;
     }
 
-steps-kept : (setup : Setup) (outcome : Outcome) (old mid new : Device) → AreUnwritten mid new → (outcome ≡ cut_short → mid.live ≡ false) → HasPower going old mid → TakesWriteBacks setup.shape.levels going old mid → TakesWriteBacks setup.shape.levels outcome old new
-steps-kept setup outcome old mid new same off power steps =
-    record {
-      count = steps.count;
-      at_most = steps.at_most;
-      fewer = λ cut live. absurd (true≢false (sym (power.1 live) ∙ off cut));
-      writes = subst (λ n. RisesBy steps.count old.writes n) (sym same.writes) steps.writes;
-      latches = same.latches ∙ steps.latches;
-    }
-
 -- the plain line is read
 pub read-ok : (setup : Setup) (a count : ℕ) (old mid new : TreeEngineParts) (plain : Line) → IsPathHad setup a count old mid new → IsLineAccepted setup a count mid.device new.device mid.watch new.watch plain → IsLineRead setup a old new (Ok plain)
 read-ok setup a count old mid new plain had it =
@@ -132,8 +122,7 @@ read-ok setup a count old mid new plain had it =
           effect-then setup going old mid new had.path.effect
           (refused-effect setup mid new same (both-power setup a it.cipher it.tags mid.device new.device it.read) had.engine it.watch_kept);
       watch = kept-watch going old.watch new.watch going-unshown (it.watch_kept ∙ had.path.watch);
-      regs = same.regs ∙ had.path.regs;
-      steps = steps-kept setup going old.device mid.device new.device same (λ e. absurd (going_uncut e)) had.path.effect.power had.path.steps;
+      regs = same.regs ∙ had.path.done.regs;
       work = path-through setup a it.cipher it.tags old mid new had.path (ap (λ (e : TreeState). e.cache) had.engine) it.read;
       answered =
           λ trusted. (
@@ -187,8 +176,7 @@ read-cut setup a count old mid new had cut off watch =
           effect-then setup cut_short old mid new had.path.effect
           (cut-effect setup mid new same power (ap (λ (e : TreeState). e.shape) had.engine) watch);
       watch = kept-watch cut_short old.watch new.watch cut-unshown (watch ∙ had.path.watch);
-      regs = same.regs ∙ had.path.regs;
-      steps = steps-kept setup cut_short old.device mid.device new.device same (λ e. off) had.path.effect.power had.path.steps;
+      regs = same.regs ∙ had.path.done.regs;
       work = line_cut-work setup a count old mid new had cut off;
       answered = λ trusted. tt;
       unrefused = λ sound. tt;
@@ -229,8 +217,7 @@ read-refused setup a count old mid new had it =
           effect-then setup going old mid new had.path.effect
           (refused-effect setup mid new same (both-power setup a it.cipher it.tags mid.device new.device it.read) had.engine it.watch_kept);
       watch = kept-watch going old.watch new.watch going-unshown (it.watch_kept ∙ had.path.watch);
-      regs = same.regs ∙ had.path.regs;
-      steps = steps-kept setup going old.device mid.device new.device same (λ e. absurd (going_uncut e)) had.path.effect.power had.path.steps;
+      regs = same.regs ∙ had.path.done.regs;
       work = path-through setup a it.cipher it.tags old mid new had.path (ap (λ (e : TreeState). e.cache) had.engine) it.read;
       answered =
           λ trusted. (
@@ -324,8 +311,7 @@ read-shown setup a count old mid new had sealed it =
             exhibit = λ other. absurd (other refl);
             stopped = λ _. subst IsSome (sym taken.2.1.exhibit) (shown-some mid.watch.exhibit (Forged a (version_counter taken.0.counter) it.cipher (tag_slot it.tags 0)));
           };
-      regs = same.regs ∙ had.path.regs;
-      steps = steps-kept setup shown old.device mid.device new.device same (λ e. absurd (cut-unshown (sym e))) had.path.effect.power had.path.steps;
+      regs = same.regs ∙ had.path.done.regs;
       work = inr (line_shown-work setup a count old mid new had sealed it);
       answered =
           λ trusted.

@@ -39,25 +39,14 @@ path-cached setup a old mid shape inside trusted path =
           path.cached trusted x on (on_path-level setup.shape (a / 4) x shape.at_most_six_levels (page_of_line setup.shape a inside) on).0;
     }
 
-fewer : (n count : ℕ) (old new : Device) → count ≤ n → RisesBy count old.writes new.writes → RisesAtMost n old.writes new.writes
-fewer n count old new most rises = record { never_falls = rises.never_falls; bound = λ below. omega (arith, rises.exact below, most) }
-
-none-at_most : (n before after : ℕ) → after ≡ before → RisesAtMost n before after
-none-at_most n before after same = record { never_falls = omega (arith, same); bound = λ below. omega (arith, same) }
-
 -- a fetch that stopped
-pub write-stopped : (setup : Setup) (a : ℕ) (plain : Line) (old new : TreeEngineParts) (tags made : ℕ) (fault : TreeFault) → (AreTreeTrusted setup old → IsUsedUp old → ⊥) → IsFetchStopped setup a old new tags made fault → HasWrittenUp setup a plain old new (Err fault)
-write-stopped setup a plain old new tags made Fail.Cut unspent it =
+pub write-stopped : (setup : Setup) (a : ℕ) (plain : Line) (old new : TreeEngineParts) (fault : TreeFault) → (AreTreeTrusted setup old → IsUsedUp old → ⊥) → IsFetchStopped setup a old new fault → HasWrittenUp setup a plain old new (Err fault)
+write-stopped setup a plain old new Fail.Cut unspent it =
     record {
       kind = tt;
       up = λ e. e;
       down = it.down;
       effect = it.effect;
-      steps =
-          record {
-            writes = fewer (2 * setup.shape.levels + 3) it.steps.count old.device new.device (omega (arith, it.steps.at_most)) it.steps.writes;
-            latches = none-at_most 1 old.device.latches new.device.latches it.steps.latches;
-          };
       work = inl (record { at = inl it.work; untold = it.same_watch });
       answered =
           λ trusted. (
@@ -65,7 +54,7 @@ write-stopped setup a plain old new tags made Fail.Cut unspent it =
             inl (record {
               watch = it.same_watch;
               regs = it.regs;
-              latches = it.steps.latches;
+              latches = it.work.fetched.latches;
             }),
           );
       unrefused = it.unrefused;
@@ -74,14 +63,13 @@ write-stopped setup a plain old new tags made Fail.Cut unspent it =
       board = board-kept setup.shape old.device new.device it.effect.size it.regs;
       no_group = λ e. absurd (true≢false (sym e));
     }
-write-stopped setup a plain old new tags made Fail.Down unspent it = absurd it.kind
-write-stopped setup a plain old new tags made (Fail.Node x) unspent it =
+write-stopped setup a plain old new Fail.Down unspent it = absurd it.kind
+write-stopped setup a plain old new (Fail.Node x) unspent it =
     record {
       kind = tt;
       up = λ e. e;
       down = it.down;
       effect = it.effect;
-      steps = it.steps;
       work = it.work;
       answered = λ trusted. (unspent trusted, it.answered trusted);
       unrefused = it.unrefused;
@@ -90,22 +78,14 @@ write-stopped setup a plain old new tags made (Fail.Node x) unspent it =
       board = board-kept setup.shape old.device new.device it.effect.size it.regs;
       no_group = λ e none. ap (λ (r : Regs). r.group.items) it.regs ∙ none;
     }
-write-stopped setup a plain old new tags made (Fail.Tag b) unspent it = absurd it.kind
-write-stopped setup a plain old new tags made Fail.Spent unspent it = absurd it.kind
-write-stopped setup a plain old new tags made Fail.Shown unspent it =
+write-stopped setup a plain old new (Fail.Tag b) unspent it = absurd it.kind
+write-stopped setup a plain old new Fail.Spent unspent it = absurd it.kind
+write-stopped setup a plain old new Fail.Shown unspent it =
     record {
       kind = tt;
       up = λ e. e;
       down = it.down;
       effect = it.effect;
-      steps =
-          record {
-            count = it.steps.count;
-            at_most = it.steps.at_most;
-            fewer = λ e. absurd (going_uncut e);
-            writes = it.steps.writes;
-            latches = it.steps.latches;
-          };
       work = it.work;
       answered = λ trusted. (unspent trusted, it.answered trusted);
       unrefused = it.unrefused;
@@ -131,7 +111,6 @@ write-spent setup a plain old used =
             sound = λ sound. sound;
             places = λ trusted. record { seals = λ b inside was. was; slots = λ i inside was. was; nodes = λ x inside was. was };
           };
-      steps = refl;
       work = refl;
       answered = λ trusted. (used trusted, refl);
       unrefused = λ sound. tt;
@@ -165,22 +144,15 @@ write-lost setup a plain old mid new node unspent fetched shape cache down cut w
       up = λ e. e;
       down = down ∙ path.down;
       effect = effect-then setup cut_short old mid new path.effect (cut-effect setup mid new same (cut.unsteady, cut.off, HasRisen-once cut.cuts) shape watch);
-      steps =
-          record {
-            writes =
-                fewer (2 * setup.shape.levels + 3) path.steps.count old.device new.device (omega (arith, path.steps.at_most))
-                (subst (RisesBy path.steps.count old.device.writes) (sym cut.writes) path.steps.writes);
-            latches = none-at_most 1 old.device.latches new.device.latches (cut.latches ∙ path.steps.latches);
-          };
       work =
           inl (record {
             at = inr (lost-work setup a old mid new path cache cut);
             untold = watch ∙ path.watch;
           });
-      answered = λ trusted. (unspent trusted, inl (record { watch = watch ∙ path.watch; regs = cut.regs ∙ path.regs; latches = cut.latches ∙ path.steps.latches }));
+      answered = λ trusted. (unspent trusted, inl (record { watch = watch ∙ path.watch; regs = cut.regs ∙ path.done.regs; latches = cut.latches ∙ path.done.latches }));
       unrefused = λ sound. tt;
       watch = λ e. absurd e;
       ready = ready-kept setup.shape cut_short old.watch new.watch kept;
-      board = board-kept setup.shape old.device new.device (cut.size ∙ path.effect.size) (cut.regs ∙ path.regs);
+      board = board-kept setup.shape old.device new.device (cut.size ∙ path.effect.size) (cut.regs ∙ path.done.regs);
       no_group = λ e. absurd (true≢false (sym e));
     }

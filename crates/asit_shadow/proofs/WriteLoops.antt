@@ -1,23 +1,21 @@
 -- One node of a path more: what is told, stored and named of it.
-use Rattle.std.proofs.Common.{ℕ, ◌≡◌, ◌<◌, ◌^◌, ◌++◌, ◌∷◌, ◌+◌, List, [], length, take, get_or, Some, true, sym, ap, subst, subst₂, ◌∙◌, arith}
+use Rattle.std.proofs.Common.{ℕ, suc, ◌*◌, ◌≡◌, ◌<◌, ◌++◌, ◌∷◌, ◌+◌, List, [], length, take, get_or, Some, true, sym, ap, subst, subst₂, ◌∙◌, arith}
 use Rattle.std.specs.Prelude.{Option, slice_set}
 use Rattle.std.proofs.lemmas.List.{map-append, take_more}
 use Rattle.pmem_base.specs.declared.lines.Line.{Line}
-use Rattle.pmem_base.specs.Lines.{IsLine, put_lines}
+use Rattle.pmem_base.specs.Counts.{risen_times}
+use Rattle.pmem_base.specs.Lines.{put_lines}
 use Rattle.pmem_base.specs.Shape.{Shape}
-use Rattle.pmem_base.proofs.LineSets.{put_lines-append, length-put_lines}
-use Rattle.suite.specs.Formulas.{Formulas, AreInRange}
+use Rattle.pmem_base.proofs.LineSets.{put_lines-append}
+use Rattle.pmem_recovery.proofs.PartLaws.{risen_times-then}
 use Rattle.counter_tree.specs.declared.nodes.Node.{Node}
 use Rattle.counter_tree.specs.declared.watch.LineSeal.{LineSeal}
-use Rattle.counter_tree.specs.Shadow.{ChipTree, IsShadowTree, root_of, tree_with, tree_root_with}
 use Rattle.counter_tree.specs.Layout.{line_of_slot, line_of_tag}
 use Rattle.counter_tree.specs.Slots.{slot_of, slot_line}
-use Rattle.counter_tree.proofs.SlotLaws.{slot_line-IsLine}
 use Rattle.counter_tree.specs.Watch.{WatchState, HasNodeNoted, HasSlotNoted, HasSealNoted}
-use Rattle.counter_tree.proofs.ChipTree.{chip-with, chip-root_with}
 use Rattle.asit_shadow.specs.declared.cache.CachedNode.{CachedNode}
 use Rattle.asit_shadow.specs.Paths.{tag_only}
-use Rattle.asit_shadow.specs.Writing.{armed_lines, set_pairs, slot_entries, dirty_entries, IsTreeNamed, IsWriteTold}
+use Rattle.asit_shadow.specs.Writing.{armed_lines, set_pairs, slot_entries, dirty_entries, IsWriteTold}
 use Rattle.asit_shadow.proofs.PairSets.{set_pairs-append}
 
 -- a slot line more
@@ -60,25 +58,6 @@ stored-more g pairs x node old mid new before step =
     (map-append (λ (pair : ℕ × Node). (slot_of g pair.0, Some (record { x = pair.0; node = pair.1; dirty = true }))) pairs ((x, node) ∷ []))
     ∙ set_pairs-append (dirty_entries g pairs) ((slot_of g x, Some (record { x = x; node = node; dirty = true })) ∷ []) old))
 
--- the shadow tree, and its root
-pub named-more : (f : Formulas) (g : Shape) (pairs : List (ℕ × Node)) (x : ℕ) (node : Node) (slots : List Line) (old mid new : ChipTree) (root : List ℕ) → AreInRange f → slot_of g x < 4 ^ old.height → slot_of g x < length slots → IsLine (slot_line x node) → mid.height ≡ old.height
-    → IsShadowTree f old.height (put_lines (slot_entries g (λ i. i) pairs) slots) mid.lines → new.lines ≡ tree_with f mid.height mid.lines (slot_of g x) (slot_line x node) → root ≡ tree_root_with f mid.height mid.lines (slot_of g x) (slot_line x node)
-    → IsTreeNamed f g (pairs ++ (x, node) ∷ []) old new root slots
-named-more f g pairs x node slots old mid new root in_range leaf inside good height before lines is_root =
-    let at = put_lines (slot_entries g (λ i. i) pairs) slots in
-    let room : slot_of g x < length (put_lines (slot_entries g (λ i. i) pairs) slots) = omega (arith, inside, length-put_lines (slot_entries g (λ i. i) pairs) slots) in
-    record {
-      tree =
-          subst (IsShadowTree f old.height (put_lines (slot_entries g (λ i. i) (pairs ++ (x, node) ∷ [])) slots)) (sym (lines ∙ ap (λ h. tree_with f h mid.lines (slot_of g x) (slot_line x node)) height))
-          (subst (λ ls. IsShadowTree f old.height ls (tree_with f old.height mid.lines (slot_of g x) (slot_line x node))) (sym (slots-more g pairs x node slots))
-          (chip-with f old.height (put_lines (slot_entries g (λ i. i) pairs) slots) mid.lines (slot_of g x) (slot_line x node) in_range before leaf room good));
-      its_root =
-          is_root
-          ∙ (ap (λ h. tree_root_with f h mid.lines (slot_of g x) (slot_line x node)) height
-          ∙ (chip-root_with f old.height (put_lines (slot_entries g (λ i. i) pairs) slots) mid.lines (slot_of g x) (slot_line x node) in_range before leaf room good
-          ∙ ap (root_of f old.height) (sym (slots-more g pairs x node slots))));
-    }
-
 -- ---- the next node that a loop over the pairs has seen
 
 pub told-next : (g : Shape) (a : ℕ) (seal : LineSeal) (pairs seen : List (ℕ × Node)) (i slot : ℕ) (line : Line) (d : ℕ × Node) (old mid between new : WatchState) → seen ≡ pairs → i < length seen → slot ≡ slot_of g (get_or seen i d).0 → line ≡ slot_line (get_or seen i d).0 (get_or seen i d).1 → IsWriteTold g a seal (take i pairs) old mid
@@ -120,15 +99,12 @@ armed-next g a place slot seal pairs seen i line d old new same inside at here i
     ∙ sym (ap (λ (rest : List (ℕ × Line)). (a, seal.cipher) ∷ (line_of_tag g a, tag_only seal.tag) ∷ rest)
     (entries-more g (line_of_slot g) (take i seen) (get_or seen i d).0 (get_or seen i d).1))))))
 
--- the shadow tree, and its root
-pub named-next : (f : Formulas) (g : Shape) (pairs seen : List (ℕ × Node)) (i slot : ℕ) (line : Line) (d : ℕ × Node) (slots : List Line) (old mid new : ChipTree) (root : List ℕ) → AreInRange f → seen ≡ pairs → i < length seen → slot ≡ slot_of g (get_or seen i d).0 → line ≡ slot_line (get_or seen i d).0 (get_or seen i d).1
-    → slot < 4 ^ old.height → slot < length slots → mid.height ≡ old.height → IsShadowTree f old.height (put_lines (slot_entries g (λ n. n) (take i pairs)) slots) mid.lines
-    → new.lines ≡ tree_with f mid.height mid.lines slot line → root ≡ tree_root_with f mid.height mid.lines slot line → IsTreeNamed f g (take (i + 1) pairs) old new root slots
-named-next f g pairs seen i slot line d slots old mid new root in_range same inside at is leaf room height before lines is_root =
-    subst (λ (ps : List (ℕ × Node)). IsTreeNamed f g (take (i + 1) ps) old new root slots) same
-    (subst (λ (ps : List (ℕ × Node)). IsTreeNamed f g ps old new root slots) (sym (take_more seen i d inside))
-    (named-more f g (take i seen) (get_or seen i d).0 (get_or seen i d).1 slots old mid new root in_range
-    (subst (λ n. n < 4 ^ old.height) at leaf) (subst (λ n. n < length slots) at room) (slot_line-IsLine (get_or seen i d).0 (get_or seen i d).1) height
-    (subst (λ (ps : List (ℕ × Node)). IsShadowTree f old.height (put_lines (slot_entries g (λ n. n) (take i ps)) slots) mid.lines) (sym same) before)
-    (lines ∙ (ap (λ n. tree_with f mid.height mid.lines n line) at ∙ ap (tree_with f mid.height mid.lines (slot_of g (get_or seen i d).0)) is))
-    (is_root ∙ (ap (λ n. tree_root_with f mid.height mid.lines n line) at ∙ ap (tree_root_with f mid.height mid.lines (slot_of g (get_or seen i d).0)) is))))
+-- ---- the digests of naming nodes
+
+pub path-digests : (n height same start count made : ℕ) → same ≡ height → count ≡ risen_times (n * suc height) start → made ≡ risen_times (suc same) count → made ≡ risen_times ((n + 1) * suc height) start
+path-digests n height same start count made is before next =
+    let all : n * suc height + suc height ≡ (n + 1) * suc height = omega arith in
+    next
+    ∙ (ap (λ h. risen_times (suc h) count) is
+    ∙ (ap (risen_times (suc height)) before
+    ∙ (risen_times-then (n * suc height) (suc height) start ∙ ap (λ k. risen_times k start) all)))

@@ -198,7 +198,7 @@ kept-work setup a plain seal pairs regs old mid new armed it cut =
     ap (λ (r : Regs). redone_told r.group.items new.device.lines) new_regs ∙ kept-made setup a plain seal pairs regs old mid new armed it cut in
     let count = group-count setup a plain seal pairs regs mid new it.made in
     let one_latched : RisesBy 1 old.device.latches new.device.latches =
-    subst (λ n. RisesBy 1 n new.device.latches) path.steps.latches (subst (λ n. RisesBy 1 mid.device.latches n) (sym cut.latches) (RisesBy-once it.latched.latches)) in
+    subst (λ n. RisesBy 1 n new.device.latches) path.done.latches (subst (λ n. RisesBy 1 mid.device.latches n) (sym cut.latches) (RisesBy-once it.latched.latches)) in
     let over = armed-over setup a plain seal pairs regs old mid new armed it in
     record {
       seal = seal;
@@ -222,7 +222,7 @@ write-kept setup a plain seal pairs regs old mid new armed it told_new cut =
     let count = group-count setup a plain seal pairs regs mid new it.made in
     let cuts = kept-cuts setup a plain seal pairs regs old mid new armed it cut in
     let one_latched : RisesBy 1 old.device.latches new.device.latches =
-    subst (λ n. RisesBy 1 n new.device.latches) path.steps.latches (subst (λ n. RisesBy 1 mid.device.latches n) (sym cut.latches) (RisesBy-once it.latched.latches)) in
+    subst (λ n. RisesBy 1 n new.device.latches) path.done.latches (subst (λ n. RisesBy 1 mid.device.latches n) (sym cut.latches) (RisesBy-once it.latched.latches)) in
     record {
       kind = tt;
       up = λ e. e;
@@ -269,21 +269,6 @@ write-kept setup a plain seal pairs regs old mid new armed it told_new cut =
                       ((path.effect.places trusted).nodes x in_x was);
                 };
           };
-      steps =
-          record {
-            writes =
-                record {
-                  never_falls = omega (arith, path.steps.writes.never_falls, cuts.never_falls, it.latched.writes);
-                  bound =
-                      λ below.
-                      omega (arith, cuts.bound below, path.steps.writes.exact (omega (arith, cuts.never_falls, it.latched.writes, below)), it.latched.writes, count, path.steps.at_most);
-                };
-            latches =
-                record {
-                  never_falls = omega (arith, it.latched.latches.never_falls, cut.latches, path.steps.latches);
-                  bound = λ below. omega (arith, (RisesBy-once it.latched.latches).exact (omega (arith, below, cut.latches)), cut.latches, path.steps.latches);
-                };
-          };
       work = inr (kept-work setup a plain seal pairs regs old mid new armed it cut);
       answered =
           λ trusted.
@@ -316,7 +301,7 @@ write-kept setup a plain seal pairs regs old mid new armed it told_new cut =
     kept_armed its =
         subst (λ r. IsTreeArmed setup a seal old.device.regs r old.watch new.watch) (sym (cut.regs ∙ it.latched.regs))
         (subst (λ w. IsTreeArmed setup a seal old.device.regs regs w new.watch) it.fetched.path.watch
-        (subst (λ r. IsTreeArmed setup a seal r regs mid.watch new.watch) it.fetched.path.regs its.armed))
+        (subst (λ r. IsTreeArmed setup a seal r regs mid.watch new.watch) it.fetched.path.done.regs its.armed))
 
 -- ---- the group written and emptied: the write is done
 
@@ -336,7 +321,7 @@ write-done setup a plain seal pairs regs old mid new armed it done =
     subst (λ n. RisesBy n armed.latches new.device.latches) (one-latch regs.group.items (omega (arith, count)))
     (subst (λ (r : Regs). RisesBy (finishing_latches r.group.items) armed.latches new.device.latches) it.latched.regs done.latches) in
     let two_latched : RisesBy 2 old.device.latches new.device.latches =
-    RisesBy-then 1 1 old.device.latches armed.latches new.device.latches (subst (λ n. RisesBy 1 n armed.latches) path.steps.latches (RisesBy-once it.latched.latches)) latches in
+    RisesBy-then 1 1 old.device.latches armed.latches new.device.latches (subst (λ n. RisesBy 1 n armed.latches) path.done.latches (RisesBy-once it.latched.latches)) latches in
     let group_writes : RisesBy (setup.shape.levels + 3) mid.device.writes new.device.writes =
     subst (λ n. RisesBy n mid.device.writes new.device.writes) count (subst (λ n. RisesBy (length regs.group.items) n new.device.writes) it.latched.writes writes) in
     record {
@@ -383,14 +368,6 @@ write-done setup a plain seal pairs regs old mid new armed it done =
                       ((path.effect.places trusted).nodes x in_x was);
                 };
           };
-      steps =
-          record {
-            count = path.steps.count;
-            at_most = path.steps.at_most;
-            writes =
-                RisesBy-then path.steps.count (setup.shape.levels + 3) old.device.writes mid.device.writes new.device.writes path.steps.writes group_writes;
-            latches = two_latched;
-          };
       work =
           record {
             seal = seal;
@@ -413,7 +390,7 @@ write-done setup a plain seal pairs regs old mid new armed it done =
                   record {
                     armed =
                         subst (λ w. IsTreeArmed setup a seal old.device.regs regs w new.watch) path.watch
-                        (subst (λ r. IsTreeArmed setup a seal r regs mid.watch new.watch) path.regs its.armed);
+                        (subst (λ r. IsTreeArmed setup a seal r regs mid.watch new.watch) path.done.regs its.armed);
                     sealed = it.made.made.cipher;
                   };
               its_counter = refl;

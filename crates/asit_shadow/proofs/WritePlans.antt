@@ -1,14 +1,16 @@
 -- The plan of a write: what is raised, named and armed, level by level, and its ends.
 use Rattle.std.proofs.Common.{ℕ, suc, ◌≡◌, ◌<◌, ◌+◌, ◌-◌, ◌^◌, ◌%◌, ◌++◌, ◌∷◌, [], true, false, List, Result, Ok, Err, length, take, get_or, refl, sym, ap, subst, ◌∙◌, arith}
-use Rattle.std.specs.Prelude.{Option, ◌==◌}
-use Rattle.std.proofs.lemmas.List.{take_more}
+use Rattle.std.specs.Prelude.{Option, ◌==◌, ◌≤◌, slice_set, All}
+use Rattle.std.proofs.lemmas.List.{length-set, take_more}
 use Rattle.pmem_base.specs.declared.faults.Cut.{Cut}
 use Rattle.pmem_base.specs.declared.lines.Line.{Line}
 use Rattle.pmem_base.specs.declared.registers.Regs.{Regs}
-use Rattle.pmem_base.specs.Shape.{Shape}
+use Rattle.pmem_base.specs.Lines.{put_lines}
+use Rattle.pmem_base.specs.Layout.{meta_lines}
+use Rattle.pmem_base.specs.Shape.{Shape, IsShape}
 use Rattle.board.specs.Device.{Device}
 use Rattle.board.specs.Steps.{HasLatched, WasCut}
-use Rattle.suite.specs.Formulas.{Formulas}
+use Rattle.suite.specs.Formulas.{Formulas, AreInRange}
 use Rattle.suite.specs.Setup.{Setup}
 use Rattle.call_plan.specs.Following.{Follows}
 use Rattle.call_plan.proofs.Steps.{is_stopped}
@@ -19,7 +21,11 @@ use Rattle.pmem_engine.proofs.PlannedCalls.GroupPlans.{group_cut, group_end}
 use Rattle.counter_tree.specs.declared.nodes.Node.{Node}
 use Rattle.counter_tree.specs.declared.watch.LineSeal.{LineSeal}
 use Rattle.counter_tree.specs.Nodes.{counter, total, version_counter}
-use Rattle.counter_tree.specs.Shadow.{ChipTree, tree_with, tree_root_with}
+use Rattle.counter_tree.specs.Layout.{tree_slots}
+use Rattle.counter_tree.specs.Shadow.{ChipTree, IsShadowTree, shadow_height, root_of, tree_with, tree_root_with}
+use Rattle.counter_tree.proofs.ChipTree.{chip-with, chip-root_with}
+use Rattle.counter_tree.proofs.HeightLemmas.{shadow_height-room}
+use Rattle.counter_tree.proofs.SlotLaws.{slot_line-IsLine}
 use Rattle.counter_tree.specs.Slots.{slot_of, slot_line}
 use Rattle.counter_tree.specs.Watch.{WatchState}
 use Rattle.counter_tree.proofs.ReadPlans.{chosen, not_chosen}
@@ -28,7 +34,8 @@ use Rattle.asit_shadow.specs.declared.fault.TreeFault.{TreeFault}
 use Rattle.asit_shadow.specs.declared.fault.TreeFault.TheVariants as Fail
 use Rattle.asit_shadow.specs.State.{top_node}
 use Rattle.asit_shadow.specs.Steps.{KeepsOtherRegisters}
-use Rattle.asit_shadow.specs.Writing.{armed_lines, pair_at, IsSealMade, IsWriteTold}
+use Rattle.asit_shadow.specs.Writing.{armed_lines, pair_at, slot_entries, IsSealMade, IsTreeNamed, IsWriteTold}
+use Rattle.asit_shadow.proofs.SlotPlaces.{slot_of-inside}
 use Rattle.asit_shadow.specs.Plans.{TreeChip, fetch_plan}
 use Rattle.asit_shadow.specs.WritePlans.{raised_pair, raised_path, seal_of, named_one, named_all, write_armed, told_write, named_chip, stored_chip, seal_plan, seal_under_plan, raise_plan, write_line_plan}
 
@@ -94,6 +101,46 @@ named-step f g pairs seen i slot line d start mid new was root same inside at is
     named_at : Formulas → ℕ → Line → ChipTree → ChipTree × List ℕ
     named_at f slot line mid =
         (record { height = mid.height; lines = tree_with f mid.height mid.lines slot line }, tree_root_with f mid.height mid.lines slot line)
+
+-- what naming makes of the tree over slot lines: the tree over those with the nodes' lines, and its root
+module _ (f : Formulas) (g : Shape) (in_range : AreInRange f) (shape : IsShape g) where
+  one-named : (pair : ℕ × Node) (at : ChipTree × List ℕ) (slots : List Line) → pair.0 < meta_lines g → at.0.height ≡ shadow_height g
+      → length slots ≡ tree_slots g → IsShadowTree f at.0.height slots at.0.lines
+      → IsShadowTree f at.0.height (slice_set slots (slot_of g pair.0) (slot_line pair.0 pair.1)) (named_one f g pair at).0.lines
+      × ((named_one f g pair at).1 ≡ root_of f at.0.height (slice_set slots (slot_of g pair.0) (slot_line pair.0 pair.1)))
+  one-named pair at slots inside height long it =
+      let slot = slot_of-inside g pair.0 shape inside in
+      let leaf = subst (λ h. slot_of g pair.0 < 4 ^ h) (sym height) (omega (arith, slot, shadow_height-room g shape)) in
+      let room = subst (λ n. slot_of g pair.0 < n) (sym long) slot in
+      let line = slot_line-IsLine pair.0 pair.1 in (
+        chip-with f at.0.height slots at.0.lines (slot_of g pair.0) (slot_line pair.0 pair.1) in_range it leaf room line,
+        chip-root_with f at.0.height slots at.0.lines (slot_of g pair.0) (slot_line pair.0 pair.1) in_range it leaf room line,
+      )
+
+  pub all-named : (pair : ℕ × Node) (later : List (ℕ × Node)) (at : ChipTree × List ℕ) (slots : List Line)
+      → All (λ (one : ℕ × Node). one.0 < meta_lines g) (pair ∷ later) → at.0.height ≡ shadow_height g → length slots ≡ tree_slots g
+      → IsShadowTree f at.0.height slots at.0.lines
+      → IsShadowTree f at.0.height (put_lines (slot_entries g (λ i. i) (pair ∷ later)) slots) (named_all f g (pair ∷ later) at).0.lines
+      × ((named_all f g (pair ∷ later) at).1 ≡ root_of f at.0.height (put_lines (slot_entries g (λ i. i) (pair ∷ later)) slots))
+  unfolding named_all
+  all-named pair [] at slots inside height long it = one-named pair at slots (inside 0 pair (omega arith)) height long it
+  all-named pair (next ∷ rest) at slots inside height long it =
+      all-named next rest (named_one f g pair at) (slice_set slots (slot_of g pair.0) (slot_line pair.0 pair.1))
+      (λ i d low. inside (suc i) d (omega (arith, low))) height (length-set slots (slot_of g pair.0) (slot_line pair.0 pair.1) ∙ long)
+      (one-named pair at slots (inside 0 pair (omega arith)) height long it).0
+
+  pub tree-named : (pairs : List (ℕ × Node)) (old new : ChipTree) (was root : List ℕ) (slots : List Line) → 1 ≤ length pairs
+      → All (λ (one : ℕ × Node). one.0 < meta_lines g) pairs → (let made : ChipTree × List ℕ = (new, root) in made ≡ named_all f g pairs (old, was))
+      → old.height ≡ shadow_height g → length slots ≡ tree_slots g → IsShadowTree f old.height slots old.lines → IsTreeNamed f g pairs old new root slots
+  tree-named [] old new was root slots some inside made height long it = absurd (omega (arith, some))
+  tree-named (pair ∷ later) old new was root slots some inside made height long it =
+      let its = all-named pair later (old, was) slots inside height long it in
+      record {
+        tree =
+            subst (λ (t : ChipTree). IsShadowTree f old.height (put_lines (slot_entries g (λ i. i) (pair ∷ later)) slots) t.lines)
+            (sym (ap (λ (at : ChipTree × List ℕ). at.0) made)) its.0;
+        its_root = ap (λ (at : ChipTree × List ℕ). at.1) made ∙ its.1;
+      }
 
 -- ---- the ends
 

@@ -196,16 +196,6 @@ pub record IsLineShown (setup : Setup) (a : ℕ) (old new : TreeEngineParts) : T
       new.watch.exhibit
       ≡ Some (Forged a (version_counter (line_counter setup.shape old.watch.nodes a)) cipher (tag_slot tags 0))
 
--- ---- steps
-
--- so many line writes at most, and no latch; at a cut of a live board fewer
-pub record TakesWriteBacks (n : ℕ) (outcome : Outcome) (old new : Device) : Type 0 where
-  pub count : ℕ
-  pub at_most : count ≤ n
-  pub fewer : outcome ≡ cut_short → old.live ≡ true → count < n
-  pub writes : RisesBy count old.writes new.writes
-  pub latches : new.latches ≡ old.latches
-
 -- ---- reads
 
 -- what a read's answer says, from a trusted chip on
@@ -237,15 +227,18 @@ pub record IsLineRead (setup : Setup) (a : ℕ) (old new : TreeEngineParts) (ans
   pub effect : TreeCallEffect setup (tree_outcome_of answer) old new
   pub watch : KeepsWatch (tree_outcome_of answer) old.watch new.watch
   pub regs : new.device.regs ≡ old.device.regs
-  pub steps : TakesWriteBacks setup.shape.levels (tree_outcome_of answer) old.device new.device
   -- exactly what it did, whatever the board and the chip: a cut comes only where a step is due
   pub work : WorksOfRead setup a old new answer
   pub answered : AreTreeTrusted setup old → AnswersTreeRead setup a old new answer
   pub unrefused : AreTreeSound setup old → IsTreeUnrefused answer
 
+-- the engine as a call worked with it, before its end took it down
+abbrev pub before_end : TreeEngineParts → TreeEngineParts
+before_end parts = record parts { engine = record parts.engine { down = false } }
+
 pub record HasReadTreeLine (setup : Setup) (a : ℕ) (old new : TreeEngineParts) (answer : Result Line TreeFault) : Type 0 where
   pub down : AnswersTreeDown old new answer
-  pub done : old.engine.down ≡ false → IsLineRead setup a old new answer
+  pub done : old.engine.down ≡ false → IsLineRead setup a old (before_end new) answer
 
 -- ---- writes
 
@@ -294,24 +287,6 @@ AnswersTreeWrite setup a plain old new (Err (Fail.Tag b)) = ⊥
 AnswersTreeWrite setup a plain old new (Err Fail.Spent) = IsUsedUp old × (new ≡ old)
 AnswersTreeWrite setup a plain old new (Err Fail.Shown) = (IsUsedUp old → ⊥) × IsNodeShown setup a old new
 
--- the steps of a write: one for each node that gives way, a latch, the lines of its group, a latch
-pub record TakesWriteSteps (g : Shape) (old new : Device) : Type 0 where
-  pub count : ℕ
-  pub at_most : count ≤ g.levels
-  pub writes : RisesBy (count + (g.levels + 3)) old.writes new.writes
-  pub latches : RisesBy 2 old.latches new.latches
-
--- a cut takes at most the line writes, and one latch at most
-pub record TakesFewerSteps (g : Shape) (old new : Device) : Type 0 where
-  pub writes : RisesAtMost (2 * g.levels + 3) old.writes new.writes
-  pub latches : RisesAtMost 1 old.latches new.latches
-
-abbrev pub StepsOfWrite : Shape → Result ℕ TreeFault → Device → Device → Type 0
-StepsOfWrite g (Ok counter) old new = TakesWriteSteps g old new
-StepsOfWrite g (Err Fail.Cut) old new = TakesFewerSteps g old new
-StepsOfWrite g (Err Fail.Spent) old new = new ≡ old
-StepsOfWrite g (Err fault) old new = TakesWriteBacks g.levels going old new
-
 -- a write by an engine that isn't down
 pub record IsLineWritten (setup : Setup) (a : ℕ) (plain : Line) (old new : TreeEngineParts) (answer : Result ℕ TreeFault) : Type 0 where
   pub kind : IsWriteAnswer answer
@@ -319,7 +294,6 @@ pub record IsLineWritten (setup : Setup) (a : ℕ) (plain : Line) (old new : Tre
   -- Spent comes exactly where the version of the engine's top is the greatest number
   pub spent : IsTreeSpentAnswer answer ↔ (total (top_node old.engine.cache) ≡ 2 ^ 64 - 1)
   pub effect : TreeCallEffect setup (tree_outcome_of answer) old new
-  pub steps : StepsOfWrite setup.shape answer old.device new.device
   pub work : WorksOfWrite setup a old new answer
   pub answered : AreTreeTrusted setup old → AnswersTreeWrite setup a plain old new answer
   pub unrefused : AreTreeSound setup old → IsTreeUnrefused answer
@@ -328,4 +302,4 @@ pub record IsLineWritten (setup : Setup) (a : ℕ) (plain : Line) (old new : Tre
 
 pub record HasWrittenTreeLine (setup : Setup) (a : ℕ) (plain : Line) (old new : TreeEngineParts) (answer : Result ℕ TreeFault) : Type 0 where
   pub down : AnswersTreeDown old new answer
-  pub done : old.engine.down ≡ false → IsLineWritten setup a plain old new answer
+  pub done : old.engine.down ≡ false → IsLineWritten setup a plain old (before_end new) answer

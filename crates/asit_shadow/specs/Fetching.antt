@@ -3,7 +3,6 @@ use Rattle.std.specs.Prelude.{ℕ, ◌≡◌, ◌<◌, ◌≤◌, ◌/◌, ◌�
 use Rattle.pmem_base.specs.declared.lines.Line.{Line}
 use Rattle.pmem_base.specs.Shape.{Shape}
 use Rattle.pmem_base.specs.Lines.{line_at}
-use Rattle.pmem_base.specs.Counts.{risen, risen_times}
 use Rattle.suite.specs.Setup.{Setup}
 use Rattle.board.specs.Device.{Device}
 use Rattle.board.specs.Counts.{RisesBy}
@@ -23,8 +22,7 @@ use Rattle.asit_shadow.specs.declared.fault.TreeFault.TheVariants as Fail
 use Rattle.asit_shadow.specs.State.{cache_at, IsCached, IsCachedAs}
 use Rattle.asit_shadow.specs.Parts.{TreeEngineParts, AreTreeTrusted, AreTreeSound}
 use Rattle.asit_shadow.specs.Work.{holds_dirty, absent_nodes, HasFetchedNodes, HasStoppedAt, IsNodeShownAt, IsCutInNodeFetch}
-use Rattle.asit_shadow.specs.Counts.{HasStopTags}
-use Rattle.asit_shadow.specs.Calls.{TreeCallEffect, IsNodeRead, IsNodeRefused, IsNodeShown, IsUnrefusedFault, KeepsWatch, TakesWriteBacks, outcome_of_tree_fault}
+use Rattle.asit_shadow.specs.Calls.{TreeCallEffect, IsNodeRead, IsNodeRefused, IsNodeShown, IsUnrefusedFault, KeepsWatch, outcome_of_tree_fault}
 
 -- ---- one level
 
@@ -39,17 +37,14 @@ IsRoomMade setup None old new = new ≡ old
 IsRoomMade setup (Some held) old new =
     WritesWhere held.dirty old (line_of_node setup.shape held.x) (node_line setup.formulas held.x held.node) new
 
--- how a node's line is read under a version, by the answer, with the suite's tags before and after
-abbrev pub IsNodeTaken : Setup → ℕ → ℕ → Device → Device → WatchState → WatchState → ℕ → ℕ → Result Node TreeFault → Type 0
-IsNodeTaken setup x version old new watch after tags made (Ok node) =
-    IsNodeAccepted setup x version old new watch after node × (made ≡ risen tags)
-IsNodeTaken setup x version old new watch after tags made (Err Fail.Cut) =
-    WasCut old new × (old.live ≡ false) × (after ≡ watch) × (made ≡ tags)
-IsNodeTaken setup x version old new watch after tags made (Err (Fail.Node y)) =
-    (y ≡ x) × IsNodeUnaccepted setup x version old new watch after tags made
-IsNodeTaken setup x version old new watch after tags made (Err Fail.Shown) =
-    IsNodeForged setup x version old new watch after × (made ≡ risen tags)
-IsNodeTaken setup x version old new watch after tags made (Err fault) = ⊥
+-- how a node's line is read under a version, by the answer
+abbrev pub IsNodeTaken : Setup → ℕ → ℕ → Device → Device → WatchState → WatchState → Result Node TreeFault → Type 0
+IsNodeTaken setup x version old new watch after (Ok node) = IsNodeAccepted setup x version old new watch after node
+IsNodeTaken setup x version old new watch after (Err Fail.Cut) = WasCut old new × (old.live ≡ false) × (after ≡ watch)
+IsNodeTaken setup x version old new watch after (Err (Fail.Node y)) =
+    (y ≡ x) × IsNodeUnaccepted setup x version old new watch after
+IsNodeTaken setup x version old new watch after (Err Fail.Shown) = IsNodeForged setup x version old new watch after
+IsNodeTaken setup x version old new watch after (Err fault) = ⊥
 
 -- node x, which isn't cached, was read under a version, and took its slot clean
 pub record IsNodeFound (setup : Setup) (x version : ℕ) (node : Node) (old new : TreeEngineParts) : Type 0 where
@@ -69,11 +64,6 @@ abbrev pub HasFetchedNode : Setup → ℕ → ℕ → TreeEngineParts → TreeEn
 HasFetchedNode setup x version old new node =
     (IsCachedAs setup.shape old.engine.cache x node × (new ≡ old)) ⊎ IsNodeFound setup x version node old new
 
--- the tags at such a cut: none before its line is read, else its own and that of the dirty node in its slot
-abbrev pub AreTagsCutOff : Option CachedNode → Bool → ℕ → ℕ → Type 0
-AreTagsCutOff slot live tags made =
-    ((live ≡ false) × (made ≡ tags)) ⊎ ((holds_dirty slot ≡ true) × (made ≡ risen_times 2 tags))
-
 -- a cut before node x, which isn't cached, took its slot: no more than a line was read
 pub record IsNodeCutOff (g : Shape) (x : ℕ) (old new : TreeEngineParts) : Type 0 where
   pub uncached : IsCached g old.engine.cache x → ⊥
@@ -92,18 +82,16 @@ pub record IsNodeCutOff (g : Shape) (x : ℕ) (old new : TreeEngineParts) : Type
   pub engine : new.engine ≡ old.engine
   pub watch : new.watch ≡ old.watch
 
--- why node x wasn't fetched, with the suite's tags before and after
-abbrev pub HasNoNode : Setup → ℕ → ℕ → TreeEngineParts → TreeEngineParts → ℕ → ℕ → TreeFault → Type 0
-HasNoNode setup x version old new tags made Fail.Cut =
-    IsNodeCutOff setup.shape x old new
-    × AreTagsCutOff (cache_at old.engine.cache (slot_of setup.shape x)) old.device.live tags made
-HasNoNode setup x version old new tags made (Fail.Node y) =
+-- why node x wasn't fetched
+abbrev pub HasNoNode : Setup → ℕ → ℕ → TreeEngineParts → TreeEngineParts → TreeFault → Type 0
+HasNoNode setup x version old new Fail.Cut = IsNodeCutOff setup.shape x old new
+HasNoNode setup x version old new (Fail.Node y) =
     (y ≡ x) × (IsCached setup.shape old.engine.cache x → ⊥) × (new.engine ≡ old.engine)
-    × IsNodeUnaccepted setup x version old.device new.device old.watch new.watch tags made
-HasNoNode setup x version old new tags made Fail.Shown =
+    × IsNodeUnaccepted setup x version old.device new.device old.watch new.watch
+HasNoNode setup x version old new Fail.Shown =
     (IsCached setup.shape old.engine.cache x → ⊥) × (new.engine ≡ old.engine)
-    × IsNodeForged setup x version old.device new.device old.watch new.watch × (made ≡ risen tags)
-HasNoNode setup x version old new tags made fault = ⊥
+    × IsNodeForged setup x version old.device new.device old.watch new.watch
+HasNoNode setup x version old new fault = ⊥
 
 -- ---- the levels so far
 
@@ -114,18 +102,11 @@ KeepsPathLines g a (Some old) None = ⊥
 KeepsPathLines g a (Some old) (Some new) =
     (x : ℕ) → is_on_line_path g a x ≡ true → line_at new (line_of_node g x) ≡ line_at old (line_of_node g x)
 
--- what stays as levels of the path of data line a are fetched, whatever the board: the engine's tree, the
--- registers and the watch, and the slots of the levels below
+-- levels of the path of data line a are fetched, whatever the board
 pub record IsPathFetchedTo (setup : Setup) (a levels : ℕ) (old new : TreeEngineParts) : Type 0 where
   pub effect : TreeCallEffect setup going old new
   pub tree : new.engine.tree ≡ old.engine.tree
   pub down : new.engine.down ≡ old.engine.down
-  pub slot_count : length new.engine.cache ≡ length old.engine.cache
-  pub slots_below :
-      (x : ℕ) → is_on_line_path setup.shape a x ≡ true → levels < level_of x
-      → cache_at new.engine.cache (slot_of setup.shape x) ≡ cache_at old.engine.cache (slot_of setup.shape x)
-  pub regs : new.device.regs ≡ old.device.regs
-  pub steps : TakesWriteBacks levels going old.device new.device
   pub done : HasFetchedNodes setup a levels old new
   pub reads : RisesBy (absent_nodes setup.shape old.engine.cache a levels) old.device.reads new.device.reads
   pub watch : new.watch ≡ old.watch
@@ -167,16 +148,14 @@ abbrev pub LeavesWatch : TreeFault → WatchState → WatchState → Type 0
 LeavesWatch Fail.Shown old new = ⊤
 LeavesWatch fault old new = new ≡ old
 
--- a path that couldn't be fetched, with the suite's tags before and after
-pub record IsFetchStopped (setup : Setup) (a : ℕ) (old new : TreeEngineParts) (tags made : ℕ) (fault : TreeFault) : Type 0 where
+-- a path that couldn't be fetched
+pub record IsFetchStopped (setup : Setup) (a : ℕ) (old new : TreeEngineParts) (fault : TreeFault) : Type 0 where
   pub kind : IsFetchFault fault
   pub effect : TreeCallEffect setup (outcome_of_tree_fault fault) old new
   pub down : new.engine.down ≡ old.engine.down
   pub regs : new.device.regs ≡ old.device.regs
-  pub steps : TakesWriteBacks setup.shape.levels (outcome_of_tree_fault fault) old.device new.device
   pub watch : KeepsWatch (outcome_of_tree_fault fault) old.watch new.watch
   pub same_watch : LeavesWatch fault old.watch new.watch
   pub work : StopsWork setup a old new fault
-  pub its_tags : HasStopTags setup a old new tags made fault
   pub answered : AreTreeTrusted setup old → StopsFetch setup a old new fault
   pub unrefused : AreTreeSound setup old → IsUnrefusedFault fault

@@ -1,6 +1,7 @@
 -- What formatting makes of a device, of its watch and of the engine: zero lines under counter 0, zero nodes,
 -- slot 0 naming the top.
-use Rattle.std.specs.Prelude.{ℕ, zero, suc, ◌≡◌, ◌<◌, false, true, List, Some, None, Option, length, replicate, slice_set, IfSome, IsNone, is_some}
+use Rattle.std.specs.Prelude.{ℕ, zero, suc, ◌≡◌, ◌<◌, false, true, List, Some, None, Option, length, replicate, slice_set, IfSome, IsNone, is_some, Ok}
+use Rattle.pmem_base.specs.declared.faults.Cut.{Cut}
 use Rattle.pmem_base.specs.declared.lines.Line.{Line}
 use Rattle.pmem_base.specs.declared.registers.Regs.{Regs}
 use Rattle.pmem_base.specs.Layout.{meta_lines}
@@ -9,12 +10,14 @@ use Rattle.pmem_base.specs.Registers.{empty_regs}
 use Rattle.pmem_base.specs.Shape.{Shape}
 use Rattle.suite.specs.Formulas.{Formulas, cipher_of}
 use Rattle.suite.specs.Setup.{Setup}
+use Rattle.call_plan.specs.Plans.{Plan, done, write, latch, bind, repeated, the_cut}
+use Rattle.call_plan.specs.Following.{Follows}
 use Rattle.board.specs.Counts.{RisesBy}
 use Rattle.board.specs.Device.{AreLinesOf}
 use Rattle.counter_tree.specs.declared.watch.LineSeal.{LineSeal}
 use Rattle.counter_tree.specs.Layout.{tree_lines, tree_slots, tree_size, line_of_tag, line_of_node, line_of_slot}
 use Rattle.counter_tree.specs.Nodes.{version_counter, node_line, zero_node}
-use Rattle.counter_tree.specs.Shadow.{ChipTree, shadow_height, shadow_root}
+use Rattle.counter_tree.specs.Shadow.{ChipTree, IsChipTree, shadow_height, shadow_root}
 use Rattle.counter_tree.specs.Slots.{slot_line}
 use Rattle.counter_tree.specs.Watch.{WatchState, last_seal_of, IsWatchOf}
 use Rattle.asit_shadow.specs.declared.cache.CachedNode.{CachedNode}
@@ -91,6 +94,42 @@ pub record IsChipFormatted (setup : Setup) (engine : TreeState) (regs : Regs) (w
   pub tree : IsTreeOver setup (first_slots setup.shape) engine.tree
   pub its_regs : regs ≡ first_tree_regs setup
 
+-- ---- what it does of a steady board, as a plan
+
+-- a data line and its tag line
+abbrev pub sealing_turn : Setup → ℕ → Unit {0} → Plan Cut (Unit {0})
+sealing_turn setup a before =
+    write the_cut a (first_tree_seal setup.formulas a).cipher
+    (write the_cut (line_of_tag setup.shape a) (tag_only (first_tree_seal setup.formulas a).tag) (done tt))
+
+abbrev pub sealing_plan : Setup → Plan Cut (Unit {0})
+sealing_plan setup = repeated (sealing_turn setup) 0 (tree_lines setup.shape) tt
+
+abbrev pub node_turn : Setup → ℕ → Unit {0} → Plan Cut (Unit {0})
+node_turn setup x before = write the_cut (line_of_node setup.shape x) (node_line setup.formulas x zero_node) (done tt)
+
+abbrev pub nodes_plan : Setup → Plan Cut (Unit {0})
+nodes_plan setup = repeated (node_turn setup) 0 (meta_lines setup.shape) tt
+
+abbrev pub naming_turn : Shape → List Line → ℕ → Unit {0} → Plan Cut (Unit {0})
+naming_turn g slots i before = write the_cut (line_of_slot g i) (line_at slots i) (done tt)
+
+abbrev pub naming_plan : Shape → List Line → Plan Cut (Unit {0})
+naming_plan g slots = repeated (naming_turn g slots) 0 (tree_slots g) tt
+
+abbrev pub after_naming : Setup → Unit {0} → Plan Cut (Unit {0})
+after_naming setup named = latch the_cut (first_tree_regs setup) (done tt)
+
+abbrev pub after_nodes : Setup → Unit {0} → Plan Cut (Unit {0})
+after_nodes setup noded = bind (naming_plan setup.shape (first_slots setup.shape)) (after_naming setup)
+
+abbrev pub after_sealing : Setup → Unit {0} → Plan Cut (Unit {0})
+after_sealing setup sealed = bind (nodes_plan setup) (after_nodes setup)
+
+-- data lines and tag lines, nodes, slot lines, and one latch of the root over these
+unfoldable pub tree_format_plan : Setup → Plan Cut (Unit {0})
+tree_format_plan setup = bind (sealing_plan setup) (after_sealing setup)
+
 -- the device and the watch so formatted, with the tree over the slot lines
 pub record HasDeviceFormatted (setup : Setup) (old new : Rest) (tree : ChipTree) : Type 0 where
   pub told : IsFormatTold setup old.watch new.watch
@@ -107,12 +146,14 @@ pub record HasDeviceFormatted (setup : Setup) (old new : Rest) (tree : ChipTree)
   pub latches : RisesBy 1 old.device.latches new.device.latches
   pub reads : new.device.reads ≡ old.device.reads
   pub cuts : new.device.cuts ≡ old.device.cuts
+  pub plan : Follows (tree_format_plan setup) old.device new.device (Ok tt)
 
 -- a formatted device and its engine: trusted, and sound where the lines are told, with a watch of the setup
 -- that had no exhibit
 pub record HasTreeFormatted (setup : Setup) (old new : Rest) (engine : TreeState) : Type 0 where
   pub engine_new : IsFirstEngine setup engine
   pub device : HasDeviceFormatted setup old new engine.tree
+  pub tree_whole : IsChipTree engine.tree
   pub trusted :
       old.watch.setup ≡ setup → IsNone old.watch.exhibit → AreTreeTrusted setup (tree_parts_of engine new.device new.watch)
   pub sound :

@@ -8,7 +8,6 @@ pub mod Places
 pub mod PlaceLaws
 pub mod Parts
 pub mod Work
-pub mod Counts
 pub mod Calls
 pub mod Fetching
 pub mod Recovering
@@ -17,3 +16,4 @@ pub mod Formatting
 pub mod Plans
 pub mod WritePlans
 pub mod Determined
+pub mod RecoverPlans

@@ -5,10 +5,13 @@ use Rattle.pmem_base.specs.Registers.{IsGroup}
 use Rattle.pmem_base.specs.Shape.{Shape}
 use Rattle.pmem_base.specs.Layout.{meta_lines}
 use Rattle.suite.specs.Setup.{Setup}
+use Rattle.suite.specs.declared.Suite.{Ghosts as SuiteOf}
 use Rattle.board.specs.Device.{Device}
+use Rattle.board.specs.declared.device.Board.{Ghosts as BoardOf}
 use Rattle.commit_regs.specs.Groups.{redone_told}
 use Rattle.counter_tree.specs.Layout.{tree_lines, tree_slots, tree_size}
 use Rattle.counter_tree.specs.Watch.{WatchState, last_seal_of}
+use Rattle.counter_tree.specs.declared.watch.Watch.{Ghosts as WatchOf}
 use Rattle.asit_shadow.specs.State.{TreeState}
 use Rattle.asit_shadow.specs.Invariants.{IsTreeAnchored, IsTreeTrusted, IsTreeDurable, IsTreeSound, IsTreeSealStored, IsSlotStored}
 use Rattle.asit_shadow.specs.Places.{IsNodeHeld, IsNodeHeldBy}
@@ -21,6 +24,13 @@ pub record TreeEngineParts : Type 0 where
 
 abbrev pub tree_parts_of : TreeState → Device → WatchState → TreeEngineParts
 tree_parts_of engine device watch = record { engine = engine; device = device; watch = watch }
+
+-- what a call sees of them at a moment, and the setup that it works under
+abbrev pub tree_parts_at : {B W : Type 0} → BoardOf B → WatchOf W → TreeState → B → W → TreeEngineParts
+tree_parts_at board watch engine b w = tree_parts_of engine (board.device b) (watch.watched w)
+
+abbrev pub tree_setup_at : {S : Type 0} → SuiteOf S → TreeState → S → Setup
+tree_setup_at suite engine s = record { shape = engine.shape; formulas = suite.formulas_of (suite.keys s) }
 
 -- the device's lines with the armed group redone, where they are told
 abbrev pub tree_lines_redone : TreeEngineParts → Option (List Line)

@@ -4,6 +4,7 @@ use Rattle.pmem_base.specs.declared.faults.Cut.{Cut}
 use Rattle.pmem_base.specs.declared.lines.Line.{Line}
 use Rattle.pmem_base.specs.Counts.{risen}
 use Rattle.suite.specs.Setup.{Setup}
+use Rattle.suite.specs.declared.Suite.{Ghosts as SuiteOf}
 use Rattle.bonsai_tree.specs.Positions.{child_slot}
 use Rattle.call_plan.specs.Plans.{Plan, done, stop, write, bind, mapped, lifted, repeated, the_cut}
 use Rattle.pmem_engine.specs.Outcomes.{is_going}
@@ -15,6 +16,7 @@ use Rattle.counter_tree.specs.Nodes.{counter, node_line}
 use Rattle.counter_tree.specs.Plans.{ReadParts, read_parts, node_plan, line_plan}
 use Rattle.counter_tree.specs.Slots.{slot_of}
 use Rattle.counter_tree.specs.Watch.{WatchState}
+use Rattle.counter_tree.specs.declared.watch.Watch.{Ghosts as WatchOf}
 use Rattle.asit_shadow.specs.declared.cache.CachedNode.{CachedNode}
 use Rattle.asit_shadow.specs.declared.fault.TreeFault.{TreeFault}
 use Rattle.asit_shadow.specs.declared.fault.TreeFault.TheVariants as Fail
@@ -35,6 +37,14 @@ pub record TreeChip : Type 0 where
 abbrev pub tree_chip_of : TreeState → WatchState → ℕ → ℕ → ℕ → TreeChip
 tree_chip_of engine watch pads tags digests =
     record { engine = engine; watch = watch; pads = pads; tags = tags; digests = digests }
+
+-- as a call finds it at a moment
+module _ {S W : Type 0} (suite : SuiteOf S) (watch : WatchOf W) where
+  abbrev pub tree_chip_at : TreeState → S → W → TreeChip
+  tree_chip_at engine s w = tree_chip_of engine (watch.watched w) (suite.pads s) (suite.tags s) (suite.digests s)
+
+  abbrev pub read_parts_at : S → W → ReadParts
+  read_parts_at s w = read_parts (watch.watched w) (suite.pads s) (suite.tags s)
 
 abbrev pub with_engine : TreeChip → TreeState → TreeChip
 with_engine chip engine = tree_chip_of engine chip.watch chip.pads chip.tags chip.digests

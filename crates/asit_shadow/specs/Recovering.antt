@@ -9,6 +9,7 @@ use Rattle.pmem_base.specs.Layout.{meta_lines}
 use Rattle.suite.specs.Setup.{Setup}
 use Rattle.board.specs.Counts.{RisesBy}
 use Rattle.board.specs.Device.{Device}
+use Rattle.board.specs.declared.device.Board.{Ghosts as BoardOf}
 use Rattle.board.specs.Steps.{Tells}
 use Rattle.collision_witness.specs.Exhibits.{IsExhibit}
 use Rattle.commit_regs.specs.Groups.{redone_told, finishing_latches, RisesAtMost}
@@ -19,6 +20,7 @@ use Rattle.counter_tree.specs.Layout.{tree_lines, tree_slots, line_of_slot}
 use Rattle.counter_tree.specs.Shadow.{ChipTree, IsChipTree, shadow_height, shadow_root, shadow_digests}
 use Rattle.counter_tree.specs.Slots.{NamedNode, slot_read}
 use Rattle.counter_tree.specs.Watch.{WatchState, HasShown, IsSlotClash}
+use Rattle.counter_tree.specs.declared.watch.Watch.{Ghosts as WatchOf}
 use Rattle.asit_shadow.specs.declared.recovery.TreeRec.{TreeRec}
 use Rattle.asit_shadow.specs.declared.recovery.TreeRec.TheVariants as Fail
 use Rattle.asit_shadow.specs.declared.cache.CachedNode.{CachedNode}
@@ -35,6 +37,9 @@ pub record Rest : Type 0 where
 
 abbrev pub rest_of : Device → WatchState → Rest
 rest_of device watch = record { device = device; watch = watch }
+
+abbrev pub rest_at : {B W : Type 0} → BoardOf B → WatchOf W → B → W → Rest
+rest_at board watch b w = rest_of (board.device b) (watch.watched w)
 
 -- what recovery asks: the watch and the board are of the geometry
 pub record IsRestUsable (g : Shape) (rest : Rest) : Type 0 where

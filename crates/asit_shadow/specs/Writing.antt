@@ -22,7 +22,7 @@ use Rattle.asit_shadow.specs.Paths.{line_path, path_node, tag_only}
 use Rattle.asit_shadow.specs.Steps.{KeepsOtherRegisters}
 use Rattle.asit_shadow.specs.declared.fault.TreeFault.{TreeFault}
 use Rattle.asit_shadow.specs.Parts.{TreeEngineParts, AreTreeTrusted, AreTreeSound, IsBoardReady, IsWatchReady}
-use Rattle.asit_shadow.specs.Calls.{AnswersTreeWrite, TreeCallEffect, IsTreeDownAnswer, IsTreeRefusal, IsTreeUnrefused, IsWriteAnswer, KeepsWatch, StepsOfWrite, tree_outcome_of}
+use Rattle.asit_shadow.specs.Calls.{AnswersTreeWrite, TreeCallEffect, IsTreeDownAnswer, IsTreeRefusal, IsTreeUnrefused, IsWriteAnswer, KeepsWatch, tree_outcome_of}
 use Rattle.asit_shadow.specs.Work.{WorksOfWrite}
 
 -- a list with each value set at its place, in order
@@ -103,7 +103,6 @@ pub record IsWriteMade (setup : Setup) (a : ℕ) (plain : Line) (seal : LineSeal
   pub others : KeepsOtherRegisters old.device.regs regs
   pub told : IsWriteTold setup.shape a seal pairs old.watch new.watch
   pub cache : new.engine.cache ≡ set_pairs (dirty_entries setup.shape pairs) old.engine.cache
-  pub height : new.engine.tree.height ≡ old.engine.tree.height
   pub shape : new.engine.shape ≡ old.engine.shape
   pub down : new.engine.down ≡ old.engine.down
 
@@ -113,7 +112,6 @@ pub record HasWrittenUp (setup : Setup) (a : ℕ) (plain : Line) (old new : Tree
   pub up : IsTreeDownAnswer answer → ⊥
   pub down : new.engine.down ≡ old.engine.down
   pub effect : TreeCallEffect setup (tree_outcome_of answer) old new
-  pub steps : StepsOfWrite setup.shape answer old.device new.device
   pub work : WorksOfWrite setup a old new answer
   pub answered : AreTreeTrusted setup old → AnswersTreeWrite setup a plain old new answer
   pub unrefused : AreTreeSound setup old → IsTreeUnrefused answer

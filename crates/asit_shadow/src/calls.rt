@@ -2,12 +2,10 @@
 ghost use Rattle.std.specs.Prelude.{◌≡◌, ◌<◌, ◌||◌, not};
 ghost use Rattle.pmem_engine.specs.Outcomes.{is_going};
 ghost use Rattle.counter_tree.specs.Layout.{tree_lines};
-ghost use Rattle.pmem_recovery.specs.Parts.{suite_state};
-ghost use Rattle.asit_shadow.specs.Parts.{tree_parts_of, IsTreeUsable};
-ghost use Rattle.asit_shadow.specs.Counts.{CountsOfRead, CountsOfWrite};
+ghost use Rattle.asit_shadow.specs.Parts.{IsTreeUsable, tree_parts_at, tree_setup_at};
 ghost use Rattle.call_plan.specs.Plans.{ended};
 ghost use Rattle.call_plan.specs.Following.{Follows};
-ghost use Rattle.asit_shadow.specs.Plans.{tree_chip_of, read_line_plan, read_plan};
+ghost use Rattle.asit_shadow.specs.Plans.{read_line_plan, read_plan, tree_chip_at};
 ghost use Rattle.asit_shadow.specs.WritePlans.{write_plan};
 ghost use Rattle.asit_shadow.specs.Calls.{outcome_of_tree_fault, IsLineRead, HasReadTreeLine, HasWrittenTreeLine};
 
@@ -29,22 +27,17 @@ impl TreeEngine {
         at: u32,
     ) -> Result<Line, TreeFault>
         requires line { at < tree_lines self.old.shape }
-        requires usable { IsTreeUsable self.old.shape (tree_parts_of self.old (B.device board.old) (W.watched watch.old)) }
-        ensures read { HasReadTreeLine (record { shape = self.old.shape; formulas = S.formulas_of (S.keys suite.old) }) at
-            (tree_parts_of self.old (B.device board.old) (W.watched watch.old))
-            (tree_parts_of self.new (B.device board.new) (W.watched watch.new)) result }
-        ensures counts { CountsOfRead (record { shape = self.old.shape; formulas = S.formulas_of (S.keys suite.old) }) at
-            (tree_parts_of self.old (B.device board.old) (W.watched watch.old))
-            (tree_parts_of self.new (B.device board.new) (W.watched watch.new))
-            (suite_state (S.keys suite.old) (S.pads suite.old) (S.tags suite.old) (S.digests suite.old))
-            (suite_state (S.keys suite.new) (S.pads suite.new) (S.tags suite.new) (S.digests suite.new)) result }
-        ensures usable { IsTreeUsable self.old.shape (tree_parts_of self.new (B.device board.new) (W.watched watch.new)) }
+        requires usable { IsTreeUsable self.old.shape (tree_parts_at B.Board W.Watch self.old board.old watch.old) }
+        ensures read { HasReadTreeLine (tree_setup_at S.Suite self.old suite.old) at
+            (tree_parts_at B.Board W.Watch self.old board.old watch.old)
+            (tree_parts_at B.Board W.Watch self.new board.new watch.new) result }
+        ensures usable { IsTreeUsable self.old.shape (tree_parts_at B.Board W.Watch self.new board.new watch.new) }
         ensures keys { S.keys suite.new ≡ S.keys suite.old }
         ensures digests { S.digests suite.new ≡ S.digests suite.old }
         ensures shape { self.new.shape ≡ self.old.shape }
-        ensures plan { Follows (read_plan (record { shape = self.old.shape; formulas = S.formulas_of (S.keys suite.old) }) at
-            (tree_chip_of self.old (W.watched watch.old) (S.pads suite.old) (S.tags suite.old) (S.digests suite.old))) (B.device board.old) (B.device board.new)
-            (ended result (tree_chip_of self.new (W.watched watch.new) (S.pads suite.new) (S.tags suite.new) (S.digests suite.new))) }
+        ensures plan { Follows (read_plan (tree_setup_at S.Suite self.old suite.old) at
+            (tree_chip_at S.Suite W.Watch self.old suite.old watch.old)) (B.device board.old) (B.device board.new)
+            (ended result (tree_chip_at S.Suite W.Watch self.new suite.new watch.new)) }
     {
         if self.is_down() {
             return Err(TreeFault::Down);
@@ -69,21 +62,16 @@ impl TreeEngine {
         line: &Line,
     ) -> Result<u64, TreeFault>
         requires line { at < tree_lines self.old.shape }
-        requires usable { IsTreeUsable self.old.shape (tree_parts_of self.old (B.device board.old) (W.watched watch.old)) }
-        ensures written { HasWrittenTreeLine (record { shape = self.old.shape; formulas = S.formulas_of (S.keys suite.old) }) at line.now
-            (tree_parts_of self.old (B.device board.old) (W.watched watch.old))
-            (tree_parts_of self.new (B.device board.new) (W.watched watch.new)) result }
-        ensures counts { CountsOfWrite (record { shape = self.old.shape; formulas = S.formulas_of (S.keys suite.old) }) at
-            (tree_parts_of self.old (B.device board.old) (W.watched watch.old))
-            (tree_parts_of self.new (B.device board.new) (W.watched watch.new))
-            (suite_state (S.keys suite.old) (S.pads suite.old) (S.tags suite.old) (S.digests suite.old))
-            (suite_state (S.keys suite.new) (S.pads suite.new) (S.tags suite.new) (S.digests suite.new)) result }
-        ensures usable { IsTreeUsable self.old.shape (tree_parts_of self.new (B.device board.new) (W.watched watch.new)) }
+        requires usable { IsTreeUsable self.old.shape (tree_parts_at B.Board W.Watch self.old board.old watch.old) }
+        ensures written { HasWrittenTreeLine (tree_setup_at S.Suite self.old suite.old) at line.now
+            (tree_parts_at B.Board W.Watch self.old board.old watch.old)
+            (tree_parts_at B.Board W.Watch self.new board.new watch.new) result }
+        ensures usable { IsTreeUsable self.old.shape (tree_parts_at B.Board W.Watch self.new board.new watch.new) }
         ensures keys { S.keys suite.new ≡ S.keys suite.old }
         ensures shape { self.new.shape ≡ self.old.shape }
-        ensures plan { Follows (write_plan (record { shape = self.old.shape; formulas = S.formulas_of (S.keys suite.old) }) (B.device board.old).regs at line.now
-            (tree_chip_of self.old (W.watched watch.old) (S.pads suite.old) (S.tags suite.old) (S.digests suite.old))) (B.device board.old) (B.device board.new)
-            (ended result (tree_chip_of self.new (W.watched watch.new) (S.pads suite.new) (S.tags suite.new) (S.digests suite.new))) }
+        ensures plan { Follows (write_plan (tree_setup_at S.Suite self.old suite.old) (B.device board.old).regs at line.now
+            (tree_chip_at S.Suite W.Watch self.old suite.old watch.old)) (B.device board.old) (B.device board.new)
+            (ended result (tree_chip_at S.Suite W.Watch self.new suite.new watch.new)) }
     {
         if self.is_down() {
             return Err(TreeFault::Down);
@@ -106,21 +94,16 @@ impl TreeEngine {
         at: u32,
     ) -> Result<Line, TreeFault>
         requires line { at < tree_lines self.old.shape }
-        requires usable { IsTreeUsable self.old.shape (tree_parts_of self.old (B.device board.old) (W.watched watch.old)) }
-        ensures read { IsLineRead (record { shape = self.old.shape; formulas = S.formulas_of (S.keys suite.old) }) at
-            (tree_parts_of self.old (B.device board.old) (W.watched watch.old))
-            (tree_parts_of self.new (B.device board.new) (W.watched watch.new)) result }
-        ensures counts { CountsOfRead (record { shape = self.old.shape; formulas = S.formulas_of (S.keys suite.old) }) at
-            (tree_parts_of self.old (B.device board.old) (W.watched watch.old))
-            (tree_parts_of self.new (B.device board.new) (W.watched watch.new))
-            (suite_state (S.keys suite.old) (S.pads suite.old) (S.tags suite.old) (S.digests suite.old))
-            (suite_state (S.keys suite.new) (S.pads suite.new) (S.tags suite.new) (S.digests suite.new)) result }
+        requires usable { IsTreeUsable self.old.shape (tree_parts_at B.Board W.Watch self.old board.old watch.old) }
+        ensures read { IsLineRead (tree_setup_at S.Suite self.old suite.old) at
+            (tree_parts_at B.Board W.Watch self.old board.old watch.old)
+            (tree_parts_at B.Board W.Watch self.new board.new watch.new) result }
         ensures down { self.new.down ≡ self.old.down }
         ensures keys { S.keys suite.new ≡ S.keys suite.old }
         ensures digests { S.digests suite.new ≡ S.digests suite.old }
-        ensures plan { Follows (read_line_plan (record { shape = self.old.shape; formulas = S.formulas_of (S.keys suite.old) }) at
-            (tree_chip_of self.old (W.watched watch.old) (S.pads suite.old) (S.tags suite.old) (S.digests suite.old))) (B.device board.old) (B.device board.new)
-            (ended result (tree_chip_of self.new (W.watched watch.new) (S.pads suite.new) (S.tags suite.new) (S.digests suite.new))) }
+        ensures plan { Follows (read_line_plan (tree_setup_at S.Suite self.old suite.old) at
+            (tree_chip_at S.Suite W.Watch self.old suite.old watch.old)) (B.device board.old) (B.device board.new)
+            (ended result (tree_chip_at S.Suite W.Watch self.new suite.new watch.new)) }
     {
         self.is_whole();
         let node = match self.fetch(board, suite, watch, at) {

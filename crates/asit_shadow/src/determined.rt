@@ -1,5 +1,5 @@
 //! That the contracts of the engine's calls leave nothing open.
-ghost use Rattle.asit_shadow.specs.Determined.{TreeReadIsDetermined, TreeWriteIsDetermined};
+ghost use Rattle.asit_shadow.specs.Determined.{TreeReadIsDetermined, TreeWriteIsDetermined, TreeRecoverIsDetermined, TreeFormatIsDetermined};
 
 /// A law: two reads of one line by one engine over one watched board, which has power, that meet the same
 /// fuse have the same answer and leave the same engine, board and watch, and the same counts.
@@ -10,4 +10,14 @@ pub fn tree_read_is_determined()
 /// A law: the same of two writes of one line.
 pub fn tree_write_is_determined()
     ensures { TreeWriteIsDetermined }
+{}
+
+/// A law: two formats of one device, which has power and tells its lines, leave the same engine, watch and device.
+pub fn tree_format_is_determined()
+    ensures { TreeFormatIsDetermined }
+{}
+
+/// A law: the same of two recoveries that had their memory, of the answer, the board, the watch and the digests.
+pub fn tree_recover_is_determined()
+    ensures { TreeRecoverIsDetermined }
 {}

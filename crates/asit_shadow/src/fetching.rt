@@ -1,21 +1,20 @@
 //! The path of a data line: fetched from the top down, each node under the version that its parent has
 //! for it.
-ghost use Rattle.std.specs.Prelude.{◌≡◌, ◌<◌, true, length, IfOk, IfErr, OnOk, OnErr, IfSome, IfNone, if◌then◌else◌};
-ghost use Rattle.pmem_base.specs.Counts.{risen, risen_times};
+ghost use Rattle.std.specs.Prelude.{◌≡◌, ◌<◌, true, length, IfOk, IfErr, OnOk, OnErr, IfSome, IfNone};
 ghost use Rattle.pmem_base.specs.Geo.{shape_of};
 ghost use Rattle.pmem_base.specs.Layout.{meta_lines};
 ghost use Rattle.board.specs.Steps.{WasCut};
 ghost use Rattle.counter_tree.specs.Layout.{tree_lines, tree_slots, tree_size};
 ghost use Rattle.counter_tree.specs.Slots.{slot_of};
 ghost use Rattle.asit_shadow.specs.State.{cache_at, IsCached, IsCachedAs};
-ghost use Rattle.asit_shadow.specs.Parts.{tree_parts_of, IsTreeUsable};
+ghost use Rattle.asit_shadow.specs.Parts.{IsTreeUsable, tree_parts_at, tree_setup_at};
 ghost use Rattle.asit_shadow.specs.Work.{holds_dirty};
-ghost use Rattle.asit_shadow.specs.Counts.{level_tags, fetch_tags};
-ghost use Rattle.asit_shadow.specs.Plans.{TreeChip, tree_chip_of, with_read, fault_of_node, node_in, room_plan, level_plan, fetch_plan};
+ghost use Rattle.asit_shadow.specs.Plans.{TreeChip, with_read, fault_of_node, node_in, room_plan, level_plan, fetch_plan, tree_chip_at, read_parts_at};
 ghost use Rattle.call_plan.specs.Plans.{ended, lifted};
 ghost use Rattle.call_plan.specs.Following.{Follows};
-ghost use Rattle.counter_tree.specs.Plans.{read_parts, node_plan};
+ghost use Rattle.counter_tree.specs.Plans.{node_plan};
 ghost use Rattle.asit_shadow.specs.Fetching.{IsRoomMade, IsNodeTaken, HasFetchedNode, HasNoNode, IsNodePathFetched, IsFetchStopped};
+ghost use Rattle.pmem_recovery.specs.Parts.{setup_with};
 
 use crate::cache::CachedNode;
 use crate::engine::TreeEngine;
@@ -37,21 +36,18 @@ impl TreeEngine {
         at: u32,
     ) -> Result<Node, TreeFault>
         requires line { at < tree_lines self.old.shape }
-        requires usable { IsTreeUsable self.old.shape (tree_parts_of self.old (B.device board.old) (W.watched watch.old)) }
-        ensures fetched { IfOk result (IsNodePathFetched (record { shape = self.old.shape; formulas = S.formulas_of (S.keys suite.old) }) at
-            (tree_parts_of self.old (B.device board.old) (W.watched watch.old))
-            (tree_parts_of self.new (B.device board.new) (W.watched watch.new))) }
-        ensures stopped { IfErr result (IsFetchStopped (record { shape = self.old.shape; formulas = S.formulas_of (S.keys suite.old) }) at
-            (tree_parts_of self.old (B.device board.old) (W.watched watch.old))
-            (tree_parts_of self.new (B.device board.new) (W.watched watch.new)) (S.tags suite.old) (S.tags suite.new)) }
-        ensures tags { OnOk result (S.tags suite.new ≡ risen_times (fetch_tags (record { shape = self.old.shape; formulas = S.formulas_of (S.keys suite.old) })
-            self.old.cache at self.old.shape.levels) (S.tags suite.old)) }
+        requires usable { IsTreeUsable self.old.shape (tree_parts_at B.Board W.Watch self.old board.old watch.old) }
+        ensures fetched { IfOk result (IsNodePathFetched (tree_setup_at S.Suite self.old suite.old) at
+            (tree_parts_at B.Board W.Watch self.old board.old watch.old)
+            (tree_parts_at B.Board W.Watch self.new board.new watch.new)) }
+        ensures stopped { IfErr result (IsFetchStopped (tree_setup_at S.Suite self.old suite.old) at
+            (tree_parts_at B.Board W.Watch self.old board.old watch.old)
+            (tree_parts_at B.Board W.Watch self.new board.new watch.new)) }
         ensures keys { S.keys suite.new ≡ S.keys suite.old }
-        ensures pads { S.pads suite.new ≡ S.pads suite.old }
         ensures digests { S.digests suite.new ≡ S.digests suite.old }
-        ensures plan { Follows (fetch_plan (record { shape = self.old.shape; formulas = S.formulas_of (S.keys suite.old) }) at
-            (tree_chip_of self.old (W.watched watch.old) (S.pads suite.old) (S.tags suite.old) (S.digests suite.old))) (B.device board.old) (B.device board.new)
-            (ended result (tree_chip_of self.new (W.watched watch.new) (S.pads suite.new) (S.tags suite.new) (S.digests suite.new))) }
+        ensures plan { Follows (fetch_plan (tree_setup_at S.Suite self.old suite.old) at
+            (tree_chip_at S.Suite W.Watch self.old suite.old watch.old)) (B.device board.old) (B.device board.new)
+            (ended result (tree_chip_at S.Suite W.Watch self.new suite.new watch.new)) }
     {
         let geo = self.geo();
         let path = path(&geo, at / 4);
@@ -81,20 +77,17 @@ impl TreeEngine {
         requires position { x < meta_lines self.old.shape }
         requires size { (B.device board.old).size ≡ tree_size self.old.shape }
         requires nodes { length (W.watched watch.old).nodes ≡ meta_lines self.old.shape }
-        ensures had { IfOk result (HasFetchedNode (record { shape = self.old.shape; formulas = S.formulas_of (S.keys suite.old) }) x version
-            (tree_parts_of self.old (B.device board.old) (W.watched watch.old))
-            (tree_parts_of self.new (B.device board.new) (W.watched watch.new))) }
-        ensures missed { IfErr result (HasNoNode (record { shape = self.old.shape; formulas = S.formulas_of (S.keys suite.old) }) x version
-            (tree_parts_of self.old (B.device board.old) (W.watched watch.old))
-            (tree_parts_of self.new (B.device board.new) (W.watched watch.new)) (S.tags suite.old) (S.tags suite.new)) }
-        ensures tags { OnOk result (S.tags suite.new ≡ risen_times (level_tags (record { shape = self.old.shape; formulas = S.formulas_of (S.keys suite.old) })
-            self.old.cache x) (S.tags suite.old)) }
+        ensures had { IfOk result (HasFetchedNode (tree_setup_at S.Suite self.old suite.old) x version
+            (tree_parts_at B.Board W.Watch self.old board.old watch.old)
+            (tree_parts_at B.Board W.Watch self.new board.new watch.new)) }
+        ensures missed { IfErr result (HasNoNode (tree_setup_at S.Suite self.old suite.old) x version
+            (tree_parts_at B.Board W.Watch self.old board.old watch.old)
+            (tree_parts_at B.Board W.Watch self.new board.new watch.new)) }
         ensures keys { S.keys suite.new ≡ S.keys suite.old }
-        ensures pads { S.pads suite.new ≡ S.pads suite.old }
         ensures digests { S.digests suite.new ≡ S.digests suite.old }
-        ensures plan { Follows (level_plan (record { shape = self.old.shape; formulas = S.formulas_of (S.keys suite.old) }) x version
-            (tree_chip_of self.old (W.watched watch.old) (S.pads suite.old) (S.tags suite.old) (S.digests suite.old))) (B.device board.old) (B.device board.new)
-            (ended result (tree_chip_of self.new (W.watched watch.new) (S.pads suite.new) (S.tags suite.new) (S.digests suite.new))) }
+        ensures plan { Follows (level_plan (tree_setup_at S.Suite self.old suite.old) x version
+            (tree_chip_at S.Suite W.Watch self.old suite.old watch.old)) (B.device board.old) (B.device board.new)
+            (ended result (tree_chip_at S.Suite W.Watch self.new suite.new watch.new)) }
     {
         self.is_whole();
         if let Some(node) = self.cached(x) {
@@ -134,15 +127,14 @@ impl TreeEngine {
     fn make_room<B: Board, S: Suite>(&self, board: &mut B, suite: &mut S, i: u32) -> Result<(), Cut>
         requires slot { i < tree_slots self.now.shape }
         requires size { (B.device board.old).size ≡ tree_size self.now.shape }
-        ensures ok { OnOk result (IsRoomMade (record { shape = self.now.shape; formulas = S.formulas_of (S.keys suite.old) })
+        ensures ok { OnOk result (IsRoomMade (tree_setup_at S.Suite self.now suite.old)
             (cache_at self.now.cache i) (B.device board.old) (B.device board.new)) }
         ensures cut { OnErr result (WasCut (B.device board.old) (B.device board.new)) }
         ensures due { OnErr result (holds_dirty (cache_at self.now.cache i) ≡ true) }
-        ensures tags { S.tags suite.new ≡ (if holds_dirty (cache_at self.now.cache i) then risen (S.tags suite.old) else S.tags suite.old) }
         ensures keys { S.keys suite.new ≡ S.keys suite.old }
         ensures pads { S.pads suite.new ≡ S.pads suite.old }
         ensures digests { S.digests suite.new ≡ S.digests suite.old }
-        ensures plan { Follows (room_plan (record { shape = self.now.shape; formulas = S.formulas_of (S.keys suite.old) })
+        ensures plan { Follows (room_plan (tree_setup_at S.Suite self.now suite.old)
             (cache_at self.now.cache i) (S.tags suite.old)) (B.device board.old) (B.device board.new) (ended result (S.tags suite.new)) }
     {
         self.is_whole();
@@ -171,15 +163,14 @@ fn taken<B: Board, S: Suite, W: Watch>(
     requires position { x < meta_lines (shape_of geo.now) }
     requires size { (B.device board.old).size ≡ tree_size (shape_of geo.now) }
     requires nodes { length (W.watched watch.old).nodes ≡ meta_lines (shape_of geo.now) }
-    ensures taken { IsNodeTaken (record { shape = shape_of geo.now; formulas = S.formulas_of (S.keys suite.old) }) x version
-        (B.device board.old) (B.device board.new) (W.watched watch.old) (W.watched watch.new) (S.tags suite.old) (S.tags suite.new) result }
+    ensures taken { IsNodeTaken (setup_with S.Suite geo.now suite.old) x version
+        (B.device board.old) (B.device board.new) (W.watched watch.old) (W.watched watch.new) result }
     ensures keys { S.keys suite.new ≡ S.keys suite.old }
-    ensures pads { S.pads suite.new ≡ S.pads suite.old }
     ensures digests { S.digests suite.new ≡ S.digests suite.old }
     ensures plan { (chip : TreeChip) → Follows (lifted (with_read chip) (fault_of_node x)
-        (node_plan (record { shape = shape_of geo.now; formulas = S.formulas_of (S.keys suite.old) }) x version
-        (read_parts (W.watched watch.old) (S.pads suite.old) (S.tags suite.old)))) (B.device board.old) (B.device board.new)
-        (ended result (with_read chip (read_parts (W.watched watch.new) (S.pads suite.new) (S.tags suite.new)))) }
+        (node_plan (setup_with S.Suite geo.now suite.old) x version
+        (read_parts_at S.Suite W.Watch suite.old watch.old))) (B.device board.old) (B.device board.new)
+        (ended result (with_read chip (read_parts_at S.Suite W.Watch suite.new watch.new))) }
 {
     match fetch_node(geo, board, suite, watch, x, version) {
         Ok(node) => Ok(node),

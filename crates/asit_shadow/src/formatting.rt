@@ -1,19 +1,20 @@
 //! Formatting.
-ghost use Rattle.std.specs.Prelude.{ℕ, ◌≡◌, ◌<◌, ◌≤◌, ◌+◌, ◌*◌, ◌^◌, true, List, length, option_map, IfOk, OnOk, OnErr};
+ghost use Rattle.std.specs.Prelude.{◌≡◌, ◌<◌, ◌≤◌, ◌+◌, ◌*◌, ◌^◌, true, length, option_map, IfOk, OnOk, OnErr, Ok};
 ghost use Rattle.pmem_base.specs.declared.lines.Line.{Line};
 ghost use Rattle.pmem_base.specs.Geo.{shape_of};
 ghost use Rattle.pmem_base.specs.Layout.{meta_lines};
-ghost use Rattle.pmem_base.specs.Lines.{line_at};
 ghost use Rattle.pmem_base.specs.Registers.{empty_regs};
 ghost use Rattle.board.specs.Steps.{HasWritten, HasLatched, with_line};
 ghost use Rattle.counter_tree.specs.Layout.{tree_lines, tree_slots, tree_size, line_of_tag};
 ghost use Rattle.counter_tree.specs.Shadow.{shadow_digests, shadow_height};
 ghost use Rattle.counter_tree.specs.Watch.{HasSealNoted};
 ghost use Rattle.pmem_recovery.specs.Formatting.{StaysSteady};
-ghost use Rattle.pmem_recovery.specs.Parts.{suite_state, SuiteRise};
+ghost use Rattle.pmem_recovery.specs.Parts.{SuiteRise, suite_at, setup_with};
 ghost use Rattle.asit_shadow.specs.Parts.{tree_parts_of, IsTreeUsable};
 ghost use Rattle.asit_shadow.specs.Paths.{tag_only};
-ghost use Rattle.asit_shadow.specs.Recovering.{rest_of};
+ghost use Rattle.asit_shadow.specs.Recovering.{rest_at};
+ghost use Rattle.call_plan.specs.Following.{Follows};
+ghost use Rattle.asit_shadow.specs.Formatting.{sealing_turn, sealing_plan, nodes_plan, naming_plan};
 ghost use Rattle.asit_shadow.specs.Formatting.{first_tree_seal, first_slots, tree_sealed_lines, node_lines_written, slot_lines_written, AreSealsTold, AreNodesTold, AreSlotsTold, HasTreeFormatted, HasDeviceFormatted};
 
 use crate::cache::CachedNode;
@@ -44,16 +45,17 @@ pub fn tree_format<B: Board, S: Suite, W: Watch>(
     requires seals { length (W.watched watch.old).seals ≡ tree_lines (shape_of geo.now) }
     requires nodes { length (W.watched watch.old).nodes ≡ meta_lines (shape_of geo.now) }
     requires slots { length (W.watched watch.old).slots ≡ tree_slots (shape_of geo.now) }
-    ensures formatted { IfOk result (HasTreeFormatted (record { shape = shape_of geo.now; formulas = S.formulas_of (S.keys suite.old) })
-        (rest_of (B.device board.old) (W.watched watch.old)) (rest_of (B.device board.new) (W.watched watch.new))) }
+    ensures formatted { IfOk result (HasTreeFormatted (setup_with S.Suite geo.now suite.old)
+        (rest_at B.Board W.Watch board.old watch.old) (rest_at B.Board W.Watch board.new watch.new)) }
     ensures usable { IfOk result (λ engine. IsTreeUsable (shape_of geo.now) (tree_parts_of engine (B.device board.new) (W.watched watch.new))) }
-    ensures counts { OnOk result (SuiteRise (tree_lines (shape_of geo.now)) (tree_lines (shape_of geo.now) + meta_lines (shape_of geo.now)) (shadow_digests (shape_of geo.now))
-        (suite_state (S.keys suite.old) (S.pads suite.old) (S.tags suite.old) (S.digests suite.old))
-        (suite_state (S.keys suite.new) (S.pads suite.new) (S.tags suite.new) (S.digests suite.new))) }
+    ensures counts { OnOk result (SuiteRise (tree_lines (shape_of geo.now)) (tree_lines (shape_of geo.now) + meta_lines (shape_of geo.now))
+        (shadow_digests (shape_of geo.now))
+        (suite_at S.Suite suite.old)
+        (suite_at S.Suite suite.new)) }
     ensures keys { S.keys suite.new ≡ S.keys suite.old }
-    ensures err { OnErr result (rest_of (B.device board.new) (W.watched watch.new) ≡ rest_of (B.device board.old) (W.watched watch.old)) }
-    ensures err_counts { OnErr result (SuiteRise 0 0 0 (suite_state (S.keys suite.old) (S.pads suite.old) (S.tags suite.old) (S.digests suite.old))
-        (suite_state (S.keys suite.new) (S.pads suite.new) (S.tags suite.new) (S.digests suite.new))) }
+    ensures err { OnErr result (rest_at B.Board W.Watch board.new watch.new ≡ rest_at B.Board W.Watch board.old watch.old) }
+    ensures err_counts { OnErr result (SuiteRise 0 0 0 (suite_at S.Suite suite.old)
+        (suite_at S.Suite suite.new)) }
 {
     let mut room = take_room(alloc, geo)?;
     geo.layout_is_one_to_one();
@@ -86,11 +88,12 @@ fn fill_device<B: Board, S: Suite, W: Watch>(
     requires slots { length (W.watched watch.old).slots ≡ tree_slots (shape_of geo.now) }
     requires first { slots.now ≡ first_slots (shape_of geo.now) }
     requires height { tree.old.height ≡ shadow_height (shape_of geo.now) }
-    ensures formatted { HasDeviceFormatted (record { shape = shape_of geo.now; formulas = S.formulas_of (S.keys suite.old) })
-        (rest_of (B.device board.old) (W.watched watch.old)) (rest_of (B.device board.new) (W.watched watch.new)) tree.new }
-    ensures counts { SuiteRise (tree_lines (shape_of geo.now)) (tree_lines (shape_of geo.now) + meta_lines (shape_of geo.now)) (shadow_digests (shape_of geo.now))
-        (suite_state (S.keys suite.old) (S.pads suite.old) (S.tags suite.old) (S.digests suite.old))
-        (suite_state (S.keys suite.new) (S.pads suite.new) (S.tags suite.new) (S.digests suite.new)) }
+    ensures formatted { HasDeviceFormatted (setup_with S.Suite geo.now suite.old)
+        (rest_at B.Board W.Watch board.old watch.old) (rest_at B.Board W.Watch board.new watch.new) tree.new }
+    ensures counts { SuiteRise (tree_lines (shape_of geo.now)) (tree_lines (shape_of geo.now) + meta_lines (shape_of geo.now))
+        (shadow_digests (shape_of geo.now))
+        (suite_at S.Suite suite.old)
+        (suite_at S.Suite suite.new) }
     ensures keys { S.keys suite.new ≡ S.keys suite.old }
 {
     geo.layout_is_one_to_one();
@@ -107,11 +110,13 @@ fn seal_lines<B: Board, S: Suite, W: Watch>(geo: &Geo, board: &mut B, suite: &mu
     requires steady { (B.device board.old).steady ≡ true }
     requires seals { length (W.watched watch.old).seals ≡ tree_lines (shape_of geo.now) }
     ensures steady { StaysSteady (2 * tree_lines (shape_of geo.now)) (B.device board.old) (B.device board.new) }
-    ensures lines { (B.device board.new).lines ≡ option_map (tree_sealed_lines (record { shape = shape_of geo.now; formulas = S.formulas_of (S.keys suite.old) }) (tree_lines (shape_of geo.now))) (B.device board.old).lines }
+    ensures plan { Follows (sealing_plan (setup_with S.Suite geo.now suite.old)) (B.device board.old) (B.device board.new) (Ok tt) }
+    ensures lines { (B.device board.new).lines
+        ≡ option_map (tree_sealed_lines (setup_with S.Suite geo.now suite.old) (tree_lines (shape_of geo.now))) (B.device board.old).lines }
     ensures told { AreSealsTold (S.formulas_of (S.keys suite.old)) (tree_lines (shape_of geo.now)) (W.watched watch.old) (W.watched watch.new) }
     ensures counts { SuiteRise (tree_lines (shape_of geo.now)) (tree_lines (shape_of geo.now)) 0
-        (suite_state (S.keys suite.old) (S.pads suite.old) (S.tags suite.old) (S.digests suite.old))
-        (suite_state (S.keys suite.new) (S.pads suite.new) (S.tags suite.new) (S.digests suite.new)) }
+        (suite_at S.Suite suite.old)
+        (suite_at S.Suite suite.new) }
     ensures keys { S.keys suite.new ≡ S.keys suite.old }
 {
     'lines: for at in 0..tree_lines(geo) {
@@ -132,12 +137,13 @@ fn seal_one<B: Board, S: Suite, W: Watch>(
     requires line { at < tree_lines (shape_of geo.now) }
     requires seals { length (W.watched watch.old).seals ≡ tree_lines (shape_of geo.now) }
     ensures steady { StaysSteady 2 (B.device board.old) (B.device board.new) }
+    ensures plan { Follows (sealing_turn (setup_with S.Suite geo.now suite.old) at tt) (B.device board.old) (B.device board.new) (Ok tt) }
     ensures lines { (B.device board.new).lines
         ≡ with_line (with_line (B.device board.old).lines at (first_tree_seal (S.formulas_of (S.keys suite.old)) at).cipher)
         (line_of_tag (shape_of geo.now) at) (tag_only (first_tree_seal (S.formulas_of (S.keys suite.old)) at).tag) }
     ensures noted { HasSealNoted (W.watched watch.old) (W.watched watch.new) at (first_tree_seal (S.formulas_of (S.keys suite.old)) at) }
-    ensures counts { SuiteRise 1 1 0 (suite_state (S.keys suite.old) (S.pads suite.old) (S.tags suite.old) (S.digests suite.old))
-        (suite_state (S.keys suite.new) (S.pads suite.new) (S.tags suite.new) (S.digests suite.new)) }
+    ensures counts { SuiteRise 1 1 0 (suite_at S.Suite suite.old)
+        (suite_at S.Suite suite.new) }
     ensures keys { S.keys suite.new ≡ S.keys suite.old }
 {
     let seal = sealed(suite, at, 0, &Line::default());
@@ -152,11 +158,13 @@ fn write_nodes<B: Board, S: Suite, W: Watch>(geo: &Geo, board: &mut B, suite: &m
     requires steady { (B.device board.old).steady ≡ true }
     requires nodes { length (W.watched watch.old).nodes ≡ meta_lines (shape_of geo.now) }
     ensures steady { StaysSteady (meta_lines (shape_of geo.now)) (B.device board.old) (B.device board.new) }
-    ensures lines { (B.device board.new).lines ≡ option_map (node_lines_written (record { shape = shape_of geo.now; formulas = S.formulas_of (S.keys suite.old) }) (meta_lines (shape_of geo.now))) (B.device board.old).lines }
+    ensures plan { Follows (nodes_plan (setup_with S.Suite geo.now suite.old)) (B.device board.old) (B.device board.new) (Ok tt) }
+    ensures lines { (B.device board.new).lines
+        ≡ option_map (node_lines_written (setup_with S.Suite geo.now suite.old) (meta_lines (shape_of geo.now))) (B.device board.old).lines }
     ensures told { AreNodesTold (meta_lines (shape_of geo.now)) (W.watched watch.old) (W.watched watch.new) }
     ensures counts { SuiteRise 0 (meta_lines (shape_of geo.now)) 0
-        (suite_state (S.keys suite.old) (S.pads suite.old) (S.tags suite.old) (S.digests suite.old))
-        (suite_state (S.keys suite.new) (S.pads suite.new) (S.tags suite.new) (S.digests suite.new)) }
+        (suite_at S.Suite suite.old)
+        (suite_at S.Suite suite.new) }
     ensures keys { S.keys suite.new ≡ S.keys suite.old }
 {
     geo.layout_is_one_to_one();
@@ -175,7 +183,9 @@ fn write_slots<B: Board, W: Watch>(geo: &Geo, board: &mut B, watch: &mut W, slot
     requires slots { length (W.watched watch.old).slots ≡ tree_slots (shape_of geo.now) }
     requires long { length slots.now ≡ tree_slots (shape_of geo.now) }
     ensures steady { StaysSteady (tree_slots (shape_of geo.now)) (B.device board.old) (B.device board.new) }
-    ensures lines { (B.device board.new).lines ≡ option_map (slot_lines_written (shape_of geo.now) slots.now (tree_slots (shape_of geo.now))) (B.device board.old).lines }
+    ensures plan { Follows (naming_plan (shape_of geo.now) slots.now) (B.device board.old) (B.device board.new) (Ok tt) }
+    ensures lines { (B.device board.new).lines
+        ≡ option_map (slot_lines_written (shape_of geo.now) slots.now (tree_slots (shape_of geo.now))) (B.device board.old).lines }
     ensures told { AreSlotsTold slots.now (tree_slots (shape_of geo.now)) (W.watched watch.old) (W.watched watch.new) }
 {
     'slots: for i in 0..tree_slots(geo) {

@@ -15,7 +15,10 @@ mod seals;
 mod writing;
 
 pub use cache::CachedNode;
-pub use determined::{tree_read_is_determined, tree_write_is_determined};
+pub use determined::{
+    tree_format_is_determined, tree_read_is_determined, tree_recover_is_determined,
+    tree_write_is_determined,
+};
 pub use engine::TreeEngine;
 pub use fault::TreeFault;
 pub use formatting::tree_format;

@@ -1,6 +1,6 @@
 //! Recovery: the armed group is redone, the slot lines are read and compared with the root, and each
 //! named node is put into its slot.
-ghost use Rattle.std.specs.Prelude.{ℕ, ◌≡◌, ◌<◌, ◌^◌, ◌↔◌, true, false, length, All, IsTrue, IfOk, IfSome, OnOk, OnErr, Some};
+ghost use Rattle.std.specs.Prelude.{ℕ, ◌≡◌, ◌≢◌, ◌<◌, ◌^◌, ◌↔◌, true, false, length, All, Err, IsTrue, IfOk, IfSome, OnOk, OnErr, Some};
 ghost use Rattle.pmem_base.specs.Geo.{shape_of};
 ghost use Rattle.pmem_base.specs.Lines.{IsLine, line_at};
 ghost use Rattle.board.specs.Steps.{Tells};
@@ -13,7 +13,11 @@ ghost use Rattle.pmem_base.specs.Layout.{meta_lines};
 ghost use Rattle.asit_shadow.specs.declared.cache.CachedNode.{CachedNode};
 ghost use Rattle.asit_shadow.specs.State.{cache_at, IsHeldNode};
 ghost use Rattle.asit_shadow.specs.Steps.{held_of};
-ghost use Rattle.asit_shadow.specs.Recovering.{rest_of, IsRestUsable, IsNameable, HasTreeRecovered, HasOnlyReadLines, FillsRoom};
+ghost use Rattle.call_plan.specs.Plans.{ended};
+ghost use Rattle.call_plan.specs.Following.{Follows};
+ghost use Rattle.asit_shadow.specs.RecoverPlans.{RecoverParts, slots_plan, slots_end, cached_named, cache_named, recovery_work, fill_plan, filled_end, tree_recover_plan, recover_parts_at};
+ghost use Rattle.asit_shadow.specs.Recovering.{IsRestUsable, IsNameable, HasTreeRecovered, HasOnlyReadLines, FillsRoom, rest_at};
+ghost use Rattle.pmem_recovery.specs.Parts.{setup_with};
 
 use crate::cache::CachedNode;
 use crate::engine::TreeEngine;
@@ -73,15 +77,19 @@ pub fn tree_recover<B: Board, S: Suite, W: Watch>(
     suite: &mut S,
     watch: &mut W,
 ) -> Result<(TreeEngine, Work), TreeRec>
-    requires { IsRestUsable (shape_of geo.now) (rest_of (B.device board.old) (W.watched watch.old)) }
-    ensures recovered { HasTreeRecovered (record { shape = shape_of geo.now; formulas = S.formulas_of (S.keys suite.old) })
-        (rest_of (B.device board.old) (W.watched watch.old)) (rest_of (B.device board.new) (W.watched watch.new))
+    requires { IsRestUsable (shape_of geo.now) (rest_at B.Board W.Watch board.old watch.old) }
+    ensures recovered { HasTreeRecovered (setup_with S.Suite geo.now suite.old)
+        (rest_at B.Board W.Watch board.old watch.old) (rest_at B.Board W.Watch board.new watch.new)
         (S.digests suite.old) (S.digests suite.new) result }
-    ensures usable { IsRestUsable (shape_of geo.now) (rest_of (B.device board.new) (W.watched watch.new)) }
+    ensures usable { IsRestUsable (shape_of geo.now) (rest_at B.Board W.Watch board.new watch.new) }
     ensures shape { IfOk result (λ made. made.0.shape ≡ shape_of geo.now) }
     ensures keys { S.keys suite.new ≡ S.keys suite.old }
     ensures pads { S.pads suite.new ≡ S.pads suite.old }
     ensures tags { S.tags suite.new ≡ S.tags suite.old }
+    ensures plan { result ≢ Err TreeRec.Memory
+        → Follows (tree_recover_plan (setup_with S.Suite geo.now suite.old) (B.device board.old).regs
+        (recover_parts_at S.Suite W.Watch suite.old watch.old)) (B.device board.old) (B.device board.new)
+        (ended result (recover_parts_at S.Suite W.Watch suite.new watch.new)) }
 {
     let mut room = take_room(alloc, geo)?;
     geo.layout_is_one_to_one();
@@ -115,18 +123,22 @@ fn fill_room<B: Board, S: Suite, W: Watch>(
     cache: &mut [Option<CachedNode>],
     tree: &mut ShadowTree,
 ) -> Result<(), TreeRec>
-    requires usable { IsRestUsable (shape_of geo.now) (rest_of (B.device board.old) (W.watched watch.old)) }
+    requires usable { IsRestUsable (shape_of geo.now) (rest_at B.Board W.Watch board.old watch.old) }
     requires slots { length slots.old ≡ tree_slots (shape_of geo.now) }
     requires whole { All IsLine slots.old }
     requires cache { length cache.old ≡ tree_slots (shape_of geo.now) }
     requires height { tree.old.height ≡ shadow_height (shape_of geo.now) }
-    ensures filled { FillsRoom (record { shape = shape_of geo.now; formulas = S.formulas_of (S.keys suite.old) })
-        (rest_of (B.device board.old) (W.watched watch.old)) (rest_of (B.device board.new) (W.watched watch.new))
+    ensures filled { FillsRoom (setup_with S.Suite geo.now suite.old)
+        (rest_at B.Board W.Watch board.old watch.old) (rest_at B.Board W.Watch board.new watch.new)
         (S.digests suite.old) (S.digests suite.new) cache.new tree.new result }
-    ensures usable { IsRestUsable (shape_of geo.now) (rest_of (B.device board.new) (W.watched watch.new)) }
+    ensures usable { IsRestUsable (shape_of geo.now) (rest_at B.Board W.Watch board.new watch.new) }
     ensures keys { S.keys suite.new ≡ S.keys suite.old }
     ensures pads { S.pads suite.new ≡ S.pads suite.old }
     ensures tags { S.tags suite.new ≡ S.tags suite.old }
+    ensures plan { Follows (fill_plan (setup_with S.Suite geo.now suite.old) (B.device board.old).regs slots.old
+        (recover_parts_at S.Suite W.Watch suite.old watch.old)) (B.device board.old) (B.device board.new)
+        (filled_end result (recover_parts_at S.Suite W.Watch suite.new watch.new)
+        (record { shape = shape_of geo.now; cache = cache.new; tree = tree.new; down = false }) (recovery_work (shape_of geo.now))) }
 {
     geo.layout_is_one_to_one();
     match finish(board) {
@@ -169,6 +181,8 @@ fn read_slots<B: Board>(geo: &Geo, board: &mut B, slots: &mut [Line]) -> Result<
         → Tells (B.device board.old).lines (line_of_slot (shape_of geo.now) i) (line_at slots.new i)) }
     ensures cut { OnErr result (IsCutReading (B.device board.old) (B.device board.new)) }
     ensures only_off { OnErr result ((B.device board.old).live ≡ false) }
+    ensures plan { (at : RecoverParts) → Follows (slots_plan (shape_of geo.now) at slots.old) (B.device board.old) (B.device board.new)
+        (slots_end at result slots.new) }
 {
     'slots: for i in 0..tree_slots(geo) {
         let line = board.read_line(slot_place(geo, i))?;
@@ -192,6 +206,7 @@ fn put_named(geo: &Geo, slots: &[Line], cache: &mut [Option<CachedNode>])
     ensures held { (i : ℕ) (held : CachedNode) → cache_at cache.new i ≡ Some held → IsHeldNode (shape_of geo.now) held }
     ensures named { (i : ℕ) → i < tree_slots (shape_of geo.now) → IsNameable (shape_of geo.now) (slot_read (line_at slots.now i))
         → cache_at cache.new i ≡ held_of (slot_read (line_at slots.now i)) }
+    ensures value { cache.new ≡ cache_named (shape_of geo.now) slots.now }
 {
     'slots: for i in 0..tree_slots(geo) {
         cache[i as usize] = named(geo, &slots[i as usize]);
@@ -202,6 +217,7 @@ fn put_named(geo: &Geo, slots: &[Line], cache: &mut [Option<CachedNode>])
 fn named(geo: &Geo, line: &Line) -> Option<CachedNode>
     ensures held { IfSome result (IsHeldNode (shape_of geo.now)) }
     ensures named { IsNameable (shape_of geo.now) (slot_read line.now) → result ≡ held_of (slot_read line.now) }
+    ensures value { result ≡ cached_named (shape_of geo.now) (slot_read line.now) }
 {
     match read_slot(line) {
         None => None,
@@ -214,6 +230,7 @@ fn held_if_whole(geo: &Geo, x: u32, node: Node) -> Option<CachedNode>
     ensures held { IfSome result (IsHeldNode (shape_of geo.now)) }
     ensures whole { x < meta_lines (shape_of geo.now) → total node < 2 ^ 64
         → result ≡ Some (record { x = x; node = node; dirty = true }) }
+    ensures value { result ≡ cached_named (shape_of geo.now) (Some (record { x = x; node = node })) }
 {
     node.is_whole();
     if x >= geo.metas() || version(&node).is_none() {

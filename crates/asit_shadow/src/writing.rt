@@ -1,26 +1,22 @@
 //! A write: its path raised, armed with the new slot lines and their root, told to the watch, and
 //! written.
-ghost use Rattle.std.specs.Prelude.{ℕ, suc, ◌≡◌, ◌<◌, ◌≤◌, ◌+◌, ◌*◌, ◌-◌, ◌%◌, ◌^◌, ◌==◌, ◌↔◌, false, true, List, All, length};
+ghost use Rattle.std.specs.Prelude.{suc, ◌≡◌, ◌<◌, ◌≤◌, ◌+◌, ◌*◌, ◌-◌, ◌%◌, ◌^◌, ◌==◌, ◌↔◌, false, true, All, length};
 ghost use Rattle.pmem_base.specs.Counts.{risen_times};
-ghost use Rattle.pmem_recovery.specs.Parts.{suite_state};
-ghost use Rattle.pmem_base.specs.declared.lines.Line.{Line};
 ghost use Rattle.pmem_base.specs.Layout.{meta_lines};
 ghost use Rattle.pmem_base.specs.Geo.{shape_of};
-ghost use Rattle.counter_tree.specs.Layout.{tree_lines, tree_slots, tree_size};
+ghost use Rattle.counter_tree.specs.Layout.{tree_lines};
 ghost use Rattle.counter_tree.specs.Nodes.{IsNode, counter, total};
-ghost use Rattle.counter_tree.specs.Shadow.{IsShadowTree};
 ghost use Rattle.counter_tree.specs.Trees.{raised};
 ghost use Rattle.asit_shadow.specs.State.{IsCached, IsCachedAs, IsHeldNode, top_node};
 ghost use Rattle.asit_shadow.specs.Calls.{IsTreeSpentAnswer};
-ghost use Rattle.asit_shadow.specs.Counts.{CountsOfWrite};
 ghost use Rattle.asit_shadow.specs.Paths.{line_path};
 ghost use Rattle.asit_shadow.specs.Steps.{KeepsOtherRegisters};
-ghost use Rattle.asit_shadow.specs.Parts.{tree_parts_of, IsWatchReady, IsTreeUsable};
+ghost use Rattle.asit_shadow.specs.Parts.{IsWatchReady, IsTreeUsable, tree_parts_at, tree_setup_at};
 ghost use Rattle.call_plan.specs.Plans.{ended};
 ghost use Rattle.call_plan.specs.Following.{Follows};
-ghost use Rattle.asit_shadow.specs.Plans.{tree_chip_of};
+ghost use Rattle.asit_shadow.specs.Plans.{tree_chip_at};
 ghost use Rattle.asit_shadow.specs.WritePlans.{cached_node, raised_node, raised_path, named_all, write_line_plan};
-ghost use Rattle.asit_shadow.specs.Writing.{set_pairs, position_below, IsPathRaised, dirty_entries, armed_lines, IsTreeNamed, IsWriteTold, HasWrittenUp, pair_at};
+ghost use Rattle.asit_shadow.specs.Writing.{set_pairs, position_below, IsPathRaised, dirty_entries, armed_lines, IsWriteTold, HasWrittenUp, pair_at};
 
 use crate::cache::CachedNode;
 use crate::engine::TreeEngine;
@@ -45,21 +41,16 @@ impl TreeEngine {
         line: &Line,
     ) -> Result<u64, TreeFault>
         requires line { at < tree_lines self.old.shape }
-        requires usable { IsTreeUsable self.old.shape (tree_parts_of self.old (B.device board.old) (W.watched watch.old)) }
+        requires usable { IsTreeUsable self.old.shape (tree_parts_at B.Board W.Watch self.old board.old watch.old) }
         requires up { self.old.down ≡ false }
-        ensures written { HasWrittenUp (record { shape = self.old.shape; formulas = S.formulas_of (S.keys suite.old) }) at line.now
-            (tree_parts_of self.old (B.device board.old) (W.watched watch.old))
-            (tree_parts_of self.new (B.device board.new) (W.watched watch.new)) result }
+        ensures written { HasWrittenUp (tree_setup_at S.Suite self.old suite.old) at line.now
+            (tree_parts_at B.Board W.Watch self.old board.old watch.old)
+            (tree_parts_at B.Board W.Watch self.new board.new watch.new) result }
         ensures spent { IsTreeSpentAnswer result ↔ (total (top_node self.old.cache) ≡ 2 ^ 64 - 1) }
-        ensures counts { CountsOfWrite (record { shape = self.old.shape; formulas = S.formulas_of (S.keys suite.old) }) at
-            (tree_parts_of self.old (B.device board.old) (W.watched watch.old))
-            (tree_parts_of self.new (B.device board.new) (W.watched watch.new))
-            (suite_state (S.keys suite.old) (S.pads suite.old) (S.tags suite.old) (S.digests suite.old))
-            (suite_state (S.keys suite.new) (S.pads suite.new) (S.tags suite.new) (S.digests suite.new)) result }
         ensures keys { S.keys suite.new ≡ S.keys suite.old }
-        ensures plan { Follows (write_line_plan (record { shape = self.old.shape; formulas = S.formulas_of (S.keys suite.old) }) (B.device board.old).regs at line.now
-            (tree_chip_of self.old (W.watched watch.old) (S.pads suite.old) (S.tags suite.old) (S.digests suite.old))) (B.device board.old) (B.device board.new)
-            (ended result (tree_chip_of self.new (W.watched watch.new) (S.pads suite.new) (S.tags suite.new) (S.digests suite.new))) }
+        ensures plan { Follows (write_line_plan (tree_setup_at S.Suite self.old suite.old) (B.device board.old).regs at line.now
+            (tree_chip_at S.Suite W.Watch self.old suite.old watch.old)) (B.device board.old) (B.device board.new)
+            (ended result (tree_chip_at S.Suite W.Watch self.new suite.new watch.new)) }
     {
         self.is_whole();
         if is_used_up(&self.top()) {
@@ -131,15 +122,10 @@ impl TreeEngine {
     ) -> Regs
         requires line { at < tree_lines self.old.shape }
         requires nodes { All (λ pair. pair.0 < meta_lines self.old.shape) nodes.now.items }
-        requires some { 1 ≤ length nodes.now.items }
         ensures group { result.group.items ≡ armed_lines self.old.shape at seal.now nodes.now.items }
-        ensures root { (slots : List Line) → length slots ≡ tree_slots self.old.shape
-            → IsShadowTree (S.formulas_of (S.keys suite.old)) self.old.tree.height slots self.old.tree.lines
-            → IsTreeNamed (S.formulas_of (S.keys suite.old)) self.old.shape nodes.now.items self.old.tree self.new.tree result.root slots }
         ensures named { (self.new.tree, result.root) ≡ named_all (S.formulas_of (S.keys suite.old)) self.old.shape nodes.now.items
             (self.old.tree, regs.now.root) }
         ensures others { KeepsOtherRegisters regs.now result }
-        ensures height { self.new.tree.height ≡ self.old.tree.height }
         ensures shape { self.new.shape ≡ self.old.shape }
         ensures cache { self.new.cache ≡ self.old.cache }
         ensures down { self.new.down ≡ self.old.down }

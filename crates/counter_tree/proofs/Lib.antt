@@ -12,3 +12,4 @@ pub mod AcceptedLemmas
 pub mod DifferenceLemmas
 pub mod BookLemmas
 pub mod ReadPlans
+pub mod SlotPlans

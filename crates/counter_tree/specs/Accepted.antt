@@ -1,16 +1,15 @@
 -- What fetching a node or a data line does, by its answer.
-use Rattle.std.specs.Prelude.{ℕ, ◌≡◌, ◌≢◌, Bool, true, false, Some, None, Result, Ok, Err, IfSome, if◌then◌else◌}
+use Rattle.std.specs.Prelude.{ℕ, ◌≡◌, ◌≢◌, true, false, Some, None, Result, Ok, Err, IfSome}
 use Rattle.pmem_base.specs.declared.lines.Line.{Line}
 use Rattle.pmem_base.specs.declared.answers.Exhibit.TheVariants.{Forged}
 use Rattle.pmem_base.specs.Lines.{tag_slot, xor_lines}
-use Rattle.pmem_base.specs.Counts.{risen}
 use Rattle.suite.specs.Setup.{Setup}
 use Rattle.board.specs.Device.{Device}
 use Rattle.board.specs.Steps.{HasRead, WasCut}
 use Rattle.counter_tree.specs.declared.nodes.Node.{Node}
 use Rattle.counter_tree.specs.declared.accepted.FetchFault.{FetchFault}
 use Rattle.counter_tree.specs.declared.accepted.FetchFault.TheVariants as Fail
-use Rattle.counter_tree.specs.Nodes.{version_counter, makes_node_tag, node_read}
+use Rattle.counter_tree.specs.Nodes.{version_counter, node_read}
 use Rattle.counter_tree.specs.Layout.{line_of_node, line_of_tag}
 use Rattle.counter_tree.specs.Trees.{node_at}
 use Rattle.counter_tree.specs.Watch.{WatchState, last_seal_of, HasShown, forged_node}
@@ -25,13 +24,11 @@ pub record IsNodeAccepted (setup : Setup) (x version : ℕ) (old new : Device) (
   pub seen : node ≡ node_at watch.nodes x
   pub watch_kept : after ≡ watch
 
--- a line that isn't that of a node of this version, and the suite's tags before and after: one is made
--- where only the tag may be wrong
-pub record IsNodeUnaccepted (setup : Setup) (x version : ℕ) (old new : Device) (watch after : WatchState) (tags made : ℕ) : Type 0 where
+-- a line that isn't that of a node of this version
+pub record IsNodeUnaccepted (setup : Setup) (x version : ℕ) (old new : Device) (watch after : WatchState) : Type 0 where
   pub line : Line
   pub read : HasRead old (line_of_node setup.shape x) line new
   pub refused : node_read setup.formulas x line version ≡ None
-  pub its_tags : made ≡ (if makes_node_tag line version then risen tags else tags)
   pub watch_kept : after ≡ watch
 
 -- a line that is that of another node of this version
@@ -43,16 +40,12 @@ pub record IsNodeForged (setup : Setup) (x version : ℕ) (old new : Device) (wa
   pub other : node ≢ node_at watch.nodes x
   pub exhibit : HasShown watch after (forged_node watch x line)
 
--- what fetching a node does, with the suite's tags before and after
-abbrev pub IsNodeFetched : Setup → ℕ → ℕ → Device → Device → WatchState → WatchState → ℕ → ℕ → Result Node FetchFault → Type 0
-IsNodeFetched setup x version old new watch after tags made (Ok node) =
-    IsNodeAccepted setup x version old new watch after node × (made ≡ risen tags)
-IsNodeFetched setup x version old new watch after tags made (Err Fail.Cut) =
-    WasCut old new × (old.live ≡ false) × (after ≡ watch) × (made ≡ tags)
-IsNodeFetched setup x version old new watch after tags made (Err Fail.Refused) =
-    IsNodeUnaccepted setup x version old new watch after tags made
-IsNodeFetched setup x version old new watch after tags made (Err Fail.Shown) =
-    IsNodeForged setup x version old new watch after × (made ≡ risen tags)
+-- what fetching a node does
+abbrev pub IsNodeFetched : Setup → ℕ → ℕ → Device → Device → WatchState → WatchState → Result Node FetchFault → Type 0
+IsNodeFetched setup x version old new watch after (Ok node) = IsNodeAccepted setup x version old new watch after node
+IsNodeFetched setup x version old new watch after (Err Fail.Cut) = WasCut old new × (old.live ≡ false) × (after ≡ watch)
+IsNodeFetched setup x version old new watch after (Err Fail.Refused) = IsNodeUnaccepted setup x version old new watch after
+IsNodeFetched setup x version old new watch after (Err Fail.Shown) = IsNodeForged setup x version old new watch after
 
 -- ---- a data line
 
@@ -106,14 +99,3 @@ IsLineFetched setup a counter old new watch after (Ok plain) = IsLineAccepted se
 IsLineFetched setup a counter old new watch after (Err Fail.Cut) = IsCutReading old new × (old.live ≡ false) × (after ≡ watch)
 IsLineFetched setup a counter old new watch after (Err Fail.Refused) = IsLineUnaccepted setup a counter old new watch after
 IsLineFetched setup a counter old new watch after (Err Fail.Shown) = IsLineForged setup a counter old new watch after
-
--- a tag is made unless power is cut first
-abbrev pub is_line_tagged : Result Line FetchFault → Bool
-is_line_tagged (Err Fail.Cut) = false
-is_line_tagged answer = true
-
--- a pad is made where the tag fits
-abbrev pub is_line_unsealed : Result Line FetchFault → Bool
-is_line_unsealed (Ok plain) = true
-is_line_unsealed (Err Fail.Shown) = true
-is_line_unsealed (Err fault) = false

@@ -2,7 +2,6 @@
 use Rattle.std.proofs.Common.{ℕ, ◌≡◌, List, Option, Some, None, inl, refl, sym, ap, subst, ◌∙◌}
 use Rattle.std.specs.Prelude.{Result, IsSome, option_map}
 use Rattle.std.proofs.lemmas.Option.{same_Some}
-use Rattle.pmem_base.specs.declared.lines.Line.{Line}
 use Rattle.pmem_base.specs.declared.answers.Exhibit.{Exhibit}
 use Rattle.pmem_base.specs.Shape.{Shape}
 use Rattle.suite.specs.Formulas.{Formulas}
@@ -13,7 +12,6 @@ use Rattle.watched_board.specs.declared.taken.Taken.{Taken}
 use Rattle.watched_board.specs.Watching.{steps_in, IsWatched}
 use Rattle.asit_shadow.specs.declared.fault.TreeFault.{TreeFault}
 use Rattle.asit_shadow.specs.State.{TreeState}
-use Rattle.asit_shadow.specs.Calls.{HasReadTreeLine, HasWrittenTreeLine}
 use Rattle.collision_witness.specs.Exhibits.{AreSmallMinors}
 use Rattle.trace_text.specs.declared.talk.Halt.{Halt}
 use Rattle.trace_text.specs.declared.talk.Halt.TheVariants as Stop
@@ -22,7 +20,7 @@ use Rattle.tree_session.specs.declared.answers.TreeAnswer.{TreeAnswer}
 use Rattle.tree_session.specs.State.{SessionState, tree_setup_in}
 use Rattle.tree_session.specs.World.{TreeParts, state_of, IsTreeWorld}
 use Rattle.tree_session.specs.Answered.{IsTreeAnswered, IsTreeHalt, IsEngineShown}
-use Rattle.tree_session.proofs.Worlds.{TreeEngineCall, on, from, to}
+use Rattle.tree_session.proofs.Worlds.{TreeEngineCall, on}
 
 -- the geometry, and the formulas under keys
 abbrev pub setup_under : (List ℕ → Formulas) → Shape → List ℕ → Setup
@@ -60,6 +58,7 @@ pub record WorldCall : Type 0 where
   pub after : TreeState
   pub keys : List ℕ
   pub same_keys : keys ≡ parts.keys
+  pub pads : ℕ
   pub tags : ℕ
   pub digests : ℕ
   pub board : BoardMemory
@@ -83,6 +82,7 @@ module _ (w : WorldCall) where
         parts = w.parts;
         engine = w.engine;
         after = w.after;
+        pads = w.pads;
         tags = w.tags;
         digests = w.digests;
         board = w.board;
@@ -97,17 +97,10 @@ module _ (w : WorldCall) where
   pub shape_is : w.engine.shape ≡ w.geometry
   shape_is = (on call).its_shape
 
-  pub as_read : (a : ℕ) (answer known : Result Line TreeFault) → answer ≡ known
-      → HasReadTreeLine (setup_under w.formulas_of w.engine.shape w.parts.keys) a (from call) (to call) answer → HasReadTreeLine setup_of a (from call) (to call) known
-  as_read a answer known is it =
-      subst (λ r. HasReadTreeLine setup_of a (from call) (to call) r) is
-      (subst (λ (s : Shape). HasReadTreeLine (setup_under w.formulas_of s w.parts.keys) a (from call) (to call) answer) shape_is it)
-
-  pub as_written : (a : ℕ) (line : Line) (answer known : Result ℕ TreeFault) → answer ≡ known
-      → HasWrittenTreeLine (setup_under w.formulas_of w.engine.shape w.parts.keys) a line (from call) (to call) answer → HasWrittenTreeLine setup_of a line (from call) (to call) known
-  as_written a line answer known is it =
-      subst (λ r. HasWrittenTreeLine setup_of a line (from call) (to call) r) is
-      (subst (λ (s : Shape). HasWrittenTreeLine (setup_under w.formulas_of s w.parts.keys) a line (from call) (to call) answer) shape_is it)
+  -- what holds of an answer under the engine's geometry holds under the session's
+  pub as_known : {A : Type 0} (Q : Setup → Result A TreeFault → Type 0) (answer known : Result A TreeFault) → answer ≡ known
+      → Q (setup_under w.formulas_of w.engine.shape w.parts.keys) answer → Q setup_of known
+  as_known Q answer known is it = subst (Q setup_of) is (subst (λ (s : Shape). Q (setup_under w.formulas_of s w.parts.keys) answer) shape_is it)
 
   -- an answer with its steps
   pub seen : (q : TreeParts) (command : TreeCommand) (answer : ℕ → TreeAnswer) → q.keys ≡ w.parts.keys

@@ -26,15 +26,18 @@ unrisen-one last l nl latches in_l = omega arith
 same_board : (p q : BoardMemory) → p.lines ≡ q.lines → p.regs ≡ q.regs → p.powered ≡ q.powered → p.fuse ≡ q.fuse → p.snapshot ≡ q.snapshot → p.reads ≡ q.reads → p.writes ≡ q.writes
     → p.latches ≡ q.latches → p.cuts ≡ q.cuts → p ≡ q
 same_board p q lines regs powered fuse snapshot reads writes latches cuts =
-    ap (λ v. let r : BoardMemory = record { lines = v; regs = p.regs; powered = p.powered; fuse = p.fuse; snapshot = p.snapshot; reads = p.reads; writes = p.writes; latches = p.latches; cuts = p.cuts } in r) lines
-    ∙ (ap (λ v. let r : BoardMemory = record { lines = q.lines; regs = v; powered = p.powered; fuse = p.fuse; snapshot = p.snapshot; reads = p.reads; writes = p.writes; latches = p.latches; cuts = p.cuts } in r) regs
-    ∙ (ap (λ v. let r : BoardMemory = record { lines = q.lines; regs = q.regs; powered = v; fuse = p.fuse; snapshot = p.snapshot; reads = p.reads; writes = p.writes; latches = p.latches; cuts = p.cuts } in r) powered
-    ∙ (ap (λ v. let r : BoardMemory = record { lines = q.lines; regs = q.regs; powered = q.powered; fuse = v; snapshot = p.snapshot; reads = p.reads; writes = p.writes; latches = p.latches; cuts = p.cuts } in r) fuse
-    ∙ (ap (λ v. let r : BoardMemory = record { lines = q.lines; regs = q.regs; powered = q.powered; fuse = q.fuse; snapshot = v; reads = p.reads; writes = p.writes; latches = p.latches; cuts = p.cuts } in r) snapshot
-    ∙ (ap (λ v. let r : BoardMemory = record { lines = q.lines; regs = q.regs; powered = q.powered; fuse = q.fuse; snapshot = q.snapshot; reads = v; writes = p.writes; latches = p.latches; cuts = p.cuts } in r) reads
-    ∙ (ap (λ v. let r : BoardMemory = record { lines = q.lines; regs = q.regs; powered = q.powered; fuse = q.fuse; snapshot = q.snapshot; reads = q.reads; writes = v; latches = p.latches; cuts = p.cuts } in r) writes
-    ∙ (ap (λ v. let r : BoardMemory = record { lines = q.lines; regs = q.regs; powered = q.powered; fuse = q.fuse; snapshot = q.snapshot; reads = q.reads; writes = q.writes; latches = v; cuts = p.cuts } in r) latches
-    ∙ (ap (λ v. let r : BoardMemory = record { lines = q.lines; regs = q.regs; powered = q.powered; fuse = q.fuse; snapshot = q.snapshot; reads = q.reads; writes = q.writes; latches = q.latches; cuts = v } in r) cuts))))))))
+    λ i.
+    record {
+      lines = lines i;
+      regs = regs i;
+      powered = powered i;
+      fuse = fuse i;
+      snapshot = snapshot i;
+      reads = reads i;
+      writes = writes i;
+      latches = latches i;
+      cuts = cuts i;
+    }
 
 -- ---- a call
 

@@ -13,15 +13,16 @@ use Rattle.pmem_base.specs.Shape.{Shape}
 use Rattle.suite.specs.Setup.{Setup}
 use Rattle.counter_tree.specs.Layout.{tree_lines, tree_size, line_of_node, line_of_slot}
 use Rattle.counter_tree.specs.Nodes.{node_place, version_counter, without_tag}
-use Rattle.asit_shadow.specs.Plain.{PlainTree, true_node, true_version}
+use Rattle.asit_shadow.specs.Plain.{PlainTree, true_node, true_version, hurt_with}
 use Rattle.asit_shadow.proofs.FormatLaws.{replicate-default}
 use Rattle.tree_session.specs.declared.commands.TreeCommand.{TreeCommand}
 use Rattle.tree_session.specs.declared.commands.TreeCommand.TheVariants as Do
 use Rattle.tree_session.specs.declared.answers.TreeAnswer.{TreeAnswer}
 use Rattle.tree_session.specs.declared.answers.TreeAnswer.TheVariants as Say
 use Rattle.tree_session.specs.State.{SessionState, IsNewTree}
+use Rattle.tree_session.specs.Called.{is_made}
 use Rattle.tree_session.specs.Answered.{tree_decided, device_node, device_tag, IsPathTampered, IsSlotTampered, IsTreeAnswered, IsPlainKept, IsNodeExhibit, IsDataExhibit, IsShadowExhibit, ShowsEngine}
-use Rattle.tree_session.specs.Guarantees.{TreeReply, AreTreeAnswered, IsTreeSession, History, first_history, history_with, history_after, IsAllowed, AreAllowed, MayShow, version_by, ShowsNode, ShowsLine, ShowsClash, IsTreeKept, IsTreeShown, IsTreeUntouched, IsNoTampering, IsTreeAnswerUnrefused}
+use Rattle.tree_session.specs.Guarantees.{TreeReply, AreTreeAnswered, IsTreeSession, History, first_history, history_with, history_after, is_answered_ok, IsAllowed, AreAllowed, MayShow, version_by, ShowsNode, ShowsLine, ShowsClash, IsTreeKept, IsTreeShown, IsTreeUntouched, IsNoTampering, IsTreeAnswerUnrefused}
 use Rattle.tree_session.proofs.Histories.{history_of, history-equal, TreeFollows, follows, path-kept, slot-kept, hurt-kept}
 
 -- ---- the beginning
@@ -177,56 +178,19 @@ clear-from old new clear tampered hurt =
     }
 
 clear-write : (g : Shape) (history : History) (a : ℕ) (line : Line) (answer : TreeAnswer) → IsClear history → IsClear (history_with g history (Do.Write a line) answer)
-clear-write g history a line (Say.Written s) clear = clear-from history (history_with g history (Do.Write a line) (Say.Written s)) clear refl (clear-written history a clear)
-clear-write g history a line (Say.CutKept s) clear = clear-from history (history_with g history (Do.Write a line) (Say.CutKept s)) clear refl (clear-written history a clear)
-clear-write g history a line (Say.CutLost s) clear = clear-from history (history_with g history (Do.Write a line) (Say.CutLost s)) clear refl refl
-clear-write g history a line (Say.RefusedNode x s) clear = clear-from history (history_with g history (Do.Write a line) (Say.RefusedNode x s)) clear refl refl
-clear-write g history a line (Say.Spent s) clear = clear-from history (history_with g history (Do.Write a line) (Say.Spent s)) clear refl refl
-clear-write g history a line Say.Ok clear = clear-from history (history_with g history (Do.Write a line) Say.Ok) clear refl refl
-clear-write g history a line Say.Off clear = clear-from history (history_with g history (Do.Write a line) Say.Off) clear refl refl
-clear-write g history a line Say.Already clear = clear-from history (history_with g history (Do.Write a line) Say.Already) clear refl refl
-clear-write g history a line Say.Range clear = clear-from history (history_with g history (Do.Write a line) Say.Range) clear refl refl
-clear-write g history a line Say.NoSnap clear = clear-from history (history_with g history (Do.Write a line) Say.NoSnap) clear refl refl
-clear-write g history a line (Say.Got got s) clear = clear-from history (history_with g history (Do.Write a line) (Say.Got got s)) clear refl refl
-clear-write g history a line (Say.Recovered digests s) clear = clear-from history (history_with g history (Do.Write a line) (Say.Recovered digests s)) clear refl refl
-clear-write g history a line (Say.RefusedData b s) clear = clear-from history (history_with g history (Do.Write a line) (Say.RefusedData b s)) clear refl refl
-clear-write g history a line (Say.RefusedShadow kept found s) clear = clear-from history (history_with g history (Do.Write a line) (Say.RefusedShadow kept found s)) clear refl refl
-clear-write g history a line (Say.Cut s) clear = clear-from history (history_with g history (Do.Write a line) (Say.Cut s)) clear refl refl
+clear-write g history a line answer clear =
+    clear-from history (history_with g history (Do.Write a line) answer) clear refl (of (is_made answer))
+  where
+    of : (made : Bool) → (if made then slice_set history.hurt a false else history.hurt) ≡ history.hurt
+    of true = clear-written history a clear
+    of false = refl
 
-clear-poke : (g : Shape) (history : History) (d : ℕ) (line : Line) (answer : TreeAnswer) → IsNoTampering (Do.Poke d line) answer → IsClear history
-    → IsClear (history_with g history (Do.Poke d line) answer)
-clear-poke g history d line Say.Ok none clear = absurd none
-clear-poke g history d line Say.Off none clear = clear-from history (history_with g history (Do.Poke d line) Say.Off) clear refl refl
-clear-poke g history d line Say.Already none clear = clear-from history (history_with g history (Do.Poke d line) Say.Already) clear refl refl
-clear-poke g history d line Say.Range none clear = clear-from history (history_with g history (Do.Poke d line) Say.Range) clear refl refl
-clear-poke g history d line Say.NoSnap none clear = clear-from history (history_with g history (Do.Poke d line) Say.NoSnap) clear refl refl
-clear-poke g history d line (Say.Written s) none clear = clear-from history (history_with g history (Do.Poke d line) (Say.Written s)) clear refl refl
-clear-poke g history d line (Say.Got got s) none clear = clear-from history (history_with g history (Do.Poke d line) (Say.Got got s)) clear refl refl
-clear-poke g history d line (Say.Recovered digests s) none clear = clear-from history (history_with g history (Do.Poke d line) (Say.Recovered digests s)) clear refl refl
-clear-poke g history d line (Say.RefusedNode x s) none clear = clear-from history (history_with g history (Do.Poke d line) (Say.RefusedNode x s)) clear refl refl
-clear-poke g history d line (Say.RefusedData b s) none clear = clear-from history (history_with g history (Do.Poke d line) (Say.RefusedData b s)) clear refl refl
-clear-poke g history d line (Say.RefusedShadow kept found s) none clear = clear-from history (history_with g history (Do.Poke d line) (Say.RefusedShadow kept found s)) clear refl refl
-clear-poke g history d line (Say.Spent s) none clear = clear-from history (history_with g history (Do.Poke d line) (Say.Spent s)) clear refl refl
-clear-poke g history d line (Say.CutKept s) none clear = clear-from history (history_with g history (Do.Poke d line) (Say.CutKept s)) clear refl refl
-clear-poke g history d line (Say.CutLost s) none clear = clear-from history (history_with g history (Do.Poke d line) (Say.CutLost s)) clear refl refl
-clear-poke g history d line (Say.Cut s) none clear = clear-from history (history_with g history (Do.Poke d line) (Say.Cut s)) clear refl refl
-
-clear-back : (g : Shape) (history : History) (d : ℕ) (answer : TreeAnswer) → IsNoTampering (Do.Back d) answer → IsClear history → IsClear (history_with g history (Do.Back d) answer)
-clear-back g history d Say.Ok none clear = absurd none
-clear-back g history d Say.Off none clear = clear-from history (history_with g history (Do.Back d) Say.Off) clear refl refl
-clear-back g history d Say.Already none clear = clear-from history (history_with g history (Do.Back d) Say.Already) clear refl refl
-clear-back g history d Say.Range none clear = clear-from history (history_with g history (Do.Back d) Say.Range) clear refl refl
-clear-back g history d Say.NoSnap none clear = clear-from history (history_with g history (Do.Back d) Say.NoSnap) clear refl refl
-clear-back g history d (Say.Written s) none clear = clear-from history (history_with g history (Do.Back d) (Say.Written s)) clear refl refl
-clear-back g history d (Say.Got got s) none clear = clear-from history (history_with g history (Do.Back d) (Say.Got got s)) clear refl refl
-clear-back g history d (Say.Recovered digests s) none clear = clear-from history (history_with g history (Do.Back d) (Say.Recovered digests s)) clear refl refl
-clear-back g history d (Say.RefusedNode x s) none clear = clear-from history (history_with g history (Do.Back d) (Say.RefusedNode x s)) clear refl refl
-clear-back g history d (Say.RefusedData b s) none clear = clear-from history (history_with g history (Do.Back d) (Say.RefusedData b s)) clear refl refl
-clear-back g history d (Say.RefusedShadow kept found s) none clear = clear-from history (history_with g history (Do.Back d) (Say.RefusedShadow kept found s)) clear refl refl
-clear-back g history d (Say.Spent s) none clear = clear-from history (history_with g history (Do.Back d) (Say.Spent s)) clear refl refl
-clear-back g history d (Say.CutKept s) none clear = clear-from history (history_with g history (Do.Back d) (Say.CutKept s)) clear refl refl
-clear-back g history d (Say.CutLost s) none clear = clear-from history (history_with g history (Do.Back d) (Say.CutLost s)) clear refl refl
-clear-back g history d (Say.Cut s) none clear = clear-from history (history_with g history (Do.Back d) (Say.Cut s)) clear refl refl
+clear-change : (g : Shape) (history : History) (d : ℕ) (command : TreeCommand) (answer : TreeAnswer) → is_answered_ok answer ≡ false → IsClear history
+    → (history_with g history command answer).tampered ≡ (if is_answered_ok answer then slice_set history.tampered d true else history.tampered)
+    → (history_with g history command answer).hurt ≡ (if is_answered_ok answer then hurt_with g history.hurt d else history.hurt) → IsClear (history_with g history command answer)
+clear-change g history d command answer none clear tampered hurt =
+    clear-from history (history_with g history command answer) clear (tampered ∙ ap (λ (b : Bool). if b then slice_set history.tampered d true else history.tampered) none)
+    (hurt ∙ ap (λ (b : Bool). if b then hurt_with g history.hurt d else history.hurt) none)
 
 clear-next : (g : Shape) (history : History) (command : TreeCommand) (answer : TreeAnswer) → IsNoTampering command answer → IsClear history → IsClear (history_with g history command answer)
 clear-next g history (Do.Write a line) answer none clear = clear-write g history a line answer clear
@@ -234,9 +198,9 @@ clear-next g history (Do.Read a) answer none clear = clear-from history (history
 clear-next g history Do.On answer none clear = clear-from history (history_with g history Do.On answer) clear refl refl
 clear-next g history Do.Off answer none clear = clear-from history (history_with g history Do.Off answer) clear refl refl
 clear-next g history (Do.Cut n) answer none clear = clear-from history (history_with g history (Do.Cut n) answer) clear refl refl
-clear-next g history (Do.Poke d line) answer none clear = clear-poke g history d line answer none clear
+clear-next g history (Do.Poke d line) answer none clear = clear-change g history d (Do.Poke d line) answer none clear refl refl
 clear-next g history Do.Snap answer none clear = clear-from history (history_with g history Do.Snap answer) clear refl refl
-clear-next g history (Do.Back d) answer none clear = clear-back g history d answer none clear
+clear-next g history (Do.Back d) answer none clear = clear-change g history d (Do.Back d) answer none clear refl refl
 
 untampered : (g : Shape) (history : History) (a x : ℕ) → IsClear history → IsPathTampered g history.tampered a x → ⊥
 untampered g history a x clear it = false≢true (sym (clear.tampered (line_of_node g x)) ∙ it.its_line)

@@ -18,31 +18,14 @@ use Rattle.watched_board.specs.declared.taken.Taken.{Taken}
 use Rattle.watched_board.specs.Watching.{steps_in, device_during, none_taken, IsWatched}
 use Rattle.asit_shadow.specs.Parts.{HoldsNode}
 use Rattle.asit_shadow.specs.Calls as told
-use Rattle.asit_shadow.specs.Calls.{KeepsWatch, TakesWriteBacks}
+use Rattle.asit_shadow.specs.Calls.{KeepsWatch}
 use Rattle.asit_shadow.specs.Plain.{with_board}
 use Rattle.asit_shadow.proofs.SlotPlaces.{on_path-inside}
 use Rattle.tree_session.specs.World.{TreeParts, plain_of_parts}
 use Rattle.tree_session.specs.Answered.{IsRooted, IsNodeRefusal, IsNodeExhibit, IsPlainKept}
-use Rattle.tree_session.proofs.BoardSteps.{taken-exact}
 use Rattle.tree_session.proofs.PlainStates.{plain-kept}
 use Rattle.tree_session.proofs.Worlds.{TreeEngineCall, on, from, to, trusted_from, rooted_open}
 use Rattle.tree_session.proofs.Refusals.{rooted_with, node-refused, node-shown}
-
--- so many write-backs are all of its steps
-pub backs : (taken : Taken) (n : ℕ) (outcome : Outcome) (old new : BoardMemory) → IsWatched old new taken
-    → TakesWriteBacks n outcome (device_during old none_taken) (device_during new taken) → steps_in taken ≤ n
-backs taken n outcome old new watched it =
-    let few = watched.follows.few in
-    let writes = taken-exact it.count taken.writes it.writes (omega (arith, few)) in
-    omega (arith, writes, it.latches, it.at_most)
-
-pub backs-cut : (taken : Taken) (n : ℕ) (old new : BoardMemory) → IsWatched old new taken → old.powered ≡ true
-    → TakesWriteBacks n cut_short (device_during old none_taken) (device_during new taken) → steps_in taken < n
-backs-cut taken n old new watched live it =
-    let few = watched.follows.few in
-    let writes = taken-exact it.count taken.writes it.writes (omega (arith, few)) in
-    let fewer = it.fewer refl live in
-    omega (arith, writes, it.latches, fewer)
 
 -- with power on, a line that there is leaves a command on it to the engine
 pub undecided_line : {X : Type 0} (power : Bool) (a n : ℕ) (off range : X) → power ≡ true → a < n

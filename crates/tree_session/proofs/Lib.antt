@@ -7,6 +7,7 @@ pub mod Spills
 pub mod ReadLaws
 pub mod WriteLaws
 pub mod Recoveries
+pub mod RecoveryClashes
 pub mod TamperLaws
 pub mod Powers
 pub mod NewWorlds
@@ -18,3 +19,4 @@ pub mod WriteCalls
 pub mod OnCalls
 pub mod DecidedAnswers
 pub mod NewCalls
+pub mod DeterminedReplies

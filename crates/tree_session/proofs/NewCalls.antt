@@ -31,6 +31,7 @@ pub record NewTreeCall : Type 0 where
   pub board_is : first_board ≡ new_memory size
   pub first_watch : WatchState
   pub watch_is : first_watch ≡ new_watch (setup_under formulas_of geometry watch_keys)
+  pub pads : ℕ
   pub tags : ℕ
   pub digests : ℕ
   pub engine : TreeState
@@ -59,18 +60,18 @@ module _ (n : NewTreeCall) where
       n.formatted))
 
   abbrev pub with_flags : List Bool → List Bool → List ℕ → TreeParts
-  with_flags tampered hurt keys = record { keys = keys; tags = n.tags; digests = n.digests; board = n.board; watch = n.watch; engine = Some n.engine; tampered = tampered; hurt = hurt }
+  with_flags tampered hurt keys = record { keys = keys; pads = n.pads; tags = n.tags; digests = n.digests; board = n.board; watch = n.watch; engine = Some n.engine; tampered = tampered; hurt = hurt }
 
   pub held : IsTreeWorld (setup_under n.formulas_of n.geometry n.keys_then) (with_flags n.tampered n.hurt n.keys_then)
   held =
       subst (λ (k : List ℕ). IsTreeWorld (setup_under n.formulas_of n.geometry k) (with_flags n.tampered n.hurt k)) (sym n.same_keys)
       (subst (λ (t : List Bool). IsTreeWorld setup (with_flags t n.hurt n.keys)) (sym n.tampered_is)
       (subst (λ (h : List Bool). IsTreeWorld setup (with_flags (replicate (tree_size n.geometry) false) h n.keys)) (sym n.hurt_is)
-      (new_held setup n.keys n.tags n.digests n.engine n.board n.watch n.shape n.in_range made n.each n.snapshot)))
+      (new_held setup n.keys n.pads n.tags n.digests n.engine n.board n.watch n.shape n.in_range made n.each n.snapshot)))
 
   pub is_new : IsNewTree setup (state_of (setup_under n.formulas_of n.geometry n.keys_then) (with_flags n.tampered n.hurt n.keys_then))
   is_new =
       subst (λ (k : List ℕ). IsNewTree setup (state_of (setup_under n.formulas_of n.geometry k) (with_flags n.tampered n.hurt k))) (sym n.same_keys)
       (subst (λ (t : List Bool). IsNewTree setup (state_of setup (with_flags t n.hurt n.keys))) (sym n.tampered_is)
       (subst (λ (h : List Bool). IsNewTree setup (state_of setup (with_flags (replicate (tree_size n.geometry) false) h n.keys))) (sym n.hurt_is)
-      (new_is setup n.keys n.tags n.digests n.engine n.board n.watch n.shape n.in_range made n.each n.snapshot)))
+      (new_is setup n.keys n.pads n.tags n.digests n.engine n.board n.watch n.shape n.in_range made n.each n.snapshot)))

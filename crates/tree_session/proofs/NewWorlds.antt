@@ -41,13 +41,14 @@ map-replicate : {X Y : Type 0} (f : X → Y) (n : ℕ) (x : X) → map f (replic
 map-replicate f zero x = refl
 map-replicate f (suc n) x = ap (λ ys. f x ∷ ys) (map-replicate f n x)
 
-module _ (setup : Setup) (keys : List ℕ) (tags digests : ℕ) (engine : TreeState) (board : BoardMemory) (watch : WatchState) (shape : IsShape setup.shape) (in_range : AreInRange setup.formulas)
+module _ (setup : Setup) (keys : List ℕ) (pads tags digests : ℕ) (engine : TreeState) (board : BoardMemory) (watch : WatchState) (shape : IsShape setup.shape) (in_range : AreInRange setup.formulas)
     (it : HasTreeFormatted setup (rest_of (device_of (new_memory (tree_size setup.shape))) (new_watch setup)) (rest_of (device_of board) watch) engine)
     (each : All IsLine board.lines) (snapshot : board.snapshot ≡ None) where
   abbrev pub parts : TreeParts
   parts =
       record {
         keys = keys;
+        pads = pads;
         tags = tags;
         digests = digests;
         board = board;

@@ -1,11 +1,13 @@
 -- A recovery, as the fields of a session have it.
-use Rattle.std.proofs.Common.{ℕ, ◌≡◌, true, false, List, Option, Some, None, Ok, Err, refl, ap, subst, sym, ◌∙◌}
+use Rattle.std.proofs.Common.{ℕ, ◌≡◌, ◌≢◌, true, false, List, Option, Some, None, Ok, Err, refl, ap, subst, sym, ◌∙◌}
 use Rattle.std.specs.Prelude.{Result, option_map}
 use Rattle.pmem_base.specs.declared.answers.Exhibit.{Exhibit}
 use Rattle.pmem_base.specs.Shape.{Shape}
 use Rattle.suite.specs.Formulas.{Formulas}
 use Rattle.suite.specs.Setup.{Setup}
 use Rattle.board.specs.Memory.{BoardMemory}
+use Rattle.call_plan.specs.Plans.{ended}
+use Rattle.call_plan.specs.Following.{Follows}
 use Rattle.pmem_recovery.specs.declared.faults.Work.{Work}
 use Rattle.counter_tree.specs.Watch.{WatchState, first_shown}
 use Rattle.watched_board.specs.declared.taken.Taken.{Taken}
@@ -14,6 +16,7 @@ use Rattle.asit_shadow.specs.declared.recovery.TreeRec.{TreeRec}
 use Rattle.asit_shadow.specs.declared.recovery.TreeRec.TheVariants as Fail
 use Rattle.asit_shadow.specs.State.{TreeState}
 use Rattle.asit_shadow.specs.Recovering.{rest_of, HasTreeRecovered}
+use Rattle.asit_shadow.specs.RecoverPlans.{recover_parts, tree_recover_plan}
 use Rattle.trace_text.specs.declared.talk.Halt.{Halt}
 use Rattle.trace_text.specs.declared.talk.Halt.TheVariants as Stop
 use Rattle.tree_session.specs.declared.commands.TreeCommand.TheVariants as Do
@@ -22,7 +25,8 @@ use Rattle.tree_session.specs.declared.answers.TreeAnswer.TheVariants as Say
 use Rattle.tree_session.specs.State.{SessionState, tree_setup_in}
 use Rattle.tree_session.specs.World.{TreeParts, state_of, IsTreeWorld}
 use Rattle.tree_session.specs.Answered.{IsTreeAnswered, IsTreeMemoryWanted, IsTreeHalt}
-use Rattle.tree_session.proofs.Recoveries.{TreeRecoveryCall, rest_from, rest_to, left_with, resting, recovered_held, recovered_done, cut_held, cut_done, refused_held, refused_done, memory_held, memory_wanted, clash_held, clash_done, clash_minors}
+use Rattle.tree_session.proofs.Recoveries.{TreeRecoveryCall, RecoversBy, rest_from, rest_to, left_with, resting, recovered_held, recovered_done, cut_held, cut_done, refused_held, refused_done, memory_held, memory_wanted}
+use Rattle.tree_session.proofs.RecoveryClashes.{clash_held, clash_done, clash_minors}
 use Rattle.tree_session.proofs.AnswerClauses.{setup_under, seen_from, held_under, halts}
 
 pub record OnTreeCall : Type 0 where
@@ -38,6 +42,8 @@ pub record OnTreeCall : Type 0 where
   pub is_lit : lit ≡ record parts.board { powered = true }
   pub keys : List ℕ
   pub same_keys : keys ≡ parts.keys
+  pub pads : ℕ
+  pub same_pads : pads ≡ parts.pads
   pub tags : ℕ
   pub same_tags : tags ≡ parts.tags
   pub board : BoardMemory
@@ -51,6 +57,10 @@ pub record OnTreeCall : Type 0 where
   pub recovered :
       HasTreeRecovered (setup_under formulas_of geometry parts.keys) (rest_of (device_during lit none_taken) parts.watch)
       (rest_of (device_during board taken) watch) before later answer
+  pub plan :
+      answer ≢ Err Fail.Memory
+      → Follows (tree_recover_plan (setup_under formulas_of geometry parts.keys) lit.regs (recover_parts parts.watch before)) (device_during lit none_taken)
+      (device_during board taken) (ended answer (recover_parts watch later))
   pub said : ℕ
   pub counted : said ≡ steps_in taken
 
@@ -67,6 +77,8 @@ module _ (o : OnTreeCall) where
         none = ap (λ (s : SessionState). s.shown) o.is ∙ o.unshown;
         there = o.there;
         watched = subst (λ (b : BoardMemory). IsWatched b o.board o.taken) o.is_lit o.watched;
+        pads = o.pads;
+        same_pads = o.same_pads;
         tags = o.tags;
         same_tags = o.same_tags;
         before = o.before;
@@ -79,6 +91,16 @@ module _ (o : OnTreeCall) where
       subst (λ r. HasTreeRecovered (setup_under o.formulas_of o.geometry o.parts.keys) (rest_from call) (rest_to call) o.before o.later r) is
       (subst (λ (b : BoardMemory). HasTreeRecovered (setup_under o.formulas_of o.geometry o.parts.keys) (rest_of (device_during b none_taken) o.parts.watch)
       (rest_of (device_during o.board o.taken) o.watch) o.before o.later o.answer) o.is_lit o.recovered)
+
+  followed : (known : Result (TreeState × Work) TreeRec) → o.answer ≡ known → known ≢ Err Fail.Memory → RecoversBy call known
+  followed known is some =
+      subst (RecoversBy call) is
+      (subst (λ n. Follows (tree_recover_plan (setup_under o.formulas_of o.geometry o.parts.keys) o.parts.board.regs (recover_parts o.parts.watch n))
+      (device_during (record o.parts.board { powered = true }) none_taken) (device_during o.board o.taken) (ended o.answer (recover_parts o.watch o.later)))
+      o.same_before
+      (subst (λ (b : BoardMemory). Follows (tree_recover_plan (setup_under o.formulas_of o.geometry o.parts.keys) b.regs (recover_parts o.parts.watch o.before))
+      (device_during b none_taken) (device_during o.board o.taken) (ended o.answer (recover_parts o.watch o.later))) o.is_lit
+      (o.plan (λ memory. some (sym is ∙ memory)))))
 
   abbrev pub under : TreeParts → TreeParts
   under q = record q { keys = o.keys }
@@ -98,11 +120,11 @@ module _ (o : OnTreeCall) where
       (seen_from o.formulas_of o.geometry o.parts q o.now o.keys (λ setup old new. IsTreeAnswered setup old Do.On (answer (steps_in o.taken)) new) o.is o.same_keys its it)
 
   pub on_held : (made : TreeState × Work) → o.answer ≡ Ok made → IsTreeWorld setup_then (under (left_with call o.board (Some made.0)))
-  on_held made is = held (left_with call o.board (Some made.0)) (recovered_held call made.0 made.1 (was (Ok made) is))
+  on_held made is = held (left_with call o.board (Some made.0)) (recovered_held call made.0 made.1 (was (Ok made) is) (followed (Ok made) is (λ e. absurd cc)))
 
   pub on_seen : (made : TreeState × Work) → o.answer ≡ Ok made
       → IsTreeAnswered (tree_setup_in o.formulas_of o.now) o.now Do.On (Say.Recovered made.1.digests o.said) (state_of setup_then (under (left_with call o.board (Some made.0))))
-  on_seen made is = seen (left_with call o.board (Some made.0)) (Say.Recovered made.1.digests) refl (recovered_done call made.0 made.1 (was (Ok made) is))
+  on_seen made is = seen (left_with call o.board (Some made.0)) (Say.Recovered made.1.digests) refl (recovered_done call made.0 made.1 (was (Ok made) is) (followed (Ok made) is (λ e. absurd cc)))
 
   -- there is no engine, as before
   abbrev pub cut_as : TreeParts
@@ -112,12 +134,12 @@ module _ (o : OnTreeCall) where
   cut_so Q it = subst (λ (e : Option TreeState). Q (record (under (left_with call o.board None)) { engine = e })) (sym o.there) it
 
   pub cut_kept : o.answer ≡ Err Fail.Cut → IsTreeWorld setup_then cut_as
-  cut_kept is = cut_so (IsTreeWorld setup_then) (held (left_with call o.board None) (cut_held call (was (Err Fail.Cut) is)))
+  cut_kept is = cut_so (IsTreeWorld setup_then) (held (left_with call o.board None) (cut_held call (was (Err Fail.Cut) is) (followed (Err Fail.Cut) is (λ e. absurd cc))))
 
   pub cut_seen : o.answer ≡ Err Fail.Cut → IsTreeAnswered (tree_setup_in o.formulas_of o.now) o.now Do.On (Say.Cut o.said) (state_of setup_then cut_as)
   cut_seen is =
       cut_so (λ q. IsTreeAnswered (tree_setup_in o.formulas_of o.now) o.now Do.On (Say.Cut o.said) (state_of setup_then q))
-      (seen (left_with call o.board None) Say.Cut refl (cut_done call (was (Err Fail.Cut) is)))
+      (seen (left_with call o.board None) Say.Cut refl (cut_done call (was (Err Fail.Cut) is) (followed (Err Fail.Cut) is (λ e. absurd cc))))
 
   exhibit_of : o.answer ≡ Err Fail.Shown → (exhibit : Exhibit) × (o.watch.exhibit ≡ Some exhibit)
   exhibit_of is =
@@ -136,13 +158,13 @@ module _ (o : OnTreeCall) where
 
     pub shadow_kept : (kept found : List ℕ) → o.answer ≡ Err (Fail.Shadow kept found) → IsTreeWorld setup_then rests_as
     shadow_kept kept found is =
-        rests_so (IsTreeWorld setup_then) (held (left_with call (resting call) None) (refused_held call kept found (was (Err (Fail.Shadow kept found)) is)))
+        rests_so (IsTreeWorld setup_then) (held (left_with call (resting call) None) (refused_held call kept found (was (Err (Fail.Shadow kept found)) is) (followed (Err (Fail.Shadow kept found)) is (λ e. absurd cc))))
 
     pub shadow_seen : (kept found : List ℕ) → o.answer ≡ Err (Fail.Shadow kept found)
         → IsTreeAnswered (tree_setup_in o.formulas_of o.now) o.now Do.On (Say.RefusedShadow kept found o.said) (state_of setup_then rests_as)
     shadow_seen kept found is =
         rests_so (λ q. IsTreeAnswered (tree_setup_in o.formulas_of o.now) o.now Do.On (Say.RefusedShadow kept found o.said) (state_of setup_then q))
-        (seen (left_with call (resting call) None) (Say.RefusedShadow kept found) refl (refused_done call kept found (was (Err (Fail.Shadow kept found)) is)))
+        (seen (left_with call (resting call) None) (Say.RefusedShadow kept found) refl (refused_done call kept found (was (Err (Fail.Shadow kept found)) is) (followed (Err (Fail.Shadow kept found)) is (λ e. absurd cc))))
 
     pub memory_kept : o.answer ≡ Err Fail.Memory → IsTreeWorld setup_then rests_as
     memory_kept is = rests_so (IsTreeWorld setup_then) (held (left_with call (resting call) None) (memory_held call (was (Err Fail.Memory) is)))

@@ -13,17 +13,7 @@ module _ (setup : Setup) (p : TreeParts) (world : IsTreeWorld setup p) (none : p
   -- with another fuse and snapshot
   module _ (fuse : Option ℕ) (snapshot : Option (List Line)) where
     abbrev other : TreeParts
-    other =
-        record {
-          keys = p.keys;
-          tags = p.tags;
-          digests = p.digests;
-          board = record p.board { fuse = fuse; snapshot = snapshot };
-          watch = p.watch;
-          engine = p.engine;
-          tampered = p.tampered;
-          hurt = p.hurt;
-        }
+    other = record p { board = record p.board { fuse = fuse; snapshot = snapshot } }
 
     chip_other : (found : Option TreeState) → p.engine ≡ found → IsTreeBy setup other found
     chip_other None there =
@@ -45,7 +35,7 @@ module _ (setup : Setup) (p : TreeParts) (world : IsTreeWorld setup p) (none : p
           nodes = λ x unchanged. on.nodes x unchanged;
         }
 
-    pub other_held : IsTreeWorld setup (record { keys = p.keys; tags = p.tags; digests = p.digests; board = record p.board { fuse = fuse; snapshot = snapshot }; watch = p.watch; engine = p.engine; tampered = p.tampered; hurt = p.hurt })
+    pub other_held : IsTreeWorld setup (record p { board = record p.board { fuse = fuse; snapshot = snapshot } })
     other_held =
         let opened_in = open_in setup p world none in
         opened setup other
@@ -70,19 +60,9 @@ module _ (setup : Setup) (p : TreeParts) (world : IsTreeWorld setup p) (none : p
   -- power goes off
   module _ (engine : TreeState) (there : p.engine ≡ Some engine) where
     abbrev dark : TreeParts
-    dark =
-        record {
-          keys = p.keys;
-          tags = p.tags;
-          digests = p.digests;
-          board = record p.board { powered = false; fuse = None };
-          watch = p.watch;
-          engine = None;
-          tampered = p.tampered;
-          hurt = p.hurt;
-        }
+    dark = record p { board = record p.board { powered = false; fuse = None }; engine = None }
 
-    pub dark_held : IsTreeWorld setup (record { keys = p.keys; tags = p.tags; digests = p.digests; board = record p.board { powered = false; fuse = None }; watch = p.watch; engine = None; tampered = p.tampered; hurt = p.hurt })
+    pub dark_held : IsTreeWorld setup (record p { board = record p.board { powered = false; fuse = None }; engine = None })
     dark_held =
         let opened_in = open_in setup p world none in
         let on = on_in setup p engine (open_in setup p world none) there in

@@ -8,6 +8,7 @@ use Rattle.counter_tree.specs.Layout.{tree_lines}
 use Rattle.asit_shadow.specs.declared.fault.TreeFault.{TreeFault}
 use Rattle.asit_shadow.specs.declared.fault.TreeFault.TheVariants as Fail
 use Rattle.asit_shadow.specs.Calls.{HasReadTreeLine}
+use Rattle.asit_shadow.specs.Plans.{read_plan}
 use Rattle.trace_text.specs.declared.talk.Halt.{Halt}
 use Rattle.trace_text.specs.declared.talk.Halt.TheVariants as Stop
 use Rattle.tree_session.specs.declared.commands.TreeCommand.TheVariants as Do
@@ -15,9 +16,9 @@ use Rattle.tree_session.specs.declared.answers.TreeAnswer.TheVariants as Say
 use Rattle.tree_session.specs.State.{tree_setup_in}
 use Rattle.tree_session.specs.World.{TreeParts, state_of, IsTreeWorld}
 use Rattle.tree_session.specs.Answered.{IsTreeAnswered, IsTreeHalt}
-use Rattle.tree_session.proofs.Worlds.{left, left_resting, from, to, trusted_from, held_still, cut_still}
-use Rattle.tree_session.proofs.ReadLaws.{read_done, cut_done, node_done, tag_done, shown_held, shown_done, shown_minors}
-use Rattle.tree_session.proofs.AnswerClauses.{WorldCall, call, setup_of, setup_under, as_read, seen, held, halts, some_of}
+use Rattle.tree_session.proofs.Worlds.{EndsBy, left, left_resting, from, ended_to, still_up, trusted_from, held_still, cut_still}
+use Rattle.tree_session.proofs.ReadLaws.{WasRead, read_done, cut_done, node_done, tag_done, shown_held, shown_done, shown_minors}
+use Rattle.tree_session.proofs.AnswerClauses.{WorldCall, call, setup_of, setup_under, as_known, seen, held, halts, some_of}
 
 pub record ReadTreeCall : Type 0 where
   pub world : WorldCall
@@ -25,7 +26,8 @@ pub record ReadTreeCall : Type 0 where
   pub within : at < tree_lines world.geometry
   pub answer : Result Line TreeFault
   pub was_read :
-      HasReadTreeLine (setup_under world.formulas_of world.engine.shape world.parts.keys) at (from (call world)) (to (call world)) answer
+      HasReadTreeLine (setup_under world.formulas_of world.engine.shape world.parts.keys) at (from (call world)) (ended_to (call world)) answer
+  pub plan : EndsBy (call world) (read_plan (setup_under world.formulas_of world.engine.shape world.parts.keys) at) answer
 
 module _ (r : ReadTreeCall) where
   abbrev kept : Option Rattle.asit_shadow.specs.State.TreeState → TreeParts
@@ -37,11 +39,16 @@ module _ (r : ReadTreeCall) where
   abbrev pub setup_then : Rattle.suite.specs.Setup.Setup
   setup_then = setup_under r.world.formulas_of r.world.geometry r.world.keys
 
-  was : (known : Result Line TreeFault) → r.answer ≡ known → HasReadTreeLine (setup_of r.world) r.at (from (call r.world)) (to (call r.world)) known
-  was known is = as_read r.world r.at r.answer known is r.was_read
+  was : (known : Result Line TreeFault) → r.answer ≡ known → WasRead (call r.world) r.at known
+  was known is =
+      record {
+        read = as_known r.world (λ s answer. HasReadTreeLine s r.at (from (call r.world)) (ended_to (call r.world)) answer) r.answer known is r.was_read;
+        follows = as_known r.world (λ s answer. EndsBy (call r.world) (read_plan s r.at) answer) r.answer known is r.plan;
+      }
 
   pub got_held : (line : Line) → r.answer ≡ Ok line → IsTreeWorld setup_then (under (kept (Some r.world.after)))
-  got_held line is = held r.world (kept (Some r.world.after)) (held_still (call r.world) ((was (Ok line) is).done (trusted_from (call r.world)).not_down).effect)
+  got_held line is = held r.world (kept (Some r.world.after)) (held_still (call r.world) ((was (Ok line) is).read.done (trusted_from (call r.world)).not_down).effect
+      (still_up (call r.world) (Ok line) refl (was (Ok line) is).read.down))
 
   pub got_seen : (line : Line) → r.answer ≡ Ok line
       → IsTreeAnswered (tree_setup_in r.world.formulas_of r.world.now) r.world.now (Do.Read r.at) (Say.Got line r.world.said) (state_of setup_then (under (kept (Some r.world.after))))
@@ -49,7 +56,8 @@ module _ (r : ReadTreeCall) where
       seen r.world (kept (Some r.world.after)) (Do.Read r.at) (Say.Got line) refl (read_done (call r.world) r.at r.within line (was (Ok line) is))
 
   pub node_kept : (x : ℕ) → r.answer ≡ Err (Fail.Node x) → IsTreeWorld setup_then (under (kept (Some r.world.after)))
-  node_kept x is = held r.world (kept (Some r.world.after)) (held_still (call r.world) ((was (Err (Fail.Node x)) is).done (trusted_from (call r.world)).not_down).effect)
+  node_kept x is = held r.world (kept (Some r.world.after)) (held_still (call r.world) ((was (Err (Fail.Node x)) is).read.done (trusted_from (call r.world)).not_down).effect
+      (still_up (call r.world) (Err (Fail.Node x)) refl (was (Err (Fail.Node x)) is).read.down))
 
   pub node_seen : (x : ℕ) → r.answer ≡ Err (Fail.Node x)
       → IsTreeAnswered (tree_setup_in r.world.formulas_of r.world.now) r.world.now (Do.Read r.at) (Say.RefusedNode x r.world.said) (state_of setup_then (under (kept (Some r.world.after))))
@@ -57,7 +65,8 @@ module _ (r : ReadTreeCall) where
       seen r.world (kept (Some r.world.after)) (Do.Read r.at) (Say.RefusedNode x) refl (node_done (call r.world) r.at r.within x (was (Err (Fail.Node x)) is))
 
   pub tag_kept : (t : ℕ) → r.answer ≡ Err (Fail.Tag t) → IsTreeWorld setup_then (under (kept (Some r.world.after)))
-  tag_kept t is = held r.world (kept (Some r.world.after)) (held_still (call r.world) ((was (Err (Fail.Tag t)) is).done (trusted_from (call r.world)).not_down).effect)
+  tag_kept t is = held r.world (kept (Some r.world.after)) (held_still (call r.world) ((was (Err (Fail.Tag t)) is).read.done (trusted_from (call r.world)).not_down).effect
+      (still_up (call r.world) (Err (Fail.Tag t)) refl (was (Err (Fail.Tag t)) is).read.down))
 
   pub tag_seen : (t : ℕ) → r.answer ≡ Err (Fail.Tag t)
       → IsTreeAnswered (tree_setup_in r.world.formulas_of r.world.now) r.world.now (Do.Read r.at) (Say.RefusedData t r.world.said) (state_of setup_then (under (kept (Some r.world.after))))
@@ -66,7 +75,7 @@ module _ (r : ReadTreeCall) where
 
   pub cut_kept : r.answer ≡ Err Fail.Cut → IsTreeWorld setup_then (under (kept None))
   cut_kept is =
-      let cut = (was (Err Fail.Cut) is).done (trusted_from (call r.world)).not_down in
+      let cut = (was (Err Fail.Cut) is).read.done (trusted_from (call r.world)).not_down in
       held r.world (kept None) (cut_still (call r.world) cut.effect cut.regs)
 
   pub cut_seen : r.answer ≡ Err Fail.Cut
@@ -76,7 +85,7 @@ module _ (r : ReadTreeCall) where
   -- where the watch stopped the engine, it has an exhibit
   pub exhibit_of : r.answer ≡ Err Fail.Shown → (exhibit : Exhibit) × (r.world.watch.exhibit ≡ Some exhibit)
   exhibit_of is =
-      some_of r.world.watch.exhibit (((was (Err Fail.Shown) is).done (trusted_from (call r.world)).not_down).watch.stopped refl)
+      some_of r.world.watch.exhibit (((was (Err Fail.Shown) is).read.done (trusted_from (call r.world)).not_down).watch.stopped refl)
 
   -- the board rests then
   module _ (is : r.answer ≡ Err Fail.Shown) (rested : BoardMemory) (rests : rested ≡ record r.world.board { powered = false }) where

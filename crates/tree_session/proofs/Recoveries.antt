@@ -1,7 +1,7 @@
 -- A recovery: what is left of the session, and what is answered.
 use Rattle.std.proofs.Common.{ℕ, zero, suc, ◌≡◌, ◌≢◌, ◌<◌, ◌≤◌, ◌+◌, true, false, Bool, inl, inr, ◌⊎◌, List, [], ◌∷◌, length, Option, Some, None, Ok, Err, refl, sym, ap, subst, ◌∙◌, arith}
 use Rattle.std.specs.Prelude.{Result, IfSome, All, slice_index_or, map}
-use Rattle.std.proofs.lemmas.Bool.{cases_Bool, cases_eq}
+use Rattle.std.proofs.lemmas.Bool.{cases_Bool, cases_eq, true≢false}
 use Rattle.std.proofs.lemmas.Option.{same_Some}
 use Rattle.pmem_base.specs.declared.lines.Line.{Line}
 use Rattle.pmem_base.specs.declared.registers.Regs.{Regs}
@@ -13,19 +13,22 @@ use Rattle.board.specs.Device.{AreLinesOf}
 use Rattle.board.specs.Memory.{BoardMemory, device_of}
 use Rattle.collision_witness.specs.Exhibits.{IsExhibit, AreSmallMinors}
 use Rattle.commit_regs.specs.Groups.{redone, finishing_latches}
+use Rattle.call_plan.specs.Plans as plans
+use Rattle.call_plan.specs.Following.{Follows}
 use Rattle.pmem_recovery.specs.declared.faults.Work.{Work}
 use Rattle.pmem_recovery.proofs.LatchLaws.{one_latch}
 use Rattle.counter_tree.specs.Layout.{tree_slots, tree_size, line_of_slot}
 use Rattle.counter_tree.specs.Shadow.{shadow_root, shadow_tree_line, shadow_height, IsShadowDifference}
 use Rattle.counter_tree.specs.Watch.{WatchState, IsSlotClash, HasShown, first_shown}
 use Rattle.watched_board.specs.declared.taken.Taken.{Taken}
-use Rattle.watched_board.specs.Watching.{steps_in, device_during, none_taken, IsWatched}
+use Rattle.watched_board.specs.Watching.{steps_in, step_limit, device_during, none_taken, IsWatched}
 use Rattle.asit_shadow.specs.declared.recovery.TreeRec.{TreeRec}
 use Rattle.asit_shadow.specs.declared.recovery.TreeRec.TheVariants as Fail
 use Rattle.asit_shadow.specs.State.{TreeState}
 use Rattle.asit_shadow.specs.Invariants.{IsTreeAnchored, IsTreeTrusted, IsSlotStored}
 use Rattle.asit_shadow.specs.Steps.{slots_read}
 use Rattle.asit_shadow.specs.Recovering.{Rest, rest_of, rest_redone, HasTreeRecovered, IsGroupFinished, IsGroupBegun, AreSlotsRead, KeepsRestPlaces, KeepsRestNode}
+use Rattle.asit_shadow.specs.RecoverPlans.{recover_parts, tree_recover_plan}
 use Rattle.asit_shadow.specs.Places.{IsNodeHeld}
 use Rattle.asit_shadow.specs.Plain.{with_board, true_slots}
 use Rattle.tree_session.proofs.Refusals.{slots-free, rooted_with}
@@ -34,11 +37,13 @@ use Rattle.asit_shadow.proofs.RecoverLaws.{lines-equal, length-slots_read, line_
 use Rattle.tree_session.specs.declared.commands.TreeCommand.TheVariants as Do
 use Rattle.tree_session.specs.declared.answers.TreeAnswer.{TreeAnswer}
 use Rattle.tree_session.specs.declared.answers.TreeAnswer.TheVariants as Say
+use Rattle.tree_session.specs.Called.{IsTreeCalled, on_said, board_resting, engine_made}
+use Rattle.tree_session.specs.State.{watch_in}
 use Rattle.tree_session.specs.World.{TreeParts, plain_of_parts, state_of, IsTreeWorld, IsTreeOff, IsTreeOpen}
 use Rattle.tree_session.specs.Answered.{IsTreeAnswered, IsRooted, IsEngineShown, IsTreeMemoryWanted, SaysOfOn, HasTrueSlots, AnswersWith, IsSlotTampered, IsShadowRefusal, IsShadowExhibit, IsGroupDone, group_steps, board_redone, tree_recovery_bound}
 use Rattle.tree_session.proofs.BoardSteps.{goes_on, cut_off, from_dark, cut_from_dark, then_rests, taken-exact, untouched}
 use Rattle.tree_session.proofs.PlainStates.{plain_is, plain-kept, true_slots-is}
-use Rattle.tree_session.proofs.Worlds.{IsFrame, opened, ended, open_in, off_in, usable_on, usable_off, rooted_on, rooted_off, rooted_open}
+use Rattle.tree_session.proofs.Worlds.{IsFrame, opened, open_in, off_in, usable_on, usable_off, rooted_on, rooted_off, rooted_open}
 
 -- a flag that is set below n, or none
 some_flag : (flag : ℕ → Bool) (n : ℕ) → ((i : ℕ) → i < n → flag i ≡ false) ⊎ ((i : ℕ) × (i < n) × (flag i ≡ true))
@@ -72,6 +77,8 @@ pub record TreeRecoveryCall : Type 0 where
   pub none : parts.watch.exhibit ≡ None
   pub there : parts.engine ≡ None
   pub watched : IsWatched (record parts.board { powered = true }) board taken
+  pub pads : ℕ
+  pub same_pads : pads ≡ parts.pads
   pub tags : ℕ
   pub same_tags : tags ≡ parts.tags
   pub before : ℕ
@@ -86,7 +93,7 @@ module _ (c : TreeRecoveryCall) where
   rest_to = rest_of (device_during c.board c.taken) c.watch
 
   abbrev pub left_with : BoardMemory → Option TreeState → TreeParts
-  left_with board found = record { keys = c.parts.keys; tags = c.tags; digests = c.later; board = board; watch = c.watch; engine = found; tampered = c.parts.tampered; hurt = c.parts.hurt }
+  left_with board found = record c.parts { pads = c.pads; tags = c.tags; digests = c.later; board = board; watch = c.watch; engine = found }
 
   abbrev pub resting : BoardMemory
   resting = record c.board { powered = false }
@@ -97,27 +104,66 @@ module _ (c : TreeRecoveryCall) where
   off : IsTreeOff c.setup c.parts
   off = off_in c.setup c.parts (open_in c.setup c.parts c.world c.none) c.there
 
-  dark : c.parts.board.powered ≡ false
+  pub dark : c.parts.board.powered ≡ false
   dark = (off_in c.setup c.parts (open_in c.setup c.parts c.world c.none) c.there).unpowered
 
-  anchored_from : IsTreeAnchored c.setup c.parts.board.regs c.parts.watch
+  pub anchored_from : IsTreeAnchored c.setup c.parts.board.regs c.parts.watch
   anchored_from = (off_in c.setup c.parts (open_in c.setup c.parts c.world c.none) c.there).anchored
 
-  answered : (answer : TreeAnswer) (q : TreeParts) → q.keys ≡ c.parts.keys → q.watch.exhibit ≡ None → IsRooted c.setup (plain_of_parts c.setup q)
-      → SaysOfOn c.setup (plain_of_parts c.setup c.parts) (plain_of_parts c.setup q) answer
-      → IsTreeAnswered c.setup (state_of c.setup c.parts) Do.On answer (state_of c.setup q)
-  answered answer q keys none rooted it =
+  -- the board followed the plan to this end
+  abbrev pub RecoversBy : Result (TreeState × Work) TreeRec → Type 0
+  RecoversBy end =
+      Follows (tree_recover_plan c.setup c.parts.board.regs (recover_parts c.parts.watch c.parts.digests))
+      (device_during (record c.parts.board { powered = true }) none_taken) (device_during c.board c.taken) (plans.ended end (recover_parts c.watch c.later))
+
+  uncut : c.board.powered ≡ true → c.board.powered ≡ false → steps_in c.taken < step_limit
+  uncut lit unlit = absurd (true≢false (sym lit ∙ unlit))
+
+  answered : (answer : TreeAnswer) (end : Result (TreeState × Work) TreeRec) (board : BoardMemory) (found : Option TreeState) → answer ≡ on_said c.taken end
+      → RecoversBy end → c.watch.setup ≡ c.setup → (c.board.powered ≡ false → steps_in c.taken < step_limit) → board ≡ board_resting end c.board → found ≡ engine_made end
+      → c.watch.exhibit ≡ None → IsRooted c.setup (plain_of_parts c.setup (left_with board found))
+      → plain_of_parts c.setup (left_with board found) ≡ with_board (plain_of_parts c.setup c.parts) board
+      → SaysOfOn c.setup (plain_of_parts c.setup c.parts) (plain_of_parts c.setup (left_with board found)) answer
+      → IsTreeAnswered c.setup (state_of c.setup c.parts) Do.On answer (state_of c.setup (left_with board found))
+  answered answer end board found is follows its_setup within rests made none rooted plain it =
       record {
         not_shown = c.none;
-        kept = record { shape = refl; keys = keys; shown = none ∙ sym c.none };
+        kept = record { shape = refl; keys = refl; shown = none ∙ sym c.none };
         answered =
-            subst (λ (b : Bool). AnswersWith c.setup (plain_of_parts c.setup c.parts) Do.On (plain_of_parts c.setup q) answer
+            subst (λ (b : Bool). AnswersWith c.setup (plain_of_parts c.setup c.parts) Do.On (plain_of_parts c.setup (left_with board found)) answer
             (Rattle.std.specs.Prelude.if◌then◌else◌ b (Some Say.Already) None)) (sym dark) it;
+        called =
+            subst (λ (b : Bool). IsTreeCalled c.setup (state_of c.setup c.parts) Do.On (state_of c.setup (left_with board found)) answer
+            (Rattle.std.specs.Prelude.if◌then◌else◌ b (Some Say.Already) None)) (sym dark) (
+              record {
+                board = c.board;
+                taken = c.taken;
+                end = end;
+                outcome =
+                    record {
+                      run = record { follows = c.watched.follows; within = within };
+                      follows =
+                          subst (λ w. Follows (tree_recover_plan c.setup c.parts.board.regs (recover_parts w c.parts.digests))
+                          (device_during (record c.parts.board { powered = true }) none_taken) (device_during c.board c.taken)
+                          (plans.ended end (recover_parts (watch_in c.setup (state_of c.setup (left_with board found))) c.later)))
+                          (λ i. record c.parts.watch { setup = c.world.its_watch.its_setup i })
+                          (subst (λ w. Follows (tree_recover_plan c.setup c.parts.board.regs (recover_parts c.parts.watch c.parts.digests))
+                          (device_during (record c.parts.board { powered = true }) none_taken) (device_during c.board c.taken) (plans.ended end (recover_parts w c.later)))
+                          (λ i. record c.watch { setup = its_setup i }) follows);
+                    };
+                is_said = is;
+                rests = rests;
+                made = made;
+                pads = c.same_pads;
+                tags = c.same_tags;
+              },
+              plain,
+            );
         rooted = rooted;
       }
 
   -- what is left is of the same session
-  frame : (board : BoardMemory) (found : Option TreeState) → board.lines ≡ c.board.lines → length c.board.lines ≡ length c.parts.board.lines → c.watch.setup ≡ c.parts.watch.setup
+  pub frame : (board : BoardMemory) (found : Option TreeState) → board.lines ≡ c.board.lines → length c.board.lines ≡ length c.parts.board.lines → c.watch.setup ≡ c.parts.watch.setup
       → c.watch.seals ≡ c.parts.watch.seals → c.watch.nodes ≡ c.parts.watch.nodes → c.watch.slots ≡ c.parts.watch.slots → IsFrame c.setup (left_with board found)
   frame board found lines size setup seals nodes slots =
       record {
@@ -150,7 +196,7 @@ module _ (c : TreeRecoveryCall) where
       plain-kept c.setup c.parts q (ap (λ (w : WatchState). w.seals) (its ∙ same)) (ap (λ (w : WatchState). w.nodes) (its ∙ same)) (ap (λ (w : WatchState). w.slots) (its ∙ same)) tampered hurt
 
   -- the steps are those of the whole group and its latch, which are few enough
-  finished_steps : IsGroupFinished (device_during (record c.parts.board { powered = true }) none_taken) (device_during c.board c.taken) → steps_in c.taken ≡ group_steps c.parts.board
+  pub finished_steps : IsGroupFinished (device_during (record c.parts.board { powered = true }) none_taken) (device_during c.board c.taken) → steps_in c.taken ≡ group_steps c.parts.board
   finished_steps it =
       let few = c.watched.follows.few in
       let writes = taken-exact (length c.parts.board.regs.group.items) c.taken.writes it.writes (omega (arith, few)) in
@@ -170,12 +216,12 @@ module _ (c : TreeRecoveryCall) where
         let here : redone c.board.regs.group.items c.board.lines ≡ redone c.parts.board.regs.group.items c.parts.board.lines = same_Some _ _ again in
         sym (ap (λ g. redone g c.board.lines) empty) ∙ here
 
-    group_done : (b : BoardMemory) → b.lines ≡ c.board.lines → b.regs ≡ c.board.regs
+    pub group_done : (b : BoardMemory) → b.lines ≡ c.board.lines → b.regs ≡ c.board.regs
         → IsGroupFinished (device_during (record c.parts.board { powered = true }) none_taken) (device_during c.board c.taken) → IsGroupDone c.parts.board b
     group_done b lines regs finished = record { lines = lines ∙ lines_made; regs = regs ∙ finished.regs }
 
     -- where no slot line was changed, the device has the true ones
-    slots_true : ((i : ℕ) → i < tree_slots c.setup.shape → slice_index_or c.parts.tampered (line_of_slot c.setup.shape i) false ≡ false)
+    pub slots_true : ((i : ℕ) → i < tree_slots c.setup.shape → slice_index_or c.parts.tampered (line_of_slot c.setup.shape i) false ≡ false)
         → length c.board.lines ≡ length c.parts.board.lines → slots_read c.setup.shape c.board.lines ≡ c.parts.watch.slots
     slots_true clear size =
         slots-place c.setup c.board.lines c.parts.board.regs c.parts.watch anchored_from (size ∙ c.world.whole_lines.count)
@@ -183,7 +229,7 @@ module _ (c : TreeRecoveryCall) where
         let stored : IsSlotStored c.setup.shape (redone c.parts.board.regs.group.items c.parts.board.lines) c.parts.watch i = opened_in.places.slots i inside (clear i inside) in
         subst (λ ls. IsSlotStored c.setup.shape ls c.parts.watch i) (sym lines_made) stored)
 
-    tampered_slot : (((i : ℕ) → i < tree_slots c.setup.shape → slice_index_or c.parts.tampered (line_of_slot c.setup.shape i) false ≡ false) → ⊥)
+    pub tampered_slot : (((i : ℕ) → i < tree_slots c.setup.shape → slice_index_or c.parts.tampered (line_of_slot c.setup.shape i) false ≡ false) → ⊥)
         → IsSlotTampered c.setup.shape c.parts.tampered
     tampered_slot not =
         elim (some_flag (λ i. slice_index_or c.parts.tampered (line_of_slot c.setup.shape i) false) (tree_slots c.setup.shape)) [
@@ -192,7 +238,7 @@ module _ (c : TreeRecoveryCall) where
         ]
 
   -- the slot lines read are those of the device
-  read_are : (slots : List Line) → length c.board.lines ≡ length c.parts.board.lines → AreSlotsRead c.setup.shape slots (device_during c.board c.taken) → slots ≡ slots_read c.setup.shape c.board.lines
+  pub read_are : (slots : List Line) → length c.board.lines ≡ length c.parts.board.lines → AreSlotsRead c.setup.shape slots (device_during c.board c.taken) → slots ≡ slots_read c.setup.shape c.board.lines
   read_are slots size read =
       let count = length-slots_read c.setup.shape c.board.lines (size ∙ c.world.whole_lines.count) in
       lines-equal slots (slots_read c.setup.shape c.board.lines) (read.count ∙ sym count)
@@ -202,7 +248,8 @@ module _ (c : TreeRecoveryCall) where
 
   -- ---- recovered
 
-  module _ (engine : TreeState) (work : Work) (it : HasTreeRecovered c.setup rest_from rest_to c.before c.later (Ok (engine, work))) where
+  module _ (engine : TreeState) (work : Work) (it : HasTreeRecovered c.setup rest_from rest_to c.before c.later (Ok (engine, work)))
+      (follows : RecoversBy (Ok (engine, work))) where
     trusted_made : IsTreeTrusted c.setup engine c.board.regs c.watch
     trusted_made = it.trusted anchored_from
 
@@ -246,14 +293,16 @@ module _ (c : TreeRecoveryCall) where
 
     pub recovered_done : IsTreeAnswered c.setup (state_of c.setup c.parts) Do.On (Say.Recovered work.digests (steps_in c.taken)) (state_of c.setup (left_with c.board (Some engine)))
     recovered_done =
-        answered (Say.Recovered work.digests (steps_in c.taken)) (left_with c.board (Some engine)) refl (ap (λ (w : WatchState). w.exhibit) same_made ∙ c.none)
-        (rooted_on c.setup (left_with c.board (Some engine)) c.world.whole_shape trusted_made.anchored trusted_made.no_group) (
+        let plain = plain_same (left_with c.board (Some engine)) refl same_made refl refl in
+        answered (Say.Recovered work.digests (steps_in c.taken)) (Ok (engine, work)) c.board (Some engine) refl follows (ap (λ (w : WatchState). w.setup) same_made ∙ c.world.its_watch.its_setup) (uncut powered_made) refl refl
+        (ap (λ (w : WatchState). w.exhibit) same_made ∙ c.none)
+        (rooted_on c.setup (left_with c.board (Some engine)) c.world.whole_shape trusted_made.anchored trusted_made.no_group) plain (
           it.answered.1.digests,
           from_dark (steps_in c.taken) true c.parts.board c.board (goes_on (record c.parts.board { powered = true }) c.board c.taken c.watched powered_made),
           group_done trusted_made.no_group it.lines c.board refl refl it.group,
           finished_steps it.group,
           few_steps (finished_steps it.group),
-          plain_same (left_with c.board (Some engine)) refl same_made refl refl,
+          plain,
           slots_made,
         )
 
@@ -284,7 +333,7 @@ module _ (c : TreeRecoveryCall) where
 
   -- ---- cut
 
-  module _ (it : HasTreeRecovered c.setup rest_from rest_to c.before c.later (Err Fail.Cut)) where
+  module _ (it : HasTreeRecovered c.setup rest_from rest_to c.before c.later (Err Fail.Cut)) (follows : RecoversBy (Err Fail.Cut)) where
     begun_of : IsGroupBegun (device_during (record c.parts.board { powered = true }) none_taken) (device_during c.board c.taken)
     begun_of = it.begun refl refl
 
@@ -314,20 +363,23 @@ module _ (c : TreeRecoveryCall) where
 
     pub cut_done : IsTreeAnswered c.setup (state_of c.setup c.parts) Do.On (Say.Cut (steps_in c.taken)) (state_of c.setup (left_with c.board None))
     cut_done =
-        answered (Say.Cut (steps_in c.taken)) (left_with c.board None) refl (ap (λ (w : WatchState). w.exhibit) it.answered ∙ c.none)
-        (rooted_off c.setup (left_with c.board None) c.world.whole_shape (it.trusted anchored_from) it.power.1) (
-          cut_from_dark (steps_in c.taken) c.parts.board c.board
-              (cut_off (record c.parts.board { powered = true }) c.board c.taken c.watched it.power.1 (omega (arith, cut_steps, c.world.whole_shape.at_most_six_levels))),
+        let few : steps_in c.taken < step_limit = omega (arith, cut_steps, c.world.whole_shape.at_most_six_levels) in
+        let plain = plain_same (left_with c.board None) refl it.answered refl refl in
+        answered (Say.Cut (steps_in c.taken)) (Err Fail.Cut) c.board None refl follows (ap (λ (w : WatchState). w.setup) it.answered ∙ c.world.its_watch.its_setup) (λ _. few) (ap (λ p. record c.board { powered = p }) it.power.1) refl
+        (ap (λ (w : WatchState). w.exhibit) it.answered ∙ c.none)
+        (rooted_off c.setup (left_with c.board None) c.world.whole_shape (it.trusted anchored_from) it.power.1) plain (
+          cut_from_dark (steps_in c.taken) c.parts.board c.board (cut_off (record c.parts.board { powered = true }) c.board c.taken c.watched it.power.1 few),
           same_Some _ _ it.lines,
           (it.begun refl refl).regs,
           cut_early,
           cut_steps,
-          plain_same (left_with c.board None) refl it.answered refl refl,
+          plain,
         )
 
   -- ---- the root is refused
 
-  module _ (kept found : List ℕ) (it : HasTreeRecovered c.setup rest_from rest_to c.before c.later (Err (Fail.Shadow kept found))) where
+  module _ (kept found : List ℕ) (it : HasTreeRecovered c.setup rest_from rest_to c.before c.later (Err (Fail.Shadow kept found)))
+      (follows : RecoversBy (Err (Fail.Shadow kept found))) where
     abbrev refused : Rattle.asit_shadow.specs.Recovering.IsRootRefused c.setup kept found rest_from rest_to
     refused = it.answered.0
 
@@ -356,8 +408,9 @@ module _ (c : TreeRecoveryCall) where
     pub refused_done : IsTreeAnswered c.setup (state_of c.setup c.parts) Do.On (Say.RefusedShadow kept found (steps_in c.taken)) (state_of c.setup (left_with resting None))
     refused_done =
         let plain = plain_same (left_with resting None) refl same_refused refl refl in
-        answered (Say.RefusedShadow kept found (steps_in c.taken)) (left_with resting None) refl (ap (λ (w : WatchState). w.exhibit) same_refused ∙ c.none)
-        (rooted_off c.setup (left_with resting None) c.world.whole_shape anchored_refused refl) (
+        answered (Say.RefusedShadow kept found (steps_in c.taken)) (Err (Fail.Shadow kept found)) resting None refl follows (ap (λ (w : WatchState). w.setup) same_refused ∙ c.world.its_watch.its_setup) (uncut (it.power.1 refl)) refl refl
+        (ap (λ (w : WatchState). w.exhibit) same_refused ∙ c.none)
+        (rooted_off c.setup (left_with resting None) c.world.whole_shape anchored_refused refl) plain (
           subst (λ s. IsShadowRefusal c.setup s kept found) (sym plain)
               (record {
                 place = tampered_slot empty_refused it.lines not_clear;
@@ -385,10 +438,10 @@ module _ (c : TreeRecoveryCall) where
         let lit : c.board ≡ record c.parts.board { powered = true } = untouched (record c.parts.board { powered = true }) c.board c.taken c.watched refl same_device in
         let rests : resting ≡ record c.parts.board { powered = false } = ap (λ (b : BoardMemory). record b { powered = false }) lit in
         let off : record c.parts.board { powered = false } ≡ c.parts.board = ap (λ p. record c.parts.board { powered = p }) (sym dark) in
-        same_parts (left_with resting None) c.parts refl c.same_tags (it.work ∙ c.same_before) (rests ∙ off) (ap (λ (r : Rest). r.watch) it.answered) (sym c.there) refl refl
+        same_parts (left_with resting None) c.parts refl c.same_pads c.same_tags (it.work ∙ c.same_before) (rests ∙ off) (ap (λ (r : Rest). r.watch) it.answered) (sym c.there) refl refl
       where
-        same_parts : (p q : TreeParts) → p.keys ≡ q.keys → p.tags ≡ q.tags → p.digests ≡ q.digests → p.board ≡ q.board → p.watch ≡ q.watch → p.engine ≡ q.engine → p.tampered ≡ q.tampered → p.hurt ≡ q.hurt → p ≡ q
-        same_parts p q keys tags digests board watch engine tampered hurt = grind arith
+        same_parts : (p q : TreeParts) → p.keys ≡ q.keys → p.pads ≡ q.pads → p.tags ≡ q.tags → p.digests ≡ q.digests → p.board ≡ q.board → p.watch ≡ q.watch → p.engine ≡ q.engine → p.tampered ≡ q.tampered → p.hurt ≡ q.hurt → p ≡ q
+        same_parts p q keys pads tags digests board watch engine tampered hurt = grind arith
 
     -- it wasn't on already
     pub memory_wanted : IsTreeMemoryWanted (state_of c.setup c.parts) Do.On × (state_of c.setup (left_with resting None) ≡ state_of c.setup c.parts)
@@ -396,96 +449,3 @@ module _ (c : TreeRecoveryCall) where
 
     pub memory_held : IsTreeWorld c.setup (left_with resting None)
     memory_held = subst (IsTreeWorld c.setup) (sym as_it_was) c.world
-
-  -- ---- a clash
-
-  module _ (exhibit : Exhibit) (is : c.watch.exhibit ≡ Some exhibit) (it : HasTreeRecovered c.setup rest_from rest_to c.before c.later (Err Fail.Shown)) where
-    abbrev clash : Rattle.asit_shadow.specs.Recovering.IsTreeClashShown c.setup rest_from rest_to
-    clash = it.answered
-
-    abbrev at : Exhibit
-    at = it.answered.place.0
-
-    abbrev seen : HasShown c.parts.watch c.watch it.answered.place.0
-    seen = it.answered.place.2
-
-    exhibit_is : exhibit ≡ it.answered.place.0
-    exhibit_is = same_Some exhibit _ (sym is ∙ (seen.exhibit ∙ ap (λ e. first_shown e it.answered.place.0) c.none))
-
-    its_clash : IsSlotClash c.parts.watch clash.slots exhibit
-    its_clash = subst (IsSlotClash c.parts.watch clash.slots) (sym exhibit_is) it.answered.place.1
-
-    empty_shown : c.board.regs.group.items ≡ []
-    empty_shown = ap (λ (r : Regs). r.group.items) it.group.regs
-
-    slots_are : clash.slots ≡ slots_read c.setup.shape c.board.lines
-    slots_are = read_are clash.slots it.size clash.read
-
-    pub clash_minors : AreSmallMinors exhibit
-    clash_minors = subst AreSmallMinors (sym its_clash.its) tt
-
-    pub clash_held : IsTreeWorld c.setup (left_with resting None)
-    clash_held =
-        ended c.setup (left_with resting None) exhibit (frame resting None refl it.size seen.setup seen.seals seen.nodes seen.slots) is
-        (record {
-          holds = subst (λ e. IfSome e (IsExhibit c.setup.formulas)) is (it.trusted anchored_from);
-          minors = clash_minors;
-          no_engine = refl;
-          unpowered = refl;
-        })
-
-    pub clash_done : IsEngineShown c.setup (state_of c.setup c.parts) Do.On exhibit (state_of c.setup (left_with resting None))
-    clash_done =
-        let plain =
-        plain-kept c.setup c.parts (left_with resting None) seen.seals seen.nodes seen.slots refl refl in
-        let true_are : true_slots c.setup.shape (plain_of_parts c.setup c.parts) ≡ c.parts.watch.slots =
-        true_slots-is c.setup c.parts.watch c.parts.board.regs c.world.whole_shape anchored_from (plain_of_parts c.setup c.parts)
-        (plain_is c.setup c.parts c.parts.board.regs c.world.whole_shape anchored_from) in
-        record {
-          not_shown = c.none;
-          undecided = ap (λ (b : Bool). Rattle.std.specs.Prelude.if◌then◌else◌ b (Some Say.Already) None) dark;
-          holds = subst (λ e. IfSome e (IsExhibit c.setup.formulas)) is (it.trusted anchored_from);
-          shows = subst (λ s. IsShadowExhibit c.setup s exhibit) (sym plain) (shadow_shown true_are);
-          plain = plain;
-          steps = steps_in c.taken;
-          taken =
-              from_dark (steps_in c.taken) false c.parts.board resting
-              (then_rests (steps_in c.taken) (record c.parts.board { powered = true }) c.board
-              (goes_on (record c.parts.board { powered = true }) c.board c.taken c.watched (it.power.1 refl)));
-          board = (group_done empty_shown it.lines resting refl refl it.group, finished_steps it.group);
-          rooted =
-              subst (IsRooted c.setup) (sym plain)
-              (rooted_with c.setup (plain_of_parts c.setup c.parts) resting (rooted_open c.setup c.parts c.world c.none) it.root refl);
-          shape = refl;
-          keys = refl;
-          shown = is;
-        }
-      where
-        same_setup : c.parts.watch.setup ≡ c.setup
-        same_setup = c.world.its_watch.its_setup
-
-        shadow_shown : true_slots c.setup.shape (plain_of_parts c.setup c.parts) ≡ c.parts.watch.slots → IsShadowExhibit c.setup (with_board (plain_of_parts c.setup c.parts) resting) exhibit
-        shadow_shown true_are =
-            let truth : true_slots c.setup.shape (with_board (plain_of_parts c.setup c.parts) resting) ≡ c.parts.watch.slots =
-            slots-free c.setup.shape (plain_of_parts c.setup c.parts) resting (plain_of_parts c.setup c.parts).named ∙ true_are in
-            let place = subst (λ (s : Setup). IsShadowDifference s.formulas (shadow_height s.shape) clash.slots c.parts.watch.slots its_clash.slot its_clash.height its_clash.position) same_setup its_clash.place in
-            let its = subst (λ (s : Setup). exhibit ≡ Clash its_clash.position (shadow_tree_line s.formulas (shadow_height s.shape) clash.slots its_clash.height its_clash.position)
-            (shadow_tree_line s.formulas (shadow_height s.shape) c.parts.watch.slots its_clash.height its_clash.position)) same_setup its_clash.its in
-            record {
-              slot = its_clash.slot;
-              height = its_clash.height;
-              position = its_clash.position;
-              place =
-                  tampered_slot empty_shown it.lines
-                  (λ clear. clash.other (slots_are ∙ slots_true empty_shown it.lines clear it.size));
-              one_root = ap (shadow_root c.setup.shape c.setup.formulas) (sym slots_are) ∙ (clash.root ∙ sym it.root);
-              difference =
-                  subst (λ (ls : List Line). IsShadowDifference c.setup.formulas (shadow_height c.setup.shape) (slots_read c.setup.shape c.board.lines) ls its_clash.slot its_clash.height its_clash.position) (sym truth)
-                  (subst (λ (ls : List Line). IsShadowDifference c.setup.formulas (shadow_height c.setup.shape) ls c.parts.watch.slots its_clash.slot its_clash.height its_clash.position) slots_are place);
-              its =
-                  its
-                  ∙ (ap (λ (ls : List Line). Clash its_clash.position (shadow_tree_line c.setup.formulas (shadow_height c.setup.shape) ls its_clash.height its_clash.position)
-                  (shadow_tree_line c.setup.formulas (shadow_height c.setup.shape) c.parts.watch.slots its_clash.height its_clash.position)) slots_are
-                  ∙ ap (λ (ls : List Line). Clash its_clash.position (shadow_tree_line c.setup.formulas (shadow_height c.setup.shape) (slots_read c.setup.shape c.board.lines) its_clash.height its_clash.position)
-                  (shadow_tree_line c.setup.formulas (shadow_height c.setup.shape) ls its_clash.height its_clash.position)) (sym truth));
-            }

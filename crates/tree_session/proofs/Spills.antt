@@ -130,14 +130,21 @@ module _ (c : TreeEngineCall) (a : ℕ) where
         regs = regs ∙ it.regs;
       }
 
+  pub spilled_most : (n : ℕ) → length (spilled_nodes c.setup c.engine.cache a n) ≤ n
+  spilled_most n =
+      let back = spilled-few c.setup c.engine.cache a n in
+      let absent = absent-few c.setup.shape c.engine.cache a n in
+      omega (arith, back, absent)
+
   -- as many line writes at most as levels were fetched
   pub few_spilled : (n : ℕ) → HasFetchedNodes c.setup a n (from c) (to c) → steps_in c.taken ≤ n
   few_spilled n it =
       let few = c.watched.follows.few in
       let writes = taken-exact (length (spilled_nodes c.setup c.engine.cache a n)) c.taken.writes it.writes (omega (arith, few)) in
-      let back = spilled-few c.setup c.engine.cache a n in
-      let absent = absent-few c.setup.shape c.engine.cache a n in
-      omega (arith, writes, it.latches, back, absent)
+      omega (arith, writes, it.latches, spilled_most n)
+
+  pub few_steps : (n : ℕ) → HasFetchedNodes c.setup a n (from c) (to c) → steps_in c.taken ≤ c.setup.shape.levels
+  few_steps n it = omega (arith, few_spilled n it, it.on_path)
 
   -- ---- a write's group, told by the plain state after it
 

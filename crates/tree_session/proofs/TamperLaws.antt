@@ -76,13 +76,8 @@ module _ (setup : Setup) (p : TreeParts) (board : BoardMemory) (world : IsTreeWo
     (inside : d < tree_size setup.shape) (is : board ≡ with_line_at p.board d line) (each : All IsLine board.lines) where
   abbrev pub changed : TreeParts
   changed =
-      record {
-        keys = p.keys;
-        tags = p.tags;
-        digests = p.digests;
+      record p {
         board = with_line_at p.board d line;
-        watch = p.watch;
-        engine = p.engine;
         tampered = slice_set p.tampered d true;
         hurt = hurt_with setup.shape p.hurt d;
       }
@@ -148,9 +143,9 @@ module _ (setup : Setup) (p : TreeParts) (board : BoardMemory) (world : IsTreeWo
             ];
       }
 
-  pub changed_held : IsTreeWorld setup (record { keys = p.keys; tags = p.tags; digests = p.digests; board = board; watch = p.watch; engine = p.engine; tampered = slice_set p.tampered d true; hurt = hurt_with setup.shape p.hurt d })
+  pub changed_held : IsTreeWorld setup (record p { board = board; tampered = slice_set p.tampered d true; hurt = hurt_with setup.shape p.hurt d })
   changed_held =
-      subst (λ (b : BoardMemory). IsTreeWorld setup (record { keys = p.keys; tags = p.tags; digests = p.digests; board = b; watch = p.watch; engine = p.engine; tampered = slice_set p.tampered d true; hurt = hurt_with setup.shape p.hurt d })) (sym is)
+      subst (λ (b : BoardMemory). IsTreeWorld setup (record p { board = b; tampered = slice_set p.tampered d true; hurt = hurt_with setup.shape p.hurt d })) (sym is)
       (opened setup changed
       (record {
         shape = world.whole_shape;

@@ -1,6 +1,7 @@
 -- What a session holds, and what a call that goes on, is cut or shows leaves of it.
 use Rattle.std.proofs.Common.{ℕ, ◌≡◌, ◌<◌, ◌≤◌, ◌+◌, true, false, Bool, List, [], length, Option, Some, None, refl, sym, ap, subst, ◌∙◌, arith}
-use Rattle.std.specs.Prelude.{IsSome, IsNone, IfSome, MatchOption, All, slice_index_or}
+use Rattle.std.specs.Prelude.{Result, IsSome, IsNone, IfSome, MatchOption, All, slice_index_or, not, ◌||◌, if◌then◌else◌}
+use Rattle.std.proofs.lemmas.Bool.{true≢false}
 use Rattle.pmem_base.specs.declared.registers.Regs.{Regs}
 use Rattle.pmem_base.specs.declared.answers.Exhibit.{Exhibit}
 use Rattle.pmem_base.specs.Lines.{IsLine}
@@ -10,18 +11,26 @@ use Rattle.suite.specs.Setup.{Setup}
 use Rattle.board.specs.Device.{Device, AreLinesOf}
 use Rattle.board.specs.Memory.{BoardMemory, device_of}
 use Rattle.collision_witness.specs.Exhibits.{IsExhibit, AreSmallMinors}
-use Rattle.pmem_engine.specs.Outcomes.{Outcome, going, cut_short, shown}
+use Rattle.call_plan.specs.Plans.{Plan}
+use Rattle.call_plan.specs.Plans as plans
+use Rattle.call_plan.specs.Following.{Follows}
+use Rattle.pmem_engine.specs.Outcomes.{Outcome, going, cut_short, shown, is_going}
 use Rattle.counter_tree.specs.Layout.{tree_lines, tree_slots, tree_size, line_of_slot}
 use Rattle.counter_tree.specs.Watch.{WatchState, last_seal_of, IsWatchOf}
 use Rattle.watched_board.specs.declared.taken.Taken.{Taken}
-use Rattle.watched_board.specs.Watching.{device_during, none_taken, IsWatched}
+use Rattle.watched_board.specs.Watching.{device_during, none_taken, steps_in, step_limit, IsWatched}
+use Rattle.asit_shadow.specs.declared.fault.TreeFault.{TreeFault}
+use Rattle.asit_shadow.specs.Plans.{TreeChip, tree_chip_of}
 use Rattle.asit_shadow.specs.State.{TreeState}
 use Rattle.asit_shadow.specs.Invariants.{IsTreeAnchored}
 use Rattle.asit_shadow.specs.Parts.{TreeEngineParts, tree_parts_of, AreTreeTrusted, HoldsTreeSeal, HoldsSlot, IsTreeUsable, IsWatchReady}
-use Rattle.asit_shadow.specs.Calls.{TreeCallEffect, KeepsWatch}
+use Rattle.asit_shadow.specs.Calls.{TreeCallEffect, KeepsWatch, AnswersTreeDown, before_end, tree_outcome_of}
 use Rattle.asit_shadow.specs.Recovering.{rest_of, IsRestUsable}
 use Rattle.tree_session.specs.Answered.{IsRooted}
-use Rattle.tree_session.specs.World.{TreeParts, plain_of_parts, IsTreeOn, IsTreeOff, IsTreeBy, IsTreeOpen, IsTreeEnded, IsTreeWorld}
+use Rattle.tree_session.specs.declared.answers.TreeAnswer.{TreeAnswer}
+use Rattle.tree_session.specs.Called.{HasTreeCalled}
+use Rattle.tree_session.specs.State.{watch_in}
+use Rattle.tree_session.specs.World.{TreeParts, plain_of_parts, state_of, IsTreeOn, IsTreeOff, IsTreeBy, IsTreeOpen, IsTreeEnded, IsTreeWorld}
 use Rattle.tree_session.proofs.PlainStates.{plain_is, root-is}
 
 -- ---- options
@@ -149,6 +158,7 @@ pub record TreeEngineCall : Type 0 where
   pub parts : TreeParts
   pub engine : TreeState
   pub after : TreeState
+  pub pads : ℕ
   pub tags : ℕ
   pub digests : ℕ
   pub board : BoardMemory
@@ -163,14 +173,32 @@ module _ (c : TreeEngineCall) where
   abbrev pub from : TreeEngineParts
   from = tree_parts_of c.engine (device_during c.parts.board none_taken) c.parts.watch
 
+  abbrev pub ended_to : TreeEngineParts
+  ended_to = tree_parts_of c.after (device_during c.board c.taken) c.watch
+
+  -- before the end of the call took the engine down
   abbrev pub to : TreeEngineParts
-  to = tree_parts_of c.after (device_during c.board c.taken) c.watch
+  to = before_end ended_to
+
+  -- it goes on
+  pub still_up : {T : Type 0} (answer : Result T TreeFault) → is_going (tree_outcome_of answer) ≡ true → AnswersTreeDown from ended_to answer → c.after.down ≡ false
+  still_up answer goes it =
+      it.after ∙ (ap (λ b. b || not (is_going (tree_outcome_of answer))) (on_in c.setup c.parts c.engine (open_in c.setup c.parts c.world c.none) c.there).trusted.not_down ∙ ap not goes)
 
   abbrev pub left : Option TreeState → List Bool → TreeParts
-  left found hurt = record { keys = c.parts.keys; tags = c.tags; digests = c.digests; board = c.board; watch = c.watch; engine = found; tampered = c.parts.tampered; hurt = hurt }
+  left found hurt =
+      record c.parts { pads = c.pads; tags = c.tags; digests = c.digests; board = c.board; watch = c.watch; engine = found; hurt = hurt }
 
   abbrev pub left_resting : TreeParts
-  left_resting = record { keys = c.parts.keys; tags = c.tags; digests = c.digests; board = record c.board { powered = false }; watch = c.watch; engine = None; tampered = c.parts.tampered; hurt = c.parts.hurt }
+  left_resting =
+      record c.parts {
+        pads = c.pads;
+        tags = c.tags;
+        digests = c.digests;
+        board = record c.board { powered = false };
+        watch = c.watch;
+        engine = None;
+      }
 
   abbrev opened_in : IsTreeOpen c.setup c.parts
   opened_in = open_in c.setup c.parts c.world c.none
@@ -183,6 +211,57 @@ module _ (c : TreeEngineCall) where
 
   pub powered_from : c.parts.board.powered ≡ true
   powered_from = (on_in c.setup c.parts c.engine (open_in c.setup c.parts c.world c.none) c.there).powered
+
+  -- ---- the plan of the call
+
+  abbrev pub chip_from : TreeChip
+  chip_from = tree_chip_of c.engine c.parts.watch c.parts.pads c.parts.tags c.parts.digests
+
+  abbrev pub chip_to : TreeChip
+  chip_to = tree_chip_of c.after c.watch c.pads c.tags c.digests
+
+  -- the board followed a plan to this end
+  abbrev pub EndsBy : {A : Type 0} → (TreeChip → Plan (TreeChip × TreeFault) (TreeChip × A)) → Result A TreeFault → Type 0
+  EndsBy plan end = Follows (plan chip_from) (device_during c.parts.board none_taken) (device_during c.board c.taken) (plans.ended end chip_to)
+
+  -- what is left of the engine, by power
+  abbrev pub IsEngineLeft : Option TreeState → Type 0
+  IsEngineLeft found = (found ≡ (if c.board.powered then Some c.after else None)) × (c.board.powered ≡ false → steps_in c.taken < step_limit)
+
+  pub lit_left : c.board.powered ≡ true → IsEngineLeft (Some c.after)
+  lit_left lit = (ap (λ (b : Bool). if b then Some c.after else None) (sym lit), λ dark. absurd (true≢false (sym lit ∙ dark)))
+
+  pub dark_left : c.board.powered ≡ false → steps_in c.taken < step_limit → IsEngineLeft None
+  dark_left dark few = (ap (λ (b : Bool). if b then Some c.after else None) (sym dark), λ _. few)
+
+  -- the watch is of the session's setup, before and after
+  watch_from : c.parts.watch ≡ watch_in c.setup (state_of c.setup c.parts)
+  watch_from = λ i. record c.parts.watch { setup = c.world.its_watch.its_setup i }
+
+  pub called : {A : Type 0} → c.watch.setup ≡ c.setup → (plan : TreeChip → Plan (TreeChip × TreeFault) (TreeChip × A)) (says : Taken → Result A TreeFault → TreeAnswer)
+      (answer : TreeAnswer) (end : Result A TreeFault) (found : Option TreeState) (hurt : List Bool) → answer ≡ says c.taken end → EndsBy plan end
+      → IsEngineLeft found → HasTreeCalled c.setup plan says (state_of c.setup c.parts) (state_of c.setup (left found hurt)) answer
+  called its_setup plan says answer end found hurt is follows kept =
+      let watch_to : c.watch ≡ watch_in c.setup (state_of c.setup (left found hurt)) = λ i. record c.watch { setup = its_setup i } in
+      record {
+        engine = c.engine;
+        was_on = c.there;
+        after = c.after;
+        taken = c.taken;
+        end = end;
+        outcome =
+            record {
+              run = record { follows = c.watched.follows; within = kept.1 };
+              follows =
+                  subst (λ w. Follows (plan (tree_chip_of c.engine w c.parts.pads c.parts.tags c.parts.digests)) (device_during c.parts.board none_taken)
+                  (device_during c.board c.taken)
+                  (plans.ended end (tree_chip_of c.after (watch_in c.setup (state_of c.setup (left found hurt))) c.pads c.tags c.digests))) watch_from
+                  (subst (λ w. Follows (plan chip_from) (device_during c.parts.board none_taken) (device_during c.board c.taken)
+                  (plans.ended end (tree_chip_of c.after w c.pads c.tags c.digests))) watch_to follows);
+            };
+        is_said = is;
+        kept = kept.0;
+      }
 
   module _ (outcome : Outcome) (effect : TreeCallEffect c.setup outcome from to) where
     lines_whole : AreLinesOf (tree_size c.setup.shape) c.board.lines
@@ -201,8 +280,8 @@ module _ (c : TreeEngineCall) where
     trusted_to : AreTreeTrusted c.setup to
     trusted_to = effect.trusted trusted_from
 
-    pub on_after : IsTreeWorld c.setup (left (Some c.after) hurt)
-    on_after =
+    pub on_after : c.after.down ≡ false → IsTreeWorld c.setup (left (Some c.after) hurt)
+    on_after up =
         opened c.setup (left (Some c.after) hurt)
         (record {
           shape = c.world.whole_shape;
@@ -215,13 +294,14 @@ module _ (c : TreeEngineCall) where
         (none_is c.watch.exhibit trusted_to.anchored.no_exhibit)
         (record {
           chip =
-              record {
+              subst (IsTreeOn c.setup (left (Some c.after) hurt)) (λ i. record c.after { down = (sym up) i })
+              (record {
                 powered = effect.power.1 powered_from;
                 its_shape = trusted_to.its_shape;
-                usable = usable_on c.setup c.after (device_of c.board) c.watch (effect.size ∙ c.world.whole_lines.count) trusted_to;
+                usable = usable_on c.setup (record c.after { down = false }) (device_of c.board) c.watch (effect.size ∙ c.world.whole_lines.count) trusted_to;
                 trusted = trusted_to;
                 nodes = λ x unchanged. (effect.places trusted_from).nodes x unchanged.0 (on.nodes x unchanged);
-              };
+              });
           places = record { seals = seals; slots = slots_kept going effect };
         })
 
@@ -263,8 +343,8 @@ module _ (c : TreeEngineCall) where
     rooted_cut = rooted_off c.setup (left None hurt) c.world.whole_shape anchored_to effect.power.1
 
   -- a call that goes on, with the flags of hurt lines as they were
-  pub held_still : TreeCallEffect c.setup going from to → IsTreeWorld c.setup (left (Some c.after) c.parts.hurt)
-  held_still effect = on_after effect c.parts.hurt c.world.hurt_count (seals_kept going effect)
+  pub held_still : TreeCallEffect c.setup going from to → c.after.down ≡ false → IsTreeWorld c.setup (left (Some c.after) c.parts.hurt)
+  held_still effect up = on_after effect c.parts.hurt c.world.hurt_count (seals_kept going effect) up
 
   pub rooted_still : TreeCallEffect c.setup going from to → IsRooted c.setup (plain_of_parts c.setup (left (Some c.after) c.parts.hurt))
   rooted_still effect = rooted_after effect c.parts.hurt c.world.hurt_count (seals_kept going effect)

@@ -11,6 +11,7 @@ use Rattle.asit_shadow.specs.declared.fault.TreeFault.{TreeFault}
 use Rattle.asit_shadow.specs.declared.fault.TreeFault.TheVariants as Fail
 use Rattle.asit_shadow.specs.State.{TreeState}
 use Rattle.asit_shadow.specs.Calls.{HasWrittenTreeLine}
+use Rattle.asit_shadow.specs.WritePlans.{write_plan}
 use Rattle.trace_text.specs.declared.talk.Halt.{Halt}
 use Rattle.trace_text.specs.declared.talk.Halt.TheVariants as Stop
 use Rattle.tree_session.specs.declared.commands.TreeCommand.TheVariants as Do
@@ -18,9 +19,9 @@ use Rattle.tree_session.specs.declared.answers.TreeAnswer.TheVariants as Say
 use Rattle.tree_session.specs.State.{tree_setup_in}
 use Rattle.tree_session.specs.World.{TreeParts, state_of, IsTreeWorld}
 use Rattle.tree_session.specs.Answered.{IsTreeAnswered, IsTreeHalt}
-use Rattle.tree_session.proofs.Worlds.{left, left_resting, from, to, trusted_from, held_still, cut_still}
-use Rattle.tree_session.proofs.WriteLaws.{written_held, written_done, is_lost, lost_done, kept_held, kept_done, unwritten_done, spent_done, unwritten_shown_held, unwritten_shown_done, unwritten_shown_minors}
-use Rattle.tree_session.proofs.AnswerClauses.{WorldCall, call, setup_of, setup_under, as_written, seen, held, halts, some_of}
+use Rattle.tree_session.proofs.Worlds.{EndsBy, left, left_resting, from, ended_to, still_up, trusted_from, held_still, cut_still}
+use Rattle.tree_session.proofs.WriteLaws.{WasWritten, written_held, written_done, is_lost, lost_done, kept_held, kept_done, unwritten_done, spent_done, unwritten_shown_held, unwritten_shown_done, unwritten_shown_minors}
+use Rattle.tree_session.proofs.AnswerClauses.{WorldCall, call, setup_of, setup_under, as_known, seen, held, halts, some_of}
 
 pub record WriteTreeCall : Type 0 where
   pub world : WorldCall
@@ -30,7 +31,8 @@ pub record WriteTreeCall : Type 0 where
   pub whole : IsLine line
   pub answer : Result ℕ TreeFault
   pub was_written :
-      HasWrittenTreeLine (setup_under world.formulas_of world.engine.shape world.parts.keys) at line (from (call world)) (to (call world)) answer
+      HasWrittenTreeLine (setup_under world.formulas_of world.engine.shape world.parts.keys) at line (from (call world)) (ended_to (call world)) answer
+  pub plan : EndsBy (call world) (write_plan (setup_under world.formulas_of world.engine.shape world.parts.keys) world.parts.board.regs at line) answer
 
 module _ (r : WriteTreeCall) where
   abbrev kept : Option TreeState → TreeParts
@@ -45,8 +47,12 @@ module _ (r : WriteTreeCall) where
   abbrev pub setup_then : Setup
   setup_then = setup_under r.world.formulas_of r.world.geometry r.world.keys
 
-  was : (known : Result ℕ TreeFault) → r.answer ≡ known → HasWrittenTreeLine (setup_of r.world) r.at r.line (from (call r.world)) (to (call r.world)) known
-  was known is = as_written r.world r.at r.line r.answer known is r.was_written
+  was : (known : Result ℕ TreeFault) → r.answer ≡ known → WasWritten (call r.world) r.at r.line known
+  was known is =
+      record {
+        written = as_known r.world (λ s answer. HasWrittenTreeLine s r.at r.line (from (call r.world)) (ended_to (call r.world)) answer) r.answer known is r.was_written;
+        follows = as_known r.world (λ s answer. EndsBy (call r.world) (write_plan s r.world.parts.board.regs r.at r.line) answer) r.answer known is r.plan;
+      }
 
   pub made_held : (counter : ℕ) → r.answer ≡ Ok counter → IsTreeWorld setup_then (under (made (Some r.world.after)))
   made_held counter is = held r.world (made (Some r.world.after)) (written_held (call r.world) r.at r.within r.line r.whole counter (was (Ok counter) is))
@@ -57,7 +63,8 @@ module _ (r : WriteTreeCall) where
       seen r.world (made (Some r.world.after)) (Do.Write r.at r.line) Say.Written refl (written_done (call r.world) r.at r.within r.line r.whole counter (was (Ok counter) is))
 
   pub node_kept : (x : ℕ) → r.answer ≡ Err (Fail.Node x) → IsTreeWorld setup_then (under (kept (Some r.world.after)))
-  node_kept x is = held r.world (kept (Some r.world.after)) (held_still (call r.world) ((was (Err (Fail.Node x)) is).done (trusted_from (call r.world)).not_down).effect)
+  node_kept x is = held r.world (kept (Some r.world.after)) (held_still (call r.world) ((was (Err (Fail.Node x)) is).written.done (trusted_from (call r.world)).not_down).effect
+      (still_up (call r.world) (Err (Fail.Node x)) refl (was (Err (Fail.Node x)) is).written.down))
 
   pub node_seen : (x : ℕ) → r.answer ≡ Err (Fail.Node x)
       → IsTreeAnswered (tree_setup_in r.world.formulas_of r.world.now) r.world.now (Do.Write r.at r.line) (Say.RefusedNode x r.world.said) (state_of setup_then (under (kept (Some r.world.after))))
@@ -66,7 +73,8 @@ module _ (r : WriteTreeCall) where
       (unwritten_done (call r.world) r.at r.within r.line r.whole x (was (Err (Fail.Node x)) is))
 
   pub spent_kept : r.answer ≡ Err Fail.Spent → IsTreeWorld setup_then (under (kept (Some r.world.after)))
-  spent_kept is = held r.world (kept (Some r.world.after)) (held_still (call r.world) ((was (Err Fail.Spent) is).done (trusted_from (call r.world)).not_down).effect)
+  spent_kept is = held r.world (kept (Some r.world.after)) (held_still (call r.world) ((was (Err Fail.Spent) is).written.done (trusted_from (call r.world)).not_down).effect
+      (still_up (call r.world) (Err Fail.Spent) refl (was (Err Fail.Spent) is).written.down))
 
   pub spent_seen : r.answer ≡ Err Fail.Spent
       → IsTreeAnswered (tree_setup_in r.world.formulas_of r.world.now) r.world.now (Do.Write r.at r.line) (Say.Spent r.world.said) (state_of setup_then (under (kept (Some r.world.after))))
@@ -77,7 +85,7 @@ module _ (r : WriteTreeCall) where
   lost_kept is none =
       let cut = was (Err Fail.Cut) is in
       held r.world (kept None)
-      (cut_still (call r.world) (cut.done (trusted_from (call r.world)).not_down).effect (is_lost (call r.world) r.at r.within r.line r.whole cut none).regs)
+      (cut_still (call r.world) (cut.written.done (trusted_from (call r.world)).not_down).effect (is_lost (call r.world) r.at r.within r.line r.whole cut none).regs)
 
   pub lost_seen : r.answer ≡ Err Fail.Cut → r.world.taken.latches ≤ 0
       → IsTreeAnswered (tree_setup_in r.world.formulas_of r.world.now) r.world.now (Do.Write r.at r.line) (Say.CutLost r.world.said) (state_of setup_then (under (kept None)))
@@ -95,7 +103,7 @@ module _ (r : WriteTreeCall) where
   -- where the watch stopped the engine, it has an exhibit
   exhibit_of : r.answer ≡ Err Fail.Shown → (exhibit : Exhibit) × (r.world.watch.exhibit ≡ Some exhibit)
   exhibit_of is =
-      some_of r.world.watch.exhibit ((((was (Err Fail.Shown) is).done (trusted_from (call r.world)).not_down).watch tt).stopped refl)
+      some_of r.world.watch.exhibit ((((was (Err Fail.Shown) is).written.done (trusted_from (call r.world)).not_down).watch tt).stopped refl)
 
   -- the board rests then
   module _ (is : r.answer ≡ Err Fail.Shown) (rested : BoardMemory) (rests : rested ≡ record r.world.board { powered = false }) where

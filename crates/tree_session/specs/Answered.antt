@@ -32,6 +32,7 @@ use Rattle.tree_session.specs.declared.answers.TreeAnswer.TheVariants as Say
 use Rattle.tree_session.specs.Answers.{tree_text}
 use Rattle.tree_session.specs.Commands.{reading_of_tree, tree_takes_memory}
 use Rattle.tree_session.specs.State.{SessionState}
+use Rattle.tree_session.specs.Called.{IsTreeCalled}
 
 -- ---- the answers that the state decides
 
@@ -388,6 +389,8 @@ pub record IsTreeAnswered (setup : Setup) (old : SessionState) (command : TreeCo
   pub kept : IsTreeStateKept old new
   pub answered :
       AnswersWith setup old.plain command new.plain answer (tree_decided setup.shape old.plain command)
+  -- exactly what was done: where power is cut, which nodes gave way, and what stands in the cache
+  pub called : IsTreeCalled setup old command new answer (tree_decided setup.shape old.plain command)
   pub rooted : IsRooted setup new.plain
 
 -- What the engine did to the board before it showed something, in so many steps: it finished the armed group, or wrote

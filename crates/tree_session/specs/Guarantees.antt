@@ -1,7 +1,7 @@
 -- What a session's answers promise: in each chain of them from the beginning on, the commands and answers so far say
 -- of the next one which answers it may have: a read shows the line that was last written, power and the fuse are as the answers
 -- told, a refusal or an exhibit comes only of a place that was tampered with, and a write is spent exactly once all are made.
-use Rattle.std.specs.Prelude.{ℕ, ◌≡◌, ◌≢◌, ◌<◌, ◌≤◌, ◌+◌, ◌-◌, ◌⊎◌, Bool, true, false, List, [], ◌∷◌, replicate, Option, Some, None, All, slice_set, slice_index, ⊤}
+use Rattle.std.specs.Prelude.{ℕ, ◌≡◌, ◌≢◌, ◌<◌, ◌≤◌, ◌+◌, ◌-◌, ◌⊎◌, Bool, true, false, List, [], ◌∷◌, replicate, Option, Some, None, All, slice_set, slice_index, ⊤, if◌then◌else◌}
 use Rattle.pmem_base.specs.declared.lines.Line.{Line}
 use Rattle.pmem_base.specs.declared.answers.Exhibit.{Exhibit}
 use Rattle.pmem_base.specs.declared.answers.Exhibit.TheVariants.{Clash, Forged}
@@ -20,6 +20,7 @@ use Rattle.tree_session.specs.declared.commands.TreeCommand.TheVariants as Do
 use Rattle.tree_session.specs.declared.answers.TreeAnswer.{TreeAnswer}
 use Rattle.tree_session.specs.declared.answers.TreeAnswer.TheVariants as Say
 use Rattle.tree_session.specs.State.{SessionState, IsNewTree}
+use Rattle.tree_session.specs.Called.{is_made}
 use Rattle.tree_session.specs.Answered.{read_bound, tree_write_bound, write_least, tree_recovery_bound, IsPathTampered, IsSlotTampered, IsHurt, AllAreMade, IsTreeAnswered, IsTreeShownBy}
 
 -- ---- chains of answers
@@ -71,27 +72,28 @@ first_history g =
 
 -- memory changes by a write that was answered ok or cut kept
 abbrev pub tree_memory_with : List Line → TreeCommand → TreeAnswer → List Line
-tree_memory_with memory (Do.Write a line) (Say.Written s) = slice_set memory a line
-tree_memory_with memory (Do.Write a line) (Say.CutKept s) = slice_set memory a line
+tree_memory_with memory (Do.Write a line) answer = if is_made answer then slice_set memory a line else memory
 tree_memory_with memory command answer = memory
 
 abbrev pub counts_with : List ℕ → TreeCommand → TreeAnswer → List ℕ
-counts_with counts (Do.Write a line) (Say.Written s) = slice_set counts a (slice_index counts a + 1)
-counts_with counts (Do.Write a line) (Say.CutKept s) = slice_set counts a (slice_index counts a + 1)
+counts_with counts (Do.Write a line) answer = if is_made answer then slice_set counts a (slice_index counts a + 1) else counts
 counts_with counts command answer = counts
+
+abbrev pub is_answered_ok : TreeAnswer → Bool
+is_answered_ok Say.Ok = true
+is_answered_ok answer = false
 
 -- device lines are tampered with by poke and back
 abbrev pub tampered_with : List Bool → TreeCommand → TreeAnswer → List Bool
-tampered_with tampered (Do.Poke d line) Say.Ok = slice_set tampered d true
-tampered_with tampered (Do.Back d) Say.Ok = slice_set tampered d true
+tampered_with tampered (Do.Poke d line) answer = if is_answered_ok answer then slice_set tampered d true else tampered
+tampered_with tampered (Do.Back d) answer = if is_answered_ok answer then slice_set tampered d true else tampered
 tampered_with tampered command answer = tampered
 
 -- so data lines are hurt, until they are written
 abbrev pub hurt_by : Shape → List Bool → TreeCommand → TreeAnswer → List Bool
-hurt_by g hurt (Do.Write a line) (Say.Written s) = slice_set hurt a false
-hurt_by g hurt (Do.Write a line) (Say.CutKept s) = slice_set hurt a false
-hurt_by g hurt (Do.Poke d line) Say.Ok = hurt_with g hurt d
-hurt_by g hurt (Do.Back d) Say.Ok = hurt_with g hurt d
+hurt_by g hurt (Do.Write a line) answer = if is_made answer then slice_set hurt a false else hurt
+hurt_by g hurt (Do.Poke d line) answer = if is_answered_ok answer then hurt_with g hurt d else hurt
+hurt_by g hurt (Do.Back d) answer = if is_answered_ok answer then hurt_with g hurt d else hurt
 hurt_by g hurt command answer = hurt
 
 -- power goes off by `off` and by a cut, and on by a recovery that is done
@@ -262,8 +264,8 @@ MayShow g history command exhibit = ⊥
 
 -- neither a poke nor a back that was answered ok
 abbrev pub IsNoTampering : TreeCommand → TreeAnswer → Type 0
-IsNoTampering (Do.Poke d line) Say.Ok = ⊥
-IsNoTampering (Do.Back d) Say.Ok = ⊥
+IsNoTampering (Do.Poke d line) answer = is_answered_ok answer ≡ false
+IsNoTampering (Do.Back d) answer = is_answered_ok answer ≡ false
 IsNoTampering command answer = ⊤
 
 abbrev pub IsTreeAnswerUnrefused : TreeAnswer → Type 0

@@ -2,6 +2,10 @@ pub mod Commands
 pub mod Answers
 pub mod State
 pub mod World
+pub mod Fields
+pub mod During
+pub mod Called
 pub mod Answered
+pub mod Determined
 pub mod Logged
 pub mod Guarantees

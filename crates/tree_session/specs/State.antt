@@ -1,5 +1,6 @@
 -- The state of a session over a counter tree, which is plain data.
 use Rattle.std.specs.Prelude.{ℕ, ◌≡◌, true, false, List, replicate, Option, Some, None, slice_set, length}
+use Rattle.pmem_base.specs.declared.lines.Line.{Line}
 use Rattle.pmem_base.specs.declared.answers.Exhibit.{Exhibit}
 use Rattle.pmem_base.specs.Shape.{Shape}
 use Rattle.pmem_base.specs.Lines.{zero_line}
@@ -7,8 +8,12 @@ use Rattle.board.specs.Counts.{RisesBy}
 use Rattle.suite.specs.Formulas.{Formulas}
 use Rattle.suite.specs.Setup.{Setup}
 use Rattle.counter_tree.specs.Layout.{tree_lines, tree_slots, tree_size}
+use Rattle.counter_tree.specs.declared.nodes.Node.{Node}
+use Rattle.counter_tree.specs.declared.watch.LineSeal.{LineSeal}
+use Rattle.counter_tree.specs.Watch.{WatchState}
 use Rattle.asit_shadow.specs.Formatting.{AreLinesFormatted, first_tree_regs}
 use Rattle.asit_shadow.specs.Plain.{PlainTree}
+use Rattle.asit_shadow.specs.State.{TreeState}
 
 pub record SessionState : Type 0 where
   -- the geometry, and the keys of both suites
@@ -18,13 +23,24 @@ pub record SessionState : Type 0 where
   pub plain : PlainTree
   -- the exhibit that ended the session
   pub shown : Option Exhibit
-  -- how many tags and digests were made, without those of the watch
+  -- the engine while power is on, and what its watch knows: the last seals, the true nodes and the true slot lines
+  pub engine : Option TreeState
+  pub seals : List (Option LineSeal)
+  pub nodes : List Node
+  pub slots : List Line
+  -- how many pads, tags and digests were made, without those of the watch
+  pub pads : ℕ
   pub tags : ℕ
   pub digests : ℕ
 
 -- the geometry, and a suite's formulas under the session's keys
 abbrev pub tree_setup_in : (List ℕ → Formulas) → SessionState → Setup
 tree_setup_in formulas_of state = record { shape = state.shape; formulas = formulas_of state.keys }
+
+-- its watch
+abbrev pub watch_in : Setup → SessionState → WatchState
+watch_in setup state =
+    record { setup = setup; seals = state.seals; nodes = state.nodes; slots = state.slots; exhibit = state.shown }
 
 -- A formatted device with power on: all lines are zeros, the top alone is named, nothing was tampered with, and
 -- nothing waits to be cut.

@@ -29,6 +29,7 @@ use Rattle.tree_session.specs.State.{SessionState}
 -- what the program keeps of a session beside the geometry
 pub record TreeParts : Type 0 where
   pub keys : List ℕ
+  pub pads : ℕ
   pub tags : ℕ
   pub digests : ℕ
   pub board : BoardMemory
@@ -59,6 +60,11 @@ state_of setup parts =
       keys = parts.keys;
       plain = plain_of_parts setup parts;
       shown = parts.watch.exhibit;
+      engine = parts.engine;
+      seals = parts.watch.seals;
+      nodes = parts.watch.nodes;
+      slots = parts.watch.slots;
+      pads = parts.pads;
       tags = parts.tags;
       digests = parts.digests;
     }

@@ -1,6 +1,6 @@
 //! Calls of the engine, and recovery, over a board whose fuse is watched: one watched board for each command, so
 //! that its steps are those of the whole command.
-ghost use Rattle.std.specs.Prelude.{◌≡◌, ◌<◌, true, None, All, IfOk, length};
+ghost use Rattle.std.specs.Prelude.{◌≡◌, ◌≢◌, ◌<◌, true, None, Err, All, IfOk, length};
 ghost use Rattle.pmem_base.specs.Geo.{shape_of};
 ghost use Rattle.pmem_base.specs.Layout.{meta_lines};
 ghost use Rattle.pmem_base.specs.Lines.{IsLine};
@@ -9,9 +9,16 @@ ghost use Rattle.board.specs.MemBoard.{memory_of};
 ghost use Rattle.watched_board.specs.Watching.{IsWatched, device_during, none_taken};
 ghost use Rattle.access_log.specs.Traced.{GoesOn};
 ghost use Rattle.counter_tree.specs.Layout.{tree_lines, tree_slots, tree_size};
-ghost use Rattle.asit_shadow.specs.Parts.{tree_parts_of, IsTreeUsable};
+ghost use Rattle.call_plan.specs.Plans.{ended};
+ghost use Rattle.call_plan.specs.Following.{Follows};
+ghost use Rattle.pmem_recovery.specs.Parts.{setup_with};
+ghost use Rattle.asit_shadow.specs.Parts.{tree_setup_at, IsTreeUsable};
+ghost use Rattle.asit_shadow.specs.Plans.{tree_chip_at, read_plan};
+ghost use Rattle.asit_shadow.specs.WritePlans.{write_plan};
+ghost use Rattle.asit_shadow.specs.RecoverPlans.{recover_parts_at, tree_recover_plan};
+ghost use Rattle.tree_session.specs.During.{parts_during, rest_during, rest_now};
 ghost use Rattle.asit_shadow.specs.Calls.{HasReadTreeLine, HasWrittenTreeLine};
-ghost use Rattle.asit_shadow.specs.Recovering.{rest_of, IsRestUsable, HasTreeRecovered};
+ghost use Rattle.asit_shadow.specs.Recovering.{IsRestUsable, HasTreeRecovered};
 ghost use Rattle.asit_shadow.specs.Formatting.{HasTreeFormatted};
 
 use access_log::{AccessLog, Entry, Logged};
@@ -43,13 +50,16 @@ pub(crate) fn read<S: Suite, W: Watch>(
 ) -> CallEnd<Result<Line, TreeFault>>
     requires line { at < tree_lines engine.old.shape }
     requires on { (memory_of board.old).powered ≡ true }
-    requires usable { IsTreeUsable engine.old.shape (tree_parts_of engine.old (device_during (memory_of board.old) none_taken) (W.watched watch.old)) }
-    ensures read { HasReadTreeLine (record { shape = engine.old.shape; formulas = S.formulas_of (S.keys suite.old) }) at
-        (tree_parts_of engine.old (device_during (memory_of board.old) none_taken) (W.watched watch.old))
-        (tree_parts_of engine.new (device_during (memory_of board.new) result.taken) (W.watched watch.new)) result.answer }
+    requires usable { IsTreeUsable engine.old.shape (parts_during W.Watch engine.old board.old none_taken watch.old) }
+    ensures read { HasReadTreeLine (tree_setup_at S.Suite engine.old suite.old) at
+        (parts_during W.Watch engine.old board.old none_taken watch.old)
+        (parts_during W.Watch engine.new board.new result.taken watch.new) result.answer }
+    ensures plan { Follows (read_plan (tree_setup_at S.Suite engine.old suite.old) at (tree_chip_at S.Suite W.Watch engine.old suite.old watch.old))
+        (device_during (memory_of board.old) none_taken) (device_during (memory_of board.new) result.taken)
+        (ended result.answer (tree_chip_at S.Suite W.Watch engine.new suite.new watch.new)) }
     ensures watched { IsWatched (memory_of board.old) (memory_of board.new) result.taken }
     ensures logged { GoesOn log.old (memory_of board.old) log.new (memory_of board.new) }
-    ensures usable { IsTreeUsable engine.old.shape (tree_parts_of engine.new (device_during (memory_of board.new) result.taken) (W.watched watch.new)) }
+    ensures usable { IsTreeUsable engine.old.shape (parts_during W.Watch engine.new board.new result.taken watch.new) }
     ensures keys { S.keys suite.new ≡ S.keys suite.old }
     ensures shape { engine.new.shape ≡ engine.old.shape }
 {
@@ -75,14 +85,17 @@ fn read_logged<'a, K: Start + Entry, S: Suite, W: Watch>(
     requires name { board.ghost_name ≡ K.name }
     requires log { log.old ≡ K.log }
     requires on { (memory_of board.old).powered ≡ true }
-    requires usable { IsTreeUsable engine.old.shape (tree_parts_of engine.old (device_during (memory_of board.old) none_taken) (W.watched watch.old)) }
+    requires usable { IsTreeUsable engine.old.shape (parts_during W.Watch engine.old board.old none_taken watch.old) }
     ensures name { result.board.ghost_name ≡ K.name }
-    ensures read { HasReadTreeLine (record { shape = engine.old.shape; formulas = S.formulas_of (S.keys suite.old) }) at
-        (tree_parts_of engine.old (device_during (memory_of board.old) none_taken) (W.watched watch.old))
-        (tree_parts_of engine.new (device_during (memory_of result.board.now) result.taken) (W.watched watch.new)) result.answer }
+    ensures read { HasReadTreeLine (tree_setup_at S.Suite engine.old suite.old) at
+        (parts_during W.Watch engine.old board.old none_taken watch.old)
+        (parts_during W.Watch engine.new result.board.now result.taken watch.new) result.answer }
+    ensures plan { Follows (read_plan (tree_setup_at S.Suite engine.old suite.old) at (tree_chip_at S.Suite W.Watch engine.old suite.old watch.old))
+        (device_during (memory_of board.old) none_taken) (device_during (memory_of result.board.now) result.taken)
+        (ended result.answer (tree_chip_at S.Suite W.Watch engine.new suite.new watch.new)) }
     ensures watched { IsWatched K.start (memory_of result.board.now) result.taken }
     ensures logged { GoesOn K.log K.start log.new (memory_of result.board.now) }
-    ensures usable { IsTreeUsable engine.old.shape (tree_parts_of engine.new (device_during (memory_of result.board.now) result.taken) (W.watched watch.new)) }
+    ensures usable { IsTreeUsable engine.old.shape (parts_during W.Watch engine.new result.board.now result.taken watch.new) }
     ensures keys { S.keys suite.new ≡ S.keys suite.old }
     ensures shape { engine.new.shape ≡ engine.old.shape }
 {
@@ -103,13 +116,17 @@ pub(crate) fn write<S: Suite, W: Watch>(
 ) -> CallEnd<Result<u64, TreeFault>>
     requires line { at < tree_lines engine.old.shape }
     requires on { (memory_of board.old).powered ≡ true }
-    requires usable { IsTreeUsable engine.old.shape (tree_parts_of engine.old (device_during (memory_of board.old) none_taken) (W.watched watch.old)) }
-    ensures written { HasWrittenTreeLine (record { shape = engine.old.shape; formulas = S.formulas_of (S.keys suite.old) }) at line.now
-        (tree_parts_of engine.old (device_during (memory_of board.old) none_taken) (W.watched watch.old))
-        (tree_parts_of engine.new (device_during (memory_of board.new) result.taken) (W.watched watch.new)) result.answer }
+    requires usable { IsTreeUsable engine.old.shape (parts_during W.Watch engine.old board.old none_taken watch.old) }
+    ensures written { HasWrittenTreeLine (tree_setup_at S.Suite engine.old suite.old) at line.now
+        (parts_during W.Watch engine.old board.old none_taken watch.old)
+        (parts_during W.Watch engine.new board.new result.taken watch.new) result.answer }
+    ensures plan { Follows (write_plan (tree_setup_at S.Suite engine.old suite.old) (memory_of board.old).regs at line.now
+        (tree_chip_at S.Suite W.Watch engine.old suite.old watch.old))
+        (device_during (memory_of board.old) none_taken) (device_during (memory_of board.new) result.taken)
+        (ended result.answer (tree_chip_at S.Suite W.Watch engine.new suite.new watch.new)) }
     ensures watched { IsWatched (memory_of board.old) (memory_of board.new) result.taken }
     ensures logged { GoesOn log.old (memory_of board.old) log.new (memory_of board.new) }
-    ensures usable { IsTreeUsable engine.old.shape (tree_parts_of engine.new (device_during (memory_of board.new) result.taken) (W.watched watch.new)) }
+    ensures usable { IsTreeUsable engine.old.shape (parts_during W.Watch engine.new board.new result.taken watch.new) }
     ensures keys { S.keys suite.new ≡ S.keys suite.old }
     ensures shape { engine.new.shape ≡ engine.old.shape }
 {
@@ -136,14 +153,18 @@ fn write_logged<'a, K: Start + Entry, S: Suite, W: Watch>(
     requires name { board.ghost_name ≡ K.name }
     requires log { log.old ≡ K.log }
     requires on { (memory_of board.old).powered ≡ true }
-    requires usable { IsTreeUsable engine.old.shape (tree_parts_of engine.old (device_during (memory_of board.old) none_taken) (W.watched watch.old)) }
+    requires usable { IsTreeUsable engine.old.shape (parts_during W.Watch engine.old board.old none_taken watch.old) }
     ensures name { result.board.ghost_name ≡ K.name }
-    ensures written { HasWrittenTreeLine (record { shape = engine.old.shape; formulas = S.formulas_of (S.keys suite.old) }) at line.now
-        (tree_parts_of engine.old (device_during (memory_of board.old) none_taken) (W.watched watch.old))
-        (tree_parts_of engine.new (device_during (memory_of result.board.now) result.taken) (W.watched watch.new)) result.answer }
+    ensures written { HasWrittenTreeLine (tree_setup_at S.Suite engine.old suite.old) at line.now
+        (parts_during W.Watch engine.old board.old none_taken watch.old)
+        (parts_during W.Watch engine.new result.board.now result.taken watch.new) result.answer }
+    ensures plan { Follows (write_plan (tree_setup_at S.Suite engine.old suite.old) (memory_of board.old).regs at line.now
+        (tree_chip_at S.Suite W.Watch engine.old suite.old watch.old))
+        (device_during (memory_of board.old) none_taken) (device_during (memory_of result.board.now) result.taken)
+        (ended result.answer (tree_chip_at S.Suite W.Watch engine.new suite.new watch.new)) }
     ensures watched { IsWatched K.start (memory_of result.board.now) result.taken }
     ensures logged { GoesOn K.log K.start log.new (memory_of result.board.now) }
-    ensures usable { IsTreeUsable engine.old.shape (tree_parts_of engine.new (device_during (memory_of result.board.now) result.taken) (W.watched watch.new)) }
+    ensures usable { IsTreeUsable engine.old.shape (parts_during W.Watch engine.new result.board.now result.taken watch.new) }
     ensures keys { S.keys suite.new ≡ S.keys suite.old }
     ensures shape { engine.new.shape ≡ engine.old.shape }
 {
@@ -162,16 +183,22 @@ pub(crate) fn recover<S: Suite, W: Watch>(
     log: &mut AccessLog,
 ) -> CallEnd<Result<(TreeEngine, Work), TreeRec>>
     requires on { (memory_of board.old).powered ≡ true }
-    requires usable { IsRestUsable (shape_of geo.now) (rest_of (device_during (memory_of board.old) none_taken) (W.watched watch.old)) }
-    ensures recovered { HasTreeRecovered (record { shape = shape_of geo.now; formulas = S.formulas_of (S.keys suite.old) })
-        (rest_of (device_during (memory_of board.old) none_taken) (W.watched watch.old))
-        (rest_of (device_during (memory_of board.new) result.taken) (W.watched watch.new))
+    requires usable { IsRestUsable (shape_of geo.now) (rest_during W.Watch board.old none_taken watch.old) }
+    ensures recovered { HasTreeRecovered (setup_with S.Suite geo.now suite.old)
+        (rest_during W.Watch board.old none_taken watch.old)
+        (rest_during W.Watch board.new result.taken watch.new)
         (S.digests suite.old) (S.digests suite.new) result.answer }
+    ensures plan { result.answer ≢ Err TreeRec.Memory
+        → Follows (tree_recover_plan (setup_with S.Suite geo.now suite.old) (memory_of board.old).regs
+        (recover_parts_at S.Suite W.Watch suite.old watch.old))
+        (device_during (memory_of board.old) none_taken) (device_during (memory_of board.new) result.taken)
+        (ended result.answer (recover_parts_at S.Suite W.Watch suite.new watch.new)) }
     ensures watched { IsWatched (memory_of board.old) (memory_of board.new) result.taken }
     ensures logged { GoesOn log.old (memory_of board.old) log.new (memory_of board.new) }
-    ensures usable { IsRestUsable (shape_of geo.now) (rest_of (device_during (memory_of board.new) result.taken) (W.watched watch.new)) }
+    ensures usable { IsRestUsable (shape_of geo.now) (rest_during W.Watch board.new result.taken watch.new) }
     ensures shape { IfOk result.answer (λ made. made.0.shape ≡ shape_of geo.now) }
     ensures keys { S.keys suite.new ≡ S.keys suite.old }
+    ensures pads { S.pads suite.new ≡ S.pads suite.old }
     ensures tags { S.tags suite.new ≡ S.tags suite.old }
 {
     let left = recover_logged::<Brand, S, W>(alloc, geo, board, suite, watch, log);
@@ -195,17 +222,23 @@ fn recover_logged<'a, K: Start + Entry, S: Suite, W: Watch>(
     requires name { board.ghost_name ≡ K.name }
     requires log { log.old ≡ K.log }
     requires on { (memory_of board.old).powered ≡ true }
-    requires usable { IsRestUsable (shape_of geo.now) (rest_of (device_during (memory_of board.old) none_taken) (W.watched watch.old)) }
+    requires usable { IsRestUsable (shape_of geo.now) (rest_during W.Watch board.old none_taken watch.old) }
     ensures name { result.board.ghost_name ≡ K.name }
-    ensures recovered { HasTreeRecovered (record { shape = shape_of geo.now; formulas = S.formulas_of (S.keys suite.old) })
-        (rest_of (device_during (memory_of board.old) none_taken) (W.watched watch.old))
-        (rest_of (device_during (memory_of result.board.now) result.taken) (W.watched watch.new))
+    ensures recovered { HasTreeRecovered (setup_with S.Suite geo.now suite.old)
+        (rest_during W.Watch board.old none_taken watch.old)
+        (rest_during W.Watch result.board.now result.taken watch.new)
         (S.digests suite.old) (S.digests suite.new) result.answer }
+    ensures plan { result.answer ≢ Err TreeRec.Memory
+        → Follows (tree_recover_plan (setup_with S.Suite geo.now suite.old) (memory_of board.old).regs
+        (recover_parts_at S.Suite W.Watch suite.old watch.old))
+        (device_during (memory_of board.old) none_taken) (device_during (memory_of result.board.now) result.taken)
+        (ended result.answer (recover_parts_at S.Suite W.Watch suite.new watch.new)) }
     ensures watched { IsWatched K.start (memory_of result.board.now) result.taken }
     ensures logged { GoesOn K.log K.start log.new (memory_of result.board.now) }
-    ensures usable { IsRestUsable (shape_of geo.now) (rest_of (device_during (memory_of result.board.now) result.taken) (W.watched watch.new)) }
+    ensures usable { IsRestUsable (shape_of geo.now) (rest_during W.Watch result.board.now result.taken watch.new) }
     ensures shape { IfOk result.answer (λ made. made.0.shape ≡ shape_of geo.now) }
     ensures keys { S.keys suite.new ≡ S.keys suite.old }
+    ensures pads { S.pads suite.new ≡ S.pads suite.old }
     ensures tags { S.tags suite.new ≡ S.tags suite.old }
 {
     let mut logged = Logged::<K>::new(board, log.take());
@@ -227,8 +260,8 @@ pub(crate) fn format<S: Suite, W: Watch>(
     requires seals { length (W.watched watch.old).seals ≡ tree_lines (shape_of geo.now) }
     requires nodes { length (W.watched watch.old).nodes ≡ meta_lines (shape_of geo.now) }
     requires slots { length (W.watched watch.old).slots ≡ tree_slots (shape_of geo.now) }
-    ensures formatted { IfOk result (HasTreeFormatted (record { shape = shape_of geo.now; formulas = S.formulas_of (S.keys suite.old) })
-        (rest_of (device_of (memory_of board.old)) (W.watched watch.old)) (rest_of (device_of (memory_of board.new)) (W.watched watch.new))) }
+    ensures formatted { IfOk result (HasTreeFormatted (setup_with S.Suite geo.now suite.old)
+        (rest_now W.Watch board.old watch.old) (rest_now W.Watch board.new watch.new)) }
     ensures none { (memory_of board.new).snapshot ≡ None }
     ensures each_line { All IsLine (memory_of board.new).lines }
     ensures keys { S.keys suite.new ≡ S.keys suite.old }
@@ -256,8 +289,8 @@ fn format_kept<'a, K: Start, S: Suite, W: Watch>(
     requires nodes { length (W.watched watch.old).nodes ≡ meta_lines (shape_of geo.now) }
     requires slots { length (W.watched watch.old).slots ≡ tree_slots (shape_of geo.now) }
     ensures name { result.board.ghost_name ≡ K.name }
-    ensures formatted { IfOk result.answer (HasTreeFormatted (record { shape = shape_of geo.now; formulas = S.formulas_of (S.keys suite.old) })
-        (rest_of (device_of (memory_of board.old)) (W.watched watch.old)) (rest_of (device_of (memory_of result.board.now)) (W.watched watch.new))) }
+    ensures formatted { IfOk result.answer (HasTreeFormatted (setup_with S.Suite geo.now suite.old)
+        (rest_now W.Watch board.old watch.old) (rest_now W.Watch result.board.now watch.new)) }
     ensures none { (memory_of result.board.now).snapshot ≡ None }
     ensures each_line { All IsLine (memory_of result.board.now).lines }
     ensures keys { S.keys suite.new ≡ S.keys suite.old }

@@ -1,9 +1,16 @@
 //! Laws of whole sessions.
 ghost use Rattle.pmem_base.specs.Geo.{shape_of};
+ghost use Rattle.tree_session.specs.Determined.{TreeRepliesAreDetermined};
 ghost use Rattle.tree_session.specs.Guarantees.{IsTreeKept, IsTreeShown, IsTreeUntouched};
 
 use pmem_base::Geo;
 use suite::Suite;
+
+/// A law: two answers of one command in one state are the same, with the same state after them: so a session's relation
+/// leaves no answer open. Want of memory and exhibits are told apart from answers.
+pub fn tree_replies_are_determined()
+    ensures { TreeRepliesAreDetermined }
+{}
 
 /// A law: in each session, whatever is asked and changed and wherever power is cut, reads show what was written last,
 /// each answer and each exhibit is one that the commands and answers before it allow, exhibits hold, and without

@@ -37,6 +37,7 @@ impl<S: Suite + Drop> Model for TreeWorld<S> {
     ghost view = { λ w. state_of (record { shape = shape_of w.geo; formulas = S.formulas_of (S.keys w.suite) })
         (record {
           keys = S.keys w.suite;
+          pads = S.pads w.suite;
           tags = S.tags w.suite;
           digests = S.digests w.suite;
           board = memory_of w.board;
@@ -49,6 +50,7 @@ impl<S: Suite + Drop> Model for TreeWorld<S> {
     ghost invariant = { λ w. IsTreeWorld (record { shape = shape_of w.geo; formulas = S.formulas_of (S.keys w.suite) })
         (record {
           keys = S.keys w.suite;
+          pads = S.pads w.suite;
           tags = S.tags w.suite;
           digests = S.digests w.suite;
           board = memory_of w.board;

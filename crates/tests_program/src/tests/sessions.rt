@@ -188,7 +188,15 @@ fn stops_sessions_at_each_fault(rt: HostRuntime) -> Result<(), Fail> {
 
         tree --suite weak --levels 1
         write 0 [11] / cut 1 / write 0 [22] / on / read 0
-        0: ok 6 / ok / cut kept 1 / on 21 5 / line [22] 0",
+        0: ok 6 / ok / cut kept 1 / on 21 5 / line [22] 0
+
+        tree --suite weak --levels 1
+        write 5 [11] / write 0 [22] / poke 5 [33] / read 5
+        6: ok 6 / ok 6 / ok / forged 5 1.0 [33] {14}
+
+        tree --levels 1
+        write 0 [11] / reed 0
+        5: ok 6 / stop line 2 1",
     )
 }
 

@@ -1,17 +1,18 @@
 -- All lines are written and told, and the root is latched.
 use Rattle.std.proofs.Common.{ℕ, suc, ◌≡◌, ◌≤◌, ◌+◌, ◌^◌, List, length, sym, ap, subst, ◌∙◌, arith}
-use Rattle.std.specs.Prelude.{option_map}
+use Rattle.std.specs.Prelude.{Ok, option_map}
 use Rattle.pmem_base.specs.declared.lines.Line.{Line}
 use Rattle.pmem_base.specs.Geo.{shape_of}
 use Rattle.pmem_base.specs.Layout.{level_start, meta_lines}
 use Rattle.counter_tree.specs.Layout.{tree_lines, tree_slots}
 use Rattle.counter_tree.specs.Shadow.{IsShadowTree, root_of, shadow_digests, shadow_height}
 use Rattle.pmem_base.specs.Counts.{risen_times}
+use Rattle.call_plan.specs.Following.{Follows}
 use Rattle.pmem_recovery.specs.Parts.{suite_state, SuiteRise}
 use Rattle.counter_tree.proofs.HeightLemmas.{shadow_height-room}
 use Rattle.pmem_recovery.proofs.PartLaws.{SuiteRise-then, SuiteRise-as}
 use Rattle.asit_shadow.specs.Recovering.{rest_of}
-use Rattle.asit_shadow.specs.Formatting.{node_lines_written, slot_lines_written, AreSlotsTold}
+use Rattle.asit_shadow.specs.Formatting.{nodes_plan, naming_plan, node_lines_written, slot_lines_written, AreSlotsTold}
 use Rattle.asit_shadow.proofs.FormatSteps.{first_slots-count}
 use Rattle.asit_shadow.proofs.FormatEnds.{device-formatted}
 use Rattle.asit_shadow.proofs.formatting.fill_device.Goals as goal
@@ -53,6 +54,13 @@ returns-clause-formatted g c =
           c.requires.first c.write_slots.ensures.lines;
       slots_told =
           subst (λ (slots : List Line). AreSlotsTold slots (tree_slots (shape_of c.args.geo.now)) (g.W.Watch.watched c.write_nodes.new.watch) (g.W.Watch.watched c.write_slots.new.watch)) c.requires.first c.write_slots.ensures.told;
+      seals_followed = c.seal_lines.ensures.plan;
+      nodes_followed =
+          subst (λ (k : List ℕ). Follows (nodes_plan (record { shape = shape_of c.args.geo.now; formulas = g.S.Suite.formulas_of k })) (g.B.Board.device c.seal_lines.new.board)
+          (g.B.Board.device c.write_nodes.new.board) (Ok tt)) c.seal_lines.ensures.keys c.write_nodes.ensures.plan;
+      slots_followed =
+          subst (λ (slots : List Line). Follows (naming_plan (shape_of c.args.geo.now) slots) (g.B.Board.device c.write_nodes.new.board)
+          (g.B.Board.device c.write_slots.new.board) (Ok tt)) c.requires.first c.write_slots.ensures.plan;
       latched = c.latch_root.ensures;
       its_root =
           c.fill-root.ensures.root

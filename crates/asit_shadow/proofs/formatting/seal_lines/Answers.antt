@@ -1,16 +1,18 @@
 -- A line sealed more.
 use Rattle.std.proofs.Common.{ℕ, ◌≡◌, ◌+◌, ◌*◌, List, length, Some, ap, subst, ◌∙◌, arith}
-use Rattle.std.specs.Prelude.{Option, option_map}
+use Rattle.std.specs.Prelude.{Option, Ok, option_map}
 use Rattle.pmem_base.specs.Geo.{shape_of}
 use Rattle.board.specs.Steps.{with_line}
 use Rattle.counter_tree.specs.declared.watch.LineSeal.{LineSeal}
 use Rattle.counter_tree.specs.Layout.{tree_lines, line_of_tag}
 use Rattle.counter_tree.specs.Watch.{HasSealNoted}
+use Rattle.call_plan.specs.Following.{Follows}
+use Rattle.call_plan.proofs.Loops.{turn_ok, turns_end}
 use Rattle.pmem_recovery.specs.Formatting.{StaysSteady}
 use Rattle.pmem_recovery.proofs.FormatSteps.{StaysSteady-then}
 use Rattle.pmem_recovery.proofs.PartLaws.{SuiteRise-then, SuiteRise-as}
 use Rattle.asit_shadow.specs.Paths.{tag_only}
-use Rattle.asit_shadow.specs.Formatting.{first_tree_seal, tree_sealed_lines, AreSealsTold}
+use Rattle.asit_shadow.specs.Formatting.{sealing_turn, first_tree_seal, tree_sealed_lines, AreSealsTold}
 use Rattle.asit_shadow.proofs.FormatSteps.{length-set_first, sealed-more, seals-more}
 use Rattle.asit_shadow.proofs.formatting.seal_lines.Goals as goal
 
@@ -26,6 +28,10 @@ lines-preserved g c =
       steady =
           subst (λ n. StaysSteady n (g.B.Board.device c.args.board.now) (g.B.Board.device c.seal_one.new.board)) two
           (StaysSteady-then (2 * c.lines.at) 2 (g.B.Board.device c.args.board.now) (g.B.Board.device c.lines.board) (g.B.Board.device c.seal_one.new.board) c.lines.invariant.steady c.seal_one.ensures.steady);
+      reached =
+          turn_ok c.lines.invariant.reached (omega arith)
+          (subst (λ (keys : List ℕ). Follows (sealing_turn (record { shape = shape_of c.args.geo.now; formulas = g.S.Suite.formulas_of keys }) c.lines.at tt)
+          (g.B.Board.device c.lines.board) (g.B.Board.device c.seal_one.new.board) (Ok tt)) c.lines.invariant.keys c.seal_one.ensures.plan);
       lines =
           sealed-more (record { shape = shape_of c.args.geo.now; formulas = g.S.Suite.formulas_of (g.S.Suite.keys c.args.suite.now) }) c.lines.at (g.B.Board.device c.args.board.now).lines (g.B.Board.device c.lines.board).lines (g.B.Board.device c.seal_one.new.board).lines
           c.lines.invariant.lines
@@ -42,6 +48,9 @@ pub returns-clause-steady : goal.returns-clause-steady
 returns-clause-steady g c =
     let all : c.lines.at ≡ tree_lines (shape_of c.args.geo.now) = omega arith in
     subst (λ n. StaysSteady (2 * n) (g.B.Board.device c.args.board.now) (g.B.Board.device c.lines.board)) all c.lines.invariant.steady
+
+pub returns-clause-plan : goal.returns-clause-plan
+returns-clause-plan g c = turns_end c.lines.invariant.reached (omega arith)
 
 pub returns-clause-lines : goal.returns-clause-lines
 returns-clause-lines g c =

@@ -2,15 +2,21 @@
 use Rattle.std.proofs.Common.{◌≡◌, ◌*◌}
 use Rattle.std.specs.Prelude.{option_map}
 use Rattle.pmem_base.specs.Geo.{shape_of}
+use Rattle.call_plan.proofs.Loops.{AreTurnsLeft}
+use Rattle.counter_tree.specs.Layout.{tree_lines}
 use Rattle.pmem_recovery.specs.Formatting.{StaysSteady}
 use Rattle.pmem_recovery.specs.Parts.{suite_state, SuiteRise}
-use Rattle.asit_shadow.specs.Formatting.{tree_sealed_lines, AreSealsTold}
+use Rattle.asit_shadow.specs.Formatting.{sealing_turn, sealing_plan, tree_sealed_lines, AreSealsTold}
 use Rattle.asit_shadow.proofs.formatting.seal_lines.Given as goal
 
 abbrev pub invariant-lines : goal.invariant-lines
 invariant-lines g l =
     record {
       steady : StaysSteady (2 * l.at) (g.B.Board.device l.fn.board) (g.B.Board.device l.board);
+      reached :
+          AreTurnsLeft (sealing_plan (record { shape = shape_of l.fn.geo; formulas = g.S.Suite.formulas_of (g.S.Suite.keys l.fn.suite) }))
+          (g.B.Board.device l.fn.board) (sealing_turn (record { shape = shape_of l.fn.geo; formulas = g.S.Suite.formulas_of (g.S.Suite.keys l.fn.suite) })) l.at
+          (tree_lines (shape_of l.fn.geo)) tt (g.B.Board.device l.board);
       lines :
           (g.B.Board.device l.board).lines
           ≡ option_map (tree_sealed_lines (record { shape = shape_of l.fn.geo; formulas = g.S.Suite.formulas_of (g.S.Suite.keys l.fn.suite) }) l.at) (g.B.Board.device l.fn.board).lines;

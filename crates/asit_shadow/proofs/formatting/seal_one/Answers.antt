@@ -2,10 +2,13 @@
 use Rattle.std.proofs.Common.{◌≡◌, ap, subst, ◌∙◌}
 use Rattle.pmem_base.specs.declared.lines.Line.{Line}
 use Rattle.pmem_base.specs.Geo.{shape_of}
-use Rattle.board.specs.Steps.{with_line}
+use Rattle.board.specs.Steps.{HasWritten, with_line}
+use Rattle.call_plan.specs.Plans.{the_cut}
+use Rattle.call_plan.proofs.Steps.{write_then}
 use Rattle.counter_tree.specs.declared.watch.LineSeal.{LineSeal}
 use Rattle.counter_tree.specs.Layout.{line_of_tag}
 use Rattle.counter_tree.specs.Watch.{HasSealNoted}
+use Rattle.pmem_recovery.proofs.FormatPlans.{written_so}
 use Rattle.pmem_recovery.proofs.FormatSteps.{StaysSteady-then, StaysSteady-written}
 use Rattle.asit_shadow.specs.Paths.{tag_only}
 use Rattle.asit_shadow.specs.Writing.{IsSealMade}
@@ -29,6 +32,16 @@ returns-clause-lines g c =
     ∙ (ap (with_line (g.B.Board.device c.write_steady.new.board).lines (line_of_tag (shape_of c.args.geo.now) c.args.at)) tags
     ∙ ap (λ told. with_line told (line_of_tag (shape_of c.args.geo.now) c.args.at) (tag_only (first_tree_seal (g.S.Suite.formulas_of (g.S.Suite.keys c.args.suite.now)) c.args.at).tag))
     (c.write_steady.ensures.lines ∙ ap (λ (s : LineSeal). with_line (g.B.Board.device c.args.board.now).lines c.args.at s.cipher) made)))
+
+pub returns-clause-plan : goal.returns-clause-plan
+returns-clause-plan g c =
+    let made = first-made (g.S.Suite.formulas_of (g.S.Suite.keys c.args.suite.now)) c.args.at c.sealed-seal.result
+    (subst (λ (l : Line). IsSealMade (g.S.Suite.formulas_of (g.S.Suite.keys c.args.suite.now)) c.args.at 0 l c.sealed-seal.result) c.default.ensures c.sealed-seal.ensures.made) in
+    write_then the_cut
+    (subst (λ (s : LineSeal). HasWritten (g.B.Board.device c.args.board.now) c.args.at s.cipher (g.B.Board.device c.write_steady.new.board)) made c.write_steady.ensures)
+    (written_so c.tag_place.result (line_of_tag (shape_of c.args.geo.now) c.args.at) c.tag_line.result
+    (tag_only (first_tree_seal (g.S.Suite.formulas_of (g.S.Suite.keys c.args.suite.now)) c.args.at).tag) (g.B.Board.device c.write_steady.new.board)
+    (g.B.Board.device c.write_steady-2.new.board) c.tag_place.ensures.value (c.tag_line.ensures ∙ ap (λ (s : LineSeal). tag_only s.tag) made) c.write_steady-2.ensures)
 
 pub returns-clause-noted : goal.returns-clause-noted
 returns-clause-noted g c =

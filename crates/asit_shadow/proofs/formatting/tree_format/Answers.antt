@@ -5,6 +5,7 @@ use Rattle.pmem_base.specs.declared.lines.Line.{Line}
 use Rattle.pmem_base.specs.Geo.{shape_of}
 use Rattle.pmem_base.specs.Lines.{zero_line}
 use Rattle.counter_tree.specs.Layout.{tree_slots}
+use Rattle.counter_tree.specs.Shadow.{IsChipTree}
 use Rattle.asit_shadow.specs.declared.cache.CachedNode.{CachedNode}
 use Rattle.asit_shadow.specs.State.{TreeState, IsTreeEngine}
 use Rattle.asit_shadow.specs.Parts.{tree_parts_of, IsTreeUsable}
@@ -15,7 +16,7 @@ use Rattle.asit_shadow.proofs.formatting.tree_format.Given.{Over}
 use Rattle.asit_shadow.proofs.formatting.tree_format.Goals.{After-fill_device}
 use Rattle.asit_shadow.proofs.formatting.tree_format.Goals as goal
 
-module _ (g : Over) (c : After-fill_device g) where
+module _ (g : Over) (c : After-fill_device g) (whole : IsChipTree c.fill_device.new.tree) where
   cache : slice_set c.in_ok-room.room.cache.items 0 (Some first_held) ≡ first_cache (shape_of c.args.geo.now)
   cache = ap (λ (held : List (Option CachedNode)). slice_set held 0 (Some first_held)) c.in_ok-room.ensures.cache
 
@@ -27,7 +28,7 @@ module _ (g : Over) (c : After-fill_device g) where
       (rest_of (g.B.Board.device c.args.board.now) (g.W.Watch.watched c.args.watch.now)) (rest_of (g.B.Board.device c.fill_device.new.board) (g.W.Watch.watched c.fill_device.new.watch))
       (record { shape = shape_of c.args.geo.now; cache = slice_set c.in_ok-room.room.cache.items 0 (Some first_held); tree = c.fill_device.new.tree; down = false })
       c.layout_is_one_to_one.ensures.ranges (g.met.S.Suite.in_range c.args.suite.now) c.requires.seals (g.met.W.Watch.whole c.fill_device.new.watch).1
-      (record { shape = refl; not_down = refl; cache = cache }) c.fill_device.ensures.formatted
+      (record { shape = refl; not_down = refl; cache = cache }) whole c.fill_device.ensures.formatted
 
 pub fill_device-requires-clause-first : goal.fill_device-requires-clause-first
 fill_device-requires-clause-first g c =
@@ -38,14 +39,14 @@ fill_device-requires-clause-first g c =
 pub new-requires : goal.new-requires
 new-requires g c =
     let before = (goal.at.new-requires g c).After-fill_device in
-    subst (λ (held : List (Option CachedNode)). IsTreeEngine (record { shape = shape_of c.args.geo.now; cache = held; tree = c.fill_device.new.tree; down = false })) (sym (cache g before))
+    subst (λ (held : List (Option CachedNode)). IsTreeEngine (record { shape = shape_of c.args.geo.now; cache = held; tree = c.fill_device.new.tree; down = false })) (sym (cache g before c.is_whole.ensures))
     (first-engine (shape_of c.args.geo.now) c.fill_device.new.tree c.is_whole.ensures c.fill_device.ensures.formatted.height)
 
 pub returns-clause-formatted : goal.returns-clause-formatted
 returns-clause-formatted g c =
     let before = (goal.at.returns-clause-formatted g c).After-fill_device in
     subst (λ (e : TreeState). HasTreeFormatted (record { shape = shape_of c.args.geo.now; formulas = g.S.Suite.formulas_of (g.S.Suite.keys c.args.suite.now) })
-    (rest_of (g.B.Board.device c.args.board.now) (g.W.Watch.watched c.args.watch.now)) (rest_of (g.B.Board.device c.fill_device.new.board) (g.W.Watch.watched c.fill_device.new.watch)) e) (sym c.new.ensures) (formatted g before)
+    (rest_of (g.B.Board.device c.args.board.now) (g.W.Watch.watched c.args.watch.now)) (rest_of (g.B.Board.device c.fill_device.new.board) (g.W.Watch.watched c.fill_device.new.watch)) e) (sym c.new.ensures) (formatted g before c.is_whole.ensures)
 
 pub returns-clause-usable : goal.returns-clause-usable
 returns-clause-usable g c =
@@ -54,4 +55,4 @@ returns-clause-usable g c =
     (formatted-usable (record { shape = shape_of c.args.geo.now; formulas = g.S.Suite.formulas_of (g.S.Suite.keys c.args.suite.now) })
     (rest_of (g.B.Board.device c.args.board.now) (g.W.Watch.watched c.args.watch.now)) (rest_of (g.B.Board.device c.fill_device.new.board) (g.W.Watch.watched c.fill_device.new.watch))
     (record { shape = shape_of c.args.geo.now; cache = slice_set c.in_ok-room.room.cache.items 0 (Some first_held); tree = c.fill_device.new.tree; down = false })
-    c.requires.size c.requires.seals (formatted g before))
+    c.requires.size c.requires.seals (formatted g before c.is_whole.ensures))

@@ -8,6 +8,8 @@ use Rattle.counter_tree.specs.declared.nodes.Node.{Node}
 use Rattle.counter_tree.specs.Layout.{line_of_node}
 use Rattle.counter_tree.specs.Nodes.{node_line, zero_node}
 use Rattle.pmem_recovery.specs.Formatting.{StaysSteady}
+use Rattle.call_plan.proofs.Loops.{turn_ok, turns_end}
+use Rattle.pmem_recovery.proofs.FormatPlans.{written_so}
 use Rattle.pmem_recovery.proofs.FormatSteps.{StaysSteady-then, StaysSteady-written}
 use Rattle.pmem_recovery.proofs.PartLaws.{SuiteRise-then, SuiteRise-as}
 use Rattle.asit_shadow.specs.Formatting.{node_lines_written, AreNodesTold}
@@ -27,6 +29,11 @@ nodes-preserved g c =
       steady =
           StaysSteady-then c.nodes.x 1 (g.B.Board.device c.args.board.now) (g.B.Board.device c.nodes.board) (g.B.Board.device c.write_steady.new.board) c.nodes.invariant.steady
           (StaysSteady-written (g.B.Board.device c.nodes.board) c.node_place.result c.node_line-line.result (g.B.Board.device c.write_steady.new.board) c.write_steady.ensures);
+      reached =
+          turn_ok c.nodes.invariant.reached (omega (arith, c.nodes-test.true, c.metas-x-end.ensures.value))
+          (written_so c.node_place.result (line_of_node (shape_of c.args.geo.now) c.nodes.x) c.node_line-line.result
+          (node_line (g.S.Suite.formulas_of (g.S.Suite.keys c.args.suite.now)) c.nodes.x zero_node) (g.B.Board.device c.nodes.board)
+          (g.B.Board.device c.write_steady.new.board) c.node_place.ensures.value line c.write_steady.ensures);
       lines =
           written-more (line_of_node (shape_of c.args.geo.now)) (λ x. node_line (g.S.Suite.formulas_of (g.S.Suite.keys c.args.suite.now)) x zero_node) c.nodes.x
           (g.B.Board.device c.args.board.now).lines (g.B.Board.device c.nodes.board).lines (g.B.Board.device c.write_steady.new.board).lines c.nodes.invariant.lines
@@ -44,6 +51,9 @@ pub returns-clause-steady : goal.returns-clause-steady
 returns-clause-steady g c =
     let all : c.nodes.x ≡ meta_lines (shape_of c.args.geo.now) = omega arith in
     subst (λ n. StaysSteady n (g.B.Board.device c.args.board.now) (g.B.Board.device c.nodes.board)) all c.nodes.invariant.steady
+
+pub returns-clause-plan : goal.returns-clause-plan
+returns-clause-plan g c = turns_end c.nodes.invariant.reached (omega (arith, c.nodes-test.false, c.metas-x-end.ensures.value))
 
 pub returns-clause-lines : goal.returns-clause-lines
 returns-clause-lines g c =

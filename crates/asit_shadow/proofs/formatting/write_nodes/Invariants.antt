@@ -2,15 +2,21 @@
 use Rattle.std.proofs.Common.{◌≡◌}
 use Rattle.std.specs.Prelude.{option_map}
 use Rattle.pmem_base.specs.Geo.{shape_of}
+use Rattle.pmem_base.specs.Layout.{meta_lines}
+use Rattle.call_plan.proofs.Loops.{AreTurnsLeft}
 use Rattle.pmem_recovery.specs.Formatting.{StaysSteady}
 use Rattle.pmem_recovery.specs.Parts.{suite_state, SuiteRise}
-use Rattle.asit_shadow.specs.Formatting.{node_lines_written, AreNodesTold}
+use Rattle.asit_shadow.specs.Formatting.{node_turn, nodes_plan, node_lines_written, AreNodesTold}
 use Rattle.asit_shadow.proofs.formatting.write_nodes.Given as goal
 
 abbrev pub invariant-nodes : goal.invariant-nodes
 invariant-nodes g l =
     record {
       steady : StaysSteady l.x (g.B.Board.device l.fn.board) (g.B.Board.device l.board);
+      reached :
+          AreTurnsLeft (nodes_plan (record { shape = shape_of l.fn.geo; formulas = g.S.Suite.formulas_of (g.S.Suite.keys l.fn.suite) }))
+          (g.B.Board.device l.fn.board) (node_turn (record { shape = shape_of l.fn.geo; formulas = g.S.Suite.formulas_of (g.S.Suite.keys l.fn.suite) })) l.x
+          (meta_lines (shape_of l.fn.geo)) tt (g.B.Board.device l.board);
       lines :
           (g.B.Board.device l.board).lines
           ≡ option_map (node_lines_written (record { shape = shape_of l.fn.geo; formulas = g.S.Suite.formulas_of (g.S.Suite.keys l.fn.suite) }) l.x) (g.B.Board.device l.fn.board).lines;

@@ -8,6 +8,8 @@ use Rattle.pmem_base.specs.Lines.{line_at, zero_line}
 use Rattle.board.specs.Steps.{with_line}
 use Rattle.counter_tree.specs.Layout.{tree_slots, line_of_slot}
 use Rattle.pmem_recovery.specs.Formatting.{StaysSteady}
+use Rattle.call_plan.proofs.Loops.{turn_ok, turns_end}
+use Rattle.pmem_recovery.proofs.FormatPlans.{written_so}
 use Rattle.pmem_recovery.proofs.FormatSteps.{StaysSteady-then, StaysSteady-written}
 use Rattle.asit_shadow.specs.Formatting.{slot_lines_written, AreSlotsTold}
 use Rattle.asit_shadow.proofs.FormatSteps.{length-set_first, written-more, slots-told_more}
@@ -25,6 +27,11 @@ slots-preserved g c =
       steady =
           StaysSteady-then c.slots.i 1 (g.B.Board.device c.args.board.now) (g.B.Board.device c.slots.board) (g.B.Board.device c.write_steady.new.board) c.slots.invariant.steady
           (StaysSteady-written (g.B.Board.device c.slots.board) c.slot_place.result (get_or c.args.slots.now c.slots.i (record { 0 = [] })) (g.B.Board.device c.write_steady.new.board) c.write_steady.ensures);
+      reached =
+          turn_ok c.slots.invariant.reached (omega (arith, c.slots-test.true, c.tree_slots-i-end.ensures.value))
+          (written_so c.slot_place.result (line_of_slot (shape_of c.args.geo.now) c.slots.i) (get_or c.args.slots.now c.slots.i (record { 0 = [] }))
+          (line_at c.args.slots.now c.slots.i) (g.B.Board.device c.slots.board) (g.B.Board.device c.write_steady.new.board) c.slot_place.ensures.value line
+          c.write_steady.ensures);
       lines =
           written-more (line_of_slot (shape_of c.args.geo.now)) (line_at c.args.slots.now) c.slots.i (g.B.Board.device c.args.board.now).lines (g.B.Board.device c.slots.board).lines (g.B.Board.device c.write_steady.new.board).lines c.slots.invariant.lines
           (c.write_steady.ensures.lines
@@ -39,6 +46,9 @@ pub returns-clause-steady : goal.returns-clause-steady
 returns-clause-steady g c =
     let all : c.slots.i ≡ tree_slots (shape_of c.args.geo.now) = omega arith in
     subst (λ n. StaysSteady n (g.B.Board.device c.args.board.now) (g.B.Board.device c.slots.board)) all c.slots.invariant.steady
+
+pub returns-clause-plan : goal.returns-clause-plan
+returns-clause-plan g c = turns_end c.slots.invariant.reached (omega (arith, c.slots-test.false, c.tree_slots-i-end.ensures.value))
 
 pub returns-clause-lines : goal.returns-clause-lines
 returns-clause-lines g c =

@@ -2,14 +2,19 @@
 use Rattle.std.proofs.Common.{◌≡◌}
 use Rattle.std.specs.Prelude.{option_map}
 use Rattle.pmem_base.specs.Geo.{shape_of}
+use Rattle.call_plan.proofs.Loops.{AreTurnsLeft}
+use Rattle.counter_tree.specs.Layout.{tree_slots}
 use Rattle.pmem_recovery.specs.Formatting.{StaysSteady}
-use Rattle.asit_shadow.specs.Formatting.{slot_lines_written, AreSlotsTold}
+use Rattle.asit_shadow.specs.Formatting.{naming_turn, naming_plan, slot_lines_written, AreSlotsTold}
 use Rattle.asit_shadow.proofs.formatting.write_slots.Given as goal
 
 abbrev pub invariant-slots : goal.invariant-slots
 invariant-slots g l =
     record {
       steady : StaysSteady l.i (g.B.Board.device l.fn.board) (g.B.Board.device l.board);
+      reached :
+          AreTurnsLeft (naming_plan (shape_of l.fn.geo) l.fn.slots) (g.B.Board.device l.fn.board) (naming_turn (shape_of l.fn.geo) l.fn.slots) l.i
+          (tree_slots (shape_of l.fn.geo)) tt (g.B.Board.device l.board);
       lines :
           (g.B.Board.device l.board).lines
           ≡ option_map (slot_lines_written (shape_of l.fn.geo) l.fn.slots l.i) (g.B.Board.device l.fn.board).lines;

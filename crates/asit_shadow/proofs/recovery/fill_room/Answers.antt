@@ -1,12 +1,25 @@
 -- The ends of a recovery before an engine is made.
-use Rattle.std.proofs.Common.{ℕ, suc, ◌≡◌, ◌<◌, ◌≤◌, ◌^◌, length, List, refl, sym, ap, subst, ◌∙◌, arith}
+use Rattle.std.proofs.Common.{ℕ, suc, false, Result, Ok, Err, ◌≡◌, ◌≢◌, ◌<◌, ◌≤◌, ◌^◌, length, List, refl, sym, ap, subst, ◌∙◌, arith}
 use Rattle.std.proofs.lemmas.Bool.{true≢false}
 use Rattle.pmem_base.specs.declared.lines.Line.{Line}
 use Rattle.pmem_base.specs.declared.registers.Regs.{Regs}
 use Rattle.pmem_base.specs.Counts.{risen_times}
 use Rattle.pmem_base.specs.Geo.{shape_of}
 use Rattle.pmem_base.specs.Layout.{level_start}
+use Rattle.std.specs.Prelude.{Option}
 use Rattle.suite.specs.Setup.{Setup}
+use Rattle.call_plan.specs.Following.{Follows}
+use Rattle.pmem_recovery.specs.declared.faults.Work.{Work}
+use Rattle.pmem_recovery.proofs.RecoveryPlans.{redo_cut, redo_done}
+use Rattle.counter_tree.specs.Plans.{with_exhibit}
+use Rattle.counter_tree.proofs.ReadPlans.{watch_shown}
+use Rattle.counter_tree.proofs.SlotPlans.{clash-is, chip-tree-is}
+use Rattle.asit_shadow.specs.declared.cache.CachedNode.{CachedNode}
+use Rattle.asit_shadow.specs.declared.recovery.TreeRec.{TreeRec}
+use Rattle.asit_shadow.specs.declared.recovery.TreeRec.TheVariants as Fail
+use Rattle.asit_shadow.specs.State.{TreeState}
+use Rattle.asit_shadow.specs.RecoverPlans.{RecoverParts, recover_parts, recovery_work, root_plan, fill_plan, recover_parts_at}
+use Rattle.asit_shadow.proofs.RecoverPlans.{fill_cut, fill_unread, fill_read, root_refused, slots_accepted, slots_shown}
 use Rattle.counter_tree.specs.Shadow.{IsShadowTree, shadow_digests, shadow_height, shadow_root}
 use Rattle.counter_tree.proofs.HeightLemmas.{shadow_height-room}
 use Rattle.asit_shadow.specs.Recovering.{rest_of, AreSlotsRead, IsReadFinished}
@@ -114,3 +127,83 @@ returns-clause-filled g c =
           subst (λ (slots : List Line). IsShadowTree (g.S.Suite.formulas_of (g.S.Suite.keys c.args.suite.now)) (shadow_height (shape_of c.args.geo.now)) slots c.fill-found.new.self.lines) c.in-On.ensures.0
           (subst (λ h. IsShadowTree (g.S.Suite.formulas_of (g.S.Suite.keys c.args.suite.now)) h c.read_slots.new.slots c.fill-found.new.self.lines) c.requires.height c.fill-found.ensures.tree);
     }
+
+-- ---- the plan
+
+pub returns-in-Err-clause-plan : goal.returns-in-Err-clause-plan
+returns-in-Err-clause-plan g c =
+    fill_cut (record { shape = shape_of c.args.geo.now; formulas = g.S.Suite.formulas_of (g.S.Suite.keys c.args.suite.now) }) (g.B.Board.device c.args.board.now).regs c.args.slots.now (recover_parts_at g.S.Suite g.W.Watch c.args.suite.now c.args.watch.now)
+    (redo_cut (g.B.Board.device c.args.board.now).regs (g.B.Board.device c.args.board.now).regs.group.items
+    (λ none. absurd (cc ((c.in-Err.ensures.empty none).0))) c.in-Err.ensures.plan)
+
+pub returns-in-Err-read_slots-clause-plan : goal.returns-in-Err-read_slots-clause-plan
+returns-in-Err-read_slots-clause-plan g c =
+    fill_unread (record { shape = shape_of c.args.geo.now; formulas = g.S.Suite.formulas_of (g.S.Suite.keys c.args.suite.now) }) (g.B.Board.device c.args.board.now).regs c.args.slots.now (recover_parts_at g.S.Suite g.W.Watch c.args.suite.now c.args.watch.now)
+    (redo_done (g.B.Board.device c.args.board.now).regs (g.B.Board.device c.args.board.now).regs.group.items
+    (λ none. ap (λ board. g.B.Board.device board) (c.in-Ok.ensures.empty none).1) c.in-Ok.ensures.plan)
+    (c.in-Err-read_slots.ensures.plan (recover_parts_at g.S.Suite g.W.Watch c.args.suite.now c.args.watch.now))
+
+module _ (g : Over) (c : After-regs g) where
+  abbrev its_setup : Setup
+  its_setup = record { shape = shape_of c.args.geo.now; formulas = g.S.Suite.formulas_of (g.S.Suite.keys c.args.suite.now) }
+
+  abbrev start : RecoverParts
+  start = recover_parts_at g.S.Suite g.W.Watch c.args.suite.now c.args.watch.now
+
+  filled : {end : Result (RecoverParts × (TreeState × Work)) (RecoverParts × TreeRec)}
+      → Follows (root_plan its_setup (g.B.Board.device c.args.board.now).regs.root start c.read_slots.new.slots) (g.B.Board.device c.read_slots.new.board) (g.B.Board.device c.read_slots.new.board) end
+      → Follows (fill_plan its_setup (g.B.Board.device c.args.board.now).regs c.args.slots.now start) (g.B.Board.device c.args.board.now) (g.B.Board.device c.read_slots.new.board) end
+  filled it =
+      fill_read its_setup (g.B.Board.device c.args.board.now).regs c.args.slots.now start
+      (redo_done (g.B.Board.device c.args.board.now).regs (g.B.Board.device c.args.board.now).regs.group.items
+      (λ none. ap (λ board. g.B.Board.device board) (c.in-Ok.ensures.empty none).1) c.in-Ok.ensures.plan)
+      c.read_slots.new.slots (c.in-Ok-read_slots.ensures.plan start) it
+
+  its_root : c.regs.result.now.root ≡ (g.B.Board.device c.args.board.now).regs.root
+  its_root = kept g c ∙ ap (λ (r : Regs). r.root) (finished g c).regs
+
+pub returns-then-not-is_kept-clause-plan : goal.returns-then-not-is_kept-clause-plan
+returns-then-not-is_kept-clause-plan g c =
+    let here = (goal.at.returns-then-not-is_kept-clause-plan g c).After-regs in
+    let its = its_root g here in
+    let found = root g here in
+    let differ : (g.B.Board.device c.args.board.now).regs.root ≢ shadow_root (its_setup g here).shape (its_setup g here).formulas c.read_slots.new.slots =
+    λ same. true≢false (sym (c.is_kept.ensures.1 (its ∙ (same ∙ sym found))) ∙ c.if-not-is_kept.true) in
+    let end : RecoverParts → List ℕ → List ℕ → RecoverParts × TreeRec = λ at a b. (at, Fail.Shadow a b) in
+    subst (λ (left : RecoverParts × TreeRec). Follows {E = RecoverParts × TreeRec} {T = RecoverParts × (TreeState × Work)}
+    (fill_plan (its_setup g here) (g.B.Board.device c.args.board.now).regs c.args.slots.now (start g here))
+    (g.B.Board.device c.args.board.now) (g.B.Board.device c.read_slots.new.board) (Err left))
+    (sym (λ i. end (recover_parts (g.W.Watch.watched c.args.watch.now) (counted g here i)) (its i) (found i)))
+    (filled g here (root_refused (its_setup g here) (g.B.Board.device c.args.board.now).regs.root (start g here) c.read_slots.new.slots (g.B.Board.device c.read_slots.new.board) differ))
+
+pub returns-in-Stop-clause-plan : goal.returns-in-Stop-clause-plan
+returns-in-Stop-clause-plan g c =
+    let here = (goal.at.returns-in-Stop-clause-plan g c).After-regs in
+    let is : (g.B.Board.device c.args.board.now).regs.root ≡ shadow_root (its_setup g here).shape (its_setup g here).formulas c.read_slots.new.slots =
+    sym (its_root g here) ∙ (c.is_kept.ensures.0 c.if-not-is_kept.false ∙ root g here) in
+    let watch = g.W.Watch.watched c.args.watch.now in
+    let told = watch_shown watch (g.W.Watch.watched c.see_slots.new.self) c.in-Stop.ensures.1.0 c.in-Stop.ensures.1.2
+    ∙ ap (with_exhibit watch) (clash-is watch c.read_slots.new.slots c.in-Stop.ensures.1.0
+    (c.read_slots.auto.slots ∙ (c.requires.slots ∙ sym c.requires.usable.watch.slot_count)) c.in-Stop.ensures.1.1) in
+    let shown : Result (RecoverParts × (TreeState × Work)) (RecoverParts × TreeRec) → Type 0 =
+    Follows (fill_plan (its_setup g here) (g.B.Board.device c.args.board.now).regs c.args.slots.now (start g here))
+    (g.B.Board.device c.args.board.now) (g.B.Board.device c.read_slots.new.board) in
+    subst (λ (at : RecoverParts). shown (Err (at, Fail.Shown))) (sym (λ i. recover_parts (told i) (counted g here i)))
+    (filled g here (slots_shown (its_setup g here) (g.B.Board.device c.args.board.now).regs.root (start g here) c.read_slots.new.slots (g.B.Board.device c.read_slots.new.board) is c.in-Stop.ensures.0))
+
+pub returns-clause-plan : goal.returns-clause-plan
+returns-clause-plan g c =
+    let here = (goal.at.returns-clause-plan g c).After-regs in
+    let is : (g.B.Board.device c.args.board.now).regs.root ≡ shadow_root (its_setup g here).shape (its_setup g here).formulas c.read_slots.new.slots =
+    sym (its_root g here) ∙ (c.is_kept.ensures.0 c.if-not-is_kept.false ∙ root g here) in
+    let height = c.fill-found.ensures.height ∙ c.requires.height in
+    let lines = chip-tree-is (its_setup g here).formulas (shadow_height (its_setup g here).shape) c.read_slots.new.slots c.fill-found.new.self.lines
+    (subst (λ h. h ≤ 5) height c.is_whole.ensures.most) (subst (λ h. length c.fill-found.new.self.lines ≡ level_start (suc h)) height c.is_whole.ensures.count)
+    (subst (λ h. IsShadowTree (its_setup g here).formulas h c.read_slots.new.slots c.fill-found.new.self.lines) c.requires.height c.fill-found.ensures.tree) in
+    let end : RecoverParts → List (Option CachedNode) → ℕ → List Line → RecoverParts × (TreeState × Work) =
+    λ at cache h ls. (at, (record { shape = shape_of c.args.geo.now; cache = cache; tree = record { height = h; lines = ls }; down = false }, recovery_work (shape_of c.args.geo.now))) in
+    let filling : RecoverParts × (TreeState × Work) → Type 0 =
+    λ done. Follows {E = RecoverParts × TreeRec} (fill_plan (its_setup g here) (g.B.Board.device c.args.board.now).regs c.args.slots.now (start g here))
+    (g.B.Board.device c.args.board.now) (g.B.Board.device c.read_slots.new.board) (Ok done) in
+    subst filling (sym (λ i. end (recover_parts (c.in-On.ensures.1 i) (counted g here i)) (c.put_named.ensures.value i) (height i) (lines i)))
+    (filled g here (slots_accepted (its_setup g here) (g.B.Board.device c.args.board.now).regs.root (start g here) c.read_slots.new.slots (g.B.Board.device c.read_slots.new.board) is c.in-On.ensures.0))

@@ -1,5 +1,5 @@
 -- One slot more.
-use Rattle.std.proofs.Common.{◌≡◌, ◌<◌, [], length, Some, subst, inl, inr, arith}
+use Rattle.std.proofs.Common.{◌≡◌, ◌<◌, [], length, Some, sym, subst, ◌∙◌, inl, inr, arith}
 use Rattle.std.proofs.lemmas.List.{get_or_default}
 use Rattle.pmem_base.specs.declared.lines.Line.{Line}
 use Rattle.std.proofs.lemmas.Bool.{cases_lt}
@@ -10,6 +10,8 @@ use Rattle.asit_shadow.specs.declared.cache.CachedNode.{CachedNode}
 use Rattle.asit_shadow.specs.State.{IsHeldNode}
 use Rattle.asit_shadow.specs.Steps.{held_of}
 use Rattle.asit_shadow.specs.Recovering.{IsNameable}
+use Rattle.asit_shadow.specs.RecoverPlans.{cached_named}
+use Rattle.asit_shadow.proofs.RecoverPlans.{cache_named-is}
 use Rattle.asit_shadow.proofs.EngineLemmas.{set-below, of-some, held-past}
 use Rattle.asit_shadow.proofs.recovery.put_named.Goals as goal
 
@@ -26,6 +28,9 @@ slots-preserved c =
       named =
           set-below (λ j it. IsNameable (shape_of c.args.geo.now) (slot_read (line_at c.args.slots.now j)) → it ≡ held_of (slot_read (line_at c.args.slots.now j))) c.slots.cache c.slots.i c.named.result room
           here c.slots.invariant.named;
+      value =
+          set-below (λ j it. it ≡ cached_named (shape_of c.args.geo.now) (slot_read (line_at c.args.slots.now j))) c.slots.cache c.slots.i c.named.result room
+          (subst (λ (l : Line). c.named.result ≡ cached_named (shape_of c.args.geo.now) (slot_read l)) line c.named.ensures.value) c.slots.invariant.value;
     }
 
 pub returns-clause-held : goal.returns-clause-held
@@ -36,3 +41,8 @@ returns-clause-held c i held here =
           absurd (held-past c.slots.cache i held
           (omega (arith, past, c.slots.auto.cache, c.requires.cache, c.slots-test.false, c.slots.auto.i-end, c.tree_slots-i-end.ensures.value)) here)
     ]
+
+pub returns-clause-value : goal.returns-clause-value
+returns-clause-value c =
+    cache_named-is (shape_of c.args.geo.now) c.args.slots.now c.slots.cache (c.slots.auto.cache ∙ c.requires.cache ∙ sym c.requires.slots)
+    (λ j low. c.slots.invariant.value j (omega (arith, low, c.slots-test.false, c.tree_slots-i-end.ensures.value, c.requires.slots, c.slots.auto.cache, c.requires.cache)))

@@ -7,6 +7,7 @@ use Rattle.asit_shadow.specs.declared.cache.CachedNode.{CachedNode}
 use Rattle.asit_shadow.specs.State.{cache_at, IsHeldNode}
 use Rattle.asit_shadow.specs.Steps.{held_of}
 use Rattle.asit_shadow.specs.Recovering.{IsNameable}
+use Rattle.asit_shadow.specs.RecoverPlans.{cached_named}
 use Rattle.asit_shadow.proofs.recovery.put_named.Given as goal
 
 abbrev pub invariant-slots : goal.invariant-slots
@@ -18,4 +19,5 @@ invariant-slots l =
       named :
           (j : ℕ) → j < l.i → IsNameable (shape_of l.fn.geo) (slot_read (line_at l.fn.slots j))
           → cache_at l.cache j ≡ held_of (slot_read (line_at l.fn.slots j));
+      value : (j : ℕ) → j < l.i → cache_at l.cache j ≡ cached_named (shape_of l.fn.geo) (slot_read (line_at l.fn.slots j));
     }

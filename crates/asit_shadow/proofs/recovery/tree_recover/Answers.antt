@@ -1,8 +1,16 @@
 -- The engine that recovery makes.
-use Rattle.std.proofs.Common.{◌≡◌, ◌++◌, List, take, drop, length, refl, sym, ap, subst, ◌∙◌, arith}
+use Rattle.std.proofs.Common.{ℕ, ◌≡◌, ◌++◌, List, replicate, Result, Err, take, drop, length, refl, sym, ap, subst, ◌∙◌, arith}
 use Rattle.std.specs.Prelude.{Option, All, Ok}
 use Rattle.std.proofs.lemmas.List.Elements.{All-replicate}
+use Rattle.std.proofs.lemmas.Result.{err_from_is_err_and}
+use Rattle.pmem_base.specs.declared.lines.Line.{Line}
 use Rattle.pmem_base.specs.Geo.{shape_of}
+use Rattle.board.specs.Device.{Device}
+use Rattle.call_plan.specs.Plans.{Plan}
+use Rattle.call_plan.specs.Following.{Follows}
+use Rattle.pmem_recovery.specs.declared.faults.Work.{Work}
+use Rattle.asit_shadow.specs.declared.recovery.TreeRec.{TreeRec}
+use Rattle.asit_shadow.specs.RecoverPlans.{RecoverParts, recover_parts, fill_plan, recover_parts_at}
 use Rattle.pmem_base.specs.Lines.{IsLine, zero_line}
 use Rattle.pmem_base.proofs.LineLemmas.{IsLine-zero_line}
 use Rattle.counter_tree.specs.Layout.{tree_slots}
@@ -44,3 +52,38 @@ returns-clause-recovered g c =
     (rest_of (g.B.Board.device c.args.board.now) (g.W.Watch.watched c.args.watch.now)) (rest_of (g.B.Board.device c.fill_room.new.board) (g.W.Watch.watched c.fill_room.new.watch))
     (g.S.Suite.digests c.args.suite.now) (g.S.Suite.digests c.fill_room.new.suite) c.fill_room.new.cache c.fill_room.new.tree (record { trials = 0; digests = c.tree_digests.result })
     c.layout_is_one_to_one.ensures.ranges c.in-Ok.ensures.filled refl c.tree_digests.ensures)
+
+-- ---- the plan
+
+module _ (g : Over) (c : After-fill_room g) where
+  abbrev plan_from : List Line → Plan (RecoverParts × TreeRec) (RecoverParts × (TreeState × Work))
+  plan_from start =
+      fill_plan (record { shape = shape_of c.args.geo.now; formulas = g.S.Suite.formulas_of (g.S.Suite.keys c.args.suite.now) }) (g.B.Board.device c.args.board.now).regs start
+      (recover_parts_at g.S.Suite g.W.Watch c.args.suite.now c.args.watch.now)
+
+  -- the lines are read into zero lines
+  from_zero : {new : Device} {end : Result (RecoverParts × (TreeState × Work)) (RecoverParts × TreeRec)} → Follows (plan_from c.deref_mut.result.now) (g.B.Board.device c.args.board.now) new end
+      → Follows (plan_from (replicate (tree_slots (shape_of c.args.geo.now)) zero_line)) (g.B.Board.device c.args.board.now) new end
+  from_zero {new = new} {end = end} it =
+      subst (λ start. Follows (plan_from start) (g.B.Board.device c.args.board.now) new end) (c.deref_mut.ensures.value ∙ c.in_ok-room.ensures.slots) it
+
+pub returns-in_err-room-clause-plan : goal.returns-in_err-room-clause-plan
+returns-in_err-room-clause-plan g c =
+    λ other.
+    let is = err_from_is_err_and c.from_residual.result c.from_residual.ensures.1 in
+    let fault : TreeRec → Result (TreeState × Work) TreeRec = Err in
+    absurd (other (is.1 ∙ ap fault is.2))
+
+pub returns-in-Err-clause-plan : goal.returns-in-Err-clause-plan
+returns-in-Err-clause-plan g c = λ other. from_zero g ((goal.at.returns-in-Err-clause-plan g c).After-fill_room) c.in-Err.ensures.plan
+
+pub returns-clause-plan : goal.returns-clause-plan
+returns-clause-plan g c =
+    let here = (goal.at.returns-clause-plan g c).After-fill_room in
+    let engine = c.new.ensures ∙ ap (λ (xs : List (Option CachedNode)). record { shape = shape_of c.args.geo.now; cache = xs; tree = c.fill_room.new.tree; down = Rattle.std.specs.Prelude.false }) (cache g here) in
+    let end : TreeState → ℕ → RecoverParts × (TreeState × Work) =
+    λ e n. (recover_parts_at g.S.Suite g.W.Watch c.fill_room.new.suite c.fill_room.new.watch, (e, record { trials = 0; digests = n })) in
+    λ other.
+    subst (λ (done : RecoverParts × (TreeState × Work)). Follows {E = RecoverParts × TreeRec} (plan_from g here (replicate (tree_slots (shape_of c.args.geo.now)) zero_line))
+    (g.B.Board.device c.args.board.now) (g.B.Board.device c.fill_room.new.board) (Ok done)) (sym (λ i. end (engine i) (c.tree_digests.ensures i)))
+    (from_zero g here c.in-Ok.ensures.plan)

@@ -11,35 +11,20 @@ use Rattle.counter_tree.specs.declared.nodes.Node.{Node}
 use Rattle.bonsai_tree.specs.Positions.{child_slot}
 use Rattle.counter_tree.specs.Nodes.{counter}
 use Rattle.asit_shadow.specs.State.{TreeState, IsCachedAs, top_node}
-use Rattle.asit_shadow.specs.Parts.{TreeEngineParts, tree_parts_of, AreTreeTrusted}
-use Rattle.pmem_base.specs.Counts.{risen_times}
-use Rattle.asit_shadow.specs.Counts.{level_tags, fetch_tags}
+use Rattle.asit_shadow.specs.Parts.{TreeEngineParts, tree_parts_of, AreTreeTrusted, tree_parts_at, tree_setup_at}
 use Rattle.asit_shadow.specs.Paths.{line_path}
 use Rattle.asit_shadow.specs.declared.fault.TreeFault.{TreeFault}
-use Rattle.asit_shadow.specs.Plans.{TreeChip, tree_chip_of, level_plan, fetch_turn, fetch_plan}
+use Rattle.asit_shadow.specs.Plans.{TreeChip, tree_chip_of, level_plan, fetch_turn, fetch_plan, tree_chip_at}
 use Rattle.asit_shadow.specs.Fetching.{HasFetchedNode, HasNoNode, IsPathFetchedTo}
 use Rattle.asit_shadow.proofs.PathSteps.{IsFetchReady, IsNextLevel, path-start, last-start, last-end, place-is, version-is, next-low, path-next, had-in}
 use Rattle.asit_shadow.proofs.FetchStops.{fetch-stopped}
-use Rattle.asit_shadow.proofs.TagLaws.{tags-next}
 use Rattle.asit_shadow.proofs.engine.TreeEngine.fetch.Given.{Over}
 use Rattle.asit_shadow.proofs.engine.TreeEngine.fetch.Goals.{After-from}
 use Rattle.asit_shadow.proofs.engine.TreeEngine.fetch.Goals as goal
 
--- what the fetch works on at a moment
-abbrev at : (g : Over) → TreeState → g.row.B.Denot → g.row.W.Denot → TreeEngineParts
-at g engine board watch = tree_parts_of engine (g.B.Board.device board) (g.W.Watch.watched watch)
-
-abbrev under : (g : Over) → TreeState → g.row.S.Denot → Setup
-under g engine suite = record { shape = engine.shape; formulas = g.S.Suite.formulas_of (g.S.Suite.keys suite) }
-
--- the state beside the board at a moment
-abbrev chip : (g : Over) → TreeState → g.row.W.Denot → g.row.S.Denot → TreeChip
-chip g engine watch suite =
-    tree_chip_of engine (g.W.Watch.watched watch) (g.S.Suite.pads suite) (g.S.Suite.tags suite) (g.S.Suite.digests suite)
-
 pub levels-init : goal.levels-init
 levels-init g c =
-    let ready : IsFetchReady (under g c.args.self.now c.args.suite.now) c.args.at (at g c.args.self.now c.args.board.now c.args.watch.now) =
+    let ready : IsFetchReady (tree_setup_at g.S.Suite c.args.self.now c.args.suite.now) c.args.at (tree_parts_at g.B.Board g.W.Watch c.args.self.now c.args.board.now c.args.watch.now) =
     record {
       shape = c.is_whole.ensures.shape;
       in_range = g.met.S.Suite.in_range c.args.suite.now;
@@ -48,19 +33,17 @@ levels-init g c =
       slots = c.is_whole.ensures.engine.slot_count;
     } in
     record {
-      fetched = path-start (under g c.args.self.now c.args.suite.now) c.args.at (at g c.args.self.now c.args.board.now c.args.watch.now) ready;
+      fetched = path-start (tree_setup_at g.S.Suite c.args.self.now c.args.suite.now) c.args.at (tree_parts_at g.B.Board g.W.Watch c.args.self.now c.args.board.now c.args.watch.now) ready;
       last =
           λ trusted.
-          last-start (under g c.args.self.now c.args.suite.now) c.args.at c.top-node.result (at g c.args.self.now c.args.board.now c.args.watch.now) ready
+          last-start (tree_setup_at g.S.Suite c.args.self.now c.args.suite.now) c.args.at c.top-node.result (tree_parts_at g.B.Board g.W.Watch c.args.self.now c.args.board.now c.args.watch.now) ready
           c.top-node.ensures.value trusted;
       reached =
-          subst (λ (node : Node). AreTurnsLeft (fetch_plan (under g c.args.self.now c.args.suite.now) c.args.at (chip g c.args.self.now c.args.watch.now c.args.suite.now))
-          (g.B.Board.device c.args.board.now) (fetch_turn (under g c.args.self.now c.args.suite.now) c.args.at) 0 c.args.self.now.shape.levels
-          (chip g c.args.self.now c.args.watch.now c.args.suite.now, node) (g.B.Board.device c.args.board.now)) (sym c.top-node.ensures.value)
-          (turns_start (fetch_turn (under g c.args.self.now c.args.suite.now) c.args.at) c.args.self.now.shape.levels
-          (chip g c.args.self.now c.args.watch.now c.args.suite.now, top_node c.args.self.now.cache) (g.B.Board.device c.args.board.now));
-      tags = refl;
-      pads = refl;
+          subst (λ (node : Node). AreTurnsLeft (fetch_plan (tree_setup_at g.S.Suite c.args.self.now c.args.suite.now) c.args.at (tree_chip_at g.S.Suite g.W.Watch c.args.self.now c.args.suite.now c.args.watch.now))
+          (g.B.Board.device c.args.board.now) (fetch_turn (tree_setup_at g.S.Suite c.args.self.now c.args.suite.now) c.args.at) 0 c.args.self.now.shape.levels
+          (tree_chip_at g.S.Suite g.W.Watch c.args.self.now c.args.suite.now c.args.watch.now, node) (g.B.Board.device c.args.board.now)) (sym c.top-node.ensures.value)
+          (turns_start (fetch_turn (tree_setup_at g.S.Suite c.args.self.now c.args.suite.now) c.args.at) c.args.self.now.shape.levels
+          (tree_chip_at g.S.Suite g.W.Watch c.args.self.now c.args.suite.now c.args.watch.now, top_node c.args.self.now.cache) (g.B.Board.device c.args.board.now));
       keys = refl;
       digests = refl;
     }
@@ -69,7 +52,7 @@ levels-init g c =
 
 module _ (g : Over) (c : After-from g) where
   abbrev setup : Setup
-  setup = under g c.args.self.now c.args.suite.now
+  setup = tree_setup_at g.S.Suite c.args.self.now c.args.suite.now
 
   place : slice_index c.as_slice.result.now (c.from.result + 1) ≡ slice_index (line_path c.args.self.now.shape c.args.at) (suc c.levels.level)
   place =
@@ -79,7 +62,7 @@ module _ (g : Over) (c : After-from g) where
   below : c.levels.level < c.args.self.now.shape.levels
   below = omega (arith, c.levels-test.true, c.levels-level-end.ensures, ap (λ (k : Shape). k.levels) c.geo-geo.ensures)
 
-  ready : IsFetchReady (under g c.args.self.now c.args.suite.now) c.args.at (at g c.args.self.now c.args.board.now c.args.watch.now)
+  ready : IsFetchReady (tree_setup_at g.S.Suite c.args.self.now c.args.suite.now) c.args.at (tree_parts_at g.B.Board g.W.Watch c.args.self.now c.args.board.now c.args.watch.now)
   ready =
       record {
         shape = c.is_whole.ensures.shape;
@@ -90,8 +73,8 @@ module _ (g : Over) (c : After-from g) where
       }
 
   next : (version : ℕ) → version ≡ counter c.levels.node (child_slot (slice_index c.as_slice.result.now (c.from.result + 1)))
-      → IsNextLevel (under g c.args.self.now c.args.suite.now) c.args.at c.levels.level (slice_index c.as_slice.result.now (c.from.result + 1)) version
-      (at g c.args.self.now c.args.board.now c.args.watch.now) (at g c.levels.self c.levels.board c.levels.watch)
+      → IsNextLevel (tree_setup_at g.S.Suite c.args.self.now c.args.suite.now) c.args.at c.levels.level (slice_index c.as_slice.result.now (c.from.result + 1)) version
+      (tree_parts_at g.B.Board g.W.Watch c.args.self.now c.args.board.now c.args.watch.now) (tree_parts_at g.B.Board g.W.Watch c.levels.self c.levels.board c.levels.watch)
   next version is =
       record {
         ready = ready;
@@ -100,18 +83,18 @@ module _ (g : Over) (c : After-from g) where
         level = below;
         place = place;
         version_true =
-            version-is (under g c.args.self.now c.args.suite.now) c.args.at c.levels.level (slice_index c.as_slice.result.now (c.from.result + 1)) version c.levels.node
-            (at g c.levels.self c.levels.board c.levels.watch) below place is c.levels.invariant.last;
+            version-is (tree_setup_at g.S.Suite c.args.self.now c.args.suite.now) c.args.at c.levels.level (slice_index c.as_slice.result.now (c.from.result + 1)) version c.levels.node
+            (tree_parts_at g.B.Board g.W.Watch c.levels.self c.levels.board c.levels.watch) below place is c.levels.invariant.last;
       }
 
   -- the level's plan is the turn's
   turn : (version : ℕ) → version ≡ counter c.levels.node (child_slot (slice_index c.as_slice.result.now (c.from.result + 1)))
       → {new : Device} {end : Result (TreeChip × Node) (TreeChip × TreeFault)}
-      → Follows (level_plan (under g c.levels.self c.levels.suite) (slice_index c.as_slice.result.now (c.from.result + 1)) version
-      (chip g c.levels.self c.levels.watch c.levels.suite)) (g.B.Board.device c.levels.board) new end
-      → Follows (fetch_turn setup c.args.at c.levels.level (chip g c.levels.self c.levels.watch c.levels.suite, c.levels.node)) (g.B.Board.device c.levels.board) new end
+      → Follows (level_plan (tree_setup_at g.S.Suite c.levels.self c.levels.suite) (slice_index c.as_slice.result.now (c.from.result + 1)) version
+      (tree_chip_at g.S.Suite g.W.Watch c.levels.self c.levels.suite c.levels.watch)) (g.B.Board.device c.levels.board) new end
+      → Follows (fetch_turn setup c.args.at c.levels.level (tree_chip_at g.S.Suite g.W.Watch c.levels.self c.levels.suite c.levels.watch, c.levels.node)) (g.B.Board.device c.levels.board) new end
   turn version is {new = new} {end = end} it =
-      let now : TreeChip = chip g c.levels.self c.levels.watch c.levels.suite in
+      let now : TreeChip = tree_chip_at g.S.Suite g.W.Watch c.levels.self c.levels.suite c.levels.watch in
       subst (λ x. Follows (level_plan setup x (counter c.levels.node (child_slot x)) now) (g.B.Board.device c.levels.board) new end) place
       (subst (λ v. Follows (level_plan setup (slice_index c.as_slice.result.now (c.from.result + 1)) v now) (g.B.Board.device c.levels.board) new end) is
       (subst₂ (λ (k : Shape) (keys : List ℕ). Follows (level_plan (record { shape = k; formulas = g.S.Suite.formulas_of keys }) (slice_index c.as_slice.result.now (c.from.result + 1))
@@ -137,12 +120,12 @@ pub returns-in-Err-clause-stopped : goal.returns-in-Err-clause-stopped
 returns-in-Err-clause-stopped g c =
     let before = (goal.at.returns-in-Err-clause-stopped g c).After-from in
     let missed = subst₂ (λ (shape : Shape) (keys : List ℕ). HasNoNode (record { shape = shape; formulas = g.S.Suite.formulas_of keys }) (slice_index c.as_slice.result.now (c.from.result + 1))
-    (slice_index c.levels.node.0 c.from-in-levels.result) (at g c.levels.self c.levels.board c.levels.watch) (at g c.node_of.new.self c.node_of.new.board c.node_of.new.watch) (g.S.Suite.tags c.levels.suite) (g.S.Suite.tags c.node_of.new.suite) c.in-Err.fault)
+    (slice_index c.levels.node.0 c.from-in-levels.result) (tree_parts_at g.B.Board g.W.Watch c.levels.self c.levels.board c.levels.watch) (tree_parts_at g.B.Board g.W.Watch c.node_of.new.self c.node_of.new.board c.node_of.new.watch) c.in-Err.fault)
     c.levels.invariant.fetched.effect.shape c.levels.invariant.keys c.in-Err.ensures.missed in
-    fetch-stopped (under g c.args.self.now c.args.suite.now) c.args.at c.levels.level (slice_index c.as_slice.result.now (c.from.result + 1)) (slice_index c.levels.node.0 c.from-in-levels.result)
-    (at g c.args.self.now c.args.board.now c.args.watch.now) (at g c.levels.self c.levels.board c.levels.watch) (at g c.node_of.new.self c.node_of.new.board c.node_of.new.watch)
-    (g.S.Suite.tags c.args.suite.now) (g.S.Suite.tags c.levels.suite) (g.S.Suite.tags c.node_of.new.suite) c.in-Err.fault
-    (next g before (slice_index c.levels.node.0 c.from-in-levels.result) (ap (slice_index c.levels.node.0) (c.from-in-levels.ensures ∙ c.child_slot.ensures.value))) c.levels.invariant.tags missed
+    fetch-stopped (tree_setup_at g.S.Suite c.args.self.now c.args.suite.now) c.args.at c.levels.level (slice_index c.as_slice.result.now (c.from.result + 1)) (slice_index c.levels.node.0 c.from-in-levels.result)
+    (tree_parts_at g.B.Board g.W.Watch c.args.self.now c.args.board.now c.args.watch.now) (tree_parts_at g.B.Board g.W.Watch c.levels.self c.levels.board c.levels.watch) (tree_parts_at g.B.Board g.W.Watch c.node_of.new.self c.node_of.new.board c.node_of.new.watch)
+    c.in-Err.fault
+    (next g before (slice_index c.levels.node.0 c.from-in-levels.result) (ap (slice_index c.levels.node.0) (c.from-in-levels.ensures ∙ c.child_slot.ensures.value))) missed
 
 pub levels-preserved : goal.levels-preserved
 levels-preserved g c =
@@ -150,30 +133,22 @@ levels-preserved g c =
     let more : suc c.levels.level ≡ c.levels.level + 1 = omega arith in
     let its = next g before (slice_index c.levels.node.0 c.from-in-levels.result) (ap (slice_index c.levels.node.0) (c.from-in-levels.ensures ∙ c.child_slot.ensures.value)) in
     let had = subst₂ (λ (shape : Shape) (keys : List ℕ). HasFetchedNode (record { shape = shape; formulas = g.S.Suite.formulas_of keys }) (slice_index c.as_slice.result.now (c.from.result + 1))
-    (slice_index c.levels.node.0 c.from-in-levels.result) (at g c.levels.self c.levels.board c.levels.watch) (at g c.node_of.new.self c.node_of.new.board c.node_of.new.watch) c.in-Ok.node)
+    (slice_index c.levels.node.0 c.from-in-levels.result) (tree_parts_at g.B.Board g.W.Watch c.levels.self c.levels.board c.levels.watch) (tree_parts_at g.B.Board g.W.Watch c.node_of.new.self c.node_of.new.board c.node_of.new.watch) c.in-Ok.node)
     c.levels.invariant.fetched.effect.shape c.levels.invariant.keys c.in-Ok.ensures.had in
     record {
       fetched =
-          subst (λ n. IsPathFetchedTo (under g c.args.self.now c.args.suite.now) c.args.at n (at g c.args.self.now c.args.board.now c.args.watch.now) (at g c.node_of.new.self c.node_of.new.board c.node_of.new.watch)) more
-          (path-next (under g c.args.self.now c.args.suite.now) c.args.at c.levels.level (slice_index c.as_slice.result.now (c.from.result + 1)) (slice_index c.levels.node.0 c.from-in-levels.result) c.in-Ok.node
-          (at g c.args.self.now c.args.board.now c.args.watch.now) (at g c.levels.self c.levels.board c.levels.watch) (at g c.node_of.new.self c.node_of.new.board c.node_of.new.watch) its had);
+          subst (λ n. IsPathFetchedTo (tree_setup_at g.S.Suite c.args.self.now c.args.suite.now) c.args.at n (tree_parts_at g.B.Board g.W.Watch c.args.self.now c.args.board.now c.args.watch.now) (tree_parts_at g.B.Board g.W.Watch c.node_of.new.self c.node_of.new.board c.node_of.new.watch)) more
+          (path-next (tree_setup_at g.S.Suite c.args.self.now c.args.suite.now) c.args.at c.levels.level (slice_index c.as_slice.result.now (c.from.result + 1)) (slice_index c.levels.node.0 c.from-in-levels.result) c.in-Ok.node
+          (tree_parts_at g.B.Board g.W.Watch c.args.self.now c.args.board.now c.args.watch.now) (tree_parts_at g.B.Board g.W.Watch c.levels.self c.levels.board c.levels.watch) (tree_parts_at g.B.Board g.W.Watch c.node_of.new.self c.node_of.new.board c.node_of.new.watch) its had);
       last =
           λ trusted.
           subst (λ p. IsCachedAs c.args.self.now.shape c.node_of.new.self.cache p c.in-Ok.node)
           (place g before ∙ ap (slice_index (line_path c.args.self.now.shape c.args.at)) more)
-          (had-in (under g c.args.self.now c.args.suite.now) c.args.at c.levels.level (slice_index c.as_slice.result.now (c.from.result + 1)) (slice_index c.levels.node.0 c.from-in-levels.result) c.in-Ok.node
-          (at g c.args.self.now c.args.board.now c.args.watch.now) (at g c.levels.self c.levels.board c.levels.watch) (at g c.node_of.new.self c.node_of.new.board c.node_of.new.watch) its had);
+          (had-in (tree_setup_at g.S.Suite c.args.self.now c.args.suite.now) c.args.at c.levels.level (slice_index c.as_slice.result.now (c.from.result + 1)) (slice_index c.levels.node.0 c.from-in-levels.result) c.in-Ok.node
+          (tree_parts_at g.B.Board g.W.Watch c.args.self.now c.args.board.now c.args.watch.now) (tree_parts_at g.B.Board g.W.Watch c.levels.self c.levels.board c.levels.watch) (tree_parts_at g.B.Board g.W.Watch c.node_of.new.self c.node_of.new.board c.node_of.new.watch) its had);
       reached =
           turn_ok c.levels.invariant.reached (below g before) (turn g before (slice_index c.levels.node.0 c.from-in-levels.result)
           (ap (slice_index c.levels.node.0) (c.from-in-levels.ensures ∙ c.child_slot.ensures.value)) c.in-Ok.ensures.plan);
-      tags =
-          subst (λ n. g.S.Suite.tags c.node_of.new.suite ≡ risen_times (fetch_tags (under g c.args.self.now c.args.suite.now) c.args.self.now.cache c.args.at n) (g.S.Suite.tags c.args.suite.now)) more
-          (tags-next (under g c.args.self.now c.args.suite.now) c.args.at c.levels.level (slice_index c.as_slice.result.now (c.from.result + 1)) (slice_index c.levels.node.0 c.from-in-levels.result)
-          (at g c.args.self.now c.args.board.now c.args.watch.now) (at g c.levels.self c.levels.board c.levels.watch)
-          (g.S.Suite.tags c.args.suite.now) (g.S.Suite.tags c.levels.suite) (g.S.Suite.tags c.node_of.new.suite) its c.levels.invariant.tags
-          (subst₂ (λ (shape : Shape) (keys : List ℕ). g.S.Suite.tags c.node_of.new.suite ≡ risen_times (level_tags (record { shape = shape; formulas = g.S.Suite.formulas_of keys }) c.levels.self.cache (slice_index c.as_slice.result.now (c.from.result + 1))) (g.S.Suite.tags c.levels.suite))
-          c.levels.invariant.fetched.effect.shape c.levels.invariant.keys c.in-Ok.ensures.tags));
-      pads = c.in-Ok.ensures.pads ∙ c.levels.invariant.pads;
       keys = c.in-Ok.ensures.keys ∙ c.levels.invariant.keys;
       digests = c.in-Ok.ensures.digests ∙ c.levels.invariant.digests;
     }
@@ -182,17 +157,11 @@ pub returns-clause-fetched : goal.returns-clause-fetched
 returns-clause-fetched g c =
     let all : c.levels.level ≡ c.args.self.now.shape.levels =
     omega (arith, c.levels-test.false, c.levels.auto.level-end, c.levels-level-end.ensures, ap (λ (k : Shape). k.levels) c.geo-geo.ensures) in
-    let path = subst (λ n. IsPathFetchedTo (under g c.args.self.now c.args.suite.now) c.args.at n (at g c.args.self.now c.args.board.now c.args.watch.now) (at g c.levels.self c.levels.board c.levels.watch)) all c.levels.invariant.fetched in
+    let path = subst (λ n. IsPathFetchedTo (tree_setup_at g.S.Suite c.args.self.now c.args.suite.now) c.args.at n (tree_parts_at g.B.Board g.W.Watch c.args.self.now c.args.board.now c.args.watch.now) (tree_parts_at g.B.Board g.W.Watch c.levels.self c.levels.board c.levels.watch)) all c.levels.invariant.fetched in
     record {
       path = path;
       last =
-          last-end (under g c.args.self.now c.args.suite.now) c.args.at c.levels.node (at g c.args.self.now c.args.board.now c.args.watch.now) (at g c.levels.self c.levels.board c.levels.watch) path
-          (subst (λ n. AreTreeTrusted (under g c.args.self.now c.args.suite.now) (at g c.levels.self c.levels.board c.levels.watch)
+          last-end (tree_setup_at g.S.Suite c.args.self.now c.args.suite.now) c.args.at c.levels.node (tree_parts_at g.B.Board g.W.Watch c.args.self.now c.args.board.now c.args.watch.now) (tree_parts_at g.B.Board g.W.Watch c.levels.self c.levels.board c.levels.watch) path
+          (subst (λ n. AreTreeTrusted (tree_setup_at g.S.Suite c.args.self.now c.args.suite.now) (tree_parts_at g.B.Board g.W.Watch c.levels.self c.levels.board c.levels.watch)
           → IsCachedAs c.args.self.now.shape c.levels.self.cache (slice_index (line_path c.args.self.now.shape c.args.at) n) c.levels.node) all c.levels.invariant.last);
     }
-
-pub returns-clause-tags : goal.returns-clause-tags
-returns-clause-tags g c =
-    let all : c.levels.level ≡ c.args.self.now.shape.levels =
-    omega (arith, c.levels-test.false, c.levels.auto.level-end, c.levels-level-end.ensures, ap (λ (k : Shape). k.levels) c.geo-geo.ensures) in
-    subst (λ n. g.S.Suite.tags c.levels.suite ≡ risen_times (fetch_tags (under g c.args.self.now c.args.suite.now) c.args.self.now.cache c.args.at n) (g.S.Suite.tags c.args.suite.now)) all c.levels.invariant.tags

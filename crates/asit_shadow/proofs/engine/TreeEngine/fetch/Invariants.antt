@@ -3,8 +3,6 @@ use Rattle.std.proofs.Common.{◌≡◌}
 use Rattle.std.specs.Prelude.{slice_index}
 use Rattle.asit_shadow.specs.State.{IsCachedAs}
 use Rattle.asit_shadow.specs.Parts.{tree_parts_of, AreTreeTrusted}
-use Rattle.pmem_base.specs.Counts.{risen_times}
-use Rattle.asit_shadow.specs.Counts.{fetch_tags}
 use Rattle.asit_shadow.specs.Paths.{line_path}
 use Rattle.asit_shadow.specs.Fetching.{IsPathFetchedTo}
 use Rattle.call_plan.proofs.Loops.{AreTurnsLeft}
@@ -31,8 +29,6 @@ invariant-levels g l =
           l.level l.fn.self.shape.levels
           (tree_chip_of l.self (g.W.Watch.watched l.watch) (g.S.Suite.pads l.suite) (g.S.Suite.tags l.suite) (g.S.Suite.digests l.suite), l.node)
           (g.B.Board.device l.board);
-      tags : g.S.Suite.tags l.suite ≡ risen_times (fetch_tags (record { shape = l.fn.self.shape; formulas = g.S.Suite.formulas_of (g.S.Suite.keys l.fn.suite) }) l.fn.self.cache l.fn.at l.level) (g.S.Suite.tags l.fn.suite);
-      pads : g.S.Suite.pads l.suite ≡ g.S.Suite.pads l.fn.suite;
       keys : g.S.Suite.keys l.suite ≡ g.S.Suite.keys l.fn.suite;
       digests : g.S.Suite.digests l.suite ≡ g.S.Suite.digests l.fn.suite;
     }

@@ -1,23 +1,20 @@
 -- A node named more.
-use Rattle.std.proofs.Common.{ℕ, suc, ◌≡◌, ◌<◌, ◌≤◌, ◌+◌, ◌*◌, ◌^◌, List, [], length, take, get_or, refl, sym, ap, subst, ◌∙◌, arith}
+use Rattle.std.proofs.Common.{ℕ, suc, ◌≡◌, ◌<◌, ◌≤◌, ◌*◌, List, [], length, get_or, refl, sym, ap, subst, ◌∙◌, arith}
 use Rattle.std.proofs.lemmas.List.{take_all}
-use Rattle.pmem_base.specs.declared.lines.Line.{Line}
 use Rattle.pmem_base.specs.declared.registers.Regs.{Regs}
 use Rattle.pmem_base.specs.Shape.{Shape}
 use Rattle.pmem_base.specs.Counts.{risen_times}
 use Rattle.counter_tree.specs.declared.nodes.Node.{Node}
-use Rattle.counter_tree.specs.Layout.{tree_slots, line_of_slot, line_of_tag}
-use Rattle.counter_tree.specs.Shadow.{IsShadowTree, tree_with, tree_root_with}
+use Rattle.counter_tree.specs.Layout.{line_of_slot, line_of_tag}
+use Rattle.counter_tree.specs.Shadow.{tree_with, tree_root_with}
 use Rattle.counter_tree.specs.Slots.{slot_of}
 use Rattle.pmem_base.specs.Layout.{meta_lines}
 use Rattle.pmem_base.proofs.LayoutLemmas.{meta_lines-most}
-use Rattle.counter_tree.proofs.HeightLemmas.{shadow_height-room}
-use Rattle.asit_shadow.specs.Writing.{armed_lines, IsTreeNamed}
+use Rattle.asit_shadow.specs.Writing.{armed_lines}
 use Rattle.asit_shadow.specs.WritePlans.{named_all}
 use Rattle.asit_shadow.proofs.WritePlans.{named-none, named-step}
 use Rattle.asit_shadow.proofs.RegisterLaws.{others-emptied, others-then}
-use Rattle.asit_shadow.proofs.TagLaws.{path-digests}
-use Rattle.asit_shadow.proofs.WriteLoops.{armed-none, armed-next, named-next}
+use Rattle.asit_shadow.proofs.WriteLoops.{armed-none, armed-next, path-digests}
 use Rattle.asit_shadow.proofs.engine.TreeEngine.next_regs.Given.{Over}
 use Rattle.asit_shadow.proofs.engine.TreeEngine.next_regs.Goals.{After-name-next}
 use Rattle.asit_shadow.proofs.engine.TreeEngine.next_regs.Goals as goal
@@ -29,8 +26,6 @@ levels-init g c =
       group =
           armed-none c.args.self.now.shape c.args.at c.tag_place.result c.args.seal.now c.tag_line.result c.emptied-next.result.group.items c.push.new.self.items c.push-2.new.self.items
           (ap (λ (r : Regs). r.group.items) c.emptied-next.ensures) place c.tag_line.ensures c.push.ensures.items c.push-2.ensures.items;
-      tree = λ slots long over. over;
-      root = λ slots some long over. absurd (omega (arith, some));
       named =
           ap (λ (r : Regs). (c.args.self.now.tree, r.root)) c.emptied-next.ensures
           ∙ sym (named-none (g.S.Suite.formulas_of (g.S.Suite.keys c.args.suite.now)) c.args.self.now.shape (c.args.self.now.tree, c.args.regs.now.root));
@@ -53,12 +48,6 @@ module _ (g : Over) (c : After-name-next g) where
   slot : c.slot_of-i.result ≡ slot_of c.args.self.now.shape (get_or c.as_slice-x-items.result.now c.levels.x-index (0, record { 0 = [] })).0
   slot = c.slot_of-i.ensures.value ∙ ap (λ (k : Shape). slot_of k (get_or c.as_slice-x-items.result.now c.levels.x-index (0, record { 0 = [] })).0) c.geo-geo.ensures
 
-  leaf : c.slot_of-i.result < 4 ^ c.args.self.now.tree.height
-  leaf =
-      let room = shadow_height-room c.args.self.now.shape c.is_whole.ensures.shape in
-      let inside : c.slot_of-i.result < tree_slots c.args.self.now.shape = subst (λ (k : Shape). c.slot_of-i.result < tree_slots k) c.geo-geo.ensures c.slot_of-i.ensures.within in
-      subst (λ h. c.slot_of-i.result < 4 ^ h) (sym c.is_whole.ensures.engine.tree_height) (omega (arith, inside, room))
-
   named_lines : c.name-next.new.self.tree.lines
       ≡ tree_with (g.S.Suite.formulas_of (g.S.Suite.keys c.args.suite.now)) c.levels.self.tree.height c.levels.self.tree.lines c.slot_of-i.result c.slot_line-line.result
   named_lines =
@@ -68,16 +57,6 @@ module _ (g : Over) (c : After-name-next g) where
       ≡ tree_root_with (g.S.Suite.formulas_of (g.S.Suite.keys c.args.suite.now)) c.levels.self.tree.height c.levels.self.tree.lines c.slot_of-i.result c.slot_line-line.result
   named_root =
       subst (λ (k : List ℕ). c.name-next.result ≡ tree_root_with (g.S.Suite.formulas_of k) c.levels.self.tree.height c.levels.self.tree.lines c.slot_of-i.result c.slot_line-line.result) c.levels.invariant.keys c.name-next.ensures.root
-
-  named : (slots : List Line) → length slots ≡ tree_slots c.args.self.now.shape
-      → IsShadowTree (g.S.Suite.formulas_of (g.S.Suite.keys c.args.suite.now)) c.args.self.now.tree.height slots c.args.self.now.tree.lines
-      → IsTreeNamed (g.S.Suite.formulas_of (g.S.Suite.keys c.args.suite.now)) c.args.self.now.shape (take (c.levels.x-index + 1) c.args.nodes.now.items) c.args.self.now.tree c.name-next.new.self.tree c.name-next.result slots
-  named slots long over =
-      let inside : c.slot_of-i.result < tree_slots c.args.self.now.shape = subst (λ (k : Shape). c.slot_of-i.result < tree_slots k) c.geo-geo.ensures c.slot_of-i.ensures.within in
-      named-next (g.S.Suite.formulas_of (g.S.Suite.keys c.args.suite.now)) c.args.self.now.shape c.args.nodes.now.items c.as_slice-x-items.result.now c.levels.x-index c.slot_of-i.result c.slot_line-line.result (0, record { 0 = [] }) slots
-      c.args.self.now.tree c.levels.self.tree c.name-next.new.self.tree c.name-next.result (g.met.S.Suite.in_range c.args.suite.now) c.as_slice-x-items.ensures.value c.levels-test.true slot c.slot_line-line.ensures leaf (omega (arith, inside, long)) c.levels.invariant.height
-      (c.levels.invariant.tree slots long over)
-      named_lines named_root
 
 pub slot_line-line-requires : goal.slot_line-line-requires
 slot_line-line-requires g c =
@@ -94,8 +73,6 @@ levels-preserved g c =
           armed-next c.args.self.now.shape c.args.at c.slot_place.result c.slot_of-i.result c.args.seal.now c.args.nodes.now.items c.as_slice-x-items.result.now c.levels.x-index c.slot_line-line.result (0, record { 0 = [] })
           c.levels.next.group.items c.push-in-levels.new.self.items c.as_slice-x-items.ensures.value c.levels-test.true
           (c.slot_place.ensures.value ∙ ap (λ (k : Shape). line_of_slot k c.slot_of-i.result) c.geo-geo.ensures) (slot g before) c.slot_line-line.ensures c.levels.invariant.group c.push-in-levels.ensures.items;
-      tree = λ slots long over. (named g before slots long over).tree;
-      root = λ slots some long over. named g before slots long over;
       named =
           named-step (g.S.Suite.formulas_of (g.S.Suite.keys c.args.suite.now)) c.args.self.now.shape c.args.nodes.now.items c.as_slice-x-items.result.now c.levels.x-index
           c.slot_of-i.result c.slot_line-line.result (0, record { 0 = [] }) (c.args.self.now.tree, c.args.regs.now.root) c.levels.self.tree c.name-next.new.self.tree
@@ -120,13 +97,6 @@ pub returns-clause-group : goal.returns-clause-group
 returns-clause-group g c =
     subst (λ (ps : List (ℕ × Node)). c.levels.next.group.items ≡ armed_lines c.args.self.now.shape c.args.at c.args.seal.now ps)
     (take_all c.levels.x-index c.args.nodes.now.items (subst (λ (ps : List (ℕ × Node)). length ps ≤ c.levels.x-index) c.as_slice-x-items.ensures.value c.levels-test.false)) c.levels.invariant.group
-
-pub returns-clause-root : goal.returns-clause-root
-returns-clause-root g c =
-    λ slots long over.
-    let past : length c.args.nodes.now.items ≤ c.levels.x-index = subst (λ (ps : List (ℕ × Node)). length ps ≤ c.levels.x-index) c.as_slice-x-items.ensures.value c.levels-test.false in
-    subst (λ (ps : List (ℕ × Node)). IsTreeNamed (g.S.Suite.formulas_of (g.S.Suite.keys c.args.suite.now)) c.args.self.now.shape ps c.args.self.now.tree c.levels.self.tree c.levels.next.root slots)
-    (take_all c.levels.x-index c.args.nodes.now.items past) (c.levels.invariant.root slots (omega (arith, c.requires.some, past)) long over)
 
 pub returns-clause-named : goal.returns-clause-named
 returns-clause-named g c =

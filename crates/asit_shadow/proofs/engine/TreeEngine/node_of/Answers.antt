@@ -1,6 +1,6 @@
--- The tags of a node that was read, and of the one that gave way; and the node's plan at each end.
+-- Why a node wasn't had; and the node's plan at each end.
 use Rattle.std.proofs.Common.{false, ℕ, ◌≡◌, List, Some, None, Result, Ok, Err, sym, ap, subst, subst₂, ◌∙◌}
-use Rattle.std.specs.Prelude.{IfErr, cond, slice_set}
+use Rattle.std.specs.Prelude.{IfErr, slice_set}
 use Rattle.pmem_base.specs.declared.faults.Cut.{Cut}
 use Rattle.pmem_base.specs.Geo.{shape_of}
 use Rattle.board.specs.Device.{Device}
@@ -11,7 +11,6 @@ use Rattle.call_plan.proofs.Steps.{ended_err}
 use Rattle.counter_tree.specs.declared.nodes.Node.{Node}
 use Rattle.counter_tree.specs.Plans.{read_parts, node_plan}
 use Rattle.counter_tree.proofs.ReadPlans.{leaving}
-use Rattle.pmem_base.specs.Counts.{risen}
 use Rattle.pmem_base.specs.Shape.{Shape}
 use Rattle.counter_tree.specs.Slots.{slot_of}
 use Rattle.asit_shadow.specs.declared.fault.TreeFault.{TreeFault}
@@ -22,33 +21,19 @@ use Rattle.pmem_engine.proofs.CallEnds.ErrorAnswers.{is_err_of}
 use Rattle.asit_shadow.specs.Parts.{TreeEngineParts, tree_parts_of}
 use Rattle.asit_shadow.specs.Fetching.{IsNodeTaken, HasNoNode}
 use Rattle.asit_shadow.proofs.FetchPlans.{not_taken, level_cached, level_missed, level_placed, same_engine}
-use Rattle.asit_shadow.specs.Work.{holds_dirty}
-use Rattle.asit_shadow.proofs.TagLaws.{found-tags}
 use Rattle.asit_shadow.proofs.engine.TreeEngine.node_of.Given.{Over}
 use Rattle.asit_shadow.proofs.engine.TreeEngine.node_of.Goals.{After-slot_of-i}
 use Rattle.asit_shadow.proofs.engine.TreeEngine.node_of.Goals as goal
-
-pub returns-clause-tags : goal.returns-clause-tags
-returns-clause-tags g c =
-    let slot : c.slot_of-i.result ≡ slot_of c.args.self.now.shape c.args.x =
-    c.slot_of-i.ensures.value ∙ ap (λ (k : Shape). slot_of k c.args.x) c.geo-geo.ensures in
-    found-tags (record { shape = c.args.self.now.shape; formulas = g.S.Suite.formulas_of (g.S.Suite.keys c.args.suite.now) }) c.args.self.now.cache c.args.x
-    (g.S.Suite.tags c.args.suite.now) (g.S.Suite.tags c.taken.new.suite) (g.S.Suite.tags c.make_room.new.suite)
-    c.in_default.ensures.none c.in_ok-node.ensures.taken.1
-    (subst (λ i. g.S.Suite.tags c.make_room.new.suite ≡ cond (holds_dirty (cache_at c.args.self.now.cache i)) (risen (g.S.Suite.tags c.taken.new.suite)) (g.S.Suite.tags c.taken.new.suite)) slot
-    c.make_room.ensures.tags)
 
 pub returns-in_err-node-clause-missed : goal.returns-in_err-node-clause-missed
 returns-in_err-node-clause-missed g c =
     let setup : Setup = record { shape = c.args.self.now.shape; formulas = g.S.Suite.formulas_of (g.S.Suite.keys c.args.suite.now) } in
     let old : TreeEngineParts = tree_parts_of c.args.self.now (g.B.Board.device c.args.board.now) (g.W.Watch.watched c.args.watch.now) in
     let new : TreeEngineParts = tree_parts_of c.args.self.now (g.B.Board.device c.taken.new.board) (g.W.Watch.watched c.taken.new.watch) in
-    let tags = g.S.Suite.tags c.args.suite.now in
-    let made = g.S.Suite.tags c.taken.new.suite in
-    subst (λ (answer : Result Node TreeFault). IfErr answer (HasNoNode setup c.args.x c.args.version old new tags made))
+    subst (λ (answer : Result Node TreeFault). IfErr answer (HasNoNode setup c.args.x c.args.version old new))
     (sym (is_err_of c.from_residual.result c.in_err-node.field-0.0 c.from_residual.ensures.1))
-    (not_taken setup c.args.x c.args.version c.args.self.now old.device new.device old.watch new.watch tags made c.in_err-node.field-0.0 c.in_default.ensures.none
-    (subst (λ (k : Shape). IsNodeTaken (record { shape = k; formulas = setup.formulas }) c.args.x c.args.version old.device new.device old.watch new.watch tags made
+    (not_taken setup c.args.x c.args.version c.args.self.now old.device new.device old.watch new.watch c.in_err-node.field-0.0 c.in_default.ensures.none
+    (subst (λ (k : Shape). IsNodeTaken (record { shape = k; formulas = setup.formulas }) c.args.x c.args.version old.device new.device old.watch new.watch
     (Err c.in_err-node.field-0.0)) c.geo-geo.ensures c.in_err-node.ensures.taken))
 
 -- ---- the plan

@@ -1,45 +1,32 @@
 -- The line is read after its path.
-use Rattle.std.proofs.Common.{ℕ, ◌≡◌, ◌%◌, List, refl, sym, ap, subst, subst₂, inr, ◌∙◌}
-use Rattle.std.specs.Prelude.{Result, Ok, Err, IsSome, slice_index, cond}
+use Rattle.std.proofs.Common.{ℕ, ◌≡◌, ◌%◌, List, refl, sym, ap, subst, subst₂, ◌∙◌}
+use Rattle.std.specs.Prelude.{Result, Ok, Err, IsSome, slice_index}
 use Rattle.pmem_base.specs.declared.lines.Line.{Line}
 use Rattle.pmem_base.specs.Geo.{shape_of}
 use Rattle.pmem_base.specs.Shape.{Shape}
-use Rattle.pmem_base.specs.Counts.{risen}
-use Rattle.pmem_recovery.specs.Parts.{SuiteState, suite_state}
 use Rattle.suite.specs.Setup.{Setup}
 use Rattle.call_plan.specs.Following.{Follows}
 use Rattle.counter_tree.specs.Plans.{ReadParts, read_parts, line_plan}
 use Rattle.counter_tree.proofs.ReadPlans.{leaving}
 use Rattle.counter_tree.specs.declared.accepted.FetchFault.{FetchFault}
 use Rattle.counter_tree.specs.declared.accepted.FetchFault.TheVariants as Missed
-use Rattle.counter_tree.specs.Accepted.{IsLineFetched, is_line_tagged, is_line_unsealed}
+use Rattle.counter_tree.specs.Accepted.{IsLineFetched}
 use Rattle.counter_tree.specs.Watch.{WatchState, last_seal_of}
 use Rattle.asit_shadow.specs.declared.fault.TreeFault.{TreeFault}
 use Rattle.asit_shadow.specs.declared.fault.TreeFault.TheVariants as Fail
-use Rattle.asit_shadow.specs.Plans.{TreeChip, tree_chip_of, read_parts_of, fault_of_line, read_line_plan}
+use Rattle.asit_shadow.specs.Plans.{TreeChip, tree_chip_of, read_parts_of, fault_of_line, read_line_plan, tree_chip_at}
 use Rattle.asit_shadow.proofs.CalledPlans.{unfetched_read, fetched_read, refused_read}
 use Rattle.asit_shadow.specs.State.{TreeState}
-use Rattle.asit_shadow.specs.Parts.{TreeEngineParts, tree_parts_of}
-use Rattle.asit_shadow.proofs.CallCounts.{line-counts, line_cut-counts}
-use Rattle.asit_shadow.proofs.ReadEnds.{IsPathHad, line_counter-is, read-ok, read-cut, read-refused, read-shown, line_shown-work}
+use Rattle.asit_shadow.specs.Parts.{TreeEngineParts, tree_parts_of, tree_parts_at, tree_setup_at}
+use Rattle.asit_shadow.proofs.ReadEnds.{IsPathHad, line_counter-is, read-ok, read-cut, read-refused, read-shown}
 use Rattle.asit_shadow.proofs.engine.TreeEngine.read_line.Given.{Over}
 use Rattle.asit_shadow.proofs.engine.TreeEngine.read_line.Goals.{After-fetch_line}
 use Rattle.asit_shadow.proofs.engine.TreeEngine.read_line.Goals as goal
 
-abbrev at : (g : Over) → TreeState → g.row.B.Denot → g.row.W.Denot → TreeEngineParts
-at g engine board watch = tree_parts_of engine (g.B.Board.device board) (g.W.Watch.watched watch)
-
-abbrev under : (g : Over) → TreeState → g.row.S.Denot → Setup
-under g engine suite = record { shape = engine.shape; formulas = g.S.Suite.formulas_of (g.S.Suite.keys suite) }
-
--- the suite's counts at a moment
-abbrev counted : (g : Over) → g.row.S.Denot → SuiteState
-counted g suite = suite_state (g.S.Suite.keys suite) (g.S.Suite.pads suite) (g.S.Suite.tags suite) (g.S.Suite.digests suite)
-
 module _ (g : Over) (c : After-fetch_line g) where
-  had : IsPathHad (under g c.args.self.now c.args.suite.now) c.args.at (slice_index c.in-Ok.node.0 (c.args.at % 4))
-      (at g c.args.self.now c.args.board.now c.args.watch.now) (at g c.fetch.new.self c.fetch.new.board c.fetch.new.watch)
-      (at g c.fetch.new.self c.fetch_line.new.board c.fetch_line.new.watch)
+  had : IsPathHad (tree_setup_at g.S.Suite c.args.self.now c.args.suite.now) c.args.at (slice_index c.in-Ok.node.0 (c.args.at % 4))
+      (tree_parts_at g.B.Board g.W.Watch c.args.self.now c.args.board.now c.args.watch.now) (tree_parts_at g.B.Board g.W.Watch c.fetch.new.self c.fetch.new.board c.fetch.new.watch)
+      (tree_parts_at g.B.Board g.W.Watch c.fetch.new.self c.fetch_line.new.board c.fetch_line.new.watch)
   had =
       record {
         shape = c.is_whole.ensures.shape;
@@ -55,7 +42,7 @@ module _ (g : Over) (c : After-fetch_line g) where
   read : (answer : Result Line FetchFault)
       → IsLineFetched (record { shape = shape_of c.geo.result; formulas = g.S.Suite.formulas_of (g.S.Suite.keys c.fetch.new.suite) }) c.args.at (slice_index c.in-Ok.node.0 (c.args.at % 4))
       (g.B.Board.device c.fetch.new.board) (g.B.Board.device c.fetch_line.new.board) (g.W.Watch.watched c.fetch.new.watch) (g.W.Watch.watched c.fetch_line.new.watch) answer
-      → IsLineFetched (under g c.args.self.now c.args.suite.now) c.args.at (slice_index c.in-Ok.node.0 (c.args.at % 4))
+      → IsLineFetched (tree_setup_at g.S.Suite c.args.self.now c.args.suite.now) c.args.at (slice_index c.in-Ok.node.0 (c.args.at % 4))
       (g.B.Board.device c.fetch.new.board) (g.B.Board.device c.fetch_line.new.board) (g.W.Watch.watched c.fetch.new.watch) (g.W.Watch.watched c.fetch_line.new.watch) answer
   read answer it =
       subst₂ (λ (shape : Shape) (keys : List ℕ). IsLineFetched (record { shape = shape; formulas = g.S.Suite.formulas_of keys }) c.args.at (slice_index c.in-Ok.node.0 (c.args.at % 4))
@@ -65,8 +52,8 @@ module _ (g : Over) (c : After-fetch_line g) where
 pub returns-in-Ok-fetch_line-clause-read : goal.returns-in-Ok-fetch_line-clause-read
 returns-in-Ok-fetch_line-clause-read g c =
     let before = (goal.at.returns-in-Ok-fetch_line-clause-read g c).After-fetch_line in
-    read-ok (under g c.args.self.now c.args.suite.now) c.args.at (slice_index c.in-Ok.node.0 (c.args.at % 4)) (at g c.args.self.now c.args.board.now c.args.watch.now)
-    (at g c.fetch.new.self c.fetch.new.board c.fetch.new.watch) (at g c.fetch.new.self c.fetch_line.new.board c.fetch_line.new.watch) c.in-Ok-fetch_line.plain
+    read-ok (tree_setup_at g.S.Suite c.args.self.now c.args.suite.now) c.args.at (slice_index c.in-Ok.node.0 (c.args.at % 4)) (tree_parts_at g.B.Board g.W.Watch c.args.self.now c.args.board.now c.args.watch.now)
+    (tree_parts_at g.B.Board g.W.Watch c.fetch.new.self c.fetch.new.board c.fetch.new.watch) (tree_parts_at g.B.Board g.W.Watch c.fetch.new.self c.fetch_line.new.board c.fetch_line.new.watch) c.in-Ok-fetch_line.plain
     (had g before) (read g before (Ok c.in-Ok-fetch_line.plain) c.in-Ok-fetch_line.ensures.fetched)
 
 pub returns-in-Err-Cut-clause-read : goal.returns-in-Err-Cut-clause-read
@@ -75,8 +62,8 @@ returns-in-Err-Cut-clause-read g c =
     let it = read g before (Err Missed.Cut)
     (subst (λ fault. IsLineFetched (record { shape = shape_of c.geo.result; formulas = g.S.Suite.formulas_of (g.S.Suite.keys c.fetch.new.suite) }) c.args.at (slice_index c.in-Ok.node.0 (c.args.at % 4))
     (g.B.Board.device c.fetch.new.board) (g.B.Board.device c.fetch_line.new.board) (g.W.Watch.watched c.fetch.new.watch) (g.W.Watch.watched c.fetch_line.new.watch) (Err fault)) c.in-Err-Cut.field-0-is c.in-Err-Cut.ensures.fetched) in
-    read-cut (under g c.args.self.now c.args.suite.now) c.args.at (slice_index c.in-Ok.node.0 (c.args.at % 4)) (at g c.args.self.now c.args.board.now c.args.watch.now)
-    (at g c.fetch.new.self c.fetch.new.board c.fetch.new.watch) (at g c.fetch.new.self c.fetch_line.new.board c.fetch_line.new.watch)
+    read-cut (tree_setup_at g.S.Suite c.args.self.now c.args.suite.now) c.args.at (slice_index c.in-Ok.node.0 (c.args.at % 4)) (tree_parts_at g.B.Board g.W.Watch c.args.self.now c.args.board.now c.args.watch.now)
+    (tree_parts_at g.B.Board g.W.Watch c.fetch.new.self c.fetch.new.board c.fetch.new.watch) (tree_parts_at g.B.Board g.W.Watch c.fetch.new.self c.fetch_line.new.board c.fetch_line.new.watch)
     (had g before) it.0 it.1 it.2
 
 pub returns-in-Err-Refused-clause-read : goal.returns-in-Err-Refused-clause-read
@@ -85,8 +72,8 @@ returns-in-Err-Refused-clause-read g c =
     let it = read g before (Err Missed.Refused)
     (subst (λ fault. IsLineFetched (record { shape = shape_of c.geo.result; formulas = g.S.Suite.formulas_of (g.S.Suite.keys c.fetch.new.suite) }) c.args.at (slice_index c.in-Ok.node.0 (c.args.at % 4))
     (g.B.Board.device c.fetch.new.board) (g.B.Board.device c.fetch_line.new.board) (g.W.Watch.watched c.fetch.new.watch) (g.W.Watch.watched c.fetch_line.new.watch) (Err fault)) c.in-Err-Refused.field-0-is c.in-Err-Refused.ensures.fetched) in
-    read-refused (under g c.args.self.now c.args.suite.now) c.args.at (slice_index c.in-Ok.node.0 (c.args.at % 4)) (at g c.args.self.now c.args.board.now c.args.watch.now)
-    (at g c.fetch.new.self c.fetch.new.board c.fetch.new.watch) (at g c.fetch.new.self c.fetch_line.new.board c.fetch_line.new.watch)
+    read-refused (tree_setup_at g.S.Suite c.args.self.now c.args.suite.now) c.args.at (slice_index c.in-Ok.node.0 (c.args.at % 4)) (tree_parts_at g.B.Board g.W.Watch c.args.self.now c.args.board.now c.args.watch.now)
+    (tree_parts_at g.B.Board g.W.Watch c.fetch.new.self c.fetch.new.board c.fetch.new.watch) (tree_parts_at g.B.Board g.W.Watch c.fetch.new.self c.fetch_line.new.board c.fetch_line.new.watch)
     (had g before) it
 
 pub returns-in-Err-Shown-clause-read : goal.returns-in-Err-Shown-clause-read
@@ -96,65 +83,15 @@ returns-in-Err-Shown-clause-read g c =
     (subst (λ fault. IsLineFetched (record { shape = shape_of c.geo.result; formulas = g.S.Suite.formulas_of (g.S.Suite.keys c.fetch.new.suite) }) c.args.at (slice_index c.in-Ok.node.0 (c.args.at % 4))
     (g.B.Board.device c.fetch.new.board) (g.B.Board.device c.fetch_line.new.board) (g.W.Watch.watched c.fetch.new.watch) (g.W.Watch.watched c.fetch_line.new.watch) (Err fault)) c.in-Err-Shown.field-0-is c.in-Err-Shown.ensures.fetched) in
     let sealed = subst (λ (w : WatchState). IsSome (last_seal_of w c.args.at)) (sym c.in-Ok.ensures.fetched.path.watch) (c.requires.usable.watch.each_sealed c.args.at c.requires.line) in
-    read-shown (under g c.args.self.now c.args.suite.now) c.args.at (slice_index c.in-Ok.node.0 (c.args.at % 4)) (at g c.args.self.now c.args.board.now c.args.watch.now)
-    (at g c.fetch.new.self c.fetch.new.board c.fetch.new.watch) (at g c.fetch.new.self c.fetch_line.new.board c.fetch_line.new.watch)
+    read-shown (tree_setup_at g.S.Suite c.args.self.now c.args.suite.now) c.args.at (slice_index c.in-Ok.node.0 (c.args.at % 4)) (tree_parts_at g.B.Board g.W.Watch c.args.self.now c.args.board.now c.args.watch.now)
+    (tree_parts_at g.B.Board g.W.Watch c.fetch.new.self c.fetch.new.board c.fetch.new.watch) (tree_parts_at g.B.Board g.W.Watch c.fetch.new.self c.fetch_line.new.board c.fetch_line.new.watch)
     (had g before) sealed it
-
--- ---- the counts
-
-pub returns-in-Ok-fetch_line-clause-counts : goal.returns-in-Ok-fetch_line-clause-counts
-returns-in-Ok-fetch_line-clause-counts g c =
-    line-counts (under g c.args.self.now c.args.suite.now) c.args.at (at g c.args.self.now c.args.board.now c.args.watch.now) 1 0 (g.S.Suite.tags c.fetch.new.suite)
-    (counted g c.args.suite.now) (counted g c.fetch_line.new.suite) (c.in-Ok-fetch_line.ensures.keys ∙ c.in-Ok.ensures.keys)
-    (c.in-Ok-fetch_line.ensures.pads ∙ ap risen c.in-Ok.ensures.pads) c.in-Ok.ensures.tags c.in-Ok-fetch_line.ensures.tags (c.in-Ok-fetch_line.ensures.digests ∙ c.in-Ok.ensures.digests)
-
-pub returns-in-Err-Cut-clause-counts : goal.returns-in-Err-Cut-clause-counts
-returns-in-Err-Cut-clause-counts g c =
-    let before = (goal.at.returns-in-Err-Cut-clause-counts g c).After-fetch_line in
-    let it = read g before (Err Missed.Cut)
-    (subst (λ fault. IsLineFetched (record { shape = shape_of c.geo.result; formulas = g.S.Suite.formulas_of (g.S.Suite.keys c.fetch.new.suite) }) c.args.at (slice_index c.in-Ok.node.0 (c.args.at % 4))
-    (g.B.Board.device c.fetch.new.board) (g.B.Board.device c.fetch_line.new.board) (g.W.Watch.watched c.fetch.new.watch) (g.W.Watch.watched c.fetch_line.new.watch) (Err fault)) c.in-Err-Cut.field-0-is c.in-Err-Cut.ensures.fetched) in
-    let pads = subst (λ fault. g.S.Suite.pads c.fetch_line.new.suite ≡ cond (is_line_unsealed (Err fault)) (risen (g.S.Suite.pads c.fetch.new.suite)) (g.S.Suite.pads c.fetch.new.suite)) c.in-Err-Cut.field-0-is c.in-Err-Cut.ensures.pads in
-    let tags = subst (λ fault. g.S.Suite.tags c.fetch_line.new.suite ≡ cond (is_line_tagged (Err fault)) (risen (g.S.Suite.tags c.fetch.new.suite)) (g.S.Suite.tags c.fetch.new.suite)) c.in-Err-Cut.field-0-is c.in-Err-Cut.ensures.tags in
-    line_cut-counts (under g c.args.self.now c.args.suite.now) c.args.at (slice_index c.in-Ok.node.0 (c.args.at % 4)) (at g c.args.self.now c.args.board.now c.args.watch.now)
-    (at g c.fetch.new.self c.fetch.new.board c.fetch.new.watch) (at g c.fetch.new.self c.fetch_line.new.board c.fetch_line.new.watch) (counted g c.args.suite.now) (counted g c.fetch_line.new.suite)
-    (had g before) it.0 it.1 (c.in-Err-Cut.ensures.keys ∙ c.in-Ok.ensures.keys) (pads ∙ c.in-Ok.ensures.pads) (tags ∙ c.in-Ok.ensures.tags) (c.in-Err-Cut.ensures.digests ∙ c.in-Ok.ensures.digests)
-
-pub returns-in-Err-Refused-clause-counts : goal.returns-in-Err-Refused-clause-counts
-returns-in-Err-Refused-clause-counts g c =
-    let pads = subst (λ fault. g.S.Suite.pads c.fetch_line.new.suite ≡ cond (is_line_unsealed (Err fault)) (risen (g.S.Suite.pads c.fetch.new.suite)) (g.S.Suite.pads c.fetch.new.suite)) c.in-Err-Refused.field-0-is c.in-Err-Refused.ensures.pads in
-    let tags = subst (λ fault. g.S.Suite.tags c.fetch_line.new.suite ≡ cond (is_line_tagged (Err fault)) (risen (g.S.Suite.tags c.fetch.new.suite)) (g.S.Suite.tags c.fetch.new.suite)) c.in-Err-Refused.field-0-is c.in-Err-Refused.ensures.tags in
-    line-counts (under g c.args.self.now c.args.suite.now) c.args.at (at g c.args.self.now c.args.board.now c.args.watch.now) 0 0 (g.S.Suite.tags c.fetch.new.suite)
-    (counted g c.args.suite.now) (counted g c.fetch_line.new.suite) (c.in-Err-Refused.ensures.keys ∙ c.in-Ok.ensures.keys)
-    (pads ∙ c.in-Ok.ensures.pads) c.in-Ok.ensures.tags tags (c.in-Err-Refused.ensures.digests ∙ c.in-Ok.ensures.digests)
-
-pub returns-in-Err-Shown-clause-counts : goal.returns-in-Err-Shown-clause-counts
-returns-in-Err-Shown-clause-counts g c =
-    let before = (goal.at.returns-in-Err-Shown-clause-counts g c).After-fetch_line in
-    let it = read g before (Err Missed.Shown)
-    (subst (λ fault. IsLineFetched (record { shape = shape_of c.geo.result; formulas = g.S.Suite.formulas_of (g.S.Suite.keys c.fetch.new.suite) }) c.args.at (slice_index c.in-Ok.node.0 (c.args.at % 4))
-    (g.B.Board.device c.fetch.new.board) (g.B.Board.device c.fetch_line.new.board) (g.W.Watch.watched c.fetch.new.watch) (g.W.Watch.watched c.fetch_line.new.watch) (Err fault)) c.in-Err-Shown.field-0-is c.in-Err-Shown.ensures.fetched) in
-    let pads = subst (λ fault. g.S.Suite.pads c.fetch_line.new.suite ≡ cond (is_line_unsealed (Err fault)) (risen (g.S.Suite.pads c.fetch.new.suite)) (g.S.Suite.pads c.fetch.new.suite)) c.in-Err-Shown.field-0-is c.in-Err-Shown.ensures.pads in
-    let tags = subst (λ fault. g.S.Suite.tags c.fetch_line.new.suite ≡ cond (is_line_tagged (Err fault)) (risen (g.S.Suite.tags c.fetch.new.suite)) (g.S.Suite.tags c.fetch.new.suite)) c.in-Err-Shown.field-0-is c.in-Err-Shown.ensures.tags in
-    let sealed = subst (λ (w : WatchState). IsSome (last_seal_of w c.args.at)) (sym c.in-Ok.ensures.fetched.path.watch) (c.requires.usable.watch.each_sealed c.args.at c.requires.line) in
-    inr (
-      line_shown-work (under g c.args.self.now c.args.suite.now) c.args.at (slice_index c.in-Ok.node.0 (c.args.at % 4)) (at g c.args.self.now c.args.board.now c.args.watch.now)
-          (at g c.fetch.new.self c.fetch.new.board c.fetch.new.watch) (at g c.fetch.new.self c.fetch_line.new.board c.fetch_line.new.watch) (had g before) sealed it,
-      line-counts (under g c.args.self.now c.args.suite.now) c.args.at (at g c.args.self.now c.args.board.now c.args.watch.now) 1 0 (g.S.Suite.tags c.fetch.new.suite)
-          (counted g c.args.suite.now) (counted g c.fetch_line.new.suite) (c.in-Err-Shown.ensures.keys ∙ c.in-Ok.ensures.keys)
-          (pads ∙ ap risen c.in-Ok.ensures.pads) c.in-Ok.ensures.tags tags (c.in-Err-Shown.ensures.digests ∙ c.in-Ok.ensures.digests),
-    )
 
 -- ---- the plan
 
--- the state beside the board at a moment
-abbrev chip : (g : Over) → TreeState → g.row.W.Denot → g.row.S.Denot → TreeChip
-chip g engine watch suite =
-    tree_chip_of engine (g.W.Watch.watched watch) (g.S.Suite.pads suite) (g.S.Suite.tags suite) (g.S.Suite.digests suite)
-
 module _ (g : Over) (c : After-fetch_line g) where
   abbrev fetched : TreeChip
-  fetched = chip g c.fetch.new.self c.fetch.new.watch c.fetch.new.suite
+  fetched = tree_chip_at g.S.Suite g.W.Watch c.fetch.new.self c.fetch.new.suite c.fetch.new.watch
 
   abbrev after : ReadParts
   after = read_parts (g.W.Watch.watched c.fetch_line.new.watch) (g.S.Suite.pads c.fetch_line.new.suite) (g.S.Suite.tags c.fetch_line.new.suite)
@@ -162,7 +99,7 @@ module _ (g : Over) (c : After-fetch_line g) where
   reading : {end : Result (ReadParts × Line) (ReadParts × FetchFault)}
       → Follows (line_plan (record { shape = shape_of c.geo.result; formulas = g.S.Suite.formulas_of (g.S.Suite.keys c.fetch.new.suite) }) c.args.at
       (slice_index c.in-Ok.node.0 (c.args.at % 4)) (read_parts_of fetched)) (g.B.Board.device c.fetch.new.board) (g.B.Board.device c.fetch_line.new.board) end
-      → Follows (line_plan (under g c.args.self.now c.args.suite.now) c.args.at (slice_index c.in-Ok.node.0 (c.args.at % 4)) (read_parts_of fetched))
+      → Follows (line_plan (tree_setup_at g.S.Suite c.args.self.now c.args.suite.now) c.args.at (slice_index c.in-Ok.node.0 (c.args.at % 4)) (read_parts_of fetched))
       (g.B.Board.device c.fetch.new.board) (g.B.Board.device c.fetch_line.new.board) end
   reading {end = end} it =
       subst₂ (λ (k : Shape) (keys : List ℕ). Follows (line_plan (record { shape = k; formulas = g.S.Suite.formulas_of keys }) c.args.at
@@ -173,26 +110,26 @@ module _ (g : Over) (c : After-fetch_line g) where
   refused : (fault : FetchFault) (its : TreeFault) → fault_of_line c.args.at fault ≡ its → g.S.Suite.digests c.fetch_line.new.suite ≡ g.S.Suite.digests c.fetch.new.suite
       → Follows (line_plan (record { shape = shape_of c.geo.result; formulas = g.S.Suite.formulas_of (g.S.Suite.keys c.fetch.new.suite) }) c.args.at
       (slice_index c.in-Ok.node.0 (c.args.at % 4)) (read_parts_of fetched)) (g.B.Board.device c.fetch.new.board) (g.B.Board.device c.fetch_line.new.board) (Err (after, fault))
-      → Follows (read_line_plan (under g c.args.self.now c.args.suite.now) c.args.at (chip g c.args.self.now c.args.watch.now c.args.suite.now))
-      (g.B.Board.device c.args.board.now) (g.B.Board.device c.fetch_line.new.board) (Err (chip g c.fetch.new.self c.fetch_line.new.watch c.fetch_line.new.suite, its))
+      → Follows (read_line_plan (tree_setup_at g.S.Suite c.args.self.now c.args.suite.now) c.args.at (tree_chip_at g.S.Suite g.W.Watch c.args.self.now c.args.suite.now c.args.watch.now))
+      (g.B.Board.device c.args.board.now) (g.B.Board.device c.fetch_line.new.board) (Err (tree_chip_at g.S.Suite g.W.Watch c.fetch.new.self c.fetch_line.new.suite c.fetch_line.new.watch, its))
   refused fault its is digests it =
       let answer : Result Line TreeFault = Err its in
-      leaving answer (chip g c.fetch.new.self c.fetch_line.new.watch c.fetch_line.new.suite)
+      leaving answer (tree_chip_at g.S.Suite g.W.Watch c.fetch.new.self c.fetch_line.new.suite c.fetch_line.new.watch)
       (λ i. tree_chip_of c.fetch.new.self after.watch after.pads after.tags (digests i))
-      (refused_read (under g c.args.self.now c.args.suite.now) c.args.at (chip g c.args.self.now c.args.watch.now c.args.suite.now) fetched c.in-Ok.node
+      (refused_read (tree_setup_at g.S.Suite c.args.self.now c.args.suite.now) c.args.at (tree_chip_at g.S.Suite g.W.Watch c.args.self.now c.args.suite.now c.args.watch.now) fetched c.in-Ok.node
       c.in-Ok.ensures.plan after its is (reading it))
 
 pub returns-in-Err-clause-plan : goal.returns-in-Err-clause-plan
 returns-in-Err-clause-plan g c =
-    unfetched_read (under g c.args.self.now c.args.suite.now) c.args.at (chip g c.args.self.now c.args.watch.now c.args.suite.now) c.in-Err.ensures.plan
+    unfetched_read (tree_setup_at g.S.Suite c.args.self.now c.args.suite.now) c.args.at (tree_chip_at g.S.Suite g.W.Watch c.args.self.now c.args.suite.now c.args.watch.now) c.in-Err.ensures.plan
 
 pub returns-in-Ok-fetch_line-clause-plan : goal.returns-in-Ok-fetch_line-clause-plan
 returns-in-Ok-fetch_line-clause-plan g c =
     let here = (goal.at.returns-in-Ok-fetch_line-clause-plan g c).After-fetch_line in
     let answer : Result Line TreeFault = Ok c.in-Ok-fetch_line.plain in
-    leaving answer (chip g c.fetch.new.self c.fetch_line.new.watch c.fetch_line.new.suite)
+    leaving answer (tree_chip_at g.S.Suite g.W.Watch c.fetch.new.self c.fetch_line.new.suite c.fetch_line.new.watch)
     (λ i. tree_chip_of c.fetch.new.self (after g here).watch (after g here).pads (after g here).tags (c.in-Ok-fetch_line.ensures.digests i))
-    (fetched_read (under g c.args.self.now c.args.suite.now) c.args.at (chip g c.args.self.now c.args.watch.now c.args.suite.now) (fetched g here) c.in-Ok.node
+    (fetched_read (tree_setup_at g.S.Suite c.args.self.now c.args.suite.now) c.args.at (tree_chip_at g.S.Suite g.W.Watch c.args.self.now c.args.suite.now c.args.watch.now) (fetched g here) c.in-Ok.node
     c.in-Ok.ensures.plan (after g here) c.in-Ok-fetch_line.plain (reading g here c.in-Ok-fetch_line.ensures.plan))
 
 pub returns-in-Err-Cut-clause-plan : goal.returns-in-Err-Cut-clause-plan

@@ -1,83 +1,75 @@
--- A write that was refused ends.
-use Rattle.std.proofs.Common.{sym, ap, ◌∙◌}
-use Rattle.std.specs.Prelude.{ℕ, Result, Err, not, ◌||◌}
+-- A write ends.
+use Rattle.std.proofs.Common.{refl, sym, ap, subst, ◌∙◌}
+use Rattle.std.specs.Prelude.{ℕ, Result, Ok, Err, not, ◌||◌}
 use Rattle.suite.specs.Setup.{Setup}
 use Rattle.pmem_engine.specs.Outcomes.{is_going}
-use Rattle.pmem_recovery.specs.Parts.{suite_state}
 use Rattle.counter_tree.proofs.ReadPlans.{leaving}
 use Rattle.asit_shadow.specs.declared.fault.TreeFault.{TreeFault}
-use Rattle.asit_shadow.specs.Plans.{TreeChip, tree_chip_of, ended_engine}
+use Rattle.asit_shadow.specs.Plans.{TreeChip, tree_chip_of, ended_engine, tree_chip_at}
 use Rattle.asit_shadow.specs.WritePlans.{write_line_plan}
 use Rattle.asit_shadow.proofs.FetchPlans.{same_engine}
 use Rattle.asit_shadow.proofs.CalledPlans.{called_down, called_ok, called_err}
 use Rattle.asit_shadow.specs.State.{TreeState}
-use Rattle.asit_shadow.specs.Parts.{TreeEngineParts, tree_parts_of}
-use Rattle.asit_shadow.specs.Calls.{outcome_of_tree_fault}
-use Rattle.asit_shadow.proofs.CallCounts.{write_counts-ended}
-use Rattle.asit_shadow.proofs.CallEnds.{HasTreeEnded, answers-up}
-use Rattle.asit_shadow.proofs.WriteCalls.{written-up, write-ended}
+use Rattle.asit_shadow.specs.Parts.{TreeEngineParts, tree_parts_of, tree_parts_at, tree_setup_at}
+use Rattle.asit_shadow.specs.Calls.{outcome_of_tree_fault, IsLineWritten}
+use Rattle.asit_shadow.proofs.CallEnds.{answers-up, or_false, worked}
+use Rattle.asit_shadow.proofs.WriteCalls.{written-up}
 use Rattle.asit_shadow.proofs.engine.TreeEngine.write.Given.{Over}
 use Rattle.asit_shadow.proofs.engine.TreeEngine.write.Goals as goal
 
-abbrev at : (g : Over) → TreeState → g.row.B.Denot → g.row.W.Denot → TreeEngineParts
-at g engine board watch = tree_parts_of engine (g.B.Board.device board) (g.W.Watch.watched watch)
-
-abbrev under : (g : Over) → TreeState → g.row.S.Denot → Setup
-under g engine suite = record { shape = engine.shape; formulas = g.S.Suite.formulas_of (g.S.Suite.keys suite) }
+pub returns-in-Ok-clause-written : goal.returns-in-Ok-clause-written
+returns-in-Ok-clause-written g c =
+    let off = sym c.is_down.ensures ∙ c.if-is_down.false in
+    let it = written-up (tree_setup_at g.S.Suite c.args.self.now c.args.suite.now) c.args.at c.args.line.now (tree_parts_at g.B.Board g.W.Watch c.args.self.now c.args.board.now c.args.watch.now)
+    (tree_parts_at g.B.Board g.W.Watch c.write_line.new.self c.write_line.new.board c.write_line.new.watch) (Ok c.in-Ok.counter) c.in-Ok.ensures.written c.in-Ok.ensures.spent in
+    record {
+      down =
+          answers-up {T = ℕ} (tree_parts_at g.B.Board g.W.Watch c.args.self.now c.args.board.now c.args.watch.now) (tree_parts_at g.B.Board g.W.Watch c.write_line.new.self c.write_line.new.board c.write_line.new.watch) (Ok c.in-Ok.counter)
+          off c.in-Ok.ensures.written.up (c.in-Ok.ensures.written.down ∙ or_false c.args.self.now.down);
+      done =
+          λ up.
+          subst (λ p. IsLineWritten (tree_setup_at g.S.Suite c.args.self.now c.args.suite.now) c.args.at c.args.line.now (tree_parts_at g.B.Board g.W.Watch c.args.self.now c.args.board.now c.args.watch.now) p (Ok c.in-Ok.counter))
+          (worked c.write_line.new.self c.write_line.new.self (g.B.Board.device c.write_line.new.board) (g.W.Watch.watched c.write_line.new.watch)
+          (c.in-Ok.ensures.written.down ∙ off) refl refl refl) it;
+    }
 
 pub returns-in-Err-clause-written : goal.returns-in-Err-clause-written
 returns-in-Err-clause-written g c =
-    let ended : HasTreeEnded c.in-Err.fault c.write_line.new.self c.end.new.self =
-    record { shape = c.end.ensures.shape; cache = c.end.ensures.cache; tree = c.end.ensures.tree; down = c.end.ensures.down } in
-    let it = written-up (under g c.args.self.now c.args.suite.now) c.args.at c.args.line.now (at g c.args.self.now c.args.board.now c.args.watch.now)
-    (at g c.write_line.new.self c.write_line.new.board c.write_line.new.watch) (Err c.in-Err.fault) c.in-Err.ensures.written c.in-Err.ensures.spent in
+    let off = sym c.is_down.ensures ∙ c.if-is_down.false in
+    let it = written-up (tree_setup_at g.S.Suite c.args.self.now c.args.suite.now) c.args.at c.args.line.now (tree_parts_at g.B.Board g.W.Watch c.args.self.now c.args.board.now c.args.watch.now)
+    (tree_parts_at g.B.Board g.W.Watch c.write_line.new.self c.write_line.new.board c.write_line.new.watch) (Err c.in-Err.fault) c.in-Err.ensures.written c.in-Err.ensures.spent in
     record {
       down =
-          answers-up {T = ℕ} (at g c.args.self.now c.args.board.now c.args.watch.now) (at g c.end.new.self c.write_line.new.board c.write_line.new.watch) (Err c.in-Err.fault)
-          (sym c.is_down.ensures ∙ c.if-is_down.false) c.in-Err.ensures.written.up
-          (c.end.ensures.down ∙ ap (λ b. b || not (is_going (outcome_of_tree_fault c.in-Err.fault))) c.in-Err.ensures.written.down);
+          answers-up {T = ℕ} (tree_parts_at g.B.Board g.W.Watch c.args.self.now c.args.board.now c.args.watch.now) (tree_parts_at g.B.Board g.W.Watch c.end.new.self c.write_line.new.board c.write_line.new.watch) (Err c.in-Err.fault)
+          off c.in-Err.ensures.written.up (c.end.ensures.down ∙ ap (λ b. b || not (is_going (outcome_of_tree_fault c.in-Err.fault))) c.in-Err.ensures.written.down);
       done =
           λ up.
-          write-ended (under g c.args.self.now c.args.suite.now) c.args.at c.args.line.now (at g c.args.self.now c.args.board.now c.args.watch.now)
-          (at g c.write_line.new.self c.write_line.new.board c.write_line.new.watch) c.end.new.self c.in-Err.fault ended it;
+          subst (λ p. IsLineWritten (tree_setup_at g.S.Suite c.args.self.now c.args.suite.now) c.args.at c.args.line.now (tree_parts_at g.B.Board g.W.Watch c.args.self.now c.args.board.now c.args.watch.now) p (Err c.in-Err.fault))
+          (worked c.write_line.new.self c.end.new.self (g.B.Board.device c.write_line.new.board) (g.W.Watch.watched c.write_line.new.watch)
+          (c.in-Err.ensures.written.down ∙ off) c.end.ensures.shape c.end.ensures.cache c.end.ensures.tree) it;
     }
-
-pub returns-in-Err-clause-counts : goal.returns-in-Err-clause-counts
-returns-in-Err-clause-counts g c =
-    let ended : HasTreeEnded c.in-Err.fault c.write_line.new.self c.end.new.self =
-    record { shape = c.end.ensures.shape; cache = c.end.ensures.cache; tree = c.end.ensures.tree; down = c.end.ensures.down } in
-    write_counts-ended (under g c.args.self.now c.args.suite.now) c.args.at (at g c.args.self.now c.args.board.now c.args.watch.now)
-    (at g c.write_line.new.self c.write_line.new.board c.write_line.new.watch) c.end.new.self
-    (suite_state (g.S.Suite.keys c.args.suite.now) (g.S.Suite.pads c.args.suite.now) (g.S.Suite.tags c.args.suite.now) (g.S.Suite.digests c.args.suite.now))
-    (suite_state (g.S.Suite.keys c.write_line.new.suite) (g.S.Suite.pads c.write_line.new.suite) (g.S.Suite.tags c.write_line.new.suite) (g.S.Suite.digests c.write_line.new.suite))
-    c.in-Err.fault ended c.in-Err.ensures.counts
 
 -- ---- the plan
 
--- the state beside the board at a moment
-abbrev chip : (g : Over) → TreeState → g.row.W.Denot → g.row.S.Denot → TreeChip
-chip g engine watch suite =
-    tree_chip_of engine (g.W.Watch.watched watch) (g.S.Suite.pads suite) (g.S.Suite.tags suite) (g.S.Suite.digests suite)
-
 pub returns-then-is_down-clause-plan : goal.returns-then-is_down-clause-plan
 returns-then-is_down-clause-plan g c =
-    let was : TreeChip = chip g c.args.self.now c.args.watch.now c.args.suite.now in
-    called_down was (write_line_plan (under g c.args.self.now c.args.suite.now) (g.B.Board.device c.args.board.now).regs c.args.at c.args.line.now was)
+    let was : TreeChip = tree_chip_at g.S.Suite g.W.Watch c.args.self.now c.args.suite.now c.args.watch.now in
+    called_down was (write_line_plan (tree_setup_at g.S.Suite c.args.self.now c.args.suite.now) (g.B.Board.device c.args.board.now).regs c.args.at c.args.line.now was)
     (g.B.Board.device c.args.board.now) (sym c.is_down.ensures ∙ c.if-is_down.true)
 
 pub returns-in-Ok-clause-plan : goal.returns-in-Ok-clause-plan
 returns-in-Ok-clause-plan g c =
-    let was : TreeChip = chip g c.args.self.now c.args.watch.now c.args.suite.now in
-    called_ok was (write_line_plan (under g c.args.self.now c.args.suite.now) (g.B.Board.device c.args.board.now).regs c.args.at c.args.line.now was)
-    (sym c.is_down.ensures ∙ c.if-is_down.false) (chip g c.write_line.new.self c.write_line.new.watch c.write_line.new.suite) c.in-Ok.counter c.in-Ok.ensures.plan
+    let was : TreeChip = tree_chip_at g.S.Suite g.W.Watch c.args.self.now c.args.suite.now c.args.watch.now in
+    called_ok was (write_line_plan (tree_setup_at g.S.Suite c.args.self.now c.args.suite.now) (g.B.Board.device c.args.board.now).regs c.args.at c.args.line.now was)
+    (sym c.is_down.ensures ∙ c.if-is_down.false) (tree_chip_at g.S.Suite g.W.Watch c.write_line.new.self c.write_line.new.suite c.write_line.new.watch) c.in-Ok.counter c.in-Ok.ensures.plan
 
 pub returns-in-Err-clause-plan : goal.returns-in-Err-clause-plan
 returns-in-Err-clause-plan g c =
-    let was : TreeChip = chip g c.args.self.now c.args.watch.now c.args.suite.now in
+    let was : TreeChip = tree_chip_at g.S.Suite g.W.Watch c.args.self.now c.args.suite.now c.args.watch.now in
     let answer : Result ℕ TreeFault = Err c.in-Err.fault in
     let engine = same_engine c.end.new.self (ended_engine c.write_line.new.self c.in-Err.fault) c.end.ensures.shape c.end.ensures.cache c.end.ensures.tree c.end.ensures.down in
-    leaving answer (chip g c.end.new.self c.write_line.new.watch c.write_line.new.suite)
+    leaving answer (tree_chip_at g.S.Suite g.W.Watch c.end.new.self c.write_line.new.suite c.write_line.new.watch)
     (λ i. tree_chip_of (engine i) (g.W.Watch.watched c.write_line.new.watch) (g.S.Suite.pads c.write_line.new.suite) (g.S.Suite.tags c.write_line.new.suite)
     (g.S.Suite.digests c.write_line.new.suite))
-    (called_err was (write_line_plan (under g c.args.self.now c.args.suite.now) (g.B.Board.device c.args.board.now).regs c.args.at c.args.line.now was)
-    (sym c.is_down.ensures ∙ c.if-is_down.false) (chip g c.write_line.new.self c.write_line.new.watch c.write_line.new.suite) c.in-Err.fault c.in-Err.ensures.plan)
+    (called_err was (write_line_plan (tree_setup_at g.S.Suite c.args.self.now c.args.suite.now) (g.B.Board.device c.args.board.now).regs c.args.at c.args.line.now was)
+    (sym c.is_down.ensures ∙ c.if-is_down.false) (tree_chip_at g.S.Suite g.W.Watch c.write_line.new.self c.write_line.new.suite c.write_line.new.watch) c.in-Err.fault c.in-Err.ensures.plan)

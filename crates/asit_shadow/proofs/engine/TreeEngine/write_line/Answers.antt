@@ -1,5 +1,5 @@
 -- A write: spent, stopped as its path is fetched, cut at the arming latch, cut after it, or done.
-use Rattle.std.proofs.Common.{ℕ, suc, ◌≡◌, ◌≢◌, ◌<◌, ◌+◌, ◌-◌, ◌*◌, ◌%◌, ◌^◌, List, [], length, refl, sym, ap, subst, subst₂, inl, inr, ◌∙◌, arith}
+use Rattle.std.proofs.Common.{ℕ, suc, ◌≡◌, ◌≢◌, ◌<◌, ◌+◌, ◌-◌, ◌*◌, ◌%◌, ◌^◌, List, [], length, refl, sym, ap, subst, subst₂, ◌∙◌, arith}
 use Rattle.std.specs.Prelude.{All, ◌==◌, true, false, slice_index_or, Result, Ok, Err}
 use Rattle.pmem_base.specs.declared.faults.Cut.{Cut}
 use Rattle.call_plan.specs.Following.{Follows}
@@ -11,8 +11,7 @@ use Rattle.pmem_base.specs.declared.registers.Regs.{Regs}
 use Rattle.pmem_base.specs.Shape.{Shape}
 use Rattle.pmem_base.specs.Layout.{meta_lines}
 use Rattle.pmem_base.specs.Registers.{IsGroup}
-use Rattle.pmem_base.specs.Counts.{risen, risen_times}
-use Rattle.pmem_recovery.specs.Parts.{SuiteState, suite_state}
+use Rattle.pmem_base.specs.Counts.{risen_times}
 use Rattle.board.specs.Device.{Device, AreToldLines}
 use Rattle.board.specs.Steps.{HasLatched}
 use Rattle.suite.specs.Setup.{Setup}
@@ -22,35 +21,23 @@ use Rattle.counter_tree.specs.Nodes.{counter, total}
 use Rattle.counter_tree.specs.Shadow.{ChipTree, IsShadowTree, shadow_height}
 use Rattle.counter_tree.specs.Watch.{WatchState}
 use Rattle.asit_shadow.specs.State.{TreeState, IsHeldNode, top_node}
-use Rattle.asit_shadow.specs.Parts.{TreeEngineParts, tree_parts_of, AreTreeTrusted, IsWatchReady}
+use Rattle.asit_shadow.specs.Parts.{TreeEngineParts, tree_parts_of, AreTreeTrusted, IsWatchReady, tree_parts_at, tree_setup_at}
 use Rattle.asit_shadow.specs.declared.fault.TreeFault.{TreeFault}
 use Rattle.asit_shadow.specs.declared.fault.TreeFault.TheVariants as Fail
-use Rattle.asit_shadow.specs.Plans.{TreeChip, tree_chip_of}
+use Rattle.asit_shadow.specs.Plans.{TreeChip, tree_chip_of, tree_chip_at}
 use Rattle.asit_shadow.specs.WritePlans.{raised_path, seal_of, named_all, write_armed, with_tree, with_stored, named_chip, stored_chip, seal_plan, write_line_plan}
 use Rattle.asit_shadow.proofs.FetchPlans.{same_engine}
-use Rattle.asit_shadow.proofs.WritePlans.{seal_is, told_is, armed_is, seal_cut, seal_kept, seal_done, write_spent, unfetched_write, fetched_write}
+use Rattle.asit_shadow.proofs.WritePlans.{tree-named, seal_is, told_is, armed_is, seal_cut, seal_kept, seal_done, write_spent, unfetched_write, fetched_write}
 use Rattle.asit_shadow.specs.Calls.{IsUsedUp}
-use Rattle.asit_shadow.specs.Counts.{CountsOfArming, naming_digests}
 use Rattle.asit_shadow.specs.Steps.{KeepsOtherRegisters}
 use Rattle.asit_shadow.specs.Writing.{armed_lines, dirty_entries, pair_at, set_pairs, IsPathRaised, IsSealMade, IsTreeNamed, IsWriteTold, IsWriteMade}
 use Rattle.asit_shadow.proofs.PairSets.{pairs-count}
 use Rattle.asit_shadow.proofs.WriteCalls.{top-used_up, fetch-unspent, armed-IsGroup}
-use Rattle.asit_shadow.proofs.CallCounts.{line-counts, naming-count}
-use Rattle.asit_shadow.proofs.WriteEnds.{write-spent, write-stopped, write-lost, lost-work}
-use Rattle.asit_shadow.proofs.WriteOutcomes.{IsArmedWrite, write-kept, write-done, kept-work}
+use Rattle.asit_shadow.proofs.WriteEnds.{write-spent, write-stopped, write-lost}
+use Rattle.asit_shadow.proofs.WriteOutcomes.{IsArmedWrite, write-kept, write-done}
 use Rattle.asit_shadow.proofs.engine.TreeEngine.write_line.Given.{Over}
 use Rattle.asit_shadow.proofs.engine.TreeEngine.write_line.Goals.{After-is_used_up, After-next_regs-regs}
 use Rattle.asit_shadow.proofs.engine.TreeEngine.write_line.Goals as goal
-
-abbrev at : (g : Over) → TreeState → g.row.B.Denot → g.row.W.Denot → TreeEngineParts
-at g engine board watch = tree_parts_of engine (g.B.Board.device board) (g.W.Watch.watched watch)
-
-abbrev under : (g : Over) → TreeState → g.row.S.Denot → Setup
-under g engine suite = record { shape = engine.shape; formulas = g.S.Suite.formulas_of (g.S.Suite.keys suite) }
-
--- the suite's counts at a moment
-abbrev counted : (g : Over) → g.row.S.Denot → SuiteState
-counted g suite = suite_state (g.S.Suite.keys suite) (g.S.Suite.pads suite) (g.S.Suite.tags suite) (g.S.Suite.digests suite)
 
 -- ---- before the latch
 
@@ -65,20 +52,20 @@ module _ (g : Over) (c : After-is_used_up g) where
   unspent : c.is_used_up.result ≡ false → total (top_node c.args.self.now.cache) ≢ 2 ^ 64 - 1
   unspent is = eqb-false (total (top_node c.args.self.now.cache)) (2 ^ 64 - 1) (sym tested ∙ is)
 
-  used_up : c.is_used_up.result ≡ true → AreTreeTrusted (under g c.args.self.now c.args.suite.now) (at g c.args.self.now c.args.board.now c.args.watch.now)
-      → IsUsedUp (at g c.args.self.now c.args.board.now c.args.watch.now)
+  used_up : c.is_used_up.result ≡ true → AreTreeTrusted (tree_setup_at g.S.Suite c.args.self.now c.args.suite.now) (tree_parts_at g.B.Board g.W.Watch c.args.self.now c.args.board.now c.args.watch.now)
+      → IsUsedUp (tree_parts_at g.B.Board g.W.Watch c.args.self.now c.args.board.now c.args.watch.now)
   used_up is trusted =
-      sym (top-used_up (under g c.args.self.now c.args.suite.now) (at g c.args.self.now c.args.board.now c.args.watch.now) trusted) ∙ spent is
+      sym (top-used_up (tree_setup_at g.S.Suite c.args.self.now c.args.suite.now) (tree_parts_at g.B.Board g.W.Watch c.args.self.now c.args.board.now c.args.watch.now) trusted) ∙ spent is
 
-  unused : c.is_used_up.result ≡ false → AreTreeTrusted (under g c.args.self.now c.args.suite.now) (at g c.args.self.now c.args.board.now c.args.watch.now)
-      → IsUsedUp (at g c.args.self.now c.args.board.now c.args.watch.now) → ⊥
+  unused : c.is_used_up.result ≡ false → AreTreeTrusted (tree_setup_at g.S.Suite c.args.self.now c.args.suite.now) (tree_parts_at g.B.Board g.W.Watch c.args.self.now c.args.board.now c.args.watch.now)
+      → IsUsedUp (tree_parts_at g.B.Board g.W.Watch c.args.self.now c.args.board.now c.args.watch.now) → ⊥
   unused is trusted up =
-      unspent is (top-used_up (under g c.args.self.now c.args.suite.now) (at g c.args.self.now c.args.board.now c.args.watch.now) trusted ∙ up)
+      unspent is (top-used_up (tree_setup_at g.S.Suite c.args.self.now c.args.suite.now) (tree_parts_at g.B.Board g.W.Watch c.args.self.now c.args.board.now c.args.watch.now) trusted ∙ up)
 
 pub returns-then-is_used_up-clause-written : goal.returns-then-is_used_up-clause-written
 returns-then-is_used_up-clause-written g c =
     let before = (goal.at.returns-then-is_used_up-clause-written g c).After-is_used_up in
-    write-spent (under g c.args.self.now c.args.suite.now) c.args.at c.args.line.now (at g c.args.self.now c.args.board.now c.args.watch.now) (used_up g before c.if-is_used_up.true)
+    write-spent (tree_setup_at g.S.Suite c.args.self.now c.args.suite.now) c.args.at c.args.line.now (tree_parts_at g.B.Board g.W.Watch c.args.self.now c.args.board.now c.args.watch.now) (used_up g before c.if-is_used_up.true)
 
 pub returns-then-is_used_up-clause-spent : goal.returns-then-is_used_up-clause-spent
 returns-then-is_used_up-clause-spent g c =
@@ -88,8 +75,8 @@ returns-then-is_used_up-clause-spent g c =
 pub returns-in-Err-clause-written : goal.returns-in-Err-clause-written
 returns-in-Err-clause-written g c =
     let before = (goal.at.returns-in-Err-clause-written g c).After-is_used_up in
-    write-stopped (under g c.args.self.now c.args.suite.now) c.args.at c.args.line.now (at g c.args.self.now c.args.board.now c.args.watch.now) (at g c.fetch.new.self c.fetch.new.board c.fetch.new.watch)
-    (g.S.Suite.tags c.args.suite.now) (g.S.Suite.tags c.fetch.new.suite) c.in-Err.fault
+    write-stopped (tree_setup_at g.S.Suite c.args.self.now c.args.suite.now) c.args.at c.args.line.now (tree_parts_at g.B.Board g.W.Watch c.args.self.now c.args.board.now c.args.watch.now) (tree_parts_at g.B.Board g.W.Watch c.fetch.new.self c.fetch.new.board c.fetch.new.watch)
+    c.in-Err.fault
     (unused g before c.if-is_used_up.false) c.in-Err.ensures.stopped
 
 pub returns-in-Err-clause-spent : goal.returns-in-Err-clause-spent
@@ -123,21 +110,31 @@ module _ (g : Over) (c : After-next_regs-regs g) where
       subst (IsGroup (tree_size c.args.self.now.shape)) (sym group)
       (armed-IsGroup c.args.self.now.shape c.args.at c.sealed-seal.result c.raised-nodes.result.items c.is_whole.ensures.shape c.requires.line sealed_as.in_range raised.positions)
 
+  -- the shadow tree and its root
+  named : (c.next_regs-regs.new.self.tree, c.next_regs-regs.result.root)
+      ≡ named_all (g.S.Suite.formulas_of (g.S.Suite.keys c.args.suite.now)) c.args.self.now.shape c.raised-nodes.result.items
+      (c.fetch.new.self.tree, (g.B.Board.device c.args.board.now).regs.root)
+  named =
+      let root = ap (λ (r : Regs). r.root) (c.regs.ensures ∙ c.in-Ok.ensures.fetched.path.done.regs) in
+      c.next_regs-regs.ensures.named
+      ∙ (λ i. named_all (g.S.Suite.formulas_of (keys i)) (shape i) c.raised-nodes.result.items (c.fetch.new.self.tree, root i))
+
   root : (slots : List Line) → length slots ≡ tree_slots c.args.self.now.shape
       → IsShadowTree (g.S.Suite.formulas_of (g.S.Suite.keys c.args.suite.now)) c.fetch.new.self.tree.height slots c.fetch.new.self.tree.lines
       → IsTreeNamed (g.S.Suite.formulas_of (g.S.Suite.keys c.args.suite.now)) c.args.self.now.shape c.raised-nodes.result.items c.fetch.new.self.tree c.next_regs-regs.new.self.tree c.next_regs-regs.result.root slots
-  root =
-      subst₂ (λ (k : Shape) (keys : List ℕ). (slots : List Line) → length slots ≡ tree_slots k
-      → IsShadowTree (g.S.Suite.formulas_of keys) c.fetch.new.self.tree.height slots c.fetch.new.self.tree.lines
-      → IsTreeNamed (g.S.Suite.formulas_of keys) k c.raised-nodes.result.items c.fetch.new.self.tree c.next_regs-regs.new.self.tree c.next_regs-regs.result.root slots) shape keys c.next_regs-regs.ensures.root
+  root slots long over =
+      tree-named (g.S.Suite.formulas_of (g.S.Suite.keys c.args.suite.now)) c.args.self.now.shape (g.met.S.Suite.in_range c.args.suite.now) c.is_whole.ensures.shape
+      c.raised-nodes.result.items c.fetch.new.self.tree c.next_regs-regs.new.self.tree (g.B.Board.device c.args.board.now).regs.root c.next_regs-regs.result.root slots
+      (omega (arith, pairs-count c.args.self.now.shape c.args.at c.raised-nodes.result.items raised.positions)) (λ k d inside. (raised.whole k d inside).on_tree) named
+      (c.is_whole-2.ensures.engine.tree_height ∙ ap shadow_height shape) long over
 
   -- the write, told and stored
   write_made : (engine : TreeState) (device : Device) (watch : WatchState)
       → IsWriteTold c.next_regs-regs.new.self.shape c.args.at c.sealed-seal.result c.raised-nodes.result.items (g.W.Watch.watched c.fetch.new.watch) watch
       → engine.cache ≡ set_pairs (dirty_entries c.next_regs-regs.new.self.shape c.raised-nodes.result.items) c.next_regs-regs.new.self.cache
       → engine.shape ≡ c.next_regs-regs.new.self.shape → engine.tree ≡ c.next_regs-regs.new.self.tree → engine.down ≡ c.next_regs-regs.new.self.down
-      → IsWriteMade (under g c.args.self.now c.args.suite.now) c.args.at c.args.line.now c.sealed-seal.result c.raised-nodes.result.items c.next_regs-regs.result
-      (at g c.fetch.new.self c.fetch.new.board c.fetch.new.watch) (tree_parts_of engine device watch)
+      → IsWriteMade (tree_setup_at g.S.Suite c.args.self.now c.args.suite.now) c.args.at c.args.line.now c.sealed-seal.result c.raised-nodes.result.items c.next_regs-regs.result
+      (tree_parts_at g.B.Board g.W.Watch c.fetch.new.self c.fetch.new.board c.fetch.new.watch) (tree_parts_of engine device watch)
   write_made engine device watch told cache its_shape tree down =
       let count = pairs-count c.args.self.now.shape c.args.at c.raised-nodes.result.items raised.positions in
       let same : c.next_regs-regs.new.self.shape ≡ c.args.self.now.shape = c.next_regs-regs.ensures.shape ∙ shape in
@@ -159,18 +156,17 @@ module _ (g : Over) (c : After-next_regs-regs g) where
             cache
             ∙ (ap (λ (k : Shape). set_pairs (dirty_entries k c.raised-nodes.result.items) c.next_regs-regs.new.self.cache) same
             ∙ ap (set_pairs (dirty_entries c.args.self.now.shape c.raised-nodes.result.items)) c.next_regs-regs.ensures.cache);
-        height = ap (λ (t : ChipTree). t.height) tree ∙ c.next_regs-regs.ensures.height;
         shape = its_shape ∙ c.next_regs-regs.ensures.shape;
         down = down ∙ c.next_regs-regs.ensures.down;
       }
 
   armed : (new : TreeEngineParts) (device : Device)
-      → (AreTreeTrusted (under g c.args.self.now c.args.suite.now) (at g c.args.self.now c.args.board.now c.args.watch.now) → IsUsedUp (at g c.args.self.now c.args.board.now c.args.watch.now) → ⊥)
+      → (AreTreeTrusted (tree_setup_at g.S.Suite c.args.self.now c.args.suite.now) (tree_parts_at g.B.Board g.W.Watch c.args.self.now c.args.board.now c.args.watch.now) → IsUsedUp (tree_parts_at g.B.Board g.W.Watch c.args.self.now c.args.board.now c.args.watch.now) → ⊥)
       → HasLatched (g.B.Board.device c.fetch.new.board) c.next_regs-regs.result device
-      → IsWriteMade (under g c.args.self.now c.args.suite.now) c.args.at c.args.line.now c.sealed-seal.result c.raised-nodes.result.items c.next_regs-regs.result
-      (at g c.fetch.new.self c.fetch.new.board c.fetch.new.watch) new
-      → IsArmedWrite (under g c.args.self.now c.args.suite.now) c.args.at c.args.line.now c.sealed-seal.result c.raised-nodes.result.items c.next_regs-regs.result
-      (at g c.args.self.now c.args.board.now c.args.watch.now) (at g c.fetch.new.self c.fetch.new.board c.fetch.new.watch) new device
+      → IsWriteMade (tree_setup_at g.S.Suite c.args.self.now c.args.suite.now) c.args.at c.args.line.now c.sealed-seal.result c.raised-nodes.result.items c.next_regs-regs.result
+      (tree_parts_at g.B.Board g.W.Watch c.fetch.new.self c.fetch.new.board c.fetch.new.watch) new
+      → IsArmedWrite (tree_setup_at g.S.Suite c.args.self.now c.args.suite.now) c.args.at c.args.line.now c.sealed-seal.result c.raised-nodes.result.items c.next_regs-regs.result
+      (tree_parts_at g.B.Board g.W.Watch c.args.self.now c.args.board.now c.args.watch.now) (tree_parts_at g.B.Board g.W.Watch c.fetch.new.self c.fetch.new.board c.fetch.new.watch) new device
   armed new device unspent latched made =
       record {
         shape = c.is_whole.ensures.shape;
@@ -187,17 +183,6 @@ module _ (g : Over) (c : After-next_regs-regs g) where
         group = is_group;
       }
 
-  -- its pad, its tags and its digests
-  counts : CountsOfArming (under g c.args.self.now c.args.suite.now) c.args.at (at g c.args.self.now c.args.board.now c.args.watch.now) (counted g c.args.suite.now) (counted g c.next_regs-regs.new.suite)
-  counts =
-      line-counts (under g c.args.self.now c.args.suite.now) c.args.at (at g c.args.self.now c.args.board.now c.args.watch.now) 1 (naming_digests c.args.self.now.shape) (g.S.Suite.tags c.fetch.new.suite)
-      (counted g c.args.suite.now) (counted g c.next_regs-regs.new.suite) (c.next_regs-regs.ensures.keys ∙ keys)
-      (c.next_regs-regs.ensures.pads ∙ (c.sealed-seal.ensures.pads ∙ ap risen c.in-Ok.ensures.pads)) c.in-Ok.ensures.tags
-      (c.next_regs-regs.ensures.tags ∙ c.sealed-seal.ensures.tags)
-      (naming-count (under g c.args.self.now c.args.suite.now) (length c.raised-nodes.result.items) c.fetch.new.self.tree.height (g.S.Suite.digests c.args.suite.now) (g.S.Suite.digests c.next_regs-regs.new.suite)
-      (pairs-count c.args.self.now.shape c.args.at c.raised-nodes.result.items raised.positions) (c.is_whole-2.ensures.engine.tree_height ∙ ap shadow_height shape)
-      (c.next_regs-regs.ensures.digests ∙ ap (risen_times (length c.raised-nodes.result.items * suc c.fetch.new.self.tree.height)) (c.sealed-seal.ensures.digests ∙ c.in-Ok.ensures.digests)))
-
 -- ---- what the calls ask
 
 pub last_counter-requires : goal.last_counter-requires
@@ -207,10 +192,6 @@ last_counter-requires g c =
 pub next_regs-regs-requires-clause-nodes : goal.next_regs-regs-requires-clause-nodes
 next_regs-regs-requires-clause-nodes g c =
     λ k d inside. (c.raised-nodes.ensures.raised.whole k d inside).on_tree
-
-pub next_regs-regs-requires-clause-some : goal.next_regs-regs-requires-clause-some
-next_regs-regs-requires-clause-some g c =
-    omega (arith, pairs-count c.fetch.new.self.shape c.args.at c.raised-nodes.result.items c.raised-nodes.ensures.raised.positions)
 
 pub arm-requires-clause-group : goal.arm-requires-clause-group
 arm-requires-clause-group g c =
@@ -245,7 +226,7 @@ store-requires g c =
 pub returns-in-Err-arm-clause-written : goal.returns-in-Err-arm-clause-written
 returns-in-Err-arm-clause-written g c =
     let before = (goal.at.returns-in-Err-arm-clause-written g c).After-is_used_up in
-    write-lost (under g c.args.self.now c.args.suite.now) c.args.at c.args.line.now (at g c.args.self.now c.args.board.now c.args.watch.now) (at g c.fetch.new.self c.fetch.new.board c.fetch.new.watch) (at g c.next_regs-regs.new.self c.arm.new.board c.fetch.new.watch) c.in-Ok.field-0
+    write-lost (tree_setup_at g.S.Suite c.args.self.now c.args.suite.now) c.args.at c.args.line.now (tree_parts_at g.B.Board g.W.Watch c.args.self.now c.args.board.now c.args.watch.now) (tree_parts_at g.B.Board g.W.Watch c.fetch.new.self c.fetch.new.board c.fetch.new.watch) (tree_parts_at g.B.Board g.W.Watch c.next_regs-regs.new.self c.arm.new.board c.fetch.new.watch) c.in-Ok.field-0
     (unused g before c.if-is_used_up.false) c.in-Ok.ensures.fetched c.next_regs-regs.ensures.shape c.next_regs-regs.ensures.cache c.next_regs-regs.ensures.down c.in-Err-arm.ensures.cut refl
 
 pub returns-in-Err-finish-clause-written : goal.returns-in-Err-finish-clause-written
@@ -254,9 +235,9 @@ returns-in-Err-finish-clause-written g c =
     let before = (goal.at.returns-in-Err-finish-clause-written g c).After-next_regs-regs in
     let latched = c.in-Ok-arm.ensures.ok in
     let cut = c.in-Err-finish.ensures.cut in
-    write-kept (under g c.args.self.now c.args.suite.now) c.args.at c.args.line.now c.sealed-seal.result c.raised-nodes.result.items c.next_regs-regs.result
-    (at g c.args.self.now c.args.board.now c.args.watch.now) (at g c.fetch.new.self c.fetch.new.board c.fetch.new.watch) (at g c.store.new.self c.finish.new.board c.tell.new.watch) (g.B.Board.device c.arm.new.board)
-    (armed g before (at g c.store.new.self c.finish.new.board c.tell.new.watch) (g.B.Board.device c.arm.new.board) (unused g first c.if-is_used_up.false) latched
+    write-kept (tree_setup_at g.S.Suite c.args.self.now c.args.suite.now) c.args.at c.args.line.now c.sealed-seal.result c.raised-nodes.result.items c.next_regs-regs.result
+    (tree_parts_at g.B.Board g.W.Watch c.args.self.now c.args.board.now c.args.watch.now) (tree_parts_at g.B.Board g.W.Watch c.fetch.new.self c.fetch.new.board c.fetch.new.watch) (tree_parts_at g.B.Board g.W.Watch c.store.new.self c.finish.new.board c.tell.new.watch) (g.B.Board.device c.arm.new.board)
+    (armed g before (tree_parts_at g.B.Board g.W.Watch c.store.new.self c.finish.new.board c.tell.new.watch) (g.B.Board.device c.arm.new.board) (unused g first c.if-is_used_up.false) latched
     (write_made g before c.store.new.self (g.B.Board.device c.finish.new.board) (g.W.Watch.watched c.tell.new.watch) c.tell.ensures c.store.ensures.cache c.store.ensures.shape c.store.ensures.tree c.store.ensures.down))
     (subst (λ n. AreToldLines n (g.B.Board.device c.finish.new.board).lines) (cut.size ∙ (latched.size ∙ (c.in-Ok.ensures.fetched.path.effect.size ∙ c.requires.usable.board.its_size))) (g.met.B.Board.whole c.finish.new.board))
     cut
@@ -265,9 +246,9 @@ pub returns-clause-written : goal.returns-clause-written
 returns-clause-written g c =
     let first = (goal.at.returns-clause-written g c).After-is_used_up in
     let before = (goal.at.returns-clause-written g c).After-next_regs-regs in
-    write-done (under g c.args.self.now c.args.suite.now) c.args.at c.args.line.now c.sealed-seal.result c.raised-nodes.result.items c.next_regs-regs.result
-    (at g c.args.self.now c.args.board.now c.args.watch.now) (at g c.fetch.new.self c.fetch.new.board c.fetch.new.watch) (at g c.store.new.self c.finish.new.board c.tell.new.watch) (g.B.Board.device c.arm.new.board)
-    (armed g before (at g c.store.new.self c.finish.new.board c.tell.new.watch) (g.B.Board.device c.arm.new.board) (unused g first c.if-is_used_up.false) c.in-Ok-arm.ensures.ok
+    write-done (tree_setup_at g.S.Suite c.args.self.now c.args.suite.now) c.args.at c.args.line.now c.sealed-seal.result c.raised-nodes.result.items c.next_regs-regs.result
+    (tree_parts_at g.B.Board g.W.Watch c.args.self.now c.args.board.now c.args.watch.now) (tree_parts_at g.B.Board g.W.Watch c.fetch.new.self c.fetch.new.board c.fetch.new.watch) (tree_parts_at g.B.Board g.W.Watch c.store.new.self c.finish.new.board c.tell.new.watch) (g.B.Board.device c.arm.new.board)
+    (armed g before (tree_parts_at g.B.Board g.W.Watch c.store.new.self c.finish.new.board c.tell.new.watch) (g.B.Board.device c.arm.new.board) (unused g first c.if-is_used_up.false) c.in-Ok-arm.ensures.ok
     (write_made g before c.store.new.self (g.B.Board.device c.finish.new.board) (g.W.Watch.watched c.tell.new.watch) c.tell.ensures c.store.ensures.cache c.store.ensures.shape c.store.ensures.tree c.store.ensures.down))
     c.in-Ok-finish.ensures.ok
 
@@ -276,81 +257,44 @@ returns-clause-spent g c =
     let first = (goal.at.returns-clause-spent g c).After-is_used_up in
     (λ is. absurd is, λ e. absurd (unspent g first c.if-is_used_up.false e))
 
-pub returns-in-Err-arm-clause-counts : goal.returns-in-Err-arm-clause-counts
-returns-in-Err-arm-clause-counts g c =
-    let before = (goal.at.returns-in-Err-arm-clause-counts g c).After-next_regs-regs in
-    inr (
-      inl (lost-work (under g c.args.self.now c.args.suite.now) c.args.at (at g c.args.self.now c.args.board.now c.args.watch.now) (at g c.fetch.new.self c.fetch.new.board c.fetch.new.watch)
-          (at g c.next_regs-regs.new.self c.arm.new.board c.fetch.new.watch) c.in-Ok.ensures.fetched.path c.next_regs-regs.ensures.cache c.in-Err-arm.ensures.cut),
-      counts g before,
-    )
-
-pub returns-in-Err-finish-clause-counts : goal.returns-in-Err-finish-clause-counts
-returns-in-Err-finish-clause-counts g c =
-    let first = (goal.at.returns-in-Err-finish-clause-counts g c).After-is_used_up in
-    let before = (goal.at.returns-in-Err-finish-clause-counts g c).After-next_regs-regs in
-    inr (
-      inr (kept-work (under g c.args.self.now c.args.suite.now) c.args.at c.args.line.now c.sealed-seal.result c.raised-nodes.result.items c.next_regs-regs.result
-          (at g c.args.self.now c.args.board.now c.args.watch.now) (at g c.fetch.new.self c.fetch.new.board c.fetch.new.watch) (at g c.store.new.self c.finish.new.board c.tell.new.watch) (g.B.Board.device c.arm.new.board)
-          (armed g before (at g c.store.new.self c.finish.new.board c.tell.new.watch) (g.B.Board.device c.arm.new.board) (unused g first c.if-is_used_up.false) c.in-Ok-arm.ensures.ok
-          (write_made g before c.store.new.self (g.B.Board.device c.finish.new.board) (g.W.Watch.watched c.tell.new.watch) c.tell.ensures c.store.ensures.cache c.store.ensures.shape c.store.ensures.tree c.store.ensures.down))
-          c.in-Err-finish.ensures.cut),
-      counts g before,
-    )
-
-pub returns-clause-counts : goal.returns-clause-counts
-returns-clause-counts g c = counts g ((goal.at.returns-clause-counts g c).After-next_regs-regs)
-
 -- ---- the plan
-
--- the state beside the board at a moment
-abbrev chip : (g : Over) → TreeState → g.row.W.Denot → g.row.S.Denot → TreeChip
-chip g engine watch suite =
-    tree_chip_of engine (g.W.Watch.watched watch) (g.S.Suite.pads suite) (g.S.Suite.tags suite) (g.S.Suite.digests suite)
 
 pub returns-then-is_used_up-clause-plan : goal.returns-then-is_used_up-clause-plan
 returns-then-is_used_up-clause-plan g c =
     let before = (goal.at.returns-then-is_used_up-clause-plan g c).After-is_used_up in
-    write_spent (under g c.args.self.now c.args.suite.now) (g.B.Board.device c.args.board.now).regs c.args.at c.args.line.now
-    (chip g c.args.self.now c.args.watch.now c.args.suite.now) (g.B.Board.device c.args.board.now) (sym (tested g before) ∙ c.if-is_used_up.true)
+    write_spent (tree_setup_at g.S.Suite c.args.self.now c.args.suite.now) (g.B.Board.device c.args.board.now).regs c.args.at c.args.line.now
+    (tree_chip_at g.S.Suite g.W.Watch c.args.self.now c.args.suite.now c.args.watch.now) (g.B.Board.device c.args.board.now) (sym (tested g before) ∙ c.if-is_used_up.true)
 
 pub returns-in-Err-clause-plan : goal.returns-in-Err-clause-plan
 returns-in-Err-clause-plan g c =
     let before = (goal.at.returns-in-Err-clause-plan g c).After-is_used_up in
-    unfetched_write (under g c.args.self.now c.args.suite.now) (g.B.Board.device c.args.board.now).regs c.args.at c.args.line.now
-    (chip g c.args.self.now c.args.watch.now c.args.suite.now) (sym (tested g before) ∙ c.if-is_used_up.false) c.in-Err.ensures.plan
+    unfetched_write (tree_setup_at g.S.Suite c.args.self.now c.args.suite.now) (g.B.Board.device c.args.board.now).regs c.args.at c.args.line.now
+    (tree_chip_at g.S.Suite g.W.Watch c.args.self.now c.args.suite.now c.args.watch.now) (sym (tested g before) ∙ c.if-is_used_up.false) c.in-Err.ensures.plan
 
 module _ (g : Over) (c : After-next_regs-regs g) where
   abbrev setup : Setup
-  setup = under g c.args.self.now c.args.suite.now
+  setup = tree_setup_at g.S.Suite c.args.self.now c.args.suite.now
 
   abbrev pairs : List (ℕ × Node)
   pairs = c.raised-nodes.result.items
 
   abbrev fetched : TreeChip
-  fetched = chip g c.fetch.new.self c.fetch.new.watch c.fetch.new.suite
+  fetched = tree_chip_at g.S.Suite g.W.Watch c.fetch.new.self c.fetch.new.suite c.fetch.new.watch
 
   abbrev was : Regs
   was = (g.B.Board.device c.args.board.now).regs
 
-  -- the shadow tree and its root
-  named : (c.next_regs-regs.new.self.tree, c.next_regs-regs.result.root) ≡ named_all setup.formulas setup.shape pairs (c.fetch.new.self.tree, was.root)
-  named =
-      let root = ap (λ (r : Regs). r.root) (c.regs.ensures ∙ c.in-Ok.ensures.fetched.path.regs) in
-      c.next_regs-regs.ensures.named
-      ∙ (λ i. named_all (g.S.Suite.formulas_of (keys g c i)) (shape g c i) pairs (c.fetch.new.self.tree, root i))
-
   armed_regs : c.next_regs-regs.result ≡ write_armed setup.shape c.args.at c.sealed-seal.result pairs (named_all setup.formulas setup.shape pairs (c.fetch.new.self.tree, was.root)).1 was
   armed_regs =
       armed_is setup.shape c.args.at c.sealed-seal.result pairs _ was c.next_regs-regs.result
-      (subst (λ (r : Regs). KeepsOtherRegisters r c.next_regs-regs.result) (c.regs.ensures ∙ c.in-Ok.ensures.fetched.path.regs) c.next_regs-regs.ensures.others)
-      (ap (λ (at : ChipTree × List ℕ). at.1) named) (group g c)
+      (subst (λ (r : Regs). KeepsOtherRegisters r c.next_regs-regs.result) (c.regs.ensures ∙ c.in-Ok.ensures.fetched.path.done.regs) c.next_regs-regs.ensures.others)
+      (ap (λ (at : ChipTree × List ℕ). at.1) (named g c)) (group g c)
 
   -- the chip as the group is armed
-  is_named : chip g c.next_regs-regs.new.self c.fetch.new.watch c.next_regs-regs.new.suite ≡ named_chip setup pairs was fetched
+  is_named : tree_chip_at g.S.Suite g.W.Watch c.next_regs-regs.new.self c.next_regs-regs.new.suite c.fetch.new.watch ≡ named_chip setup pairs was fetched
   is_named =
       let engine = same_engine c.next_regs-regs.new.self (with_tree c.fetch.new.self (named_all setup.formulas setup.shape pairs (c.fetch.new.self.tree, was.root)).0)
-      c.next_regs-regs.ensures.shape c.next_regs-regs.ensures.cache (ap (λ (at : ChipTree × List ℕ). at.0) named) c.next_regs-regs.ensures.down in
+      c.next_regs-regs.ensures.shape c.next_regs-regs.ensures.cache (ap (λ (at : ChipTree × List ℕ). at.0) (named g c)) c.next_regs-regs.ensures.down in
       let pads = c.next_regs-regs.ensures.pads ∙ c.sealed-seal.ensures.pads in
       let tags = c.next_regs-regs.ensures.tags ∙ c.sealed-seal.ensures.tags in
       let digests = c.next_regs-regs.ensures.digests ∙ ap (risen_times (length pairs * suc c.fetch.new.self.tree.height)) c.sealed-seal.ensures.digests in
@@ -375,9 +319,9 @@ module _ (g : Over) (c : After-next_regs-regs g) where
   -- the whole, from what is sealed on
   whole : {new : Device} {end : Result (TreeChip × ℕ) (TreeChip × TreeFault)} → (total (top_node c.args.self.now.cache) == 2 ^ 64 - 1) ≡ false
       → Follows (seal_plan setup c.args.at c.sealed-seal.result pairs was fetched) (g.B.Board.device c.fetch.new.board) new end
-      → Follows (write_line_plan setup was c.args.at c.args.line.now (chip g c.args.self.now c.args.watch.now c.args.suite.now)) (g.B.Board.device c.args.board.now) new end
+      → Follows (write_line_plan setup was c.args.at c.args.line.now (tree_chip_at g.S.Suite g.W.Watch c.args.self.now c.args.suite.now c.args.watch.now)) (g.B.Board.device c.args.board.now) new end
   whole unspent it =
-      fetched_write setup was c.args.at c.args.line.now (chip g c.args.self.now c.args.watch.now c.args.suite.now) unspent
+      fetched_write setup was c.args.at c.args.line.now (tree_chip_at g.S.Suite g.W.Watch c.args.self.now c.args.suite.now c.args.watch.now) unspent
       fetched c.in-Ok.field-0 pairs c.sealed-seal.result its_pairs its_seal c.in-Ok.ensures.plan it
 
   -- and once it is
@@ -407,7 +351,7 @@ returns-in-Err-arm-clause-plan g c =
     let first = (goal.at.returns-in-Err-arm-clause-plan g c).After-is_used_up in
     let here = (goal.at.returns-in-Err-arm-clause-plan g c).After-next_regs-regs in
     let cut : Result ℕ TreeFault = Err Fail.Cut in
-    leaving cut (chip g c.next_regs-regs.new.self c.fetch.new.watch c.next_regs-regs.new.suite) (is_named g here)
+    leaving cut (tree_chip_at g.S.Suite g.W.Watch c.next_regs-regs.new.self c.next_regs-regs.new.suite c.fetch.new.watch) (is_named g here)
     (whole g here (sym (tested g first) ∙ c.if-is_used_up.false)
     (seal_cut (setup g here) c.args.at c.sealed-seal.result (pairs g here) (was g here) (fetched g here) c.in-Err-arm.ensures.cut))
 
@@ -416,7 +360,7 @@ returns-in-Err-finish-clause-plan g c =
     let first = (goal.at.returns-in-Err-finish-clause-plan g c).After-is_used_up in
     let here = (goal.at.returns-in-Err-finish-clause-plan g c).After-next_regs-regs in
     let cut : Result ℕ TreeFault = Err Fail.Cut in
-    leaving cut (chip g c.store.new.self c.tell.new.watch c.next_regs-regs.new.suite)
+    leaving cut (tree_chip_at g.S.Suite g.W.Watch c.store.new.self c.next_regs-regs.new.suite c.tell.new.watch)
     (is_stored g here c.store.new.self (g.W.Watch.watched c.tell.new.watch) c.tell.ensures c.store.ensures.cache c.store.ensures.shape c.store.ensures.tree c.store.ensures.down)
     (whole g here (sym (tested g first) ∙ c.if-is_used_up.false)
     (seal_kept (setup g here) c.args.at c.sealed-seal.result (pairs g here) (was g here) (fetched g here) c.next_regs-regs.result (armed_regs g here)
@@ -427,7 +371,7 @@ returns-clause-plan g c =
     let first = (goal.at.returns-clause-plan g c).After-is_used_up in
     let here = (goal.at.returns-clause-plan g c).After-next_regs-regs in
     let answer : Result ℕ TreeFault = Ok c.sealed-seal.result.counter in
-    leaving answer (chip g c.store.new.self c.tell.new.watch c.next_regs-regs.new.suite)
+    leaving answer (tree_chip_at g.S.Suite g.W.Watch c.store.new.self c.next_regs-regs.new.suite c.tell.new.watch)
     (is_stored g here c.store.new.self (g.W.Watch.watched c.tell.new.watch) c.tell.ensures c.store.ensures.cache c.store.ensures.shape c.store.ensures.tree c.store.ensures.down)
     (whole g here (sym (tested g first) ∙ c.if-is_used_up.false)
     (seal_done (setup g here) c.args.at c.sealed-seal.result (pairs g here) (was g here) (fetched g here) c.next_regs-regs.result (armed_regs g here)

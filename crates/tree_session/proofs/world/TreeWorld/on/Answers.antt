@@ -8,7 +8,8 @@ use Rattle.tree_session.specs.declared.answers.TreeAnswer.TheVariants as Say
 use Rattle.access_log.specs.Traced.{GoesOn, traced_of}
 use Rattle.access_log.proofs.TraceLemmas.{goes_on-between}
 use Rattle.tree_session.specs.State.{SessionState}
-use Rattle.tree_session.proofs.DecidedAnswers.{QuietCall, found_some, already, as_now}
+use Rattle.tree_session.specs.Fields.{parts_in}
+use Rattle.tree_session.proofs.DecidedAnswers.{quiet_in, found_some, already, as_now}
 use Rattle.pmem_recovery.proofs.ResultLaws.{none_of}
 use Rattle.tree_session.proofs.OnCalls.{OnTreeCall, on_held, on_seen, cut_kept, cut_seen, shadow_kept, shadow_seen, shown_kept, shown_seen}
 use Rattle.tree_session.proofs.world.TreeWorld.on.Given.{Over}
@@ -22,17 +23,7 @@ module _ (g : Over) (c : After-steps-steps g) where
       record {
         formulas_of = g.S.Suite.formulas_of;
         geometry = shape_of c.self.inside.geo;
-        parts =
-            record {
-              keys = g.S.Suite.keys c.self.inside.suite;
-              tags = g.S.Suite.tags c.self.inside.suite;
-              digests = g.S.Suite.digests c.self.inside.suite;
-              board = memory_of c.self.inside.board;
-              watch = watch_of g.S.Suite.formulas_of g.S.Suite.keys c.self.inside.watch;
-              engine = c.self.inside.engine;
-              tampered = c.self.inside.tampered.items;
-              hurt = c.self.inside.hurt.items;
-            };
+        parts = parts_in g.S.Suite c.self.inside;
         now = c.args.self.now;
         is = c.self.view_is;
         world = c.self.invariant;
@@ -42,6 +33,8 @@ module _ (g : Over) (c : After-steps-steps g) where
         is_lit = c.power.ensures;
         keys = g.S.Suite.keys c.recover-done.new.suite;
         same_keys = c.recover-done.ensures.keys;
+        pads = g.S.Suite.pads c.recover-done.new.suite;
+        same_pads = c.recover-done.ensures.pads;
         tags = g.S.Suite.tags c.recover-done.new.suite;
         same_tags = c.recover-done.ensures.tags;
         board = memory_of c.recover-done.new.board;
@@ -53,6 +46,7 @@ module _ (g : Over) (c : After-steps-steps g) where
         later = g.S.Suite.digests c.recover-done.new.suite;
         answer = c.recover-done.result.answer;
         recovered = c.recover-done.ensures.recovered;
+        plan = c.recover-done.ensures.plan;
         said = c.steps-steps.result;
         counted = c.steps-steps.ensures;
       }
@@ -66,26 +60,7 @@ module _ (g : Over) (c : After-steps-steps g) where
 
 pub returns-then-is_some-clause-answered : goal.returns-then-is_some-clause-answered
 returns-then-is_some-clause-answered g c =
-    let q : QuietCall =
-    record {
-      formulas_of = g.S.Suite.formulas_of;
-      geometry = shape_of c.self.inside.geo;
-      parts =
-          record {
-            keys = g.S.Suite.keys c.self.inside.suite;
-            tags = g.S.Suite.tags c.self.inside.suite;
-            digests = g.S.Suite.digests c.self.inside.suite;
-            board = memory_of c.self.inside.board;
-            watch = watch_of g.S.Suite.formulas_of g.S.Suite.keys c.self.inside.watch;
-            engine = c.self.inside.engine;
-            tampered = c.self.inside.tampered.items;
-            hurt = c.self.inside.hurt.items;
-          };
-      now = c.args.self.now;
-      is = c.self.view_is;
-      world = c.self.invariant;
-      unshown = c.requires;
-    } in
+    let q = quiet_in g.S.Suite c.self.inside c.args.self.now c.self.view_is c.self.invariant c.requires in
     let found = found_some c.self.inside.engine c.is_some.result c.is_some.ensures c.if-is_some.true in
     as_now q Do.On Say.Already (already q found.0 found.1)
 

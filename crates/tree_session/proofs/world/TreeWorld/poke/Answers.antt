@@ -1,83 +1,24 @@
 -- A device line is changed.
 use Rattle.std.proofs.Common.{arith}
-use Rattle.pmem_base.specs.Geo.{shape_of}
 use Rattle.board.specs.MemBoard.{memory_of}
-use Rattle.counter_tree.specs.BookView.{watch_of}
 use Rattle.tree_session.specs.declared.commands.TreeCommand.TheVariants as Do
 use Rattle.tree_session.specs.declared.answers.TreeAnswer.TheVariants as Say
-use Rattle.tree_session.proofs.DecidedAnswers.{QuietCall, as_now, poke_past, poke_held, poke_seen}
+use Rattle.tree_session.proofs.DecidedAnswers.{quiet_in, as_now, poke_past, poke_held, poke_seen}
 use Rattle.tree_session.proofs.world.TreeWorld.poke.Goals as goal
 
 pub returns-then-at-from : goal.returns-then-at-from
 returns-then-at-from g c =
-    let q : QuietCall =
-    record {
-      formulas_of = g.S.Suite.formulas_of;
-      geometry = shape_of c.self.inside.geo;
-      parts =
-          record {
-            keys = g.S.Suite.keys c.self.inside.suite;
-            tags = g.S.Suite.tags c.self.inside.suite;
-            digests = g.S.Suite.digests c.self.inside.suite;
-            board = memory_of c.self.inside.board;
-            watch = watch_of g.S.Suite.formulas_of g.S.Suite.keys c.self.inside.watch;
-            engine = c.self.inside.engine;
-            tampered = c.self.inside.tampered.items;
-            hurt = c.self.inside.hurt.items;
-          };
-      now = c.args.self.now;
-      is = c.self.view_is;
-      world = c.self.invariant;
-      unshown = c.requires;
-    } in
+    let q = quiet_in g.S.Suite c.self.inside c.args.self.now c.self.view_is c.self.invariant c.requires in
     as_now q (Do.Poke c.args.at c.args.line.now) Say.Range (poke_past q c.args.at c.args.line.now (omega (arith, c.if-at-from.true, c.from.ensures, c.tree_size.ensures)))
 
 pub invariant_of-self : goal.invariant_of-self
 invariant_of-self g c =
-    let q : QuietCall =
-    record {
-      formulas_of = g.S.Suite.formulas_of;
-      geometry = shape_of c.self.inside.geo;
-      parts =
-          record {
-            keys = g.S.Suite.keys c.self.inside.suite;
-            tags = g.S.Suite.tags c.self.inside.suite;
-            digests = g.S.Suite.digests c.self.inside.suite;
-            board = memory_of c.self.inside.board;
-            watch = watch_of g.S.Suite.formulas_of g.S.Suite.keys c.self.inside.watch;
-            engine = c.self.inside.engine;
-            tampered = c.self.inside.tampered.items;
-            hurt = c.self.inside.hurt.items;
-          };
-      now = c.args.self.now;
-      is = c.self.view_is;
-      world = c.self.invariant;
-      unshown = c.requires;
-    } in
+    let q = quiet_in g.S.Suite c.self.inside c.args.self.now c.self.view_is c.self.invariant c.requires in
     poke_held q (memory_of c.poke.new.self) c.args.at c.args.line.now (omega (arith, c.if-at-from.false, c.from.ensures, c.tree_size.ensures)) c.poke.ensures
     c.poke.new.self.each_line c.mark.new.tampered.items c.mark.new.hurt.items c.mark.ensures.tampered c.mark.ensures.hurt
 
 pub returns : goal.returns
 returns g c =
-    let q : QuietCall =
-    record {
-      formulas_of = g.S.Suite.formulas_of;
-      geometry = shape_of c.self.inside.geo;
-      parts =
-          record {
-            keys = g.S.Suite.keys c.self.inside.suite;
-            tags = g.S.Suite.tags c.self.inside.suite;
-            digests = g.S.Suite.digests c.self.inside.suite;
-            board = memory_of c.self.inside.board;
-            watch = watch_of g.S.Suite.formulas_of g.S.Suite.keys c.self.inside.watch;
-            engine = c.self.inside.engine;
-            tampered = c.self.inside.tampered.items;
-            hurt = c.self.inside.hurt.items;
-          };
-      now = c.args.self.now;
-      is = c.self.view_is;
-      world = c.self.invariant;
-      unshown = c.requires;
-    } in
+    let q = quiet_in g.S.Suite c.self.inside c.args.self.now c.self.view_is c.self.invariant c.requires in
     poke_seen q (memory_of c.poke.new.self) c.args.at c.args.line.now (omega (arith, c.if-at-from.false, c.from.ensures, c.tree_size.ensures)) c.poke.ensures
     c.poke.new.self.each_line c.mark.new.tampered.items c.mark.new.hurt.items c.mark.ensures.tampered c.mark.ensures.hurt

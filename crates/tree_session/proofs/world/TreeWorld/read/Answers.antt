@@ -6,8 +6,9 @@ use Rattle.counter_tree.specs.BookView.{watch_of}
 use Rattle.access_log.specs.Traced.{GoesOn, traced_of}
 use Rattle.access_log.proofs.TraceLemmas.{goes_on-between}
 use Rattle.tree_session.specs.State.{SessionState}
+use Rattle.tree_session.specs.Fields.{parts_in}
 use Rattle.tree_session.proofs.AnswerClauses.{WorldCall}
-use Rattle.tree_session.proofs.DecidedAnswers.{QuietCall, read_off, read_past}
+use Rattle.tree_session.proofs.DecidedAnswers.{quiet_in, read_off, read_past}
 use Rattle.tree_session.proofs.ReadCalls.{ReadTreeCall, got_held, got_seen, node_kept, node_seen, tag_kept, tag_seen, cut_kept, cut_seen, shown_kept, shown_seen}
 use Rattle.tree_session.proofs.world.TreeWorld.read.Given.{Over}
 use Rattle.tree_session.proofs.world.TreeWorld.read.Goals.{After-steps-steps}
@@ -20,17 +21,7 @@ module _ (g : Over) (c : After-steps-steps g) where
       record {
         formulas_of = g.S.Suite.formulas_of;
         geometry = shape_of c.self.inside.geo;
-        parts =
-            record {
-              keys = g.S.Suite.keys c.self.inside.suite;
-              tags = g.S.Suite.tags c.self.inside.suite;
-              digests = g.S.Suite.digests c.self.inside.suite;
-              board = memory_of c.self.inside.board;
-              watch = watch_of g.S.Suite.formulas_of g.S.Suite.keys c.self.inside.watch;
-              engine = c.self.inside.engine;
-              tampered = c.self.inside.tampered.items;
-              hurt = c.self.inside.hurt.items;
-            };
+        parts = parts_in g.S.Suite c.self.inside;
         now = c.args.self.now;
         is = c.self.view_is;
         world = c.self.invariant;
@@ -40,6 +31,7 @@ module _ (g : Over) (c : After-steps-steps g) where
         after = c.read-done.new.engine;
         keys = g.S.Suite.keys c.read-done.new.suite;
         same_keys = c.read-done.ensures.keys;
+        pads = g.S.Suite.pads c.read-done.new.suite;
         tags = g.S.Suite.tags c.read-done.new.suite;
         digests = g.S.Suite.digests c.read-done.new.suite;
         board = memory_of c.read-done.new.board;
@@ -58,6 +50,7 @@ module _ (g : Over) (c : After-steps-steps g) where
         within = omega (arith, c.if-at-from.false, c.from.ensures, c.tree_lines.ensures);
         answer = c.read-done.result.answer;
         was_read = c.read-done.ensures.read;
+        plan = c.read-done.ensures.plan;
       }
 
   -- the log goes on by that call
@@ -68,50 +61,12 @@ module _ (g : Over) (c : After-steps-steps g) where
 
 pub returns-in_default-clause-answered : goal.returns-in_default-clause-answered
 returns-in_default-clause-answered g c =
-    let q : QuietCall =
-    record {
-      formulas_of = g.S.Suite.formulas_of;
-      geometry = shape_of c.self.inside.geo;
-      parts =
-          record {
-            keys = g.S.Suite.keys c.self.inside.suite;
-            tags = g.S.Suite.tags c.self.inside.suite;
-            digests = g.S.Suite.digests c.self.inside.suite;
-            board = memory_of c.self.inside.board;
-            watch = watch_of g.S.Suite.formulas_of g.S.Suite.keys c.self.inside.watch;
-            engine = c.self.inside.engine;
-            tampered = c.self.inside.tampered.items;
-            hurt = c.self.inside.hurt.items;
-          };
-      now = c.args.self.now;
-      is = c.self.view_is;
-      world = c.self.invariant;
-      unshown = c.requires;
-    } in
+    let q = quiet_in g.S.Suite c.self.inside c.args.self.now c.self.view_is c.self.invariant c.requires in
     read_off q c.args.at c.in_default.is
 
 pub returns-then-at-from-clause-answered : goal.returns-then-at-from-clause-answered
 returns-then-at-from-clause-answered g c =
-    let q : QuietCall =
-    record {
-      formulas_of = g.S.Suite.formulas_of;
-      geometry = shape_of c.self.inside.geo;
-      parts =
-          record {
-            keys = g.S.Suite.keys c.self.inside.suite;
-            tags = g.S.Suite.tags c.self.inside.suite;
-            digests = g.S.Suite.digests c.self.inside.suite;
-            board = memory_of c.self.inside.board;
-            watch = watch_of g.S.Suite.formulas_of g.S.Suite.keys c.self.inside.watch;
-            engine = c.self.inside.engine;
-            tampered = c.self.inside.tampered.items;
-            hurt = c.self.inside.hurt.items;
-          };
-      now = c.args.self.now;
-      is = c.self.view_is;
-      world = c.self.invariant;
-      unshown = c.requires;
-    } in
+    let q = quiet_in g.S.Suite c.self.inside c.args.self.now c.self.view_is c.self.invariant c.requires in
     read_past q c.in-Some.engine c.args.at c.in-Some.is (omega (arith, c.if-at-from.true, c.from.ensures, c.tree_lines.ensures))
 
 pub invariant_of-self-in-Ok : goal.invariant_of-self-in-Ok

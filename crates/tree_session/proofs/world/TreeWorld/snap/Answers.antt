@@ -1,84 +1,25 @@
 -- A snapshot is taken.
 use Rattle.std.proofs.Common.{rules}
 use Rattle.std.specs.Prelude.{IsErr}
-use Rattle.pmem_base.specs.Geo.{shape_of}
 use Rattle.board.specs.MemBoard.{memory_of}
-use Rattle.counter_tree.specs.BookView.{watch_of}
 use Rattle.pmem_recovery.proofs.ResultLaws.{from_no_error}
-use Rattle.tree_session.proofs.DecidedAnswers.{QuietCall, snap_wanted, snap_held, snap_seen}
+use Rattle.tree_session.proofs.DecidedAnswers.{quiet_in, snap_wanted, snap_held, snap_seen}
 use Rattle.tree_session.proofs.world.TreeWorld.snap.Goals as goal
 
 pub invariant_of-self-2 : goal.invariant_of-self-2
 invariant_of-self-2 g c =
-    let q : QuietCall =
-    record {
-      formulas_of = g.S.Suite.formulas_of;
-      geometry = shape_of c.self.inside.geo;
-      parts =
-          record {
-            keys = g.S.Suite.keys c.self.inside.suite;
-            tags = g.S.Suite.tags c.self.inside.suite;
-            digests = g.S.Suite.digests c.self.inside.suite;
-            board = memory_of c.self.inside.board;
-            watch = watch_of g.S.Suite.formulas_of g.S.Suite.keys c.self.inside.watch;
-            engine = c.self.inside.engine;
-            tampered = c.self.inside.tampered.items;
-            hurt = c.self.inside.hurt.items;
-          };
-      now = c.args.self.now;
-      is = c.self.view_is;
-      world = c.self.invariant;
-      unshown = c.requires;
-    } in
+    let q = quiet_in g.S.Suite c.self.inside c.args.self.now c.self.view_is c.self.invariant c.requires in
     let fine : IsErr c.snap.result → ⊥ = λ error. let h = c.if-is_err.false in let k = c.is_err.ensures.value in cc in
     snap_held q (memory_of c.snap.new.self) (from_no_error c.snap.result fine c.snap.ensures.ok)
 
 pub returns-then-is_err-clause-halted : goal.returns-then-is_err-clause-halted
 returns-then-is_err-clause-halted g c =
-    let q : QuietCall =
-    record {
-      formulas_of = g.S.Suite.formulas_of;
-      geometry = shape_of c.self.inside.geo;
-      parts =
-          record {
-            keys = g.S.Suite.keys c.self.inside.suite;
-            tags = g.S.Suite.tags c.self.inside.suite;
-            digests = g.S.Suite.digests c.self.inside.suite;
-            board = memory_of c.self.inside.board;
-            watch = watch_of g.S.Suite.formulas_of g.S.Suite.keys c.self.inside.watch;
-            engine = c.self.inside.engine;
-            tampered = c.self.inside.tampered.items;
-            hurt = c.self.inside.hurt.items;
-          };
-      now = c.args.self.now;
-      is = c.self.view_is;
-      world = c.self.invariant;
-      unshown = c.requires;
-    } in
+    let q = quiet_in g.S.Suite c.self.inside c.args.self.now c.self.view_is c.self.invariant c.requires in
     let error : IsErr c.snap.result = let h = c.if-is_err.true in let k = c.is_err.ensures.value in cc in
     (snap_wanted q c.snap.result error c.snap.ensures.first_only, search rules)
 
 pub returns-clause-answered : goal.returns-clause-answered
 returns-clause-answered g c =
-    let q : QuietCall =
-    record {
-      formulas_of = g.S.Suite.formulas_of;
-      geometry = shape_of c.self.inside.geo;
-      parts =
-          record {
-            keys = g.S.Suite.keys c.self.inside.suite;
-            tags = g.S.Suite.tags c.self.inside.suite;
-            digests = g.S.Suite.digests c.self.inside.suite;
-            board = memory_of c.self.inside.board;
-            watch = watch_of g.S.Suite.formulas_of g.S.Suite.keys c.self.inside.watch;
-            engine = c.self.inside.engine;
-            tampered = c.self.inside.tampered.items;
-            hurt = c.self.inside.hurt.items;
-          };
-      now = c.args.self.now;
-      is = c.self.view_is;
-      world = c.self.invariant;
-      unshown = c.requires;
-    } in
+    let q = quiet_in g.S.Suite c.self.inside c.args.self.now c.self.view_is c.self.invariant c.requires in
     let fine : IsErr c.snap.result → ⊥ = λ error. let h = c.if-is_err.false in let k = c.is_err.ensures.value in cc in
     snap_seen q (memory_of c.snap.new.self) (from_no_error c.snap.result fine c.snap.ensures.ok)

@@ -6,8 +6,9 @@ use Rattle.counter_tree.specs.BookView.{watch_of}
 use Rattle.access_log.specs.Traced.{GoesOn, traced_of}
 use Rattle.access_log.proofs.TraceLemmas.{goes_on-between}
 use Rattle.tree_session.specs.State.{SessionState}
+use Rattle.tree_session.specs.Fields.{parts_in}
 use Rattle.tree_session.proofs.AnswerClauses.{WorldCall}
-use Rattle.tree_session.proofs.DecidedAnswers.{QuietCall, write_off, write_past}
+use Rattle.tree_session.proofs.DecidedAnswers.{quiet_in, write_off, write_past}
 use Rattle.tree_session.proofs.WriteCalls.{WriteTreeCall, made_held, made_seen, node_kept, node_seen, spent_kept, spent_seen, lost_kept, lost_seen, cut_kept, cut_seen, shown_kept, shown_seen}
 use Rattle.tree_session.proofs.world.TreeWorld.write.Given.{Over}
 use Rattle.tree_session.proofs.world.TreeWorld.write.Goals.{After-steps-steps}
@@ -20,17 +21,7 @@ module _ (g : Over) (c : After-steps-steps g) where
       record {
         formulas_of = g.S.Suite.formulas_of;
         geometry = shape_of c.self.inside.geo;
-        parts =
-            record {
-              keys = g.S.Suite.keys c.self.inside.suite;
-              tags = g.S.Suite.tags c.self.inside.suite;
-              digests = g.S.Suite.digests c.self.inside.suite;
-              board = memory_of c.self.inside.board;
-              watch = watch_of g.S.Suite.formulas_of g.S.Suite.keys c.self.inside.watch;
-              engine = c.self.inside.engine;
-              tampered = c.self.inside.tampered.items;
-              hurt = c.self.inside.hurt.items;
-            };
+        parts = parts_in g.S.Suite c.self.inside;
         now = c.args.self.now;
         is = c.self.view_is;
         world = c.self.invariant;
@@ -40,6 +31,7 @@ module _ (g : Over) (c : After-steps-steps g) where
         after = c.write-done.new.engine;
         keys = g.S.Suite.keys c.write-done.new.suite;
         same_keys = c.write-done.ensures.keys;
+        pads = g.S.Suite.pads c.write-done.new.suite;
         tags = g.S.Suite.tags c.write-done.new.suite;
         digests = g.S.Suite.digests c.write-done.new.suite;
         board = memory_of c.write-done.new.board;
@@ -60,6 +52,7 @@ module _ (g : Over) (c : After-steps-steps g) where
         whole = c.is_whole.ensures;
         answer = c.write-done.result.answer;
         was_written = c.write-done.ensures.written;
+        plan = c.write-done.ensures.plan;
       }
 
   -- the log goes on by that call
@@ -70,50 +63,12 @@ module _ (g : Over) (c : After-steps-steps g) where
 
 pub returns-in_default-clause-answered : goal.returns-in_default-clause-answered
 returns-in_default-clause-answered g c =
-    let q : QuietCall =
-    record {
-      formulas_of = g.S.Suite.formulas_of;
-      geometry = shape_of c.self.inside.geo;
-      parts =
-          record {
-            keys = g.S.Suite.keys c.self.inside.suite;
-            tags = g.S.Suite.tags c.self.inside.suite;
-            digests = g.S.Suite.digests c.self.inside.suite;
-            board = memory_of c.self.inside.board;
-            watch = watch_of g.S.Suite.formulas_of g.S.Suite.keys c.self.inside.watch;
-            engine = c.self.inside.engine;
-            tampered = c.self.inside.tampered.items;
-            hurt = c.self.inside.hurt.items;
-          };
-      now = c.args.self.now;
-      is = c.self.view_is;
-      world = c.self.invariant;
-      unshown = c.requires;
-    } in
+    let q = quiet_in g.S.Suite c.self.inside c.args.self.now c.self.view_is c.self.invariant c.requires in
     write_off q c.args.at c.args.line.now c.in_default.is
 
 pub returns-then-at-from-clause-answered : goal.returns-then-at-from-clause-answered
 returns-then-at-from-clause-answered g c =
-    let q : QuietCall =
-    record {
-      formulas_of = g.S.Suite.formulas_of;
-      geometry = shape_of c.self.inside.geo;
-      parts =
-          record {
-            keys = g.S.Suite.keys c.self.inside.suite;
-            tags = g.S.Suite.tags c.self.inside.suite;
-            digests = g.S.Suite.digests c.self.inside.suite;
-            board = memory_of c.self.inside.board;
-            watch = watch_of g.S.Suite.formulas_of g.S.Suite.keys c.self.inside.watch;
-            engine = c.self.inside.engine;
-            tampered = c.self.inside.tampered.items;
-            hurt = c.self.inside.hurt.items;
-          };
-      now = c.args.self.now;
-      is = c.self.view_is;
-      world = c.self.invariant;
-      unshown = c.requires;
-    } in
+    let q = quiet_in g.S.Suite c.self.inside c.args.self.now c.self.view_is c.self.invariant c.requires in
     write_past q c.in-Some.engine c.args.at c.args.line.now c.in-Some.is (omega (arith, c.if-at-from.true, c.from.ensures, c.tree_lines.ensures))
 
 pub invariant_of-self-in-Ok : goal.invariant_of-self-in-Ok

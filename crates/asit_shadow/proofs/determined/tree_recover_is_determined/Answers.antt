@@ -1,0 +1,5 @@
+use Rattle.call_plan.proofs.DeterminedCalls.{call_is_determined}
+use Rattle.asit_shadow.proofs.determined.tree_recover_is_determined.Goals as goal
+
+pub returns : goal.returns
+returns c = λ setup at old first_board second_board x y first second left other on it its. call_is_determined on it its
