@@ -1,8 +1,6 @@
 """Runs of the program on a cluster of `dask.distributed`, in place of this machine's processors. What a worker needs (the
 program, this package, the trace) is put there once, by its digest; runs go several to a task; answers come back in order,
 the same as here."""
-import asyncio
-import concurrent.futures
 import hashlib
 import importlib
 import logging
@@ -123,6 +121,9 @@ class Cluster:
 
     def asked(self, what: Callable[[], Item]) -> Item:
         """What the cluster answers. One that is gone, or whose workers are, is told so."""
+        # Here, as the other commands don't need them.
+        import asyncio
+        import concurrent.futures
         lost: Tuple[Type[BaseException], ...] = (
             OSError, asyncio.TimeoutError, TimeoutError, asyncio.CancelledError, concurrent.futures.CancelledError,
             concurrent.futures.TimeoutError, self.distributed.comm.CommClosedError)

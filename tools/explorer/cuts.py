@@ -1,5 +1,6 @@
 """What a cut at each persist step of a trace leaves, and what recovery takes after it."""
 import itertools
+import re
 from dataclasses import dataclass, field, replace
 from functools import cached_property
 from typing import Any, Callable, Dict, FrozenSet, Iterator, List, Optional, Sequence, Tuple, TypeVar
@@ -8,7 +9,7 @@ from .errors import ExploreError
 from .layout import DATA, TAGS, Layout
 from .moments import Moment
 from .output import json_text, table_text
-from .program import MARKS, Question, Recording, Reply, replies_in, text_of
+from .program import MARKS, Question, Recording, text_of
 from .shared import Shared
 from .steps import Totals, mentioned_lines, stepping_indexes, tampered_lines
 from .together import Together
@@ -20,6 +21,8 @@ MOST_NAMED = 8
 ROWS_CHECKED = 4
 
 MARK_STARTS = tuple(f"{mark} ".encode() for mark in MARKS)
+# A reply, its answer apart.
+REPLY = re.compile(b"(?:(?:{0}) [^\n]*\n)*(?!(?:{0}) )([^\n]*)\n".replace(b"{0}", "|".join(MARKS).encode()))
 
 OFF = b"off"
 
@@ -115,6 +118,7 @@ class CutFinder:
         self.plain_before: Readings = []
         self.together = together
         self.machine = recording.settings.machine
+        self.recovery = Recovery("", self.machine.recovery)
         self.totals = Totals(recording, together)
         self.lines = list(range(recording.settings.data_lines)) if every_line else self.lines_to_read()
         self.places = {line: place for place, line in enumerate(self.lines)}
@@ -229,7 +233,7 @@ class CutFinder:
                 waiting.go_on(self.recording.commands[done], self.recording.replies[done])
                 done += 1
             if moment.kind == "before":
-                before = readings_in(data, len(self.before_script))[1]
+                before = answers_in(data, len(self.before_script))[1]
                 self.texts.clear()
                 if self.observe is not None:
                     self.note(self.lines_at(moment), before)
@@ -239,19 +243,19 @@ class CutFinder:
     def cut(self, moment: Moment, data: bytes, before: Readings, waiting: Waiting) -> Cut:
         """The cut that the answers to a moment's question tell."""
         count = len(self.script(moment))
-        replies, printed = replies_before(data, count)
-        if len(replies) < count:
+        answers, printed = answers_before(data, count)
+        if len(answers) < count:
             raise ExploreError(f"{self.recording.trace.name}, line {self.recording.commands[moment.index].number}: "
                                f"a cut after {moment.number} steps ends the run")
         command = None if moment.kind == "end" else self.recording.commands[moment.index]
-        first = replies[0 if command is None else 1]
-        lost = waiting.all() if command is None else waiting.lost(command, first)
-        recovery = Recovery(replies[-1].answer, self.machine.recovery)
+        lost = waiting.all() if command is None else waiting.lost(command, answers[1])
+        if self.recovery.answer != answers[-1]:  # Cuts in a row mostly share one.
+            self.recovery = Recovery(answers[-1], self.machine.recovery)
         lines = self.lines_at(moment)
         if self.observe is not None and lines is not self.lines:
             before = [self.before[self.places[line]] for line in lines]
         after, others, unread = self.seen(lines, before, printed)
-        cut = Cut(moment.index, moment.number, moment.steps, command, replies[-2].answer, recovery, others, tuple(lost),
+        cut = Cut(moment.index, moment.number, moment.steps, command, answers[-2], self.recovery, others, tuple(lost),
                   unread, moment.recovery_steps)
         if self.observe is not None:
             self.observe(cut, self.whole(lines, after))
@@ -330,7 +334,7 @@ class CutFinder:
         for cut, other in zip(some, finder.cuts(moments, "rows compared")):
             if cut != other:
                 raise ExploreError(f"{self.recording.trace.name}: a cut after {cut.steps} steps isn't answered the same by a "
-                                   "fork of a run and by a run from the start: use --from-start")
+                                   "run that is asked there and by a run from the start: use --from-start")
 
     def sample(self, cuts: Sequence[Cut], count: int) -> List[Cut]:
         """So many of the cuts, in their order. Half of them are from those behind a commit group's end, where other cuts tell
@@ -388,19 +392,17 @@ def spread(every: Sequence[T], count: int) -> List[T]:
     return [every[place * (len(every) - 1) // max(1, count - 1)] for place in range(count)]
 
 
-def replies_before(data: bytes, count: int) -> Tuple[List[Reply], bytes]:
-    """The first `count` replies of what was printed, and what is printed after them."""
+def answers_before(data: bytes, count: int) -> Tuple[List[str], bytes]:
+    """The answers of the first `count` replies of what was printed, and what is printed after them."""
+    answers: List[str] = []
     at = 0
-    for _ in range(count):
-        while True:
-            end = data.find(b"\n", at)
-            if end < 0:
-                return replies_in(data), b""
-            is_mark = data.startswith(MARK_STARTS, at)
-            at = end + 1
-            if not is_mark:
-                break
-    return replies_in(data[:at]), data[at:]
+    while len(answers) < count:
+        found = REPLY.match(data, at)
+        if found is None:
+            return answers, b""
+        answers.append(found[1].decode("ascii", "replace"))
+        at = found.end()
+    return answers, data[at:]
 
 
 def readings_of(data: bytes) -> Readings:
@@ -412,10 +414,10 @@ def readings_of(data: bytes) -> Readings:
     return readings
 
 
-def readings_in(data: bytes, count: int) -> Tuple[List[Reply], Readings]:
-    """The first `count` replies of what was printed, and what the reads after them answer."""
-    replies, rest = replies_before(data, count)
-    return replies, readings_of(rest)
+def answers_in(data: bytes, count: int) -> Tuple[List[str], Readings]:
+    """The answers of the first `count` replies of what was printed, and what the reads after them answer."""
+    answers, rest = answers_before(data, count)
+    return answers, readings_of(rest)
 
 
 def reading_of(line: bytes) -> bytes:

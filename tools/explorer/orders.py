@@ -5,7 +5,7 @@ import random
 from dataclasses import dataclass, replace
 from typing import Callable, Dict, Iterator, List, Optional, Sequence, Tuple
 
-from .cuts import NO_CUT, Cut, CutFinder, Readings, Recovery, reading_of, readings_in
+from .cuts import NO_CUT, Cut, CutFinder, Readings, Recovery, answers_in, reading_of
 from .errors import WRONG_WORDS, ExploreError
 from .output import table_text
 from .program import Question, Recording
@@ -166,9 +166,9 @@ class Orders:
         cuts: Dict[int, List[Cut]] = {}
         before: Dict[int, Readings] = {}
         for (epoch, written), (question, data) in zip(trials, found):
-            replies, readings = readings_in(data, len(question.script))
+            answers, readings = answers_in(data, len(question.script))
             none = before.setdefault(epoch.index, readings)
-            cut = replace(self.cut(epoch, written, question.script, replies[-1].answer),
+            cut = replace(self.cut(epoch, written, question.script, answers[-1]),
                           others=self.finder.others(self.finder.lines, none, readings)[0])
             cuts.setdefault(epoch.index, []).append(cut)
             observe(cut, list(map(reading_of, readings)))

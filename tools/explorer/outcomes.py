@@ -7,7 +7,6 @@ import tempfile
 from dataclasses import dataclass, field
 from pathlib import Path
 from typing import Any, Dict, List, Optional, Sequence, Tuple
-from xml.sax.saxutils import quoteattr
 
 from .cuts import Cut, Readings, all_cuts, cut_record, heads_of, row_of
 from .errors import ExploreError, reason_of
@@ -248,13 +247,19 @@ def failing_trace(outcomes: Outcomes, outcome: Outcome, check: str) -> str:
                       f"# To run it: pmem {' '.join(recording.settings.words())}", *commands]) + "\n"
 
 
+def attribute(text: str) -> str:
+    """A text as an attribute of XML, with its quotes."""
+    from xml.sax.saxutils import quoteattr  # Here, as it brings much along.
+    return quoteattr(text)
+
+
 def junit_text(cuts: Sequence[Cut], outcomes: Outcomes) -> str:
     """A test for each command that was cut, and for each fence whose writes were put in other orders, as JUnit writes
     them."""
     tests: Dict[Tuple[int, bool], List[Cut]] = {}
     for cut in all_cuts(cuts):
         tests.setdefault((cut.command.number if cut.command else -1, bool(cut.script)), []).append(cut)
-    name = quoteattr(os.path.basename(outcomes.recording.trace.name))
+    name = attribute(os.path.basename(outcomes.recording.trace.name))
     cases = [junit_case(some, outcomes, name) for some in tests.values()]
     failures = sum("<failure" in case for case in cases)
     return ('<?xml version="1.0" encoding="UTF-8"?>\n'
@@ -266,10 +271,10 @@ def junit_case(cuts: Sequence[Cut], outcomes: Outcomes, name: str) -> str:
     """The test of a command."""
     command = cuts[0].command
     place = f"line {command.number}: {command.short}" if command else "the end of the trace"
-    case = quoteattr(f"{place}: other orders" if cuts[0].script else place)
+    case = attribute(f"{place}: other orders" if cuts[0].script else place)
     told = [f"{moment_text(cut)}: {verdict.reason}" for cut in cuts for verdict in [outcomes.of(cut).verdict]
             if verdict is not None and not verdict.is_right]
     if not told:
         return f"  <testcase classname={name} name={case}/>\n"
-    message = quoteattr("\n".join(told))
+    message = attribute("\n".join(told))
     return f"  <testcase classname={name} name={case}>\n    <failure message={message}/>\n  </testcase>\n"

@@ -5,7 +5,8 @@ import json
 import os
 import sys
 import tempfile
-from typing import Any, Iterable, List, Optional, Sequence
+from operator import itemgetter
+from typing import Any, Iterable, Optional, Sequence
 
 from .errors import ExploreError, reason_of
 from .processes import INTERRUPTS
@@ -116,11 +117,7 @@ def markdown_text(heads: Sequence[str], rows: Sequence[Sequence[str]], left: Seq
 
 def table_text(heads: Sequence[Sequence[str]], rows: Sequence[Sequence[str]], left: Sequence[int]) -> str:
     """A table in columns, under one or more lines of heads; the columns in `left` begin at the left."""
-    widths = [max(len(row[column]) for row in [*heads, *rows]) for column in range(len(heads[0]))]
-
-    def line(row: Sequence[str]) -> str:
-        cells: List[str] = [cell.ljust(width) if column in left else cell.rjust(width)
-                            for column, (cell, width) in enumerate(zip(row, widths))]
-        return "  ".join(cells).rstrip()
-
-    return "".join(line(row) + "\n" for row in [*heads, *rows])
+    every = [*heads, *rows]
+    widths = [max(map(len, map(itemgetter(column), every))) for column in range(len(heads[0]))]
+    form = "  ".join(f"%{'-' if column in left else ''}{width}s" for column, width in enumerate(widths))
+    return "".join((form % tuple(row)).rstrip() + "\n" for row in every)

@@ -182,6 +182,7 @@ class Channel:
         self.pending: Deque[memoryview] = deque()
         self.is_last = False
         self.is_writing = False
+        self.is_released = False
         for file in (self.source, self.sink):
             os.set_blocking(file, False)
             widen(file)
@@ -196,6 +197,8 @@ class Channel:
 
     def write(self) -> None:
         """Writes what the pipe takes. A process that reads no more is waited for: its output tells why."""
+        if self.is_released:
+            return
         try:
             while self.pending:
                 count = os.write(self.sink, self.pending[0][:PIPE_BYTES])
@@ -220,6 +223,8 @@ class Channel:
 
     def read(self) -> Optional[bytes]:
         """What it has told, nothing (`b""`) at its end, or None where it tells nothing now."""
+        if self.is_released:
+            return None
         try:
             return os.read(self.source, PIPE_BYTES)
         except BlockingIOError:
@@ -237,8 +242,9 @@ class Channel:
         end(self.process)
 
     def release(self) -> None:
-        """Serves its pipes no more."""
+        """Serves its pipes no more, also where they were found to be ready before: their numbers may be those of other pipes."""
         self.watch(False)
+        self.is_released = True
         if self.source in self.selector.get_map():
             self.selector.unregister(self.source)
 

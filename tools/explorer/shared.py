@@ -19,8 +19,10 @@ from .together import Progress, Together
 from .trace import TAMPERING_WORDS
 
 EMPTIED = (LATCHED, 0)
-# The commands of a cut's question before its `on`: `cut`, and the one that is cut.
+OK, OFF = b"ok\n", b"off"
+# The commands of a question before its `on`: `cut`, and the one that is cut; or before a command `off` and `cut`.
 TO_THE_CUT = 2
+OFF_REPLIES = (b"ok\nok\n", b"off\nok\n")
 MARKED = tuple(f"{mark} ".encode() for mark in MARKS)
 RECOVERED = re.compile(rb"on(?: [0-9]+)* ([0-9]+)\n")
 EXHIBITED = tuple(f"{word} ".encode() for word in EXHIBITS)
@@ -28,6 +30,8 @@ EXHIBITED = tuple(f"{word} ".encode() for word in EXHIBITS)
 
 class Finder(Protocol):
     """Who has the questions of moments (`CutFinder`)."""
+
+    before_script: List[bytes]
 
     def lines_at(self, moment: Moment) -> Sequence[int]:
         """The lines that are read at a moment."""
@@ -125,11 +129,26 @@ class First:
             return self.fewer > 0 and RECOVERED.fullmatch(self.recovery) is not None
         return moment.number - self.moment.number <= self.count
 
+    def is_between(self, moment: Moment) -> bool:
+        """Whether a cut comes between the first and the last of its stretch, of which all are told: what is printed up to it is
+        known from both."""
+        return self.stretch.is_emptied and self.count == len(self.stretch.lines) and moment.index == self.moment.index \
+            and self.moment.number < moment.number < self.stretch.last
+
+    def between(self, moment: Moment, last: bytes) -> Optional[bytes]:
+        """What is printed up to a cut between the first and the last one of its stretch, to which this is printed: the same as to
+        both, but for the number of steps. None where they differ otherwise."""
+        start, end = b" %d\n" % self.moment.number, b" %d\n" % self.stretch.last
+        if not self.to_the_cut.endswith(start) or self.to_the_cut[:-len(start)] + end != last:
+            return None
+        return self.to_the_cut[:-len(start)] + b" %d\n" % moment.number
+
     def same_at(self, moment: Moment, to_the_cut: bytes, marks: bytes, lines: Sequence[int]) -> Optional[bytes]:
         """What is printed to the question of a cut that it tells of, to which this is printed up to the cut; None where that
         isn't as it should be. `marks` are the replies up to the cut, without the last answer, that it should have had to be one
         of its command."""
-        if not is_cut(to_the_cut) or marks != without_answer(self.to_the_cut):
+        if not (to_the_cut in OFF_REPLIES if moment.kind == "before" else is_cut(to_the_cut)) \
+                or marks != without_answer(self.to_the_cut):
             return None
         recovery = self.recovery
         if self.is_behind(moment):
@@ -178,6 +197,47 @@ def without_answer(replies: bytes) -> bytes:
 def is_cut(replies: bytes) -> bool:
     """Whether the last answer of these replies is that of a cut."""
     return replies.startswith(b"cut ", len(without_answer(replies)))
+
+
+class Known:
+    """The first cuts of which is known what is printed, as long as others are told by them."""
+
+    def __init__(self, asked: Iterator[First]) -> None:
+        self.asked = asked
+        self.known: Dict[Moment, First] = {}
+
+    def first(self, moment: Moment) -> First:
+        """The first cut at a moment; those up to it are asked for."""
+        while True:
+            found = self.known.get(moment)
+            if found is not None:
+                return found
+            found = next(self.asked)
+            self.known[found.moment] = found
+
+    def forget_before(self, moment: Moment) -> None:
+        """Forgets those before a moment."""
+        while next(iter(self.known)) is not moment:
+            del self.known[next(iter(self.known))]
+
+
+class Others:
+    """What is printed to the questions of the other cuts, in their order."""
+
+    def __init__(self, answers: Iterator[Tuple[Question, bytes]]) -> None:
+        self.answers = answers
+        self.seen: Optional[bytes] = None
+
+    def next(self) -> bytes:
+        """What is printed to the next one."""
+        if self.seen is None:
+            _, self.seen = next(self.answers)
+        return self.seen
+
+    def take(self) -> bytes:
+        """The same, and the next one is the one after it."""
+        found, self.seen = self.next(), None
+        return found
 
 
 class Shared:
@@ -229,13 +289,21 @@ class Shared:
 
     def first_of(self, moment: Moment) -> Optional[Tuple[int, int]]:
         """The first cut of the stretch that may tell of a moment: its command, and after how many of its steps."""
-        if moment.kind != "cut" or moment.recovery_steps is not None:
+        if moment.kind == "cut" and moment.recovery_steps is None:
+            for stretch in self.stretches.get(moment.index, ()):
+                if stretch.has(moment.number):
+                    return moment.index, stretch.first
+        elif moment.kind != "before" or not self.is_recovered(moment):
             return None
-        for stretch in self.stretches.get(moment.index, ()):
-            if stretch.has(moment.number):
-                return moment.index, stretch.first
         earlier = self.earlier.get(moment.index)
         return None if earlier is None or moment.number else (earlier, self.stretches[earlier][-1].first)
+
+    def is_recovered(self, moment: Moment) -> bool:
+        """Whether memory is looked at before a command as at a cut before its first step: with power off and on, and the same
+        lines."""
+        if self.finder.before_script[0] != OFF:
+            return False
+        return self.finder.lines_at(moment) is self.finder.lines_at(Moment("cut", moment.index))
 
     def lines_asked(self, first: Moment, stretch: Stretch) -> Sequence[int]:
         """The lines that are read at the first cut of a stretch: those of the later command's cut of which it tells are too."""
@@ -254,58 +322,55 @@ class Shared:
         for moment, stretch, (_, data) in zip(moments, stretches, answers):
             yield First(moment, stretch, self.lines_asked(moment, stretch), data, self.recording.program.path)
 
+    def questions(self, moments: Sequence[Moment], firsts: Sequence[Optional[Moment]], known: Known) -> Iterator[Question]:
+        """The questions of all but the first cuts, up to the cut where a first one tells of the rest."""
+        for moment, first in zip(moments, firsts):
+            if first is moment:
+                continue
+            teller = None if first is None else known.first(first)
+            if teller is None or not teller.tells(moment):
+                yield self.finder.question(moment)
+            elif not teller.is_between(moment):
+                yield Question(moment.index, self.finder.question(moment, ()).script[:TO_THE_CUT])
+
     def answers(self, moments: Sequence[Moment], what: str) -> Iterator[Tuple[Moment, bytes]]:
         """Each of these moments with what is printed to its question, in their order. The first cuts are asked ahead of the
         others, whose questions depend on them."""
         firsts = self.firsts_of(moments)
-        asked = self.asked([moment for moment, first in zip(moments, firsts) if first is moment])
-        known: Dict[Moment, First] = {}
-
-        def known_of(first: Moment) -> First:
-            while True:
-                found = known.get(first)
-                if found is not None:
-                    return found
-                found = next(asked)
-                known[found.moment] = found
-
-        def questions() -> Iterator[Question]:
-            for moment, first in zip(moments, firsts):
-                if first is not moment:
-                    question = self.finder.question(moment)
-                    is_told = first is not None and known_of(first).tells(moment)
-                    yield Question(question.index, question.script[:TO_THE_CUT]) if is_told else question
-
+        known = Known(self.asked([moment for moment, first in zip(moments, firsts) if first is moment]))
         total = sum(first is not moment for moment, first in zip(moments, firsts))
-        others = self.together.answers(self.recording, questions(), total, "")
+        others = Others(self.together.answers(self.recording, self.questions(moments, firsts, known), total, ""))
         progress = Progress(what, len(moments))
         try:
             progress.reach(0)
             for done, (moment, first) in enumerate(zip(moments, firsts), 1):
-                found: Optional[bytes]
-                if first is moment:
-                    found = known_of(moment).data(self.finder.lines_at(moment))
-                    while next(iter(known)) is not moment:
-                        del known[next(iter(known))]
+                teller = None if first is None else known.first(first)
+                if teller is not None and first is moment:
+                    known.forget_before(moment)
+                    found = teller.data(self.finder.lines_at(moment))
                 else:
-                    _, found = next(others)
-                    teller = None if first is None else known_of(first)
-                    if teller is not None and teller.tells(moment):
-                        found = self.told(teller, moment, found)
+                    found = self.other(moment, teller, others)
                 progress.reach(done)
                 yield moment, self.from_start(moment) if found is None else found
         finally:
             progress.end()
 
+    def other(self, moment: Moment, teller: Optional[First], others: Others) -> Optional[bytes]:
+        """What is printed to the question of a moment that is no first cut; None where that can't be told."""
+        if teller is None or not teller.tells(moment):
+            return others.take()
+        to_the_cut = teller.between(moment, others.next()) if teller.is_between(moment) else others.take()
+        return None if to_the_cut is None else self.told(teller, moment, to_the_cut)
+
     def told(self, first: First, moment: Moment, to_the_cut: bytes) -> Optional[bytes]:
         """What is printed to the question of a cut that a first one tells of, to which this is printed up to the cut."""
-        marks = without_answer(to_the_cut)
+        marks = without_answer(to_the_cut) if moment.kind == "cut" else OK
         if moment.index > first.moment.index:
             ends = self.recording.output_ends
             reply = self.recording.output[ends[first.moment.index]:ends[first.moment.index + 1]]
             marks += without_answer(reply)
         found = first.same_at(moment, to_the_cut, marks, self.finder.lines_at(moment))
-        if found is not None and first.is_behind(moment):
+        if found is not None and first.is_behind(moment) and moment.kind == "cut":
             self.behind.append(moment)
         return found
 

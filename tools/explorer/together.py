@@ -20,13 +20,15 @@ CLEAR = "\r\x1b[K"
 BETWEEN_TOLD = 0.1
 AT_ONCE = 32
 WINDOW = 256
-LONGEST_REST = 0.05
+LONGEST_REST = 0.01
 SECONDS_TO_ANSWER = 10.0
 COMMANDS_TRIED = 3
 LONG = 1_000_000
 
 # What fork_server.c adds to the program's output.
 BEGUN, FORKED, ENDED = b"\1H\n", b"\1F\n", b"\1E"
+# Where this is in the environment, it answers by forks alone.
+FORKS = "FORK_SERVER_FORKS"
 
 
 class Progress:
@@ -87,6 +89,9 @@ class Worker(Generic[Task]):
         """Begins a task."""
         raise NotImplementedError
 
+    def push(self) -> None:
+        """Hands its process what it was given."""
+
     def told(self, channel: Channel, data: bytes) -> None:
         """What its process told: nothing (`b""`) at its end."""
         raise NotImplementedError
@@ -124,24 +129,46 @@ class FromStart(Worker[Task]):
 
 
 class NotForked(ExploreError):
-    """A program can't be asked by forks of it."""
+    """A program can't be asked from where it stands."""
 
 
 class Forked(Worker[Question]):
-    """Asks a process that goes along the trace and answers each question by a fork of itself."""
+    """Asks a process that goes along the trace, and answers each question from where it stands (fork_server.c): in place, or by
+    a fork of itself where it ends of that or answers otherwise than before."""
 
     def __init__(self, selector: selectors.BaseSelector, recording: Recording, library: str,
                  done: Dict[int, Output]) -> None:
         super().__init__(done, AT_ONCE)
+        self.selector = selector
         self.recording = recording
         # What the program calls is found before it is forked, and not by each fork again.
-        environment = {**os.environ, "LD_PRELOAD": library, "LD_BIND_NOW": "1"}
-        self.channel = Channel(selector, recording.program.start(recording.settings, environment), self)
+        self.environment = {**os.environ, "LD_PRELOAD": library, "LD_BIND_NOW": "1"}
+        self.is_by_forks = FORKS in self.environment
+        self.waiting: Deque[Tuple[int, Question, bytes]] = deque()
+        self.begun, self.answered = time.monotonic(), 0
+        self.begin()
+
+    def begin(self) -> None:
+        """Starts the process."""
+        self.channel = Channel(self.selector, self.recording.program.start(self.recording.settings, self.environment), self)
         self.position = 0
-        self.waiting: Deque[Tuple[int, bytes]] = deque()
+        self.frames: List[bytes] = []
         self.received = bytearray()
         self.has_begun = False
-        self.begun, self.answered = time.monotonic(), 0
+
+    def begin_anew(self, why: str) -> None:
+        """Starts it again, to be asked what wasn't answered by forks of it; where it was asked so already it can't be asked."""
+        if self.is_by_forks:
+            raise NotForked(why)
+        self.is_by_forks = True
+        self.environment[FORKS] = "1"
+        self.channel.close()
+        self.begin()
+        asked = [(number, question) for number, question, _ in self.waiting]
+        self.waiting.clear()
+        for number, question in asked:
+            self.ask(number, question)
+        self.push()
 
     def rest(self) -> float:
         """About the time that half of its questions take, where it has many: each look at it would be for one of them."""
@@ -150,46 +177,61 @@ class Forked(Worker[Question]):
         return min(LONGEST_REST, (time.monotonic() - self.begun) / self.answered * self.load / 2)
 
     def give(self, number: int, task: Question) -> None:
-        recording, frames = self.recording, b""
-        if task.index > self.position:
-            commands = recording.script[recording.script_ends[self.position]:recording.script_ends[task.index]]
-            frames = b"L%d\n" % len(commands) + commands
-        before = recording.output[recording.output_ends[self.position]:recording.output_ends[task.index]]
-        self.position = task.index
-        self.waiting.append((number, before))
         self.load += 1
-        script = task.text
-        self.channel.send(frames + b"F%d\n" % len(script) + script)
+        self.ask(number, task)
+
+    def ask(self, number: int, question: Question) -> None:
+        """Has a question for it, with what it is given before."""
+        recording = self.recording
+        if question.index > self.position:
+            commands = recording.script[recording.script_ends[self.position]:recording.script_ends[question.index]]
+            self.frames.append(b"L%d\n%b" % (len(commands), commands))
+        before = recording.output[recording.output_ends[self.position]:recording.output_ends[question.index]]
+        self.position = question.index
+        self.waiting.append((number, question, before))
+        script = question.text
+        self.frames.append(b"F%d\n%b" % (len(script), script))
+
+    def push(self) -> None:
+        if self.frames:
+            self.channel.send(b"".join(self.frames))
+            self.frames.clear()
 
     def told(self, channel: Channel, data: bytes) -> None:
+        if channel is not self.channel:
+            return
         self.received += data
         if not self.has_begun and self.received.startswith(BEGUN):
             del self.received[:len(BEGUN)]
             self.has_begun = True
-        while self.waiting and self.take(*self.waiting[0]):
+        if not self.take():
+            self.begin_anew(f"{self.recording.program.path} doesn't answer the same in two runs of {self.recording.trace.name}")
+        elif not data:
+            status = channel.finish()
+            self.begin_anew(f"{self.recording.program.path} ended with status {status} while it was asked")
+
+    def take(self) -> bool:
+        """Takes the answers that are there whole; answers whether what is printed before each is what was printed before."""
+        received, at = self.received, 0
+        while self.waiting:
+            number, _, before = self.waiting[0]
+            first = received.find(FORKED, at)
+            if first < 0:
+                break
+            if not self.has_begun or first - at != len(before) or not received.startswith(before, at):
+                return False
+            last = received.find(ENDED, first)
+            end = received.find(b"\n", last) if last >= 0 else -1
+            if end < 0:
+                break
+            status = int(received[last + len(ENDED):end])
+            self.done[number] = Output(bytes(received[first + len(FORKED):last]),
+                                       os.WEXITSTATUS(status) if os.WIFEXITED(status) else -os.WTERMSIG(status))
+            at = end + 1
             self.waiting.popleft()
             self.load -= 1
             self.answered += 1
-        if not data:
-            status = channel.finish()
-            raise NotForked(f"{self.recording.program.path} ended with status {status} while it was asked")
-
-    def take(self, number: int, before: bytes) -> bool:
-        """Takes the answer to the first question, where it is there whole."""
-        first = self.received.find(FORKED)
-        if first < 0:
-            return False
-        if not self.has_begun or self.received[:first] != before:
-            raise NotForked(f"{self.recording.program.path} doesn't answer the same in two runs of "
-                            f"{self.recording.trace.name}")
-        last = self.received.find(ENDED, first)
-        end = self.received.find(b"\n", last) if last >= 0 else -1
-        if end < 0:
-            return False
-        status = int(self.received[last + len(ENDED):end])
-        self.done[number] = Output(bytes(self.received[first + len(FORKED):last]),
-                                   os.WEXITSTATUS(status) if os.WIFEXITED(status) else -os.WTERMSIG(status))
-        del self.received[:end + 1]
+        del received[:at]
         return True
 
     def close(self) -> None:
@@ -224,6 +266,8 @@ def in_order(selector: selectors.BaseSelector, tasks: Iterable[Task], workers: S
                 yield under_way.popleft(), done.pop(taken - 1)
             if is_over and taken == given:
                 return
+            for worker in workers:
+                worker.push()
             if taken < given and taken not in done:
                 serve(selector, rest=min(worker.rest() for worker in workers))
     finally:
@@ -305,6 +349,7 @@ def trial(recording: Recording, library: str) -> str:
         try:
             count = len(recording.replies) - recording.ends_in_exhibit
             worker.give(0, Question(min(count, COMMANDS_TRIED), (b"cut 0",)))
+            worker.push()
             while not done and time.monotonic() < end:
                 serve(selector, 1.0)
         except NotForked as error:

@@ -1,6 +1,7 @@
 """Reading a trace: which of its lines are commands. The program alone judges what they say."""
 import sys
 from dataclasses import dataclass
+from functools import lru_cache
 from typing import List, Optional, Tuple
 
 from .errors import ExploreError, reason_of
@@ -22,10 +23,14 @@ class Command:
         """All its words."""
         return [word.decode("ascii", "replace") for word in words_of(self.text)]
 
+    def word_at(self, place: int) -> str:
+        """One of its words."""
+        return words_of(self.text)[place].decode("ascii", "replace")
+
     @property
     def short(self) -> str:
         """The command with long hex shortened, as in `post 0 0 11..11`."""
-        return short_text(" ".join(self.words))
+        return short_command(self.text)
 
 
 @dataclass(frozen=True)
@@ -62,6 +67,12 @@ def shown_line(line: bytes) -> str:
 def short_text(text: str) -> str:
     """A text whose long words are shortened to both ends."""
     return " ".join(short_word(word) for word in text.split(" "))
+
+
+@lru_cache(maxsize=64)
+def short_command(line: bytes) -> str:
+    """The words of a line, shortened: found once for the cuts of a command, which come in a row."""
+    return short_text(" ".join(word.decode("ascii", "replace") for word in words_of(line)))
 
 
 def short_word(word: str) -> str:

@@ -21,9 +21,9 @@ class Waiting:
         """All writes that wait."""
         return [write for queue in self.queues.values() for write in queue]
 
-    def lost(self, command: Command, reply: Reply) -> List[Write]:
+    def lost(self, command: Command, answer: str) -> List[Write]:
         """The writes that are lost where a command is answered so, by a cut in it or by `off`."""
-        words = reply.answer.split(" ")
+        words = answer.split(" ")
         if words[0] == "cut" and command.word in ("drain", "fence"):
             own, done = port_of(command), int(words[2]) if command.word == "fence" else 0
             done += words[1] == "kept"
@@ -64,11 +64,10 @@ class Waiting:
 
 def write_of(command: Command) -> Write:
     """The write that a command posts or puts."""
-    words = command.words
-    port, line = (0, words[1]) if command.word in ("put", "write") else (port_of(command), words[2])
+    port, line = (0, command.word_at(1)) if command.word in ("put", "write") else (port_of(command), command.word_at(2))
     return port, number_of(line) or 0, command.number
 
 
 def port_of(command: Command) -> int:
     """The port that a command names."""
-    return number_of(command.words[1]) or 0
+    return number_of(command.word_at(1)) or 0

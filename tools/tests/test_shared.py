@@ -97,6 +97,24 @@ class SharedTest(ExploreTest):
         self.assertFalse(self.first(LOG, False).tells(Moment("cut", 3, 4)))
         self.assertIsNone(self.first(LOG.replace(b"on 4 5 16", b"on 4 5 2")).same_at(Moment("cut", 3, 4), marks + b"cut lost 4\n", marks, [7]))
 
+    def test_what_is_printed_up_to_a_cut_between_two(self) -> None:
+        first, moment, marks = self.first(LOG), Moment("cut", 3, 2), b"ok\nseal 0 0.1 ab\n"
+        self.assertEqual([first.is_between(Moment("cut", 3, number)) for number in range(5)], [False, False, True, False, False])
+        self.assertFalse(first.is_between(Moment("cut", 4, 2)))
+        self.assertFalse(self.first(LOG, False).is_between(moment))
+        self.assertFalse(self.first(LOG.replace(b"line 9\n", b"look 9\nline 9\n")).is_between(moment))
+        self.assertEqual(first.between(moment, marks + b"cut kept 3\n"), marks + b"cut kept 2\n")
+        for last in (marks + b"cut lost 3\n", marks + b"cut kept 2\n", marks + b"cut kept 13\n", b"ok\nseal 0 0.1 ac\ncut kept 3\n"):
+            self.assertIsNone(first.between(moment, last))
+
+    def test_memory_before_a_command(self) -> None:
+        first, marks, before = self.first(LOG), b"ok\nseal 0 0.1 ab\n", Moment("before", 5)
+        self.assertTrue(first.tells(before))
+        for printed in (b"ok\nok\n", b"off\nok\n"):
+            self.assertEqual(first.same_at(before, printed, marks, [7]), printed + b"on 4 5 13\nline ff 0\n")
+        for printed in (b"ok\ncut lost 0\n", b"ok\noff\n", b"ok\n"):
+            self.assertIsNone(first.same_at(before, printed, marks, [7]))
+
     def test_what_is_no_log(self) -> None:
         for data in (b"work 0 0", b"work 0 0\n", b"work 0 0\nok", b"work 0 0\nseal 0 0.1 ab\n", b"ok\n", b"seal 0 0.1 ab\nwork 0 0\nseal 0 0.1 ab",
                      b"line 3\nok\n", b"line 3\nwork 0 0\nok\nlatch 0\n", b"look 3 work 0 0\nok\n"):
@@ -150,8 +168,23 @@ class SharedTest(ExploreTest):
         cases = [(WRITES, 5, 2), (WRITES + AGAIN, 5, 3), (WRITES + "stat\npeek 0\n" + AGAIN, 5, 3), (WRITES + "flip 900 1\n" + AGAIN, 6, 3)]
         for text, own, shared in cases:
             noting = Noting()
-            self.rows("run", text.encode(), noting, suite="weak")
+            found = self.rows("run", text.encode(), noting, suite="weak")
+            # Before each of those commands memory is read, and of each group one cut comes between its first and last one.
+            befores = sum(script[0] == NO_CUT for _, script in noting.asked)
+            self.assertEqual(len(noting.asked) - befores, len(found) - shared, text)
             self.assertEqual((noting.recoveries(False), noting.recoveries(True)), (own, shared), text)
+
+    def test_recoveries_where_memory_is_looked_at_with_power_off_and_on(self) -> None:
+        self.need_logs()
+        ports = "".join(f"post {port} {line} {ONES}\ndrain {port}\n" for port, line in zip(range(8), (0, 4, 0, 1, 64, 0, 4, 4)))
+        for between, own in (("", 1), ("flip 900 1\n", 2), ("flip 0 1\n", 2)):
+            trace = (ports + between + AGAIN).encode()
+            noting = Noting()
+            found = self.rows("run", trace, noting, suite="weak")
+            self.assertEqual(found, self.rows("run", trace, Together(noting.program, None, True), suite="weak"), between)
+            # The end takes one, and the others are those before the first command, and before the last one after a flip.
+            befores = [script for _, script in noting.asked if script[:2] == (b"off", NO_CUT)]
+            self.assertEqual([len(befores), sum(script[-1] == b"on" for script in befores)], [10, own + 1], between)
 
     def test_rows_compared_with_runs_from_the_start(self) -> None:
         self.need_logs()
