@@ -7,3 +7,4 @@ pub mod Openings
 pub mod StartPlans
 pub mod NewDevices
 pub mod NewSessions
+pub mod Logs

@@ -4,3 +4,5 @@ pub mod Started
 pub mod Answered
 pub mod During
 pub mod Determined
+pub mod Logged
+pub mod Promised

@@ -6,10 +6,11 @@ ghost use Rattle.suite.specs.Setup.{Setup};
 ghost use Rattle.seal_ledger.specs.Ledger.{LedgerState};
 ghost use Rattle.seal_ledger.specs.View.{capacity_of, ledger_of};
 ghost use Rattle.pmem_engine.specs.Engine.{EngineState};
-ghost use Rattle.pmem_engine.specs.Parts.{Parts, parts_of, setup_at};
+ghost use Rattle.pmem_engine.specs.Parts.{Parts};
 ghost use Rattle.pmem_engine.specs.Calls.{IsUsable};
-ghost use Rattle.watched_board.specs.Watching.{IsWatched, device_during, none_taken};
+ghost use Rattle.watched_board.specs.Watching.{IsWatched, none_taken};
 ghost use Rattle.access_log.specs.Traced.{GoesOn};
+ghost use Rattle.line_session.specs.Promised.{IsMade, IsCalled, IsUsableDuring};
 
 use access_log::{AccessLog, Entry, Logged};
 use board::{Board, MemBoard};
@@ -52,9 +53,8 @@ pub trait StoreCall {
     ) -> Result<Self::Value, Self::Fault>
         requires can { can self.now store.old (ledger_of ledger.old) (capacity_of ledger.old) }
         requires usable { IsUsable (engine_of store.old).shape (engine_of store.old) (B.device board.old) (ledger_of ledger.old) }
-        ensures made { relation self.now (setup_at S.Suite (engine_of store.old) suite.old) store.old store.new
-            (parts_of (engine_of store.old) (B.device board.old) (ledger_of ledger.old) (S.tags suite.old) (S.digests suite.old))
-            (parts_of (engine_of store.new) (B.device board.new) (ledger_of ledger.new) (S.tags suite.new) (S.digests suite.new)) result }
+        ensures made { IsMade S.Suite engine_of (relation self.now) store.old (B.device board.old) suite.old ledger.old
+            store.new (B.device board.new) suite.new ledger.new result }
         ensures capacity { capacity_of ledger.new ≡ capacity_of ledger.old }
         ensures keys { S.keys suite.new ≡ S.keys suite.old }
         ensures usable { IsUsable (engine_of store.old).shape (engine_of store.new) (B.device board.new) (ledger_of ledger.new) }
@@ -72,15 +72,14 @@ pub fn call<C: StoreCall, S: Suite>(
 ) -> CallEnd<Result<C::Value, C::Fault>>
     requires can { C.can call.now store.old (ledger_of ledger.old) (capacity_of ledger.old) }
     requires on { (memory_of board.old).powered ≡ true }
-    requires usable { IsUsable (C.engine_of store.old).shape (C.engine_of store.old) (device_during (memory_of board.old) none_taken) (ledger_of ledger.old) }
-    ensures made { C.relation call.now (setup_at S.Suite (C.engine_of store.old) suite.old) store.old store.new
-        (parts_of (C.engine_of store.old) (device_during (memory_of board.old) none_taken) (ledger_of ledger.old) (S.tags suite.old) (S.digests suite.old))
-        (parts_of (C.engine_of store.new) (device_during (memory_of board.new) result.taken) (ledger_of ledger.new) (S.tags suite.new) (S.digests suite.new)) result.answer }
+    requires usable { IsUsableDuring (C.engine_of store.old).shape (C.engine_of store.old) board.old none_taken ledger.old }
+    ensures made { IsCalled S.Suite C.engine_of (C.relation call.now) store.old board.old suite.old ledger.old
+        store.new board.new result.taken suite.new ledger.new result.answer }
     ensures watched { IsWatched (memory_of board.old) (memory_of board.new) result.taken }
     ensures logged { GoesOn log.old (memory_of board.old) log.new (memory_of board.new) }
     ensures capacity { capacity_of ledger.new ≡ capacity_of ledger.old }
     ensures keys { S.keys suite.new ≡ S.keys suite.old }
-    ensures usable { IsUsable (C.engine_of store.old).shape (C.engine_of store.new) (device_during (memory_of board.new) result.taken) (ledger_of ledger.new) }
+    ensures usable { IsUsableDuring (C.engine_of store.old).shape (C.engine_of store.new) board.new result.taken ledger.new }
     ensures shape { (C.engine_of store.new).shape ≡ (C.engine_of store.old).shape }
 {
     let mut outcome = None;
@@ -110,17 +109,16 @@ fn call_logged<'a, K: Start + Entry, C: StoreCall, S: Suite>(
     requires name { board.ghost_name ≡ K.name }
     requires log { log.old ≡ K.log }
     requires on { (memory_of board.old).powered ≡ true }
-    requires usable { IsUsable (C.engine_of store.old).shape (C.engine_of store.old) (device_during (memory_of board.old) none_taken) (ledger_of ledger.old) }
+    requires usable { IsUsableDuring (C.engine_of store.old).shape (C.engine_of store.old) board.old none_taken ledger.old }
     ensures name { result.board.ghost_name ≡ K.name }
-    ensures made { IfSome outcome.new (λ answer. C.relation call.now (setup_at S.Suite (C.engine_of store.old) suite.old) store.old store.new
-        (parts_of (C.engine_of store.old) (device_during (memory_of board.old) none_taken) (ledger_of ledger.old) (S.tags suite.old) (S.digests suite.old))
-        (parts_of (C.engine_of store.new) (device_during (memory_of result.board.now) result.taken) (ledger_of ledger.new) (S.tags suite.new) (S.digests suite.new)) answer) }
+    ensures made { IfSome outcome.new (IsCalled S.Suite C.engine_of (C.relation call.now) store.old board.old suite.old ledger.old
+        store.new result.board.now result.taken suite.new ledger.new) }
     ensures some { IsSome outcome.new }
     ensures watched { IsWatched K.start (memory_of result.board.now) result.taken }
     ensures logged { GoesOn K.log K.start log.new (memory_of result.board.now) }
     ensures capacity { capacity_of ledger.new ≡ capacity_of ledger.old }
     ensures keys { S.keys suite.new ≡ S.keys suite.old }
-    ensures usable { IsUsable (C.engine_of store.old).shape (C.engine_of store.new) (device_during (memory_of result.board.now) result.taken) (ledger_of ledger.new) }
+    ensures usable { IsUsableDuring (C.engine_of store.old).shape (C.engine_of store.new) result.board.now result.taken ledger.new }
     ensures shape { (C.engine_of store.new).shape ≡ (C.engine_of store.old).shape }
 {
     let mut logged = Logged::<K>::new(board, log.take());

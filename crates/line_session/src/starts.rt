@@ -9,12 +9,11 @@ ghost use Rattle.suite.specs.Setup.{Setup};
 ghost use Rattle.seal_ledger.specs.Ledger.{IsOfShape, LedgerState};
 ghost use Rattle.seal_ledger.specs.View.{capacity_of, ledger_of};
 ghost use Rattle.pmem_engine.specs.Engine.{EngineState};
-ghost use Rattle.pmem_engine.specs.Parts.{Parts, parts_of, setup_at};
+ghost use Rattle.pmem_engine.specs.Parts.{Parts};
 ghost use Rattle.pmem_engine.specs.Calls.{IsUsable};
-ghost use Rattle.pmem_recovery.specs.Parts.{suite_state};
-ghost use Rattle.watched_board.specs.Watching.{IsWatched, device_during, none_taken};
+ghost use Rattle.watched_board.specs.Watching.{IsWatched};
 ghost use Rattle.access_log.specs.Traced.{GoesOn};
-ghost use Rattle.line_session.specs.During.{HasStartedBy};
+ghost use Rattle.line_session.specs.Promised.{IsOpened, IsStarted, IsStartedOn, IsUsableDuring};
 
 use crate::calls::CallEnd;
 use access_log::{AccessLog, Entry, Logged};
@@ -62,9 +61,8 @@ pub trait StoreOpening {
     ) -> Result<Self::Opened, Self::Fault>
         requires can { can self.now (ledger_of ledger.old) (capacity_of ledger.old) }
         requires usable { IsUsable engine.shape engine (B.device board.old) (ledger_of ledger.old) }
-        ensures opened { relation self.now (setup_at S.Suite engine suite.old)
-            (parts_of engine (B.device board.old) (ledger_of ledger.old) (S.tags suite.old) (S.digests suite.old))
-            (λ now. parts_of now (B.device board.new) (ledger_of ledger.new) (S.tags suite.new) (S.digests suite.new)) result }
+        ensures opened { IsOpened S.Suite (relation self.now) engine (B.device board.old) suite.old ledger.old
+            (B.device board.new) suite.new ledger.new result }
         ensures capacity { capacity_of ledger.new ≡ capacity_of ledger.old }
         ensures keys { S.keys suite.new ≡ S.keys suite.old }
         ensures usable { IfOk result (λ opened. IsUsable engine.shape (engine_of opened) (B.device board.new) (ledger_of ledger.new)) }
@@ -87,16 +85,12 @@ pub fn start<O: StoreOpening, S: Suite>(
     requires regs { IsValidRegs (shape_of geo.now) (memory_of board.old).regs }
     requires ledger { IsOfShape (shape_of geo.now) (ledger_of ledger.old) }
     requires each_sealed { (a : ℕ) → a < data_lines (shape_of geo.now) → IsSome (last_seal (ledger_of ledger.old).marks a) }
-    ensures started { HasStartedBy (record { shape = shape_of geo.now; formulas = S.formulas_of (S.keys suite.old) })
-        (O.relation opening.now (record { shape = shape_of geo.now; formulas = S.formulas_of (S.keys suite.old) }))
-        (device_during (memory_of board.old) none_taken) (device_during (memory_of board.new) result.taken)
-        (ledger_of ledger.old) (ledger_of ledger.new)
-        (suite_state (S.keys suite.old) (S.pads suite.old) (S.tags suite.old) (S.digests suite.old))
-        (suite_state (S.keys suite.new) (S.pads suite.new) (S.tags suite.new) (S.digests suite.new)) result.answer }
+    ensures started { IsStartedOn S.Suite (O.relation opening.now) geo.now board.old suite.old ledger.old
+        board.new result.taken suite.new ledger.new result.answer }
     ensures watched { IsWatched (memory_of board.old) (memory_of board.new) result.taken }
     ensures logged { GoesOn log.old (memory_of board.old) log.new (memory_of board.new) }
     ensures keys { S.keys suite.new ≡ S.keys suite.old }
-    ensures usable { IfOk result.answer (λ opened. IsUsable (shape_of geo.now) (O.engine_of opened) (device_during (memory_of board.new) result.taken) (ledger_of ledger.new)) }
+    ensures usable { IfOk result.answer (λ opened. IsUsableDuring (shape_of geo.now) (O.engine_of opened) board.new result.taken ledger.new) }
     ensures shape { IfOk result.answer (λ opened. (O.engine_of opened).shape ≡ shape_of geo.now) }
 {
     let mut outcome = None;
@@ -141,17 +135,13 @@ fn start_logged<'a, K: Start + Entry, O: StoreOpening, S: Suite>(
     requires ledger { IsOfShape (shape_of geo.now) (ledger_of ledger.old) }
     requires each_sealed { (a : ℕ) → a < data_lines (shape_of geo.now) → IsSome (last_seal (ledger_of ledger.old).marks a) }
     ensures name { result.board.ghost_name ≡ K.name }
-    ensures started { IfSome outcome.new (λ answer. HasStartedBy (record { shape = shape_of geo.now; formulas = S.formulas_of (S.keys suite.old) })
-        (O.relation opening.now (record { shape = shape_of geo.now; formulas = S.formulas_of (S.keys suite.old) }))
-        (device_during (memory_of board.old) none_taken) (device_during (memory_of result.board.now) result.taken)
-        (ledger_of ledger.old) (ledger_of ledger.new)
-        (suite_state (S.keys suite.old) (S.pads suite.old) (S.tags suite.old) (S.digests suite.old))
-        (suite_state (S.keys suite.new) (S.pads suite.new) (S.tags suite.new) (S.digests suite.new)) answer) }
+    ensures started { IfSome outcome.new (IsStartedOn S.Suite (O.relation opening.now) geo.now board.old suite.old ledger.old
+        result.board.now result.taken suite.new ledger.new) }
     ensures some { IsSome outcome.new }
     ensures watched { IsWatched K.start (memory_of result.board.now) result.taken }
     ensures logged { GoesOn K.log K.start log.new (memory_of result.board.now) }
     ensures keys { S.keys suite.new ≡ S.keys suite.old }
-    ensures usable { IfSome outcome.new (λ answer. IfOk answer (λ opened. IsUsable (shape_of geo.now) (O.engine_of opened) (device_during (memory_of result.board.now) result.taken) (ledger_of ledger.new))) }
+    ensures usable { IfSome outcome.new (λ answer. IfOk answer (λ opened. IsUsableDuring (shape_of geo.now) (O.engine_of opened) result.board.now result.taken ledger.new)) }
     ensures shape { IfSome outcome.new (λ answer. IfOk answer (λ opened. (O.engine_of opened).shape ≡ shape_of geo.now)) }
 {
     let mut logged = Logged::<K>::new(board, log.take());
@@ -173,11 +163,8 @@ fn recover_and_open<B: Board, O: StoreOpening, S: Suite>(
     requires regs { IsValidRegs (shape_of geo.now) (B.device board.old).regs }
     requires ledger { IsOfShape (shape_of geo.now) (ledger_of ledger.old) }
     requires each_sealed { (a : ℕ) → a < data_lines (shape_of geo.now) → IsSome (last_seal (ledger_of ledger.old).marks a) }
-    ensures started { HasStartedBy (record { shape = shape_of geo.now; formulas = S.formulas_of (S.keys suite.old) })
-        (O.relation opening.now (record { shape = shape_of geo.now; formulas = S.formulas_of (S.keys suite.old) }))
-        (B.device board.old) (B.device board.new) (ledger_of ledger.old) (ledger_of ledger.new)
-        (suite_state (S.keys suite.old) (S.pads suite.old) (S.tags suite.old) (S.digests suite.old))
-        (suite_state (S.keys suite.new) (S.pads suite.new) (S.tags suite.new) (S.digests suite.new)) result }
+    ensures started { IsStarted S.Suite (O.relation opening.now) geo.now (B.device board.old) suite.old ledger.old
+        (B.device board.new) suite.new ledger.new result }
     ensures keys { S.keys suite.new ≡ S.keys suite.old }
     ensures usable { IfOk result (λ opened. IsUsable (shape_of geo.now) (O.engine_of opened) (B.device board.new) (ledger_of ledger.new)) }
     ensures shape { IfOk result (λ opened. (O.engine_of opened).shape ≡ shape_of geo.now) }

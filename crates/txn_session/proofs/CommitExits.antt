@@ -1,6 +1,6 @@
 -- A commit as the session's fields have it: what is held after each of its answers, and what these say.
 use Rattle.std.proofs.Common.{ℕ, ◌≡◌, ◌<◌, ◌≤◌, ◌+◌, ◌*◌, ◌++◌, ◌⊎◌, inl, inr, Bool, true, false, cond, List, [], length, take, drop, Option, Some, None, Result, Ok, Err, refl, sym, ap, subst, ◌∙◌, mul-le-mul_right, arith}
-use Rattle.txn_session.proofs.Common.{Committed, nat_lt, unwrap_or, ◌||◌, ◌==◌, list_any, true≢false, cases_lt, le-ltb, lt-ltb, eq-eqb, ne_eqb, length-append, drop_at, Posted, Setup, Fault, Parts, IsCutOrSpent, Store, CommitFault, targets_of, steps_in, step_limit, Writing, is_own_seal, write_steps, setup_under, moment_now, memory_done, TxnAnswer, IsTxnCalled, fault_said, done_said, stuck_said, TxnState, txn_setup_in, moment_in, commit_writes, TxnParts, IsTxnWorld, stuck_in, txn_of, IsTxnAnswered, IsCommitting, EndsCommit, HasTxnCommitted, after_commit, IsCutAt, or_true}
+use Rattle.txn_session.proofs.Common.{Committed, nat_lt, unwrap_or, ◌||◌, ◌==◌, list_any, true≢false, cases_lt, le-ltb, lt-ltb, eq-eqb, ne_eqb, length-append, drop_at, Posted, Setup, Fault, Parts, IsCutOrSpent, Store, CommitFault, targets_of, steps_in, step_limit, Writing, is_own_seal, write_steps, setup_under, moment_now, memory_done, TxnAnswer, IsTxnCalled, fault_said, done_said, stuck_said, TxnState, txn_setup_in, moment_in, commit_writes, TxnParts, IsTxnWorld, stuck_in, txn_of, txn_decided, IsTxnAnswered, IsCommitting, EndsCommit, HasTxnCommitted, after_commit, IsCutAt, or_true}
 use Rattle.pmem_engine.specs.declared.fault.Fault.TheVariants as Fail
 use Rattle.line_txn.specs.declared.store.Committed.TheVariants as Make
 use Rattle.txn_session.specs.declared.commands.TxnCommand.TheVariants as Do
@@ -49,6 +49,12 @@ module _ (c : CommitCall) where
   now_is : old ≡ c.now
   now_is = ap (λ ledger. txn_of setup (record (c.before) { ledger = ledger })) c.same_ledger ∙ c.is
 
+  undecided : txn_decided old Do.Commit ≡ None
+  undecided = commit_undecided old c.entries (state.on c).powered c.opened c.some
+
+  pub undecided_now : txn_decided c.now Do.Commit ≡ None
+  undecided_now = subst (λ (w : TxnState). txn_decided w Do.Commit ≡ None) now_is undecided
+
   held_as : (store : Option Store) → IsTxnWorld setup (left store) → IsTxnWorld (setup_under c.formulas_of c.geometry c.keys) (left_under store)
   held_as store it = held_under c.formulas_of c.geometry p (left store) c.keys c.same_keys it
 
@@ -62,7 +68,7 @@ module _ (c : CommitCall) where
       subst (λ (k : ℕ). IsTxnAnswered (txn_setup_in c.formulas_of c.now) c.now Do.Commit (say k)
       (txn_of (setup_under c.formulas_of c.geometry c.keys) (left_under store))) (sym c.counted)
       (seen_from c.formulas_of c.geometry p (left store) c.now c.keys Do.Commit (say (steps_in c.taken)) now_is c.same_keys refl
-      (served setup old (txn_of setup (left store)) Do.Commit (say (steps_in c.taken)) (commit_undecided old c.entries (state.on c).powered c.opened c.some)
+      (served setup old (txn_of setup (left store)) Do.Commit (say (steps_in c.taken)) undecided
       (subst (λ es. HasTxnCommitted setup old es (say (steps_in c.taken)) (txn_of setup (left store))) (sym (ap (λ txn. unwrap_or txn []) c.opened))
       (let it : HasTxnCommitted setup old c.entries (say (steps_in c.taken)) (txn_of setup (left store)) =
       record {

@@ -1,5 +1,5 @@
 -- A new session: formatting, and the opening of zero lines.
-use Rattle.std.proofs.Common.{ℕ, ◌≡◌, ◌<◌, ◌+◌, inl, inr, true, List, [], replicate, Some, None, Result, Ok, Err, refl, sym, ap, subst, ◌∙◌, arith, rules}
+use Rattle.std.proofs.Common.{ℕ, ◌≡◌, ◌<◌, ◌+◌, inl, inr, List, [], replicate, Some, None, Result, Ok, Err, refl, sym, ap, subst, ◌∙◌, arith, rules}
 use Rattle.txn_session.proofs.Common.{⊤, true≢false, get_or-replicate, Line, Mark, line_at, zero_line, Shape, IsShape, Device, BoardMemory, device_of, LedgerState, AreInRange, Setup, plain_line, plain_memory, Fault, EngineState, IsSound, Parts, parts_of, HasReadLine, HasFormatted, Store, Opened, TxnFault, IsHeader, IsLogged, AreEdited, redoing_edits, HasStoreOpened, HasStoreStarted, HasTargetsRedone, IsOpenedBy, logged_lines, one_header, zero_logged, logged_size, IsNewTxn, targets_in_force, TxnParts, IsTxnWorld, txn_of}
 use Rattle.pmem_base.specs.Layout as layout
 use Rattle.line_session.proofs.NewSessions.{zero_places, marks_stay, sound_after, new_session}

@@ -1,6 +1,6 @@
 -- A read of a data line: it shows memory's line, or power is cut.
 use Rattle.std.proofs.Common.{ℕ, ◌≡◌, ◌<◌, true, false, cond, List, [], Option, Some, None, Result, Ok, Err, refl, sym, ap, ap₂, subst, ◌∙◌, arith}
-use Rattle.txn_session.proofs.Common.{unwrap_or, option_map, IfOk, true≢false, append-nil, Line, Mark, line_at, Shape, BoardMemory, ended, Follows, LedgerState, Formulas, Setup, Memory, plain_memory, path_length, Fault, Parts, parts_of, AreTrusted, chip_of, read_plan, going, cut_short, OneLossEffect, HasReadLine, HasLines, Store, IsLogged, IsServedAs, logged_lines, Taken, steps_in, step_limit, device_during, none_taken, IsWatched, at_most, fewer, whole_places, setup_under, has_called, kept_of, TxnAnswer, IsTxnCalled, Said, read_call, read_said, TxnState, Entries, txn_setup_in, entry_in, targets_in_force, redone_memory, TxnParts, IsTxnWorld, IsStoreOn, stuck_in, txn_of, IsTxnAnswered}
+use Rattle.txn_session.proofs.Common.{unwrap_or, option_map, IfOk, true≢false, append-nil, Line, Mark, line_at, Shape, BoardMemory, ended, Follows, LedgerState, Formulas, Setup, Memory, plain_memory, path_length, Fault, Parts, parts_of, AreTrusted, chip_of, read_plan, going, cut_short, OneLossEffect, HasReadLine, HasLines, Store, IsLogged, IsServedAs, logged_lines, Taken, steps_in, step_limit, device_during, none_taken, IsWatched, at_most, fewer, whole_places, setup_under, has_called, kept_of, TxnAnswer, IsTxnCalled, Said, read_call, read_said, TxnState, Entries, txn_setup_in, entry_in, targets_in_force, redone_memory, TxnParts, IsTxnWorld, IsStoreOn, stuck_in, txn_of, txn_decided, IsTxnAnswered}
 use Rattle.pmem_engine.specs.declared.fault.Fault.TheVariants as Fail
 use Rattle.line_txn.specs.Serving.{served_from}
 use Rattle.txn_session.specs.declared.commands.TxnCommand.TheVariants as Do
@@ -112,6 +112,12 @@ module _ (c : ReadTxnCall) where
           subst (λ n. IsLogged n places c.store.logged.items old.memory) (sym n_is)
           (subst (λ ts. IsLogged (logged_lines c.geometry) places ts old.memory) (sym on.its_log) c.world.logged)
 
+  undecided : txn_decided old (Do.Read c.at) ≡ None
+  undecided = let n = n_is in let low = c.within in read_undecided old c.at on.powered (omega (arith, n, low)) c.unheld
+
+  pub undecided_now : txn_decided c.now (Do.Read c.at) ≡ None
+  undecided_now = subst (λ (w : TxnState). txn_decided w (Do.Read c.at) ≡ None) c.is undecided
+
   -- ---- the call of the session
 
   abbrev FollowsFrom : Setup → ℕ → Type 0
@@ -188,8 +194,7 @@ module _ (c : ReadTxnCall) where
         (txn_of (setup_under c.formulas_of c.geometry c.keys) (left_under (Some c.after) p.txn))) (sym c.counted)
         (seen_from c.formulas_of c.geometry p (left (Some c.after) p.txn) c.now c.keys (Do.Read c.at) (Say.Got line (steps_in c.taken)) c.is
         c.same_keys refl
-        (served setup old (txn_of setup (left (Some c.after) p.txn)) (Do.Read c.at) (Say.Got line (steps_in c.taken))
-        (read_undecided old c.at on.powered (let n = n_is in let low = c.within in omega (arith, n, low)) c.unheld) (
+        (served setup old (txn_of setup (left (Some c.after) p.txn)) (Do.Read c.at) (Say.Got line (steps_in c.taken)) undecided (
           shown line is,
           (
             record {
@@ -242,8 +247,7 @@ module _ (c : ReadTxnCall) where
         subst (λ (k : ℕ). IsTxnAnswered (txn_setup_in c.formulas_of c.now) c.now (Do.Read c.at) (Say.Cut k)
         (txn_of (setup_under c.formulas_of c.geometry c.keys) (left_under None None))) (sym c.counted)
         (seen_from c.formulas_of c.geometry p (left None None) c.now c.keys (Do.Read c.at) (Say.Cut (steps_in c.taken)) c.is c.same_keys refl
-        (served setup old (txn_of setup (left None None)) (Do.Read c.at) (Say.Cut (steps_in c.taken))
-        (read_undecided old c.at on.powered (let n = n_is in let low = c.within in omega (arith, n, low)) c.unheld) (
+        (served setup old (txn_of setup (left None None)) (Do.Read c.at) (Say.Cut (steps_in c.taken)) undecided (
           record {
             memory = same_memory marks_off;
             in_force = same_targets marks_off;

@@ -1,10 +1,10 @@
 //! The open transaction, and its commit.
 ghost use Rattle.std.specs.Prelude.{◌≡◌, ◌<◌, ◌==◌, not, length, IfSome, IfOk, OnErr, true, false};
 ghost use Rattle.std.specs.List.{position_from};
-ghost use Rattle.access_log.specs.Traced.{GoesOn};
 ghost use Rattle.txn_session.specs.declared.commands.TxnCommand.TheVariants as Do;
 ghost use Rattle.txn_session.specs.State.{txn_setup_in, with_put_line};
 ghost use Rattle.txn_session.specs.Answered.{IsTxnAnswered, is_txn_full, IsTxnMemoryWanted};
+ghost use Rattle.txn_session.specs.Logged.{IsTxnLogged};
 
 use crate::answers::TxnAnswer;
 use crate::calls::CommitTxn;
@@ -112,7 +112,7 @@ impl<S: Suite + Drop> TxnWorld<S> {
         ensures answered { IfOk result (λ answer. IsTxnAnswered (txn_setup_in S.formulas_of self.old) self.old Do.Commit answer self.new) }
         ensures err { OnErr result (self.new ≡ self.old) }
         ensures wanting { OnErr result (IsTxnMemoryWanted self.old Do.Commit) }
-        ensures logged { GoesOn log.old self.old.session.board log.new self.new.session.board }
+        ensures logged { IsTxnLogged Do.Commit log.old self.old log.new self.new }
     {
         let Some(store) = &mut self.store else {
             return Ok(TxnAnswer::Off);

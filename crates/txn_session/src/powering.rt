@@ -1,9 +1,9 @@
 //! Power, and recovery.
 ghost use Rattle.std.specs.Prelude.{◌≡◌, IfOk, IfErr};
-ghost use Rattle.access_log.specs.Traced.{GoesOn};
 ghost use Rattle.txn_session.specs.declared.commands.TxnCommand.TheVariants as Do;
 ghost use Rattle.txn_session.specs.State.{txn_setup_in};
 ghost use Rattle.txn_session.specs.Answered.{IsTxnAnswered, IsTxnHalt};
+ghost use Rattle.txn_session.specs.Logged.{IsTxnLogged};
 
 use crate::answers::TxnAnswer;
 use crate::calls::OpenStore;
@@ -46,7 +46,7 @@ impl<S: Suite + Drop> TxnWorld<S> {
     pub(crate) fn on(&mut self, alloc: Global, log: &mut AccessLog) -> Result<TxnAnswer, Halt>
         ensures answered { IfOk result (λ answer. IsTxnAnswered (txn_setup_in S.formulas_of self.old) self.old Do.On answer self.new) }
         ensures halted { IfErr result (λ halt. IsTxnHalt (txn_setup_in S.formulas_of self.old) self.old Do.On halt self.new) }
-        ensures logged { GoesOn log.old self.old.session.board log.new self.new.session.board }
+        ensures logged { IsTxnLogged Do.On log.old self.old log.new self.new }
     {
         if self.store.is_some() {
             return Ok(TxnAnswer::Already);

@@ -1,9 +1,9 @@
 //! Reads.
 ghost use Rattle.std.specs.Prelude.{◌≡◌, [], option_map, unwrap_or};
-ghost use Rattle.access_log.specs.Traced.{GoesOn};
 ghost use Rattle.txn_session.specs.declared.commands.TxnCommand.TheVariants as Do;
 ghost use Rattle.txn_session.specs.State.{txn_setup_in, entry_in};
 ghost use Rattle.txn_session.specs.Answered.{IsTxnAnswered};
+ghost use Rattle.txn_session.specs.Logged.{IsTxnLogged};
 
 use crate::answers::TxnAnswer;
 use crate::calls::ReadLine;
@@ -41,7 +41,7 @@ impl<S: Suite + Drop> TxnWorld<S> {
     /// A data line is read: as the open transaction has it, where that holds it.
     pub(crate) fn read(&mut self, at: u64, log: &mut AccessLog) -> TxnAnswer
         ensures answered { IsTxnAnswered (txn_setup_in S.formulas_of self.old) self.old (Do.Read at) result self.new }
-        ensures logged { GoesOn log.old self.old.session.board log.new self.new.session.board }
+        ensures logged { IsTxnLogged (Do.Read at) log.old self.old log.new self.new }
     {
         let Some(store) = &mut self.store else {
             return TxnAnswer::Off;

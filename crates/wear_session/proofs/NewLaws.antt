@@ -1,5 +1,5 @@
 -- A new session: formatting, and the opening of zero lines.
-use Rattle.std.proofs.Common.{ℕ, zero, ◌≡◌, ◌<◌, ◌≤◌, ◌+◌, true, List, replicate, Some, Result, Ok, Err, refl, sym, ap, subst, ◌∙◌, arith, rules}
+use Rattle.std.proofs.Common.{ℕ, ◌≡◌, ◌<◌, ◌≤◌, ◌+◌, List, replicate, Some, Result, Ok, Err, refl, sym, ap, subst, ◌∙◌, arith, rules}
 use Rattle.wear_session.proofs.Common.{none-some, true≢false, get_or-replicate, Line, Mark, line_at, zero_line, Shape, IsShape, Device, BoardMemory, device_of, LedgerState, AreInRange, Setup, plain_memory, EngineState, IsSound, Parts, parts_of, HasReadLine, HasFormatted, Gapped, GapFault, first_wear, recorded, IsLevelled, HasGappedOpened, HasReadRecord, logical_lines, zero_levelled, least_lines, IsNewWear, wear_in, WearParts, IsWearWorld, wear_of}
 use Rattle.pmem_base.specs.Layout as layout
 use Rattle.line_session.specs.State.{IsNewSession}

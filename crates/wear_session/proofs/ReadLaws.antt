@@ -1,6 +1,6 @@
 -- A read of a logical line as the session's fields have it: it shows memory's line, or power is cut.
 use Rattle.std.proofs.Common.{ℕ, ◌≡◌, ◌<◌, ◌++◌, true, false, List, [], Option, Some, None, Ok, Err, refl, sym, ap, subst, ◌∙◌, arith, cond}
-use Rattle.wear_session.proofs.Common.{unwrap_or, option_map, Result, append-nil, same_Some, Line, Mark, line_at, BoardMemory, LedgerState, Setup, plain_memory, path_length, Parts, parts_of, going, cut_short, OneLossEffect, HasReadLine, Gapped, place_of, HasWear, logical_lines, IsLevelled, places, Taken, steps_in, step_limit, device_during, none_taken, IsWatched, at_most, fewer, wear_in, levelled_memory, WearState, wear_setup_in, place_in, WearParts, IsWearWorld, IsLevelledOn, wear_of, HasWearRead, wear_of_line, IsWearAnswered, true≢false, Shape, ended, Follows, Formulas, Fault, chip_of, read_plan, setup_under, has_called, kept_of, WearAnswer, IsWearCalled, read_call, read_said}
+use Rattle.wear_session.proofs.Common.{unwrap_or, option_map, Result, append-nil, same_Some, Line, Mark, line_at, BoardMemory, LedgerState, Setup, plain_memory, path_length, Parts, parts_of, going, cut_short, OneLossEffect, HasReadLine, Gapped, place_of, HasWear, logical_lines, IsLevelled, places, Taken, steps_in, step_limit, device_during, none_taken, IsWatched, at_most, fewer, wear_in, levelled_memory, WearState, wear_setup_in, place_in, WearParts, IsWearWorld, IsLevelledOn, wear_of, HasWearRead, wear_of_line, wear_decided, IsWearAnswered, true≢false, Shape, ended, Follows, Formulas, Fault, chip_of, read_plan, setup_under, has_called, kept_of, WearAnswer, IsWearCalled, read_call, read_said}
 use Rattle.wear_session.proofs.Worlds.{on_in, lines_are, on_after, off_after}
 use Rattle.wear_session.proofs.AnswerClauses.{of_line_is, served, seen_from, held_under}
 use Rattle.pmem_base.specs.Layout as layout
@@ -80,6 +80,9 @@ module _ (c : ReadWearCall) where
 
   undecided : wear_of_line old c.at None ≡ None
   undecided = let n = n_is in let low = c.within in of_line_is old c.at None on.powered (omega (arith, n, low))
+
+  pub undecided_now : wear_decided c.now (Do.Read c.at) ≡ None
+  undecided_now = subst (λ (w : WearState). wear_decided w (Do.Read c.at) ≡ None) c.is undecided
 
   -- ---- the call of the session
 

@@ -1,7 +1,7 @@
 -- A write of a logical line as the session's fields have it: what is held once so many of its engine writes are done, and
 -- its call.
 use Rattle.std.proofs.Common.{ℕ, ◌≡◌, ◌<◌, ◌≤◌, ◌+◌, Bool, true, false, cond, List, length, take, drop, Option, Some, None, Result, refl, sym, ap, ap₂, subst, subst₂, ◌∙◌, arith}
-use Rattle.wear_session.proofs.Common.{not, nat_lt, unwrap_or, option_map, slice_set, ◌==◌, list_any, Line, Posted, Mark, IsLine, Shape, BoardMemory, ended, Follows, LedgerState, Formulas, Setup, Memory, plain_memory, moment_after_writes, Parts, parts_of, Chip, chip_of, Wear, Gapped, Moved, WriteFault, place_of, next_wear, IsLevelled, write_lines_at, wear_at, write_memory_at, Writing, is_own_seal, whole_places, moment_now, AreDone, AreCut, HasLevelledWrite, logical_lines, FollowsWrite, levelled_plan, write_answer_of, count_after, Taken, steps_in, step_limit, device_during, none_taken, IsWatched, at_most, fewer, WearAnswer, has_called, kept_of, WearState, wear_lines_in, is_due, engine_writes, place_in, wear_in, levelled_memory, WearParts, IsWearWorld, IsLevelledOn, wear_of, IsWearCalled, write_call, move_said, IsWearButForSteps, GoesToWearState, IsWearCutOff, after_writing, most_of_write, wear_of_line, setup_under, with_marks, wear_without_power}
+use Rattle.wear_session.proofs.Common.{not, nat_lt, unwrap_or, option_map, slice_set, ◌==◌, list_any, Line, Posted, Mark, IsLine, Shape, BoardMemory, ended, Follows, LedgerState, Formulas, Setup, Memory, plain_memory, moment_after_writes, Parts, parts_of, Chip, chip_of, Wear, Gapped, Moved, WriteFault, place_of, next_wear, IsLevelled, write_lines_at, wear_at, write_memory_at, Writing, is_own_seal, whole_places, moment_now, AreDone, AreCut, HasLevelledWrite, logical_lines, FollowsWrite, levelled_plan, write_answer_of, count_after, Taken, steps_in, step_limit, device_during, none_taken, IsWatched, at_most, fewer, WearAnswer, has_called, kept_of, WearState, wear_lines_in, is_due, engine_writes, place_in, wear_in, levelled_memory, WearParts, IsWearWorld, IsLevelledOn, wear_of, IsWearCalled, write_call, move_said, IsWearButForSteps, GoesToWearState, IsWearCutOff, after_writing, most_of_write, wear_of_line, wear_decided, setup_under, with_marks, wear_without_power}
 use Rattle.pmem_base.specs.Layout as layout
 use Rattle.wear_session.specs.declared.commands.WearCommand.TheVariants as Do
 use Rattle.wear_session.proofs.Worlds.{on_after, off_after, on_in, lines_are}
@@ -236,6 +236,9 @@ module _ (c : WriteWearCall) where
 
   pub now_is : old ≡ c.now
   now_is = ap (λ ledger. wear_of setup (record (c.before) { ledger = ledger })) c.same_ledger ∙ c.is
+
+  pub undecided_now : wear_decided c.now (Do.Write c.at c.plain) ≡ None
+  undecided_now = subst (λ (w : WearState). wear_decided w (Do.Write c.at c.plain) ≡ None) now_is undecided
 
   pub held_as : (gapped : Option Gapped) → IsWearWorld setup (left gapped) → IsWearWorld (setup_under c.formulas_of c.geometry c.keys) (left_under gapped)
   held_as gapped it = held_under c.formulas_of c.geometry p (left gapped) c.keys c.same_keys it

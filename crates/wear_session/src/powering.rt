@@ -1,9 +1,9 @@
 //! Power, and recovery.
 ghost use Rattle.std.specs.Prelude.{◌≡◌, IfOk, IfErr};
-ghost use Rattle.access_log.specs.Traced.{GoesOn};
 ghost use Rattle.wear_session.specs.declared.commands.WearCommand.TheVariants as Do;
 ghost use Rattle.wear_session.specs.State.{wear_setup_in};
 ghost use Rattle.wear_session.specs.Answered.{IsWearAnswered, IsWearHalt};
+ghost use Rattle.wear_session.specs.Logged.{IsWearLogged};
 
 use crate::answers::WearAnswer;
 use crate::calls::OpenLines;
@@ -43,7 +43,7 @@ impl<S: Suite + Drop> WearWorld<S> {
     pub(crate) fn on(&mut self, alloc: Global, log: &mut AccessLog) -> Result<WearAnswer, Halt>
         ensures answered { IfOk result (λ answer. IsWearAnswered (wear_setup_in S.formulas_of self.old) self.old Do.On answer self.new) }
         ensures halted { IfErr result (λ halt. IsWearHalt (wear_setup_in S.formulas_of self.old) self.old Do.On halt self.new) }
-        ensures logged { GoesOn log.old self.old.session.board log.new self.new.session.board }
+        ensures logged { IsWearLogged Do.On log.old self.old log.new self.new }
     {
         if self.gapped.is_some() {
             return Ok(WearAnswer::Already);

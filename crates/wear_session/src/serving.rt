@@ -1,9 +1,9 @@
 //! Commands on logical lines.
 ghost use Rattle.std.specs.Prelude.{◌≡◌, IfOk, OnErr};
-ghost use Rattle.access_log.specs.Traced.{GoesOn};
 ghost use Rattle.wear_session.specs.declared.commands.WearCommand.TheVariants as Do;
 ghost use Rattle.wear_session.specs.State.{wear_setup_in};
 ghost use Rattle.wear_session.specs.Answered.{IsWearAnswered, IsWearMemoryWanted};
+ghost use Rattle.wear_session.specs.Logged.{IsWearLogged};
 
 use crate::answers::WearAnswer;
 use crate::calls::{ReadLine, WriteLine};
@@ -30,7 +30,7 @@ impl<S: Suite + Drop> WearWorld<S> {
         ensures answered { IfOk result (λ answer. IsWearAnswered (wear_setup_in S.formulas_of self.old) self.old (Do.Write at line.now) answer self.new) }
         ensures err { OnErr result (self.new ≡ self.old) }
         ensures wanting { OnErr result (IsWearMemoryWanted self.old (Do.Write at line.now)) }
-        ensures logged { GoesOn log.old self.old.session.board log.new self.new.session.board }
+        ensures logged { IsWearLogged (Do.Write at line.now) log.old self.old log.new self.new }
     {
         let Some(gapped) = &mut self.gapped else {
             return Ok(WearAnswer::Off);
@@ -79,7 +79,7 @@ impl<S: Suite + Drop> WearWorld<S> {
     /// A logical line is read.
     pub(crate) fn read(&mut self, at: u64, log: &mut AccessLog) -> WearAnswer
         ensures answered { IsWearAnswered (wear_setup_in S.formulas_of self.old) self.old (Do.Read at) result self.new }
-        ensures logged { GoesOn log.old self.old.session.board log.new self.new.session.board }
+        ensures logged { IsWearLogged (Do.Read at) log.old self.old log.new self.new }
     {
         let Some(gapped) = &mut self.gapped else {
             return WearAnswer::Off;

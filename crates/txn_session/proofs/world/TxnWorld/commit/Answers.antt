@@ -1,10 +1,13 @@
 -- The open transaction is committed; or its store is stuck, it is spent, or power is cut.
 use Rattle.std.proofs.Common.{rules, arith, ◌≡◌, ◌⊎◌, inl, inr, true, false, length, drop, Err, sym, ap, subst, ◌∙◌, refl}
-use Rattle.txn_session.proofs.Common.{option_map, list_any, true≢false, shape_of, memory_of, ledger_of, IsCutOrSpent, is_own_seal, own_marks, GoesOn, traced_of, goes_on-between, TxnState}
+use Rattle.txn_session.proofs.Common.{option_map, list_any, true≢false, shape_of, memory_of, ledger_of, IsCutOrSpent, is_own_seal, own_marks, traced_of, goes_on-between, TxnState, txn_decided}
 use Rattle.pmem_engine.specs.declared.fault.Fault.TheVariants as Fail
 use Rattle.line_txn.proofs.Commits.{some_list}
 use Rattle.txn_session.proofs.CommitStates.{CommitCall}
-use Rattle.txn_session.proofs.CommitExits.{applied_exit, stuck_exit, spent_exit, cut_held, cut_marks, kept_seen, lost_seen, sound_fault}
+use Rattle.txn_session.proofs.CommitExits.{undecided_now, applied_exit, stuck_exit, spent_exit, cut_held, cut_marks, kept_seen, lost_seen, sound_fault}
+use Rattle.line_session.specs.Logged.{IsLoggedBy}
+use Rattle.line_session.proofs.Logs.{logged_by}
+use Rattle.txn_session.specs.declared.commands.TxnCommand.TheVariants as Do
 use Rattle.txn_session.proofs.world.TxnWorld.commit.Given.{Over}
 use Rattle.txn_session.proofs.world.TxnWorld.commit.Goals.{After-steps-steps, then-committed, else-committed, then-has_own_seal, else-has_own_seal}
 use Rattle.txn_session.proofs.world.TxnWorld.commit.Goals as goal
@@ -54,10 +57,11 @@ module _ (g : Over) (c : After-steps-steps g) where
       }
 
   -- the log goes on by that call
-  logged : GoesOn c.args.log.now c.args.self.now.session.board c.call-done.new.log (memory_of c.call-done.new.board)
+  logged : IsLoggedBy (txn_decided c.args.self.now Do.Commit) c.args.log.now c.args.self.now.session.board c.call-done.new.log (memory_of c.call-done.new.board)
   logged =
-      goes_on-between c.args.log.now c.call-done.new.log c.args.self.now.session.board (memory_of c.self.inside.board) (memory_of c.call-done.new.board)
-      (memory_of c.call-done.new.board) (ap (λ (w : TxnState). traced_of w.session.board) c.self.view_is) refl c.call-done.ensures.logged
+      logged_by (txn_decided c.args.self.now Do.Commit) c.args.log.now c.call-done.new.log c.args.self.now.session.board (memory_of c.call-done.new.board) (undecided_now call)
+      (goes_on-between c.args.log.now c.call-done.new.log c.args.self.now.session.board (memory_of c.self.inside.board) (memory_of c.call-done.new.board)
+      (memory_of c.call-done.new.board) (ap (λ (w : TxnState). traced_of w.session.board) c.self.view_is) refl c.call-done.ensures.logged)
 
 pub invariant_of-self-in-Ok-Applied : goal.invariant_of-self-in-Ok-Applied
 invariant_of-self-in-Ok-Applied g c =

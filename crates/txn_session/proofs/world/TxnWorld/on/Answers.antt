@@ -1,10 +1,13 @@
 -- Power comes on, and the store may be stuck; or it is cut, memory is wanted, or a twin is shown.
 use Rattle.std.proofs.Common.{rules, ◌≡◌, inl, inr, Err, ap, ◌∙◌, refl}
-use Rattle.txn_session.proofs.Common.{option_map, shape_of, memory_of, ledger_of, suite_state, none_of, GoesOn, traced_of, goes_on-between, TxnState}
+use Rattle.txn_session.proofs.Common.{option_map, shape_of, memory_of, ledger_of, suite_state, none_of, traced_of, goes_on-between, TxnState, BoardMemory, txn_decided}
 use Rattle.pmem_engine.specs.declared.fault.Fault.TheVariants as Fail
 use Rattle.pmem_recovery.specs.declared.faults.RecFault.TheVariants as Rec
 use Rattle.line_txn.specs.declared.store.TxnFault.TheVariants as Txn
 use Rattle.line_session.specs.declared.starts.StartFault.TheVariants as Start
+use Rattle.line_session.specs.Logged.{IsLoggedBy}
+use Rattle.line_session.proofs.Logs.{logged_by}
+use Rattle.txn_session.specs.declared.commands.TxnCommand.TheVariants as Do
 use Rattle.txn_session.proofs.Starts.{OnTxnCall}
 use Rattle.txn_session.proofs.OpeningExits.{open_held, open_exit, stuck_exit, cut_exit, wanted_on, wanted_exit, twin_exit, outcome_as}
 use Rattle.txn_session.proofs.world.TxnWorld.on.Given.{Over}
@@ -52,12 +55,13 @@ module _ (g : Over) (c : After-steps-steps g) where
         started = c.start-done.ensures.started;
       }
 
-  -- the log goes on from the board before to the board as the call left it
-  logged : GoesOn c.args.log.now c.args.self.now.session.board c.start-done.new.log (memory_of c.start-done.new.board)
-  logged =
-      goes_on-between c.args.log.now c.start-done.new.log c.args.self.now.session.board (memory_of c.power.new.self) (memory_of c.start-done.new.board)
-      (memory_of c.start-done.new.board) (ap traced_of c.power.ensures ∙ ap (λ (w : TxnState). traced_of w.session.board) c.self.view_is) refl
-      c.start-done.ensures.logged
+  -- the log goes on from the board before to one that is traced as the call left it
+  logged : (board : BoardMemory) → traced_of board ≡ traced_of (memory_of c.start-done.new.board)
+      → IsLoggedBy (txn_decided c.args.self.now Do.On) c.args.log.now c.args.self.now.session.board c.start-done.new.log board
+  logged board same =
+      logged_by (txn_decided c.args.self.now Do.On) c.args.log.now c.start-done.new.log c.args.self.now.session.board board (wanted_on call).1
+      (goes_on-between c.args.log.now c.start-done.new.log c.args.self.now.session.board (memory_of c.power.new.self) (memory_of c.start-done.new.board)
+      board (ap traced_of c.power.ensures ∙ ap (λ (w : TxnState). traced_of w.session.board) c.self.view_is) same c.start-done.ensures.logged)
 
 pub invariant_of-self-in-Ok : goal.invariant_of-self-in-Ok
 invariant_of-self-in-Ok g c =
@@ -176,20 +180,16 @@ unreachable-requires-in-Header g c =
 -- ---- the log
 
 pub returns-after-opened-clause-logged : goal.returns-after-opened-clause-logged
-returns-after-opened-clause-logged g c = logged g ((goal.at.returns-after-opened-clause-logged g c).After-steps-steps)
+returns-after-opened-clause-logged g c = logged g ((goal.at.returns-after-opened-clause-logged g c).After-steps-steps) (memory_of c.start-done.new.board) refl
 
 pub returns-in-Cut-clause-logged : goal.returns-in-Cut-clause-logged
-returns-in-Cut-clause-logged g c = logged g ((goal.at.returns-in-Cut-clause-logged g c).After-steps-steps)
+returns-in-Cut-clause-logged g c = logged g ((goal.at.returns-in-Cut-clause-logged g c).After-steps-steps) (memory_of c.start-done.new.board) refl
 
 pub returns-in-Cut-fault-clause-logged : goal.returns-in-Cut-fault-clause-logged
-returns-in-Cut-fault-clause-logged g c = logged g ((goal.at.returns-in-Cut-fault-clause-logged g c).After-steps-steps)
+returns-in-Cut-fault-clause-logged g c = logged g ((goal.at.returns-in-Cut-fault-clause-logged g c).After-steps-steps) (memory_of c.start-done.new.board) refl
 
 pub returns-in-Memory-clause-logged : goal.returns-in-Memory-clause-logged
-returns-in-Memory-clause-logged g c =
-    goes_on-between c.args.log.now c.start-done.new.log c.args.self.now.session.board c.args.self.now.session.board (memory_of c.start-done.new.board)
-    (memory_of c.rest.new.self) refl (ap traced_of c.rest.ensures) (logged g ((goal.at.returns-in-Memory-clause-logged g c).After-steps-steps))
+returns-in-Memory-clause-logged g c = logged g ((goal.at.returns-in-Memory-clause-logged g c).After-steps-steps) (memory_of c.rest.new.self) (ap traced_of c.rest.ensures)
 
 pub returns-in-Twin-clause-logged : goal.returns-in-Twin-clause-logged
-returns-in-Twin-clause-logged g c =
-    goes_on-between c.args.log.now c.start-done.new.log c.args.self.now.session.board c.args.self.now.session.board (memory_of c.start-done.new.board)
-    (memory_of c.rest-in-Twin.new.self) refl (ap traced_of c.rest-in-Twin.ensures) (logged g ((goal.at.returns-in-Twin-clause-logged g c).After-steps-steps))
+returns-in-Twin-clause-logged g c = logged g ((goal.at.returns-in-Twin-clause-logged g c).After-steps-steps) (memory_of c.rest-in-Twin.new.self) (ap traced_of c.rest-in-Twin.ensures)

@@ -1,7 +1,10 @@
 -- A line is read, or power is cut.
 use Rattle.std.proofs.Common.{rules, arith, refl, ap}
-use Rattle.txn_session.proofs.Common.{option_map, shape_of, memory_of, ledger_of, GoesOn, traced_of, goes_on-between, TxnState}
-use Rattle.txn_session.proofs.ReadLaws.{ReadTxnCall, got_held, got_seen, cut_held, cut_seen}
+use Rattle.txn_session.proofs.Common.{option_map, shape_of, memory_of, ledger_of, traced_of, goes_on-between, TxnState, txn_decided}
+use Rattle.txn_session.proofs.ReadLaws.{ReadTxnCall, undecided_now, got_held, got_seen, cut_held, cut_seen}
+use Rattle.line_session.specs.Logged.{IsLoggedBy}
+use Rattle.line_session.proofs.Logs.{logged_by}
+use Rattle.txn_session.specs.declared.commands.TxnCommand.TheVariants as Do
 use Rattle.txn_session.proofs.world.TxnWorld.read.Given.{Over}
 use Rattle.txn_session.proofs.world.TxnWorld.read.Goals.{After-steps-steps}
 use Rattle.txn_session.proofs.world.TxnWorld.read.Goals as goal
@@ -50,10 +53,11 @@ module _ (g : Over) (c : After-steps-steps g) where
       }
 
   -- the log goes on by that call
-  logged : GoesOn c.args.log.now c.args.self.now.session.board c.call-done.new.log (memory_of c.call-done.new.board)
+  logged : IsLoggedBy (txn_decided c.args.self.now (Do.Read c.args.at)) c.args.log.now c.args.self.now.session.board c.call-done.new.log (memory_of c.call-done.new.board)
   logged =
-      goes_on-between c.args.log.now c.call-done.new.log c.args.self.now.session.board (memory_of c.self.inside.board) (memory_of c.call-done.new.board)
-      (memory_of c.call-done.new.board) (ap (λ (w : TxnState). traced_of w.session.board) c.self.view_is) refl c.call-done.ensures.logged
+      logged_by (txn_decided c.args.self.now (Do.Read c.args.at)) c.args.log.now c.call-done.new.log c.args.self.now.session.board (memory_of c.call-done.new.board) (undecided_now call)
+      (goes_on-between c.args.log.now c.call-done.new.log c.args.self.now.session.board (memory_of c.self.inside.board) (memory_of c.call-done.new.board)
+      (memory_of c.call-done.new.board) (ap (λ (w : TxnState). traced_of w.session.board) c.self.view_is) refl c.call-done.ensures.logged)
 
 pub invariant_of-self-in-Ok : goal.invariant_of-self-in-Ok
 invariant_of-self-in-Ok g c =

@@ -1,7 +1,10 @@
 -- A line is read, or power is cut.
 use Rattle.std.proofs.Common.{rules, arith, refl, ap}
-use Rattle.wear_session.proofs.Common.{shape_of, memory_of, ledger_of, GoesOn, traced_of, goes_on-between, WearState}
-use Rattle.wear_session.proofs.ReadLaws.{ReadWearCall, got_held, got_seen, cut_held, cut_seen}
+use Rattle.wear_session.proofs.Common.{shape_of, memory_of, ledger_of, traced_of, goes_on-between, WearState, wear_decided}
+use Rattle.wear_session.proofs.ReadLaws.{ReadWearCall, undecided_now, got_held, got_seen, cut_held, cut_seen}
+use Rattle.line_session.specs.Logged.{IsLoggedBy}
+use Rattle.line_session.proofs.Logs.{logged_by}
+use Rattle.wear_session.specs.declared.commands.WearCommand.TheVariants as Do
 use Rattle.wear_session.proofs.world.WearWorld.read.Given.{Over}
 use Rattle.wear_session.proofs.world.WearWorld.read.Goals.{After-steps-steps}
 use Rattle.wear_session.proofs.world.WearWorld.read.Goals as goal
@@ -48,10 +51,11 @@ module _ (g : Over) (c : After-steps-steps g) where
       }
 
   -- the log goes on by that call
-  logged : GoesOn c.args.log.now c.args.self.now.session.board c.call-done.new.log (memory_of c.call-done.new.board)
+  logged : IsLoggedBy (wear_decided c.args.self.now (Do.Read c.args.at)) c.args.log.now c.args.self.now.session.board c.call-done.new.log (memory_of c.call-done.new.board)
   logged =
-      goes_on-between c.args.log.now c.call-done.new.log c.args.self.now.session.board (memory_of c.self.inside.board) (memory_of c.call-done.new.board)
-      (memory_of c.call-done.new.board) (ap (λ (w : WearState). traced_of w.session.board) c.self.view_is) refl c.call-done.ensures.logged
+      logged_by (wear_decided c.args.self.now (Do.Read c.args.at)) c.args.log.now c.call-done.new.log c.args.self.now.session.board (memory_of c.call-done.new.board) (undecided_now call)
+      (goes_on-between c.args.log.now c.call-done.new.log c.args.self.now.session.board (memory_of c.self.inside.board) (memory_of c.call-done.new.board)
+      (memory_of c.call-done.new.board) (ap (λ (w : WearState). traced_of w.session.board) c.self.view_is) refl c.call-done.ensures.logged)
 
 pub invariant_of-self-in-Ok : goal.invariant_of-self-in-Ok
 invariant_of-self-in-Ok g c =

@@ -1,9 +1,12 @@
 -- A line is written, with its move where one is due; or its move is held, it is spent, or power is cut.
 use Rattle.std.proofs.Common.{rules, arith, ◌≡◌, ◌⊎◌, inl, inr, true, false, length, drop, Err, sym, ap, subst, ◌∙◌, refl}
-use Rattle.wear_session.proofs.Common.{list_any, true≢false, shape_of, memory_of, ledger_of, IsCutOrSpent, is_own_seal, place_of, own_marks, GoesOn, traced_of, goes_on-between, WearState}
+use Rattle.wear_session.proofs.Common.{list_any, true≢false, shape_of, memory_of, ledger_of, IsCutOrSpent, is_own_seal, place_of, own_marks, traced_of, goes_on-between, WearState, wear_decided}
 use Rattle.pmem_engine.specs.declared.fault.Fault.TheVariants as Fail
-use Rattle.wear_session.proofs.WriteStates.{WriteWearCall}
+use Rattle.wear_session.proofs.WriteStates.{WriteWearCall, undecided_now}
 use Rattle.wear_session.proofs.WriteExits.{made_exit, held_exit, spent_exit, cut_held, cut_marks, kept_seen, lost_seen, sound_fault}
+use Rattle.line_session.specs.Logged.{IsLoggedBy}
+use Rattle.line_session.proofs.Logs.{logged_by}
+use Rattle.wear_session.specs.declared.commands.WearCommand.TheVariants as Do
 use Rattle.wear_session.proofs.world.WearWorld.write.Given.{Over}
 use Rattle.wear_session.proofs.world.WearWorld.write.Goals.{After-steps-steps, then-written, else-written, then-has_own_seal, else-has_own_seal}
 use Rattle.wear_session.proofs.world.WearWorld.write.Goals as goal
@@ -53,10 +56,11 @@ module _ (g : Over) (c : After-steps-steps g) where
       }
 
   -- the log goes on by that call
-  logged : GoesOn c.args.log.now c.args.self.now.session.board c.call-done.new.log (memory_of c.call-done.new.board)
+  logged : IsLoggedBy (wear_decided c.args.self.now (Do.Write c.args.at c.args.line.now)) c.args.log.now c.args.self.now.session.board c.call-done.new.log (memory_of c.call-done.new.board)
   logged =
-      goes_on-between c.args.log.now c.call-done.new.log c.args.self.now.session.board (memory_of c.self.inside.board) (memory_of c.call-done.new.board)
-      (memory_of c.call-done.new.board) (ap (λ (w : WearState). traced_of w.session.board) c.self.view_is) refl c.call-done.ensures.logged
+      logged_by (wear_decided c.args.self.now (Do.Write c.args.at c.args.line.now)) c.args.log.now c.call-done.new.log c.args.self.now.session.board (memory_of c.call-done.new.board) (undecided_now call)
+      (goes_on-between c.args.log.now c.call-done.new.log c.args.self.now.session.board (memory_of c.self.inside.board) (memory_of c.call-done.new.board)
+      (memory_of c.call-done.new.board) (ap (λ (w : WearState). traced_of w.session.board) c.self.view_is) refl c.call-done.ensures.logged)
 
 pub invariant_of-self-in-Ok-Not : goal.invariant_of-self-in-Ok-Not
 invariant_of-self-in-Ok-Not g c =

@@ -1,0 +1,69 @@
+-- What a call of a store promises, and the turning on of power, of what they are given: a clause names the store, the
+-- device or the board, the suite and the ledger, before and after.
+use Rattle.std.specs.Prelude.{Result}
+use Rattle.pmem_base.specs.declared.geometry.Geo.{Geo}
+use Rattle.pmem_base.specs.Shape.{Shape}
+use Rattle.board.specs.Device.{Device}
+use Rattle.board.specs.declared.memory.MemBoard.{MemBoard}
+use Rattle.board.specs.MemBoard.{memory_of}
+use Rattle.watched_board.specs.declared.taken.Taken.{Taken}
+use Rattle.watched_board.specs.Watching.{device_during, none_taken}
+use Rattle.seal_ledger.specs.declared.ledger.Ledger.{Ledger}
+use Rattle.seal_ledger.specs.View.{ledger_of}
+use Rattle.suite.specs.Setup.{Setup}
+use Rattle.suite.specs.declared.Suite.{Ghosts as SuiteOf}
+use Rattle.pmem_engine.specs.Calls.{IsUsable}
+use Rattle.pmem_engine.specs.Engine.{EngineState}
+use Rattle.pmem_engine.specs.Parts.{Parts, parts_of, setup_at}
+use Rattle.pmem_recovery.specs.Parts.{setup_with, suite_at}
+use Rattle.line_session.specs.During.{OpeningRelation, HasStartedBy}
+use Rattle.line_session.specs.declared.starts.StartFault.{StartFault}
+
+-- the engine serves a device of this geometry, as a watched board shows it after so many steps
+abbrev pub IsUsableDuring : Shape → EngineState → MemBoard → Taken → Ledger → Type 0
+IsUsableDuring shape engine board taken ledger =
+    IsUsable shape engine (device_during (memory_of board) taken) (ledger_of ledger)
+
+-- what a call does of a store, and of its engine's parts
+abbrev pub CallEffect : Type 0 → Type 0 → Type 1
+CallEffect T R = Setup → T → T → Parts → Parts → R → Type 0
+
+module _ {S : Type 0} (suite : SuiteOf S) where
+  abbrev parts_with : EngineState → Device → S → Ledger → Parts
+  parts_with engine device s ledger = parts_of engine device (ledger_of ledger) (suite.tags s) (suite.digests s)
+
+  -- ---- a call of a store
+
+  module _ {T R : Type 0} (engine_of : T → EngineState) (effect : CallEffect T R) (store : T) where
+    -- over a device
+    abbrev pub IsMade : Device → S → Ledger → T → Device → S → Ledger → R → Type 0
+    IsMade device s ledger store_new device_new s_new ledger_new answer =
+        effect (setup_at suite (engine_of store) s) store store_new (parts_with (engine_of store) device s ledger)
+        (parts_with (engine_of store_new) device_new s_new ledger_new) answer
+
+    -- over the watched board
+    abbrev pub IsCalled : MemBoard → S → Ledger → T → MemBoard → Taken → S → Ledger → R → Type 0
+    IsCalled board s ledger store_new board_new taken s_new ledger_new answer =
+        IsMade (device_during (memory_of board) none_taken) s ledger store_new (device_during (memory_of board_new) taken)
+        s_new ledger_new answer
+
+  -- ---- power that comes on
+
+  module _ {O F : Type 0} (opens : Setup → OpeningRelation O F) where
+    -- the opening alone, by an engine
+    abbrev pub IsOpened : EngineState → Device → S → Ledger → Device → S → Ledger → Result O F → Type 0
+    IsOpened engine device s ledger device_new s_new ledger_new answer =
+        opens (setup_at suite engine s) (parts_with engine device s ledger)
+        (λ now. parts_with now device_new s_new ledger_new) answer
+
+    -- recovery and the opening, over a device
+    abbrev pub IsStarted : Geo → Device → S → Ledger → Device → S → Ledger → Result O (StartFault F) → Type 0
+    IsStarted geo device s ledger device_new s_new ledger_new answer =
+        HasStartedBy (setup_with suite geo s) (opens (setup_with suite geo s)) device device_new (ledger_of ledger)
+        (ledger_of ledger_new) (suite_at suite s) (suite_at suite s_new) answer
+
+    -- over the watched board
+    abbrev pub IsStartedOn : Geo → MemBoard → S → Ledger → MemBoard → Taken → S → Ledger → Result O (StartFault F) → Type 0
+    IsStartedOn geo board s ledger board_new taken s_new ledger_new answer =
+        IsStarted geo (device_during (memory_of board) none_taken) s ledger (device_during (memory_of board_new) taken) s_new
+        ledger_new answer
