@@ -12,7 +12,6 @@ use Rattle.pmem_base.specs.Shape.{Shape}
 use Rattle.suite.specs.Setup.{Setup}
 use Rattle.board.proofs.CountLemmas.{HasRisen-once}
 use Rattle.board.specs.Device.{Device}
-use Rattle.board.specs.Counts.{RisesBy}
 use Rattle.board.specs.Steps.{HasRead, Tells}
 use Rattle.collision_witness.specs.Exhibits.{IsExhibit}
 use Rattle.commit_regs.specs.Groups.{redone, redone_told}

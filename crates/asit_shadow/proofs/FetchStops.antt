@@ -1,16 +1,13 @@
 -- How a fetch stops at a node: with a cut, a refused node or an exhibit.
-use Rattle.std.proofs.Common.{ℕ, ◌≡◌, true, false, List, Some, refl, sym, ap, subst, inl, inr, ◌+◌, ◌∙◌, arith}
-use Rattle.std.specs.Prelude.{Option, IsSome, if◌then◌else◌}
-use Rattle.std.proofs.lemmas.Bool.{true≢false, false_from_ne_true}
+use Rattle.std.proofs.Common.{ℕ, ◌≡◌, true, false, List, Some, refl, sym, ap, subst, ◌∙◌, arith}
+use Rattle.std.specs.Prelude.{Option, IsSome}
 use Rattle.std.proofs.lemmas.Option.{same_Some, none-some}
 use Rattle.pmem_base.specs.declared.lines.Line.{Line}
-use Rattle.pmem_base.specs.Counts.{risen, risen_times}
-use Rattle.pmem_recovery.proofs.PartLaws.{risen_times-then}
 use Rattle.suite.specs.Setup.{Setup}
 use Rattle.board.proofs.CountLemmas.{RisesBy-then, RisesBy-once}
 use Rattle.board.specs.Steps.{HasRead, Tells}
 use Rattle.pmem_engine.specs.Outcomes.{going, cut_short, shown}
-use Rattle.counter_tree.specs.Nodes.{total, makes_node_tag, node_read}
+use Rattle.counter_tree.specs.Nodes.{total, node_read}
 use Rattle.counter_tree.specs.Layout.{line_of_node}
 use Rattle.counter_tree.specs.Trees.{node_at}
 use Rattle.counter_tree.specs.Slots.{slot_of}

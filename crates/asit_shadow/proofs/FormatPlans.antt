@@ -1,29 +1,21 @@
 -- Two formats of one device and watch are the same.
-use Rattle.std.proofs.Common.{ℕ, suc, ◌≡◌, ◌<◌, ◌≤◌, List, Option, Some, None, true, false, length, refl, sym, ap, subst, ◌∙◌, arith}
+use Rattle.std.proofs.Common.{suc, ◌≡◌, ◌<◌, ◌≤◌, None, length, sym, subst, ◌∙◌, arith}
 use Rattle.std.proofs.lemmas.List.{ext_get_or}
-use Rattle.pmem_base.specs.declared.lines.Line.{Line}
-use Rattle.pmem_base.specs.declared.answers.Exhibit.{Exhibit}
 use Rattle.pmem_base.specs.Layout.{level_start}
-use Rattle.board.specs.Device.{Device}
 use Rattle.suite.specs.Setup.{Setup}
 use Rattle.pmem_recovery.proofs.UncutRuns.{uncut_alike}
-use Rattle.counter_tree.specs.declared.nodes.Node.{Node}
-use Rattle.counter_tree.specs.declared.watch.LineSeal.{LineSeal}
 use Rattle.counter_tree.specs.Layout.{tree_lines}
-use Rattle.counter_tree.specs.Shadow.{ChipTree, shadow_height, IsShadowTree}
-use Rattle.counter_tree.specs.Plans.{shadow_tree}
+use Rattle.counter_tree.specs.Shadow.{shadow_height}
 use Rattle.counter_tree.specs.Watch.{WatchState}
 use Rattle.counter_tree.proofs.SlotPlans.{chip-tree-is}
-use Rattle.asit_shadow.specs.declared.cache.CachedNode.{CachedNode}
 use Rattle.asit_shadow.specs.State.{TreeState}
 use Rattle.asit_shadow.specs.Recovering.{Rest, rest_of}
-use Rattle.asit_shadow.specs.Formatting.{first_slots, first_cache, IsFormatTold, HasTreeFormatted}
+use Rattle.asit_shadow.specs.Formatting.{first_slots, first_engine, IsFormatTold, HasTreeFormatted}
 use Rattle.asit_shadow.specs.Determined.{TreeFormatIsDetermined}
 
 -- the tree on the chip is that over the first slot lines
-tree_is : (setup : Setup) (old new : Rest) (engine : TreeState) → HasTreeFormatted setup old new engine
-    → engine ≡ record { shape = setup.shape; cache = first_cache setup.shape; tree = record { height = shadow_height setup.shape; lines = shadow_tree setup.formulas (shadow_height setup.shape) (first_slots setup.shape) }; down = false }
-tree_is setup old new engine it =
+pub first_engine-is : (setup : Setup) (old new : Rest) (engine : TreeState) → HasTreeFormatted setup old new engine → engine ≡ first_engine setup
+first_engine-is setup old new engine it =
     let height = it.device.height in
     let lines = chip-tree-is setup.formulas (shadow_height setup.shape) (first_slots setup.shape) engine.tree.lines
     (subst (λ h. h ≤ 5) height it.tree_whole.most) (subst (λ h. length engine.tree.lines ≡ level_start (suc h)) height it.tree_whole.count) it.device.over in
@@ -44,6 +36,6 @@ pub formats_alike : TreeFormatIsDetermined
 formats_alike setup lines old a b engine last told live count first second =
     let device = (uncut_alike lines told (first.device.live live) (second.device.live live) first.device.plan second.device.plan).1 in
     let watch = watches_alike setup old.watch a.watch b.watch count first.device.told second.device.told in (
-      tree_is setup old a engine first ∙ sym (tree_is setup old b last second),
+      first_engine-is setup old a engine first ∙ sym (first_engine-is setup old b last second),
       λ i. rest_of (device i) (watch i),
     )

@@ -11,7 +11,6 @@ use Rattle.pmem_base.specs.Lines.{tag_slot, xor_lines}
 use Rattle.pmem_base.specs.Shape.{Shape, IsShape}
 use Rattle.pmem_base.specs.Counts.{HasRisen}
 use Rattle.suite.specs.Setup.{Setup}
-use Rattle.board.specs.Counts.{RisesBy}
 use Rattle.board.proofs.CountLemmas.{RisesBy-then, RisesBy-once, HasRisen-once}
 use Rattle.board.specs.Device.{Device}
 use Rattle.board.specs.Steps.{Tells}
@@ -19,8 +18,8 @@ use Rattle.collision_witness.specs.Exhibits.{IsExhibit}
 use Rattle.bonsai_tree.specs.Positions.{child_slot, counter_position, parent}
 use Rattle.bonsai_tree.proofs.Levels.{level_start-suc, meta_lines-level}
 use Rattle.bonsai_tree.proofs.PathPositions.{on_path-level}
-use Rattle.pmem_engine.specs.Outcomes.{Outcome, going, cut_short, shown, HasPower}
-use Rattle.pmem_engine.proofs.CallEnds.CallChains.{power_chained, going_uncut}
+use Rattle.pmem_engine.specs.Outcomes.{going, cut_short, shown, HasPower}
+use Rattle.pmem_engine.proofs.CallEnds.CallChains.{power_chained}
 use Rattle.counter_tree.specs.declared.nodes.Node.{Node}
 use Rattle.counter_tree.specs.declared.watch.LineSeal.{LineSeal}
 use Rattle.counter_tree.specs.Accepted.{HasLineRead, IsCutReading, IsLineAccepted, IsLineUnaccepted, IsLineForged}

@@ -1,5 +1,5 @@
 -- How a write ends.
-use Rattle.std.proofs.Common.{ℕ, ◌≡◌, ◌<◌, ◌≤◌, ◌+◌, ◌*◌, ◌/◌, refl, sym, ap, subst, inl, inr, ◌∙◌, arith}
+use Rattle.std.proofs.Common.{ℕ, ◌≡◌, ◌<◌, ◌+◌, ◌/◌, refl, sym, ap, subst, inl, inr, ◌∙◌, arith}
 use Rattle.std.specs.Prelude.{Err}
 use Rattle.std.proofs.lemmas.Bool.{true≢false}
 use Rattle.pmem_base.specs.declared.lines.Line.{Line}
@@ -9,11 +9,8 @@ use Rattle.bonsai_tree.proofs.PathPositions.{on_path-level}
 use Rattle.suite.specs.Setup.{Setup}
 use Rattle.board.proofs.CountLemmas.{HasRisen-once}
 use Rattle.board.specs.Counts.{RisesBy}
-use Rattle.board.specs.Device.{Device}
 use Rattle.board.specs.Steps.{WasCut}
-use Rattle.commit_regs.specs.Groups.{RisesAtMost}
 use Rattle.pmem_engine.specs.Outcomes.{going, cut_short, shown}
-use Rattle.pmem_engine.proofs.CallEnds.CallChains.{going_uncut}
 use Rattle.counter_tree.specs.declared.nodes.Node.{Node}
 use Rattle.counter_tree.specs.Layout.{tree_lines}
 use Rattle.asit_shadow.specs.declared.fault.TreeFault.{TreeFault}

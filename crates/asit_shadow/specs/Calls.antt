@@ -1,18 +1,15 @@
 -- What each call of the engine makes of its parts: one relation a call.
-use Rattle.std.specs.Prelude.{ℕ, ◌≡◌, ◌≢◌, ◌<◌, ◌≤◌, ◌+◌, ◌-◌, ◌*◌, ◌^◌, ◌⊎◌, ◌↔◌, true, false, not, ◌||◌, Some, None, IfSome, IsSome, Result, Ok, Err, ⊤}
+use Rattle.std.specs.Prelude.{ℕ, ◌≡◌, ◌≢◌, ◌<◌, ◌≤◌, ◌-◌, ◌^◌, ◌⊎◌, ◌↔◌, true, false, not, ◌||◌, Some, None, IfSome, IsSome, Result, Ok, Err, ⊤}
 use Rattle.pmem_base.specs.declared.lines.Line.{Line}
 use Rattle.pmem_base.specs.declared.registers.Regs.{Regs}
 use Rattle.pmem_base.specs.declared.answers.Exhibit.TheVariants.{Forged}
-use Rattle.pmem_base.specs.Shape.{Shape}
 use Rattle.pmem_base.specs.Layout.{meta_lines}
 use Rattle.pmem_base.specs.Lines.{tag_slot}
 use Rattle.suite.specs.Setup.{Setup}
 use Rattle.suite.specs.Formulas.{cipher_of}
 use Rattle.board.specs.Counts.{RisesBy}
-use Rattle.board.specs.Device.{Device}
 use Rattle.board.specs.Steps.{Tells}
 use Rattle.collision_witness.specs.Exhibits.{IsExhibit}
-use Rattle.commit_regs.specs.Groups.{RisesAtMost}
 use Rattle.pmem_engine.specs.Outcomes.{Outcome, going, cut_short, shown, is_going, HasPower}
 use Rattle.counter_tree.specs.declared.nodes.Node.{Node}
 use Rattle.counter_tree.specs.declared.watch.LineSeal.{LineSeal}

@@ -14,9 +14,11 @@ use Rattle.call_plan.specs.Plans.{Plan, done, write, latch, bind, repeated, the_
 use Rattle.call_plan.specs.Following.{Follows}
 use Rattle.board.specs.Counts.{RisesBy}
 use Rattle.board.specs.Device.{AreLinesOf}
+use Rattle.board.specs.Steps.{with_line}
 use Rattle.counter_tree.specs.declared.watch.LineSeal.{LineSeal}
 use Rattle.counter_tree.specs.Layout.{tree_lines, tree_slots, tree_size, line_of_tag, line_of_node, line_of_slot}
 use Rattle.counter_tree.specs.Nodes.{version_counter, node_line, zero_node}
+use Rattle.counter_tree.specs.Plans.{shadow_tree}
 use Rattle.counter_tree.specs.Shadow.{ChipTree, IsChipTree, shadow_height, shadow_root}
 use Rattle.counter_tree.specs.Slots.{slot_line}
 use Rattle.counter_tree.specs.Watch.{WatchState, last_seal_of, IsWatchOf}
@@ -82,6 +84,20 @@ pub record IsFirstEngine (setup : Setup) (engine : TreeState) : Type 0 where
   pub shape : engine.shape ≡ setup.shape
   pub not_down : engine.down ≡ false
   pub cache : engine.cache ≡ first_cache setup.shape
+
+-- it, with the tree over the first slot lines
+abbrev pub first_engine : Setup → TreeState
+first_engine setup =
+    record {
+      shape = setup.shape;
+      cache = first_cache setup.shape;
+      tree =
+          record {
+            height = shadow_height setup.shape;
+            lines = shadow_tree setup.formulas (shadow_height setup.shape) (first_slots setup.shape);
+          };
+      down = false;
+    }
 
 -- a chip and a watch of its setup so formatted, with no exhibit
 pub record IsChipFormatted (setup : Setup) (engine : TreeState) (regs : Regs) (watch : WatchState) : Type 0 where
@@ -166,6 +182,11 @@ pub record HasTreeFormatted (setup : Setup) (old new : Rest) (engine : TreeState
 abbrev pub set_first : {X : Type 0} → (ℕ → ℕ) → (ℕ → X) → ℕ → List X → List X
 set_first place value zero list = list
 set_first place value (suc n) list = slice_set (set_first place value n list) (place n) (value n)
+
+-- data line a sealed, with its tag line, where the lines are told
+abbrev pub first_sealed : Formulas → Shape → ℕ → Option (List Line) → Option (List Line)
+first_sealed f g a lines =
+    with_line (with_line lines a (first_tree_seal f a).cipher) (line_of_tag g a) (tag_only (first_tree_seal f a).tag)
 
 -- the first n data lines sealed, each with its tag line
 abbrev pub tree_sealed_lines : Setup → ℕ → List Line → List Line

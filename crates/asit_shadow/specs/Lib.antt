@@ -17,3 +17,4 @@ pub mod Plans
 pub mod WritePlans
 pub mod Determined
 pub mod RecoverPlans
+pub mod Promised

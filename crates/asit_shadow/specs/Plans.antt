@@ -1,5 +1,5 @@
 -- What the engine's calls do of the board, as plans: functions of the state beside it, and of the registers.
-use Rattle.std.specs.Prelude.{ℕ, suc, ◌%◌, ◌-◌, ◌==◌, ◌||◌, not, false, slice_set, Option, Some, None, if◌then◌else◌}
+use Rattle.std.specs.Prelude.{ℕ, suc, ◌%◌, ◌==◌, ◌||◌, not, false, slice_set, Option, Some, None, if◌then◌else◌}
 use Rattle.pmem_base.specs.declared.faults.Cut.{Cut}
 use Rattle.pmem_base.specs.declared.lines.Line.{Line}
 use Rattle.pmem_base.specs.Counts.{risen}

@@ -1,11 +1,11 @@
 -- What recovery makes of a device and its watch, by its answer.
-use Rattle.std.specs.Prelude.{ℕ, ◌≡◌, ◌≢◌, ◌<◌, ◌^◌, ◌⊎◌, true, List, [], All, Option, Some, None, IfSome, MatchOption, Result, Ok, Err, length, ⊤}
+use Rattle.std.specs.Prelude.{ℕ, suc, ◌≡◌, ◌≢◌, ◌<◌, ◌^◌, ◌⊎◌, true, List, [], All, Option, Some, None, IfSome, MatchOption, Result, Ok, Err, length, replicate, ⊤}
 use Rattle.pmem_base.specs.declared.lines.Line.{Line}
 use Rattle.pmem_base.specs.Counts.{risen_times}
 use Rattle.pmem_base.specs.Registers.{without_group}
-use Rattle.pmem_base.specs.Lines.{IsLine, line_at}
+use Rattle.pmem_base.specs.Lines.{IsLine, line_at, zero_line}
 use Rattle.pmem_base.specs.Shape.{Shape}
-use Rattle.pmem_base.specs.Layout.{meta_lines}
+use Rattle.pmem_base.specs.Layout.{meta_lines, level_start}
 use Rattle.suite.specs.Setup.{Setup}
 use Rattle.board.specs.Counts.{RisesBy}
 use Rattle.board.specs.Device.{Device}
@@ -231,6 +231,17 @@ IsNameable g (Some named) = (named.x < meta_lines g) × (total named.node < 2 ^ 
 
 -- ---- the memory that recovery fills
 
+-- a shadow tree as it is taken, before it is filled
+abbrev pub unfilled_tree : Shape → ChipTree
+unfilled_tree g =
+    record { height = shadow_height g; lines = replicate (level_start (suc (shadow_height g))) zero_line }
+
+-- each node that a slot line names stands dirty in its slot
+abbrev pub AreNamed : Shape → List Line → List (Option CachedNode) → Type 0
+AreNamed g slots cache =
+    (i : ℕ) → i < tree_slots g → IsNameable g (slot_read (line_at slots i))
+    → cache_at cache i ≡ held_of (slot_read (line_at slots i))
+
 -- the true slot lines were read, and each node that they name is in its slot
 pub record IsRoomFilled (setup : Setup) (old new : Rest) (before after : ℕ) (cache : List (Option CachedNode)) (tree : ChipTree) : Type 0 where
   pub finished : IsReadFinished setup.shape old.device new.device
@@ -238,9 +249,7 @@ pub record IsRoomFilled (setup : Setup) (old new : Rest) (before after : ℕ) (c
   pub counted : after ≡ risen_times (shadow_digests setup.shape) before
   pub count : length cache ≡ tree_slots setup.shape
   pub each_held : (i : ℕ) (held : CachedNode) → cache_at cache i ≡ Some held → IsHeldNode setup.shape held
-  pub named :
-      (i : ℕ) → i < tree_slots setup.shape → IsNameable setup.shape (slot_read (line_at old.watch.slots i))
-      → cache_at cache i ≡ held_of (slot_read (line_at old.watch.slots i))
+  pub named : AreNamed setup.shape old.watch.slots cache
   pub tree_whole : IsChipTree tree
   pub tree_height : tree.height ≡ shadow_height setup.shape
   pub over : IsTreeOver setup old.watch.slots tree

@@ -2,12 +2,9 @@
 ghost use Rattle.std.specs.Prelude.{◌≡◌, ◌<◌, ◌||◌, not};
 ghost use Rattle.pmem_engine.specs.Outcomes.{is_going};
 ghost use Rattle.counter_tree.specs.Layout.{tree_lines};
-ghost use Rattle.asit_shadow.specs.Parts.{IsTreeUsable, tree_parts_at, tree_setup_at};
-ghost use Rattle.call_plan.specs.Plans.{ended};
-ghost use Rattle.call_plan.specs.Following.{Follows};
-ghost use Rattle.asit_shadow.specs.Plans.{read_line_plan, read_plan, tree_chip_at};
-ghost use Rattle.asit_shadow.specs.WritePlans.{write_plan};
-ghost use Rattle.asit_shadow.specs.Calls.{outcome_of_tree_fault, IsLineRead, HasReadTreeLine, HasWrittenTreeLine};
+ghost use Rattle.asit_shadow.specs.Parts.{IsTreeUsable, tree_parts_at};
+ghost use Rattle.asit_shadow.specs.Calls.{outcome_of_tree_fault};
+ghost use Rattle.asit_shadow.specs.Promised.{ReadsLine, ReadsUp, WritesLine, FollowsRead, FollowsReadUp, FollowsWrite};
 
 use crate::engine::TreeEngine;
 use crate::fault::TreeFault;
@@ -28,16 +25,14 @@ impl TreeEngine {
     ) -> Result<Line, TreeFault>
         requires line { at < tree_lines self.old.shape }
         requires usable { IsTreeUsable self.old.shape (tree_parts_at B.Board W.Watch self.old board.old watch.old) }
-        ensures read { HasReadTreeLine (tree_setup_at S.Suite self.old suite.old) at
-            (tree_parts_at B.Board W.Watch self.old board.old watch.old)
-            (tree_parts_at B.Board W.Watch self.new board.new watch.new) result }
+        ensures read { ReadsLine B.Board S.Suite W.Watch self.old board.old suite.old watch.old
+            self.new board.new suite.new watch.new at result }
         ensures usable { IsTreeUsable self.old.shape (tree_parts_at B.Board W.Watch self.new board.new watch.new) }
         ensures keys { S.keys suite.new ≡ S.keys suite.old }
         ensures digests { S.digests suite.new ≡ S.digests suite.old }
         ensures shape { self.new.shape ≡ self.old.shape }
-        ensures plan { Follows (read_plan (tree_setup_at S.Suite self.old suite.old) at
-            (tree_chip_at S.Suite W.Watch self.old suite.old watch.old)) (B.device board.old) (B.device board.new)
-            (ended result (tree_chip_at S.Suite W.Watch self.new suite.new watch.new)) }
+        ensures plan { FollowsRead B.Board S.Suite W.Watch self.old board.old suite.old watch.old
+            self.new board.new suite.new watch.new at result }
     {
         if self.is_down() {
             return Err(TreeFault::Down);
@@ -63,15 +58,13 @@ impl TreeEngine {
     ) -> Result<u64, TreeFault>
         requires line { at < tree_lines self.old.shape }
         requires usable { IsTreeUsable self.old.shape (tree_parts_at B.Board W.Watch self.old board.old watch.old) }
-        ensures written { HasWrittenTreeLine (tree_setup_at S.Suite self.old suite.old) at line.now
-            (tree_parts_at B.Board W.Watch self.old board.old watch.old)
-            (tree_parts_at B.Board W.Watch self.new board.new watch.new) result }
+        ensures written { WritesLine B.Board S.Suite W.Watch self.old board.old suite.old watch.old
+            self.new board.new suite.new watch.new at line.now result }
         ensures usable { IsTreeUsable self.old.shape (tree_parts_at B.Board W.Watch self.new board.new watch.new) }
         ensures keys { S.keys suite.new ≡ S.keys suite.old }
         ensures shape { self.new.shape ≡ self.old.shape }
-        ensures plan { Follows (write_plan (tree_setup_at S.Suite self.old suite.old) (B.device board.old).regs at line.now
-            (tree_chip_at S.Suite W.Watch self.old suite.old watch.old)) (B.device board.old) (B.device board.new)
-            (ended result (tree_chip_at S.Suite W.Watch self.new suite.new watch.new)) }
+        ensures plan { FollowsWrite B.Board S.Suite W.Watch self.old board.old suite.old watch.old
+            self.new board.new suite.new watch.new at line.now result }
     {
         if self.is_down() {
             return Err(TreeFault::Down);
@@ -95,15 +88,13 @@ impl TreeEngine {
     ) -> Result<Line, TreeFault>
         requires line { at < tree_lines self.old.shape }
         requires usable { IsTreeUsable self.old.shape (tree_parts_at B.Board W.Watch self.old board.old watch.old) }
-        ensures read { IsLineRead (tree_setup_at S.Suite self.old suite.old) at
-            (tree_parts_at B.Board W.Watch self.old board.old watch.old)
-            (tree_parts_at B.Board W.Watch self.new board.new watch.new) result }
+        ensures read { ReadsUp B.Board S.Suite W.Watch self.old board.old suite.old watch.old
+            self.new board.new suite.new watch.new at result }
         ensures down { self.new.down ≡ self.old.down }
         ensures keys { S.keys suite.new ≡ S.keys suite.old }
         ensures digests { S.digests suite.new ≡ S.digests suite.old }
-        ensures plan { Follows (read_line_plan (tree_setup_at S.Suite self.old suite.old) at
-            (tree_chip_at S.Suite W.Watch self.old suite.old watch.old)) (B.device board.old) (B.device board.new)
-            (ended result (tree_chip_at S.Suite W.Watch self.new suite.new watch.new)) }
+        ensures plan { FollowsReadUp B.Board S.Suite W.Watch self.old board.old suite.old watch.old
+            self.new board.new suite.new watch.new at result }
     {
         self.is_whole();
         let node = match self.fetch(board, suite, watch, at) {

@@ -9,11 +9,9 @@ ghost use Rattle.counter_tree.specs.Slots.{slot_of};
 ghost use Rattle.asit_shadow.specs.State.{cache_at, IsCached, IsCachedAs};
 ghost use Rattle.asit_shadow.specs.Parts.{IsTreeUsable, tree_parts_at, tree_setup_at};
 ghost use Rattle.asit_shadow.specs.Work.{holds_dirty};
-ghost use Rattle.asit_shadow.specs.Plans.{TreeChip, with_read, fault_of_node, node_in, room_plan, level_plan, fetch_plan, tree_chip_at, read_parts_at};
-ghost use Rattle.call_plan.specs.Plans.{ended, lifted};
-ghost use Rattle.call_plan.specs.Following.{Follows};
-ghost use Rattle.counter_tree.specs.Plans.{node_plan};
-ghost use Rattle.asit_shadow.specs.Fetching.{IsRoomMade, IsNodeTaken, HasFetchedNode, HasNoNode, IsNodePathFetched, IsFetchStopped};
+ghost use Rattle.asit_shadow.specs.Plans.{node_in};
+ghost use Rattle.asit_shadow.specs.Fetching.{IsRoomMade, IsNodeTaken};
+ghost use Rattle.asit_shadow.specs.Promised.{FetchesPath, StopsFetch, FetchesNode, MissesNode, FollowsFetch, FollowsLevel, FollowsRoom, FollowsTaken};
 ghost use Rattle.pmem_recovery.specs.Parts.{setup_with};
 
 use crate::cache::CachedNode;
@@ -37,17 +35,14 @@ impl TreeEngine {
     ) -> Result<Node, TreeFault>
         requires line { at < tree_lines self.old.shape }
         requires usable { IsTreeUsable self.old.shape (tree_parts_at B.Board W.Watch self.old board.old watch.old) }
-        ensures fetched { IfOk result (IsNodePathFetched (tree_setup_at S.Suite self.old suite.old) at
-            (tree_parts_at B.Board W.Watch self.old board.old watch.old)
-            (tree_parts_at B.Board W.Watch self.new board.new watch.new)) }
-        ensures stopped { IfErr result (IsFetchStopped (tree_setup_at S.Suite self.old suite.old) at
-            (tree_parts_at B.Board W.Watch self.old board.old watch.old)
-            (tree_parts_at B.Board W.Watch self.new board.new watch.new)) }
+        ensures fetched { IfOk result (FetchesPath B.Board S.Suite W.Watch self.old board.old suite.old watch.old
+            self.new board.new suite.new watch.new at) }
+        ensures stopped { IfErr result (StopsFetch B.Board S.Suite W.Watch self.old board.old suite.old watch.old
+            self.new board.new suite.new watch.new at) }
         ensures keys { S.keys suite.new ≡ S.keys suite.old }
         ensures digests { S.digests suite.new ≡ S.digests suite.old }
-        ensures plan { Follows (fetch_plan (tree_setup_at S.Suite self.old suite.old) at
-            (tree_chip_at S.Suite W.Watch self.old suite.old watch.old)) (B.device board.old) (B.device board.new)
-            (ended result (tree_chip_at S.Suite W.Watch self.new suite.new watch.new)) }
+        ensures plan { FollowsFetch B.Board S.Suite W.Watch self.old board.old suite.old watch.old
+            self.new board.new suite.new watch.new at result }
     {
         let geo = self.geo();
         let path = path(&geo, at / 4);
@@ -77,17 +72,14 @@ impl TreeEngine {
         requires position { x < meta_lines self.old.shape }
         requires size { (B.device board.old).size ≡ tree_size self.old.shape }
         requires nodes { length (W.watched watch.old).nodes ≡ meta_lines self.old.shape }
-        ensures had { IfOk result (HasFetchedNode (tree_setup_at S.Suite self.old suite.old) x version
-            (tree_parts_at B.Board W.Watch self.old board.old watch.old)
-            (tree_parts_at B.Board W.Watch self.new board.new watch.new)) }
-        ensures missed { IfErr result (HasNoNode (tree_setup_at S.Suite self.old suite.old) x version
-            (tree_parts_at B.Board W.Watch self.old board.old watch.old)
-            (tree_parts_at B.Board W.Watch self.new board.new watch.new)) }
+        ensures had { IfOk result (FetchesNode B.Board S.Suite W.Watch self.old board.old suite.old watch.old
+            self.new board.new suite.new watch.new x version) }
+        ensures missed { IfErr result (MissesNode B.Board S.Suite W.Watch self.old board.old suite.old watch.old
+            self.new board.new suite.new watch.new x version) }
         ensures keys { S.keys suite.new ≡ S.keys suite.old }
         ensures digests { S.digests suite.new ≡ S.digests suite.old }
-        ensures plan { Follows (level_plan (tree_setup_at S.Suite self.old suite.old) x version
-            (tree_chip_at S.Suite W.Watch self.old suite.old watch.old)) (B.device board.old) (B.device board.new)
-            (ended result (tree_chip_at S.Suite W.Watch self.new suite.new watch.new)) }
+        ensures plan { FollowsLevel B.Board S.Suite W.Watch self.old board.old suite.old watch.old
+            self.new board.new suite.new watch.new x version result }
     {
         self.is_whole();
         if let Some(node) = self.cached(x) {
@@ -134,8 +126,7 @@ impl TreeEngine {
         ensures keys { S.keys suite.new ≡ S.keys suite.old }
         ensures pads { S.pads suite.new ≡ S.pads suite.old }
         ensures digests { S.digests suite.new ≡ S.digests suite.old }
-        ensures plan { Follows (room_plan (tree_setup_at S.Suite self.now suite.old)
-            (cache_at self.now.cache i) (S.tags suite.old)) (B.device board.old) (B.device board.new) (ended result (S.tags suite.new)) }
+        ensures plan { FollowsRoom B.Board S.Suite self.now board.old suite.old board.new suite.new i result }
     {
         self.is_whole();
         let geo = self.geo();
@@ -167,10 +158,8 @@ fn taken<B: Board, S: Suite, W: Watch>(
         (B.device board.old) (B.device board.new) (W.watched watch.old) (W.watched watch.new) result }
     ensures keys { S.keys suite.new ≡ S.keys suite.old }
     ensures digests { S.digests suite.new ≡ S.digests suite.old }
-    ensures plan { (chip : TreeChip) → Follows (lifted (with_read chip) (fault_of_node x)
-        (node_plan (setup_with S.Suite geo.now suite.old) x version
-        (read_parts_at S.Suite W.Watch suite.old watch.old))) (B.device board.old) (B.device board.new)
-        (ended result (with_read chip (read_parts_at S.Suite W.Watch suite.new watch.new))) }
+    ensures plan { FollowsTaken B.Board S.Suite W.Watch geo.now board.old suite.old watch.old
+        board.new suite.new watch.new x version result }
 {
     match fetch_node(geo, board, suite, watch, x, version) {
         Ok(node) => Ok(node),

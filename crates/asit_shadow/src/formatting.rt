@@ -15,7 +15,8 @@ ghost use Rattle.asit_shadow.specs.Paths.{tag_only};
 ghost use Rattle.asit_shadow.specs.Recovering.{rest_at};
 ghost use Rattle.call_plan.specs.Following.{Follows};
 ghost use Rattle.asit_shadow.specs.Formatting.{sealing_turn, sealing_plan, nodes_plan, naming_plan};
-ghost use Rattle.asit_shadow.specs.Formatting.{first_tree_seal, first_slots, tree_sealed_lines, node_lines_written, slot_lines_written, AreSealsTold, AreNodesTold, AreSlotsTold, HasTreeFormatted, HasDeviceFormatted};
+ghost use Rattle.asit_shadow.specs.Formatting.{first_tree_seal, first_slots, first_sealed, tree_sealed_lines, node_lines_written, slot_lines_written, AreSealsTold, AreNodesTold, AreSlotsTold, HasDeviceFormatted};
+ghost use Rattle.asit_shadow.specs.Promised.{Formats, CountsFormat};
 
 use crate::cache::CachedNode;
 use crate::engine::TreeEngine;
@@ -45,13 +46,10 @@ pub fn tree_format<B: Board, S: Suite, W: Watch>(
     requires seals { length (W.watched watch.old).seals ≡ tree_lines (shape_of geo.now) }
     requires nodes { length (W.watched watch.old).nodes ≡ meta_lines (shape_of geo.now) }
     requires slots { length (W.watched watch.old).slots ≡ tree_slots (shape_of geo.now) }
-    ensures formatted { IfOk result (HasTreeFormatted (setup_with S.Suite geo.now suite.old)
-        (rest_at B.Board W.Watch board.old watch.old) (rest_at B.Board W.Watch board.new watch.new)) }
+    ensures formatted { IfOk result (Formats B.Board S.Suite W.Watch geo.now board.old suite.old watch.old
+        board.new suite.new watch.new) }
     ensures usable { IfOk result (λ engine. IsTreeUsable (shape_of geo.now) (tree_parts_of engine (B.device board.new) (W.watched watch.new))) }
-    ensures counts { OnOk result (SuiteRise (tree_lines (shape_of geo.now)) (tree_lines (shape_of geo.now) + meta_lines (shape_of geo.now))
-        (shadow_digests (shape_of geo.now))
-        (suite_at S.Suite suite.old)
-        (suite_at S.Suite suite.new)) }
+    ensures counts { OnOk result (CountsFormat S.Suite geo.now suite.old suite.new) }
     ensures keys { S.keys suite.new ≡ S.keys suite.old }
     ensures err { OnErr result (rest_at B.Board W.Watch board.new watch.new ≡ rest_at B.Board W.Watch board.old watch.old) }
     ensures err_counts { OnErr result (SuiteRise 0 0 0 (suite_at S.Suite suite.old)
@@ -90,10 +88,7 @@ fn fill_device<B: Board, S: Suite, W: Watch>(
     requires height { tree.old.height ≡ shadow_height (shape_of geo.now) }
     ensures formatted { HasDeviceFormatted (setup_with S.Suite geo.now suite.old)
         (rest_at B.Board W.Watch board.old watch.old) (rest_at B.Board W.Watch board.new watch.new) tree.new }
-    ensures counts { SuiteRise (tree_lines (shape_of geo.now)) (tree_lines (shape_of geo.now) + meta_lines (shape_of geo.now))
-        (shadow_digests (shape_of geo.now))
-        (suite_at S.Suite suite.old)
-        (suite_at S.Suite suite.new) }
+    ensures counts { CountsFormat S.Suite geo.now suite.old suite.new }
     ensures keys { S.keys suite.new ≡ S.keys suite.old }
 {
     geo.layout_is_one_to_one();
@@ -139,8 +134,7 @@ fn seal_one<B: Board, S: Suite, W: Watch>(
     ensures steady { StaysSteady 2 (B.device board.old) (B.device board.new) }
     ensures plan { Follows (sealing_turn (setup_with S.Suite geo.now suite.old) at tt) (B.device board.old) (B.device board.new) (Ok tt) }
     ensures lines { (B.device board.new).lines
-        ≡ with_line (with_line (B.device board.old).lines at (first_tree_seal (S.formulas_of (S.keys suite.old)) at).cipher)
-        (line_of_tag (shape_of geo.now) at) (tag_only (first_tree_seal (S.formulas_of (S.keys suite.old)) at).tag) }
+        ≡ first_sealed (S.formulas_of (S.keys suite.old)) (shape_of geo.now) at (B.device board.old).lines }
     ensures noted { HasSealNoted (W.watched watch.old) (W.watched watch.new) at (first_tree_seal (S.formulas_of (S.keys suite.old)) at) }
     ensures counts { SuiteRise 1 1 0 (suite_at S.Suite suite.old)
         (suite_at S.Suite suite.new) }

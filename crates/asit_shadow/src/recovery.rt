@@ -13,11 +13,10 @@ ghost use Rattle.pmem_base.specs.Layout.{meta_lines};
 ghost use Rattle.asit_shadow.specs.declared.cache.CachedNode.{CachedNode};
 ghost use Rattle.asit_shadow.specs.State.{cache_at, IsHeldNode};
 ghost use Rattle.asit_shadow.specs.Steps.{held_of};
-ghost use Rattle.call_plan.specs.Plans.{ended};
 ghost use Rattle.call_plan.specs.Following.{Follows};
-ghost use Rattle.asit_shadow.specs.RecoverPlans.{RecoverParts, slots_plan, slots_end, cached_named, cache_named, recovery_work, fill_plan, filled_end, tree_recover_plan, recover_parts_at};
-ghost use Rattle.asit_shadow.specs.Recovering.{IsRestUsable, IsNameable, HasTreeRecovered, HasOnlyReadLines, FillsRoom, rest_at};
-ghost use Rattle.pmem_recovery.specs.Parts.{setup_with};
+ghost use Rattle.asit_shadow.specs.RecoverPlans.{RecoverParts, slots_plan, slots_end, cached_named, cache_named};
+ghost use Rattle.asit_shadow.specs.Recovering.{IsRestUsable, IsNameable, AreNamed, HasOnlyReadLines, rest_at};
+ghost use Rattle.asit_shadow.specs.Promised.{Recovers, FollowsRecovery, FillsTaken, FollowsFill};
 
 use crate::cache::CachedNode;
 use crate::engine::TreeEngine;
@@ -78,18 +77,15 @@ pub fn tree_recover<B: Board, S: Suite, W: Watch>(
     watch: &mut W,
 ) -> Result<(TreeEngine, Work), TreeRec>
     requires { IsRestUsable (shape_of geo.now) (rest_at B.Board W.Watch board.old watch.old) }
-    ensures recovered { HasTreeRecovered (setup_with S.Suite geo.now suite.old)
-        (rest_at B.Board W.Watch board.old watch.old) (rest_at B.Board W.Watch board.new watch.new)
-        (S.digests suite.old) (S.digests suite.new) result }
+    ensures recovered { Recovers B.Board S.Suite W.Watch geo.now board.old suite.old watch.old
+        board.new suite.new watch.new result }
     ensures usable { IsRestUsable (shape_of geo.now) (rest_at B.Board W.Watch board.new watch.new) }
     ensures shape { IfOk result (λ made. made.0.shape ≡ shape_of geo.now) }
     ensures keys { S.keys suite.new ≡ S.keys suite.old }
     ensures pads { S.pads suite.new ≡ S.pads suite.old }
     ensures tags { S.tags suite.new ≡ S.tags suite.old }
-    ensures plan { result ≢ Err TreeRec.Memory
-        → Follows (tree_recover_plan (setup_with S.Suite geo.now suite.old) (B.device board.old).regs
-        (recover_parts_at S.Suite W.Watch suite.old watch.old)) (B.device board.old) (B.device board.new)
-        (ended result (recover_parts_at S.Suite W.Watch suite.new watch.new)) }
+    ensures plan { FollowsRecovery B.Board S.Suite W.Watch geo.now board.old suite.old watch.old
+        board.new suite.new watch.new result }
 {
     let mut room = take_room(alloc, geo)?;
     geo.layout_is_one_to_one();
@@ -128,17 +124,14 @@ fn fill_room<B: Board, S: Suite, W: Watch>(
     requires whole { All IsLine slots.old }
     requires cache { length cache.old ≡ tree_slots (shape_of geo.now) }
     requires height { tree.old.height ≡ shadow_height (shape_of geo.now) }
-    ensures filled { FillsRoom (setup_with S.Suite geo.now suite.old)
-        (rest_at B.Board W.Watch board.old watch.old) (rest_at B.Board W.Watch board.new watch.new)
-        (S.digests suite.old) (S.digests suite.new) cache.new tree.new result }
+    ensures filled { FillsTaken B.Board S.Suite W.Watch geo.now board.old suite.old watch.old
+        board.new suite.new watch.new cache.new tree.new result }
     ensures usable { IsRestUsable (shape_of geo.now) (rest_at B.Board W.Watch board.new watch.new) }
     ensures keys { S.keys suite.new ≡ S.keys suite.old }
     ensures pads { S.pads suite.new ≡ S.pads suite.old }
     ensures tags { S.tags suite.new ≡ S.tags suite.old }
-    ensures plan { Follows (fill_plan (setup_with S.Suite geo.now suite.old) (B.device board.old).regs slots.old
-        (recover_parts_at S.Suite W.Watch suite.old watch.old)) (B.device board.old) (B.device board.new)
-        (filled_end result (recover_parts_at S.Suite W.Watch suite.new watch.new)
-        (record { shape = shape_of geo.now; cache = cache.new; tree = tree.new; down = false }) (recovery_work (shape_of geo.now))) }
+    ensures plan { FollowsFill B.Board S.Suite W.Watch geo.now board.old suite.old watch.old
+        board.new suite.new watch.new slots.old cache.new tree.new result }
 {
     geo.layout_is_one_to_one();
     match finish(board) {
@@ -204,8 +197,7 @@ fn put_named(geo: &Geo, slots: &[Line], cache: &mut [Option<CachedNode>])
     requires slots { length slots.now ≡ tree_slots (shape_of geo.now) }
     requires cache { length cache.old ≡ tree_slots (shape_of geo.now) }
     ensures held { (i : ℕ) (held : CachedNode) → cache_at cache.new i ≡ Some held → IsHeldNode (shape_of geo.now) held }
-    ensures named { (i : ℕ) → i < tree_slots (shape_of geo.now) → IsNameable (shape_of geo.now) (slot_read (line_at slots.now i))
-        → cache_at cache.new i ≡ held_of (slot_read (line_at slots.now i)) }
+    ensures named { AreNamed (shape_of geo.now) slots.now cache.new }
     ensures value { cache.new ≡ cache_named (shape_of geo.now) slots.now }
 {
     'slots: for i in 0..tree_slots(geo) {

@@ -1,10 +1,9 @@
 //! The memory that an engine takes, and that recovery and formatting work in.
-ghost use Rattle.std.specs.Prelude.{◌≡◌, suc, replicate, length, IfOk, Option, None};
+ghost use Rattle.std.specs.Prelude.{◌≡◌, replicate, length, IfOk, Option, None};
 ghost use Rattle.pmem_base.specs.Geo.{shape_of};
-ghost use Rattle.pmem_base.specs.Layout.{level_start};
 ghost use Rattle.pmem_base.specs.Lines.{zero_line};
 ghost use Rattle.counter_tree.specs.Layout.{tree_slots};
-ghost use Rattle.counter_tree.specs.Shadow.{shadow_height};
+ghost use Rattle.asit_shadow.specs.Recovering.{unfilled_tree};
 
 use crate::cache::CachedNode;
 use counter_tree::{ShadowTree, tree_slots};
@@ -23,10 +22,7 @@ pub(crate) struct Room {
 pub(crate) fn take_room(alloc: Global, geo: &Geo) -> Result<Room, MemFault>
     ensures cache { IfOk result (λ room. room.cache.items ≡ replicate (tree_slots (shape_of geo.now)) None) }
     ensures slots { IfOk result (λ room. room.slots.items ≡ replicate (tree_slots (shape_of geo.now)) zero_line) }
-    ensures tree { IfOk result (λ room. room.tree ≡ record {
-      height = shadow_height (shape_of geo.now);
-      lines = replicate (level_start (suc (shadow_height (shape_of geo.now)))) zero_line;
-    }) }
+    ensures tree { IfOk result (λ room. room.tree ≡ unfilled_tree (shape_of geo.now)) }
 {
     let count = tree_slots(geo) as usize;
     let cache = vec![in alloc; None; count]?;

@@ -11,12 +11,10 @@ ghost use Rattle.asit_shadow.specs.State.{IsCached, IsCachedAs, IsHeldNode, top_
 ghost use Rattle.asit_shadow.specs.Calls.{IsTreeSpentAnswer};
 ghost use Rattle.asit_shadow.specs.Paths.{line_path};
 ghost use Rattle.asit_shadow.specs.Steps.{KeepsOtherRegisters};
-ghost use Rattle.asit_shadow.specs.Parts.{IsWatchReady, IsTreeUsable, tree_parts_at, tree_setup_at};
-ghost use Rattle.call_plan.specs.Plans.{ended};
-ghost use Rattle.call_plan.specs.Following.{Follows};
-ghost use Rattle.asit_shadow.specs.Plans.{tree_chip_at};
-ghost use Rattle.asit_shadow.specs.WritePlans.{cached_node, raised_node, raised_path, named_all, write_line_plan};
-ghost use Rattle.asit_shadow.specs.Writing.{set_pairs, position_below, IsPathRaised, dirty_entries, armed_lines, IsWriteTold, HasWrittenUp, pair_at};
+ghost use Rattle.asit_shadow.specs.Parts.{IsWatchReady, IsTreeUsable, tree_parts_at};
+ghost use Rattle.asit_shadow.specs.WritePlans.{cached_node, raised_node, raised_path, named_all};
+ghost use Rattle.asit_shadow.specs.Writing.{set_pairs, position_below, IsPathRaised, dirty_entries, armed_lines, IsWriteTold, pair_at};
+ghost use Rattle.asit_shadow.specs.Promised.{WritesUp, FollowsWriteUp};
 
 use crate::cache::CachedNode;
 use crate::engine::TreeEngine;
@@ -43,14 +41,12 @@ impl TreeEngine {
         requires line { at < tree_lines self.old.shape }
         requires usable { IsTreeUsable self.old.shape (tree_parts_at B.Board W.Watch self.old board.old watch.old) }
         requires up { self.old.down ≡ false }
-        ensures written { HasWrittenUp (tree_setup_at S.Suite self.old suite.old) at line.now
-            (tree_parts_at B.Board W.Watch self.old board.old watch.old)
-            (tree_parts_at B.Board W.Watch self.new board.new watch.new) result }
+        ensures written { WritesUp B.Board S.Suite W.Watch self.old board.old suite.old watch.old
+            self.new board.new suite.new watch.new at line.now result }
         ensures spent { IsTreeSpentAnswer result ↔ (total (top_node self.old.cache) ≡ 2 ^ 64 - 1) }
         ensures keys { S.keys suite.new ≡ S.keys suite.old }
-        ensures plan { Follows (write_line_plan (tree_setup_at S.Suite self.old suite.old) (B.device board.old).regs at line.now
-            (tree_chip_at S.Suite W.Watch self.old suite.old watch.old)) (B.device board.old) (B.device board.new)
-            (ended result (tree_chip_at S.Suite W.Watch self.new suite.new watch.new)) }
+        ensures plan { FollowsWriteUp B.Board S.Suite W.Watch self.old board.old suite.old watch.old
+            self.new board.new suite.new watch.new at line.now result }
     {
         self.is_whole();
         if is_used_up(&self.top()) {

@@ -1,7 +1,8 @@
--- Two answers of one command in one state are the same, and leave the same state.
-use Rattle.std.proofs.Common.{ℕ, ◌≡◌, Bool, true, false, List, Option, Some, None, Result, refl, sym, ap, subst, ◌∙◌, arith}
+-- Two replies to one command in one state are the same, and leave the same state.
+use Rattle.std.proofs.Common.{ℕ, ◌≡◌, Bool, true, false, List, Option, Some, None, Result, Ok, Err, inl, inr, refl, sym, ap, subst, ◌∙◌, arith}
 use Rattle.std.specs.Prelude.{not, nat_lt, ⊤, if◌then◌else◌}
 use Rattle.std.proofs.lemmas.Option.{same_Some}
+use Rattle.pmem_base.specs.declared.answers.Exhibit.{Exhibit}
 use Rattle.board.specs.Memory.{BoardMemory}
 use Rattle.suite.specs.Setup.{Setup}
 use Rattle.call_plan.specs.Plans.{Plan}
@@ -11,7 +12,7 @@ use Rattle.counter_tree.specs.Layout.{tree_lines}
 use Rattle.watched_board.specs.declared.taken.Taken.{Taken}
 use Rattle.asit_shadow.specs.declared.fault.TreeFault.{TreeFault}
 use Rattle.asit_shadow.specs.State.{TreeState}
-use Rattle.asit_shadow.specs.Plain.{PlainTree}
+use Rattle.asit_shadow.specs.Plain.{PlainTree, with_board}
 use Rattle.asit_shadow.specs.Plans.{TreeChip, read_plan}
 use Rattle.asit_shadow.specs.WritePlans.{write_plan}
 use Rattle.asit_shadow.specs.RecoverPlans.{RecoverParts}
@@ -20,9 +21,9 @@ use Rattle.tree_session.specs.declared.commands.TreeCommand.TheVariants as Do
 use Rattle.tree_session.specs.declared.answers.TreeAnswer.{TreeAnswer}
 use Rattle.tree_session.specs.declared.answers.TreeAnswer.TheVariants as Say
 use Rattle.tree_session.specs.State.{SessionState}
-use Rattle.tree_session.specs.Called.{HasTreeCalled, HasTreeStarted, IsTreeCallOf, IsTreeCalled, chip_in, plain_said, on_said, read_said, write_said, board_resting, engine_made}
-use Rattle.tree_session.specs.Answered.{AnswersWith, tree_decided}
-use Rattle.tree_session.specs.Determined.{TreeRepliesAreDetermined}
+use Rattle.tree_session.specs.Called.{HasTreeCalled, HasTreeStarted, IsTreeCallOf, IsTreeCalled, chip_in, plain_said, on_said, read_said, write_said, board_left, engine_kept, board_resting, engine_made}
+use Rattle.tree_session.specs.Answered.{AnswersWith, tree_decided, IsTreeAnswered, IsEngineShown, IsTreeShownBy}
+use Rattle.tree_session.specs.Determined.{TreeRepliesAreDetermined, IsTreeReplied}
 
 -- a state is its fields
 same_state : (a b : SessionState) → a.shape ≡ b.shape → a.keys ≡ b.keys → a.plain ≡ b.plain → a.shown ≡ b.shown → a.engine ≡ b.engine → a.seals ≡ b.seals
@@ -35,10 +36,11 @@ lit_of true b none = refl
 lit_of false b none = absurd cc
 
 module _ (setup : Setup) (old one other : SessionState) where
-  -- the answers, memory and the chip are the same
-  record AreAlike (first second : TreeAnswer) : Type 0 where
-    answer : first ≡ second
+  -- what was answered, memory and the chip are the same
+  record AreAlike (first second : Option TreeAnswer) : Type 0 where
+    said : first ≡ second
     plain : one.plain ≡ other.plain
+    shown : one.shown ≡ other.shown
     engine : one.engine ≡ other.engine
     seals : one.seals ≡ other.seals
     nodes : one.nodes ≡ other.nodes
@@ -47,32 +49,39 @@ module _ (setup : Setup) (old one other : SessionState) where
     tags : one.tags ≡ other.tags
     digests : one.digests ≡ other.digests
 
-  -- memory, by the answer and by the board
-  plain_alike : (command : TreeCommand) (first second : TreeAnswer) → first ≡ second → one.plain.board ≡ other.plain.board
-      → one.plain ≡ plain_said setup.shape old.plain command first one.plain.board
-      → other.plain ≡ plain_said setup.shape old.plain command second other.plain.board → one.plain ≡ other.plain
-  plain_alike command first second answer board it its =
-      it
-      ∙ (ap (λ (a : TreeAnswer). plain_said setup.shape old.plain command a one.plain.board) answer
-      ∙ (ap (λ (b : BoardMemory). plain_said setup.shape old.plain command second b) board ∙ sym its))
+  -- memory, by what was answered and by the board
+  abbrev plain_left : TreeCommand → Option TreeAnswer → BoardMemory → PlainTree
+  plain_left command (Some answer) board = plain_said setup.shape old.plain command answer board
+  plain_left command None board = with_board old.plain board
 
-  called_alike : {A : Type 0} (plan : TreeChip → Plan (TreeChip × TreeFault) (TreeChip × A)) (says : Taken → Result A TreeFault → TreeAnswer)
-      (command : TreeCommand) (first second : TreeAnswer) → old.plain.board.powered ≡ true → HasTreeCalled setup plan says old one first
-      → HasTreeCalled setup plan says old other second → one.plain ≡ plain_said setup.shape old.plain command first one.plain.board
-      → other.plain ≡ plain_said setup.shape old.plain command second other.plain.board → AreAlike first second
+  plain_alike : (command : TreeCommand) (first second : Option TreeAnswer) → first ≡ second → one.plain.board ≡ other.plain.board
+      → one.plain ≡ plain_left command first one.plain.board → other.plain ≡ plain_left command second other.plain.board → one.plain ≡ other.plain
+  plain_alike command first second said board it its =
+      it
+      ∙ (ap (λ (a : Option TreeAnswer). plain_left command a one.plain.board) said
+      ∙ (ap (λ (b : BoardMemory). plain_left command second b) board ∙ sym its))
+
+  called_alike : {A : Type 0} (plan : TreeChip → Plan (TreeChip × TreeFault) (TreeChip × A)) (says : Taken → Result A TreeFault → Option TreeAnswer)
+      (command : TreeCommand) (first second : Option TreeAnswer) → old.plain.board.powered ≡ true → HasTreeCalled setup plan says old one first
+      → HasTreeCalled setup plan says old other second → one.plain ≡ plain_left command first one.plain.board
+      → other.plain ≡ plain_left command second other.plain.board → AreAlike first second
   called_alike plan says command first second on it its plain plain_other =
       let engine : its.engine ≡ it.engine = same_Some its.engine it.engine (sym its.was_on ∙ it.was_on) in
-      let outcome : IsOutcome (plan (chip_in setup old it.engine)) old.plain.board other.plain.board its.taken its.end (chip_in setup other its.after) =
-      subst (λ e. IsOutcome (plan (chip_in setup old e)) old.plain.board other.plain.board its.taken its.end (chip_in setup other its.after)) engine its.outcome in
+      let outcome : IsOutcome (plan (chip_in setup old it.engine)) old.plain.board its.board its.taken its.end (chip_in setup other its.after) =
+      subst (λ e. IsOutcome (plan (chip_in setup old e)) old.plain.board its.board its.taken its.end (chip_in setup other its.after)) engine its.outcome in
       let same = call_is_determined on it.outcome outcome in
-      let answer : first ≡ second = it.is_said ∙ (ap (λ t. says t it.end) same.3 ∙ (ap (says its.taken) same.0 ∙ sym its.is_said)) in
+      let said : first ≡ second = it.is_said ∙ (ap (λ t. says t it.end) same.3 ∙ (ap (says its.taken) same.0 ∙ sym its.is_said)) in
+      let board : one.plain.board ≡ other.plain.board =
+      it.rests ∙ (ap (λ s. board_left s it.board) said ∙ (ap (board_left second) same.2 ∙ sym its.rests)) in
       record {
-        answer = answer;
-        plain = plain_alike command first second answer same.2 plain plain_other;
+        said = said;
+        plain = plain_alike command first second said board plain plain_other;
+        shown = ap (λ (c : TreeChip). c.watch.exhibit) same.1;
         engine =
             it.kept
-            ∙ (ap (λ (b : BoardMemory). if b.powered then Some it.after else None) same.2
-            ∙ (ap (λ (c : TreeChip). if other.plain.board.powered then Some c.engine else None) same.1 ∙ sym its.kept));
+            ∙ (ap (λ s. engine_kept s it.board it.after) said
+            ∙ (ap (λ (b : BoardMemory). engine_kept second b it.after) same.2
+            ∙ (ap (λ (c : TreeChip). engine_kept second its.board c.engine) same.1 ∙ sym its.kept)));
         seals = ap (λ (c : TreeChip). c.watch.seals) same.1;
         nodes = ap (λ (c : TreeChip). c.watch.nodes) same.1;
         slots = ap (λ (c : TreeChip). c.watch.slots) same.1;
@@ -81,17 +90,17 @@ module _ (setup : Setup) (old one other : SessionState) where
         digests = ap (λ (c : TreeChip). c.digests) same.1;
       }
 
-  started_alike : (first second : TreeAnswer) → HasTreeStarted setup old one first → HasTreeStarted setup old other second
-      → one.plain ≡ plain_said setup.shape old.plain Do.On first one.plain.board
-      → other.plain ≡ plain_said setup.shape old.plain Do.On second other.plain.board → AreAlike first second
+  started_alike : (first second : Option TreeAnswer) → HasTreeStarted setup old one first → HasTreeStarted setup old other second
+      → one.plain ≡ plain_left Do.On first one.plain.board → other.plain ≡ plain_left Do.On second other.plain.board → AreAlike first second
   started_alike first second it its plain plain_other =
       let same = call_is_determined refl it.outcome its.outcome in
-      let answer : first ≡ second = it.is_said ∙ (ap (λ t. on_said t it.end) same.3 ∙ (ap (on_said its.taken) same.0 ∙ sym its.is_said)) in
+      let said : first ≡ second = it.is_said ∙ (ap (λ t. on_said t it.end) same.3 ∙ (ap (on_said its.taken) same.0 ∙ sym its.is_said)) in
       let board : one.plain.board ≡ other.plain.board =
       it.rests ∙ (ap (λ e. board_resting e it.board) same.0 ∙ (ap (board_resting its.end) same.2 ∙ sym its.rests)) in
       record {
-        answer = answer;
-        plain = plain_alike Do.On first second answer board plain plain_other;
+        said = said;
+        plain = plain_alike Do.On first second said board plain plain_other;
+        shown = ap (λ (p : RecoverParts). p.watch.exhibit) same.1;
         engine = it.made ∙ (ap engine_made same.0 ∙ sym its.made);
         seals = ap (λ (p : RecoverParts). p.watch.seals) same.1;
         nodes = ap (λ (p : RecoverParts). p.watch.nodes) same.1;
@@ -117,26 +126,29 @@ module _ (setup : Setup) (old one other : SessionState) where
   lit_for Do.Snap none = tt
   lit_for (Do.Back d) none = tt
 
-  by_call : (command : TreeCommand) (first second : TreeAnswer) → IsLitFor command → IsTreeCalled setup old command one first None
-      → IsTreeCalled setup old command other second None → AreAlike first second
-  by_call (Do.Write a line) first second on it its =
-      called_alike (write_plan setup old.plain.board.regs a line) write_said (Do.Write a line) first second on it.0 its.0 it.1 its.1
-  by_call (Do.Read a) first second on it its = called_alike (read_plan setup a) read_said (Do.Read a) first second on it.0 its.0 it.1 its.1
-  by_call Do.On first second on it its = started_alike first second it.0 its.0 it.1 its.1
-  by_call Do.Off first second on it its = absurd it.0
-  by_call (Do.Cut n) first second on it its = absurd it.0
-  by_call (Do.Poke d line) first second on it its = absurd it.0
-  by_call Do.Snap first second on it its = absurd it.0
-  by_call (Do.Back d) first second on it its = absurd it.0
+  -- where the state doesn't decide
+  by_call : (command : TreeCommand) (first second : Option TreeAnswer) → IsLitFor command → IsTreeCallOf setup old command one first
+      → IsTreeCallOf setup old command other second → one.plain ≡ plain_left command first one.plain.board → other.plain ≡ plain_left command second other.plain.board
+      → AreAlike first second
+  by_call (Do.Write a line) first second on it its plain plain_other =
+      called_alike (write_plan setup old.plain.board.regs a line) write_said (Do.Write a line) first second on it its plain plain_other
+  by_call (Do.Read a) first second on it its plain plain_other = called_alike (read_plan setup a) read_said (Do.Read a) first second on it its plain plain_other
+  by_call Do.On first second on it its plain plain_other = started_alike first second it its plain plain_other
+  by_call Do.Off first second on it its plain plain_other = absurd it
+  by_call (Do.Cut n) first second on it its plain plain_other = absurd it
+  by_call (Do.Poke d line) first second on it its plain plain_other = absurd it
+  by_call Do.Snap first second on it its plain plain_other = absurd it
+  by_call (Do.Back d) first second on it its plain plain_other = absurd it
 
-  alike : (decided : Option TreeAnswer) (command : TreeCommand) (first second : TreeAnswer) → (decided ≡ None → IsLitFor command)
+  answers_alike : (decided : Option TreeAnswer) (command : TreeCommand) (first second : TreeAnswer) → (decided ≡ None → IsLitFor command) → one.shown ≡ other.shown
       → AnswersWith setup old.plain command one.plain first decided → AnswersWith setup old.plain command other.plain second decided
-      → IsTreeCalled setup old command one first decided → IsTreeCalled setup old command other second decided → AreAlike first second
-  alike None command first second on it its called again = by_call command first second (on refl) called again
-  alike (Some known) command first second on it its called again =
+      → IsTreeCalled setup old command one first decided → IsTreeCalled setup old command other second decided → AreAlike (Some first) (Some second)
+  answers_alike None command first second on shown it its called again = by_call command (Some first) (Some second) (on refl) called.0 again.0 called.1 again.1
+  answers_alike (Some known) command first second on shown it its called again =
       record {
-        answer = it.0 ∙ sym its.0;
+        said = ap Some (it.0 ∙ sym its.0);
         plain = it.1 ∙ sym its.1;
+        shown = shown;
         engine = called.engine ∙ sym again.engine;
         seals = called.seals ∙ sym again.seals;
         nodes = called.nodes ∙ sym again.nodes;
@@ -146,12 +158,61 @@ module _ (setup : Setup) (old one other : SessionState) where
         digests = called.digests ∙ sym again.digests;
       }
 
+  -- an answer's call, where an exhibit says that the state doesn't decide
+  called_of : (decided : Option TreeAnswer) (command : TreeCommand) (answer : TreeAnswer) (new : SessionState) → decided ≡ None
+      → IsTreeCalled setup old command new answer decided → IsTreeCalled setup old command new answer None
+  called_of decided command answer new none it = subst (λ d. IsTreeCalled setup old command new answer d) none it
+
+  state_alike : {first second : Option TreeAnswer} → AreAlike first second → one.shape ≡ other.shape → one.keys ≡ other.keys → one ≡ other
+  state_alike it shape keys =
+      same_state one other shape keys it.plain it.shown it.engine it.seals it.nodes it.slots it.pads it.tags it.digests
+
+module _ (setup : Setup) (command : TreeCommand) (old one other : SessionState) where
+  two_answers : (first second : TreeAnswer) → IsTreeAnswered setup old command first one → IsTreeAnswered setup old command second other
+      → (first ≡ second) × (one ≡ other)
+  two_answers first second it its =
+      let same =
+      answers_alike setup old one other (tree_decided setup.shape old.plain command) command first second (lit_for setup old one other command)
+      (it.kept.shown ∙ sym its.kept.shown) it.answered its.answered it.called its.called in (
+        same_Some first second same.said,
+        state_alike setup old one other same (it.kept.shape ∙ sym its.kept.shape) (it.kept.keys ∙ sym its.kept.keys),
+      )
+
+  -- an answer isn't an exhibit
+  not_both : (answer : TreeAnswer) (exhibit : Exhibit) → IsTreeAnswered setup old command answer one → IsEngineShown setup old command exhibit other → ⊥
+  not_both answer exhibit it its =
+      let called = called_of setup old one other (tree_decided setup.shape old.plain command) command answer one its.undecided it.called in
+      let same =
+      by_call setup old one other command (Some answer) None (lit_for setup old one other command its.undecided) called.0 its.called called.1 its.plain in
+      Rattle.std.proofs.lemmas.Option.none-some answer (sym same.said)
+
+  two_exhibits : (first second : Exhibit) → IsEngineShown setup old command first one → IsEngineShown setup old command second other
+      → (first ≡ second) × (one ≡ other)
+  two_exhibits first second it its =
+      let same =
+      by_call setup old one other command None None (lit_for setup old one other command it.undecided) it.called its.called it.plain its.plain in (
+        same_Some first second (sym it.shown ∙ (same.shown ∙ its.shown)),
+        state_alike setup old one other same (it.shape ∙ sym its.shape) (it.keys ∙ sym its.keys),
+      )
+
+  -- after an exhibit that exhibit is the reply
+  shown_twice : (first second : Exhibit) → IsTreeShownBy setup old command first one → IsTreeShownBy setup old command second other
+      → (first ≡ second) × (one ≡ other)
+  shown_twice first second (inl it) (inl its) = two_exhibits first second it its
+  shown_twice first second (inl it) (inr again) = absurd (Rattle.std.proofs.lemmas.Option.none-some second (sym it.not_shown ∙ again.0))
+  shown_twice first second (inr again) (inl its) = absurd (Rattle.std.proofs.lemmas.Option.none-some first (sym its.not_shown ∙ again.0))
+  shown_twice first second (inr it) (inr again) = (same_Some first second (sym it.0 ∙ again.0), it.1 ∙ sym again.1)
+
+  not_shown_by : (answer : TreeAnswer) (exhibit : Exhibit) → IsTreeAnswered setup old command answer one → IsTreeShownBy setup old command exhibit other → ⊥
+  not_shown_by answer exhibit it (inl its) = not_both answer exhibit it its
+  not_shown_by answer exhibit it (inr again) = Rattle.std.proofs.lemmas.Option.none-some exhibit (sym it.not_shown ∙ again.0)
+
 pub replies_are_determined : TreeRepliesAreDetermined
-replies_are_determined setup command first second old one other it its =
-    let same =
-    alike setup old one other (tree_decided setup.shape old.plain command) command first second (lit_for setup old one other command) it.answered
-    its.answered it.called its.called in (
-      same.answer,
-      same_state one other (it.kept.shape ∙ sym its.kept.shape) (it.kept.keys ∙ sym its.kept.keys) same.plain (it.kept.shown ∙ sym its.kept.shown)
-          same.engine same.seals same.nodes same.slots same.pads same.tags same.digests,
-    )
+replies_are_determined setup command (Ok first) (Ok second) old one other it its =
+    let same = two_answers setup command old one other first second it its in (ap Ok same.0, same.1)
+replies_are_determined setup command (Ok first) (Err second) old one other it its =
+    absurd (not_shown_by setup command old one other first second it its)
+replies_are_determined setup command (Err first) (Ok second) old one other it its =
+    absurd (not_shown_by setup command old other one second first its it)
+replies_are_determined setup command (Err first) (Err second) old one other it its =
+    let same = shown_twice setup command old one other first second it its in (ap Err same.0, same.1)

@@ -31,6 +31,7 @@ use Rattle.asit_shadow.specs.Places.{IsNodeHeldBy}
 use Rattle.asit_shadow.specs.Steps.{tree_plain_of, tree_plain_line}
 use Rattle.asit_shadow.specs.Recovering.{rest_of}
 use Rattle.asit_shadow.proofs.FormatLaws.{replicate-default}
+use Rattle.asit_shadow.proofs.FormatPlans.{first_engine-is}
 use Rattle.asit_shadow.proofs.RecoverLaws.{lines-equal}
 use Rattle.tree_session.specs.State.{IsNewTree}
 use Rattle.tree_session.specs.World.{TreeParts, named_by, state_of, IsTreeWorld}
@@ -162,5 +163,10 @@ module _ (setup : Setup) (keys : List ℕ) (pads tags digests : ℕ) (engine : T
         writes = it.device.writes;
         latches = it.device.latches;
         cuts = it.device.cuts;
+        engine = ap Some (first_engine-is setup (rest_of (device_of (new_memory (tree_size setup.shape))) (new_watch setup)) (rest_of (device_of board) watch) engine it);
+        seal_count = trusted.anchored.of_setup.seal_count;
+        seals = it.device.told.seals;
+        nodes = it.device.told.nodes;
+        slots = it.device.told.slots;
         shown = none_is watch.exhibit trusted.anchored.no_exhibit;
       }

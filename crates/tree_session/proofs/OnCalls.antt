@@ -178,7 +178,7 @@ module _ (o : OnTreeCall) where
     pub shown_kept : o.answer ≡ Err Fail.Shown → IsTreeWorld setup_then rests_as
     shown_kept is =
         let found = exhibit_of is in
-        rests_so (IsTreeWorld setup_then) (held (left_with call (resting call) None) (clash_held call found.0 found.1 (was (Err Fail.Shown) is)))
+        rests_so (IsTreeWorld setup_then) (held (left_with call (resting call) None) (clash_held call found.0 found.1 (was (Err Fail.Shown) is) (followed (Err Fail.Shown) is (λ e. absurd cc))))
 
     pub shown_seen : o.answer ≡ Err Fail.Shown → (halt : Halt) → Some halt ≡ option_map Stop.Shown o.watch.exhibit
         → IsTreeHalt (tree_setup_in o.formulas_of o.now) o.now Do.On halt (state_of setup_then rests_as)
@@ -186,4 +186,4 @@ module _ (o : OnTreeCall) where
         let found = exhibit_of is in
         rests_so (λ q. IsTreeHalt (tree_setup_in o.formulas_of o.now) o.now Do.On halt (state_of setup_then q))
         (halts o.formulas_of o.geometry o.parts (left_with call (resting call) None) o.now o.keys Do.On halt found.0 o.watch.exhibit o.is o.same_keys refl told found.1
-        (clash_minors call found.0 found.1 (was (Err Fail.Shown) is)) (clash_done call found.0 found.1 (was (Err Fail.Shown) is)))
+        (clash_minors call found.0 found.1 (was (Err Fail.Shown) is) (followed (Err Fail.Shown) is (λ e. absurd cc))) (clash_done call found.0 found.1 (was (Err Fail.Shown) is) (followed (Err Fail.Shown) is (λ e. absurd cc))))

@@ -34,7 +34,7 @@ use Rattle.tree_session.specs.World.{plain_of_parts, state_of, IsTreeWorld}
 use Rattle.tree_session.specs.Answered.{IsTreeAnswered, IsRooted, IsEngineShown, IsBoardSpilled, SaysOfRead, AnswersWith, IsDataAccepted, IsDataRefusal, IsDataExhibit, IsNodeExhibit, IsNodeRefusal}
 use Rattle.tree_session.proofs.BoardSteps.{goes_on, cut_off, then_rests}
 use Rattle.tree_session.proofs.PlainStates.{plain_is}
-use Rattle.tree_session.proofs.Worlds.{TreeEngineCall, EndsBy, IsEngineLeft, lit_left, dark_left, called, from, to, ended_to, left, left_resting, trusted_from, powered_from, seals_kept, rooted_still, cut_rooted_still, ended_after}
+use Rattle.tree_session.proofs.Worlds.{TreeEngineCall, EndsBy, IsEngineLeft, lit_left, dark_left, called, called_shown, from, to, ended_to, left, left_resting, trusted_from, powered_from, seals_kept, rooted_still, cut_rooted_still, ended_after}
 use Rattle.tree_session.proofs.EngineCalls.{undecided_line, kept_plain, rooted_shown, refused_node, shown_node, forged-minors}
 use Rattle.tree_session.proofs.Spills.{board_spilled, few_spilled, few_steps}
 use Rattle.tree_session.proofs.Refusals.{data-accepted, data-refused, data-shown}
@@ -46,7 +46,7 @@ pub record WasRead (c : TreeEngineCall) (a : ℕ) (answer : Result Line TreeFaul
 
 module _ (c : TreeEngineCall) (a : ℕ) (within : a < tree_lines c.setup.shape) where
   -- the answer of the engine, where the state doesn't decide
-  answered : (answer : TreeAnswer) (end : Result Line TreeFault) (found : Option TreeState) → answer ≡ read_said c.taken end
+  answered : (answer : TreeAnswer) (end : Result Line TreeFault) (found : Option TreeState) → Some answer ≡ read_said c.taken end
       → EndsBy c (read_plan c.setup a) end → c.watch.setup ≡ c.setup → IsEngineLeft c found → c.watch.exhibit ≡ None → IsRooted c.setup (plain_of_parts c.setup (left c found c.parts.hurt))
       → plain_of_parts c.setup (left c found c.parts.hurt) ≡ with_board (plain_of_parts c.setup c.parts) c.board
       → SaysOfRead c.setup (plain_of_parts c.setup c.parts) a (plain_of_parts c.setup (left c found c.parts.hurt)) answer
@@ -227,6 +227,9 @@ module _ (c : TreeEngineCall) (a : ℕ) (within : a < tree_lines c.setup.shape) 
                     (same_Some exhibit _ (sym is ∙ line.1.exhibit)) (unstored line.1)))
               ];
           plain = plain;
+          called =
+              called_shown c (show.watch.setup ∙ c.world.its_watch.its_setup) (read_plan c.setup a) read_said (Err Fail.Shown) refl it.follows
+              (show.effect.power.1 (powered_from c));
           steps = steps_in c.taken;
           taken = then_rests (steps_in c.taken) c.parts.board c.board (goes_on c.parts.board c.board c.taken c.watched (show.effect.power.1 (powered_from c)));
           board = left_before;

@@ -37,7 +37,7 @@ use Rattle.asit_shadow.proofs.RecoverLaws.{lines-equal, length-slots_read, line_
 use Rattle.tree_session.specs.declared.commands.TreeCommand.TheVariants as Do
 use Rattle.tree_session.specs.declared.answers.TreeAnswer.{TreeAnswer}
 use Rattle.tree_session.specs.declared.answers.TreeAnswer.TheVariants as Say
-use Rattle.tree_session.specs.Called.{IsTreeCalled, on_said, board_resting, engine_made}
+use Rattle.tree_session.specs.Called.{HasTreeStarted, IsTreeCalled, on_said, board_resting, engine_made}
 use Rattle.tree_session.specs.State.{watch_in}
 use Rattle.tree_session.specs.World.{TreeParts, plain_of_parts, state_of, IsTreeWorld, IsTreeOff, IsTreeOpen}
 use Rattle.tree_session.specs.Answered.{IsTreeAnswered, IsRooted, IsEngineShown, IsTreeMemoryWanted, SaysOfOn, HasTrueSlots, AnswersWith, IsSlotTampered, IsShadowRefusal, IsShadowExhibit, IsGroupDone, group_steps, board_redone, tree_recovery_bound}
@@ -116,10 +116,38 @@ module _ (c : TreeRecoveryCall) where
       Follows (tree_recover_plan c.setup c.parts.board.regs (recover_parts c.parts.watch c.parts.digests))
       (device_during (record c.parts.board { powered = true }) none_taken) (device_during c.board c.taken) (plans.ended end (recover_parts c.watch c.later))
 
-  uncut : c.board.powered ≡ true → c.board.powered ≡ false → steps_in c.taken < step_limit
+  pub uncut : c.board.powered ≡ true → c.board.powered ≡ false → steps_in c.taken < step_limit
   uncut lit unlit = absurd (true≢false (sym lit ∙ unlit))
 
-  answered : (answer : TreeAnswer) (end : Result (TreeState × Work) TreeRec) (board : BoardMemory) (found : Option TreeState) → answer ≡ on_said c.taken end
+  -- power came on, and recovery ended so
+  pub started : (said : Option TreeAnswer) (end : Result (TreeState × Work) TreeRec) (board : BoardMemory) (found : Option TreeState) → said ≡ on_said c.taken end
+      → RecoversBy end → c.watch.setup ≡ c.setup → (c.board.powered ≡ false → steps_in c.taken < step_limit) → board ≡ board_resting end c.board → found ≡ engine_made end
+      → HasTreeStarted c.setup (state_of c.setup c.parts) (state_of c.setup (left_with board found)) said
+  started said end board found is follows its_setup within rests made =
+      record {
+        board = c.board;
+        taken = c.taken;
+        end = end;
+        outcome =
+            record {
+              run = record { follows = c.watched.follows; within = within };
+              follows =
+                  subst (λ w. Follows (tree_recover_plan c.setup c.parts.board.regs (recover_parts w c.parts.digests))
+                  (device_during (record c.parts.board { powered = true }) none_taken) (device_during c.board c.taken)
+                  (plans.ended end (recover_parts (watch_in c.setup (state_of c.setup (left_with board found))) c.later)))
+                  (λ i. record c.parts.watch { setup = c.world.its_watch.its_setup i })
+                  (subst (λ w. Follows (tree_recover_plan c.setup c.parts.board.regs (recover_parts c.parts.watch c.parts.digests))
+                  (device_during (record c.parts.board { powered = true }) none_taken) (device_during c.board c.taken) (plans.ended end (recover_parts w c.later)))
+                  (λ i. record c.watch { setup = its_setup i }) follows);
+            };
+        is_said = is;
+        rests = rests;
+        made = made;
+        pads = c.same_pads;
+        tags = c.same_tags;
+      }
+
+  answered : (answer : TreeAnswer) (end : Result (TreeState × Work) TreeRec) (board : BoardMemory) (found : Option TreeState) → Some answer ≡ on_said c.taken end
       → RecoversBy end → c.watch.setup ≡ c.setup → (c.board.powered ≡ false → steps_in c.taken < step_limit) → board ≡ board_resting end c.board → found ≡ engine_made end
       → c.watch.exhibit ≡ None → IsRooted c.setup (plain_of_parts c.setup (left_with board found))
       → plain_of_parts c.setup (left_with board found) ≡ with_board (plain_of_parts c.setup c.parts) board
@@ -134,31 +162,8 @@ module _ (c : TreeRecoveryCall) where
             (Rattle.std.specs.Prelude.if◌then◌else◌ b (Some Say.Already) None)) (sym dark) it;
         called =
             subst (λ (b : Bool). IsTreeCalled c.setup (state_of c.setup c.parts) Do.On (state_of c.setup (left_with board found)) answer
-            (Rattle.std.specs.Prelude.if◌then◌else◌ b (Some Say.Already) None)) (sym dark) (
-              record {
-                board = c.board;
-                taken = c.taken;
-                end = end;
-                outcome =
-                    record {
-                      run = record { follows = c.watched.follows; within = within };
-                      follows =
-                          subst (λ w. Follows (tree_recover_plan c.setup c.parts.board.regs (recover_parts w c.parts.digests))
-                          (device_during (record c.parts.board { powered = true }) none_taken) (device_during c.board c.taken)
-                          (plans.ended end (recover_parts (watch_in c.setup (state_of c.setup (left_with board found))) c.later)))
-                          (λ i. record c.parts.watch { setup = c.world.its_watch.its_setup i })
-                          (subst (λ w. Follows (tree_recover_plan c.setup c.parts.board.regs (recover_parts c.parts.watch c.parts.digests))
-                          (device_during (record c.parts.board { powered = true }) none_taken) (device_during c.board c.taken) (plans.ended end (recover_parts w c.later)))
-                          (λ i. record c.watch { setup = its_setup i }) follows);
-                    };
-                is_said = is;
-                rests = rests;
-                made = made;
-                pads = c.same_pads;
-                tags = c.same_tags;
-              },
-              plain,
-            );
+            (Rattle.std.specs.Prelude.if◌then◌else◌ b (Some Say.Already) None)) (sym dark)
+            (started (Some answer) end board found is follows its_setup within rests made, plain);
         rooted = rooted;
       }
 

@@ -23,9 +23,10 @@ use Rattle.tree_session.specs.Answered.{IsRooted, IsEngineShown, IsShadowExhibit
 use Rattle.tree_session.proofs.BoardSteps.{goes_on, from_dark, then_rests}
 use Rattle.tree_session.proofs.PlainStates.{plain_is, plain-kept, true_slots-is}
 use Rattle.tree_session.proofs.Worlds.{ended, rooted_open}
-use Rattle.tree_session.proofs.Recoveries.{TreeRecoveryCall, rest_from, rest_to, left_with, resting, dark, anchored_from, frame, finished_steps, group_done, slots_true, tampered_slot, read_are}
+use Rattle.tree_session.proofs.Recoveries.{TreeRecoveryCall, RecoversBy, started, uncut, rest_from, rest_to, left_with, resting, dark, anchored_from, frame, finished_steps, group_done, slots_true, tampered_slot, read_are}
 
-module _ (c : TreeRecoveryCall) (exhibit : Exhibit) (is : c.watch.exhibit ≡ Some exhibit) (it : HasTreeRecovered c.setup (rest_from c) (rest_to c) c.before c.later (Err Fail.Shown)) where
+module _ (c : TreeRecoveryCall) (exhibit : Exhibit) (is : c.watch.exhibit ≡ Some exhibit) (it : HasTreeRecovered c.setup (rest_from c) (rest_to c) c.before c.later (Err Fail.Shown))
+    (follows : RecoversBy c (Err Fail.Shown)) where
   abbrev clash : Rattle.asit_shadow.specs.Recovering.IsTreeClashShown c.setup (rest_from c) (rest_to c)
   clash = it.answered
 
@@ -73,6 +74,8 @@ module _ (c : TreeRecoveryCall) (exhibit : Exhibit) (is : c.watch.exhibit ≡ So
         holds = subst (λ e. IfSome e (IsExhibit c.setup.formulas)) is (it.trusted (anchored_from c));
         shows = subst (λ s. IsShadowExhibit c.setup s exhibit) (sym plain) (shadow_shown true_are);
         plain = plain;
+        called =
+            started c None (Err Fail.Shown) (resting c) None refl follows (seen.setup ∙ c.world.its_watch.its_setup) (uncut c (it.power.1 refl)) refl refl;
         steps = steps_in c.taken;
         taken =
             from_dark (steps_in c.taken) false c.parts.board (resting c)

@@ -14,6 +14,7 @@ use Rattle.collision_witness.specs.Exhibits.{IsExhibit, AreSmallMinors}
 use Rattle.call_plan.specs.Plans.{Plan}
 use Rattle.call_plan.specs.Plans as plans
 use Rattle.call_plan.specs.Following.{Follows}
+use Rattle.call_plan.specs.Runs.{IsOutcome}
 use Rattle.pmem_engine.specs.Outcomes.{Outcome, going, cut_short, shown, is_going}
 use Rattle.counter_tree.specs.Layout.{tree_lines, tree_slots, tree_size, line_of_slot}
 use Rattle.counter_tree.specs.Watch.{WatchState, last_seal_of, IsWatchOf}
@@ -28,7 +29,7 @@ use Rattle.asit_shadow.specs.Calls.{TreeCallEffect, KeepsWatch, AnswersTreeDown,
 use Rattle.asit_shadow.specs.Recovering.{rest_of, IsRestUsable}
 use Rattle.tree_session.specs.Answered.{IsRooted}
 use Rattle.tree_session.specs.declared.answers.TreeAnswer.{TreeAnswer}
-use Rattle.tree_session.specs.Called.{HasTreeCalled}
+use Rattle.tree_session.specs.Called.{HasTreeCalled, chip_in}
 use Rattle.tree_session.specs.State.{watch_in}
 use Rattle.tree_session.specs.World.{TreeParts, plain_of_parts, state_of, IsTreeOn, IsTreeOff, IsTreeBy, IsTreeOpen, IsTreeEnded, IsTreeWorld}
 use Rattle.tree_session.proofs.PlainStates.{plain_is, root-is}
@@ -238,29 +239,55 @@ module _ (c : TreeEngineCall) where
   watch_from : c.parts.watch ≡ watch_in c.setup (state_of c.setup c.parts)
   watch_from = λ i. record c.parts.watch { setup = c.world.its_watch.its_setup i }
 
-  pub called : {A : Type 0} → c.watch.setup ≡ c.setup → (plan : TreeChip → Plan (TreeChip × TreeFault) (TreeChip × A)) (says : Taken → Result A TreeFault → TreeAnswer)
-      (answer : TreeAnswer) (end : Result A TreeFault) (found : Option TreeState) (hurt : List Bool) → answer ≡ says c.taken end → EndsBy plan end
-      → IsEngineLeft found → HasTreeCalled c.setup plan says (state_of c.setup c.parts) (state_of c.setup (left found hurt)) answer
+  -- with the watches as the session's states have them
+  outcome_of : {A : Type 0} → c.watch.setup ≡ c.setup → (plan : TreeChip → Plan (TreeChip × TreeFault) (TreeChip × A)) (end : Result A TreeFault) → EndsBy plan end
+      → (c.board.powered ≡ false → steps_in c.taken < step_limit)
+      → IsOutcome (plan (chip_in c.setup (state_of c.setup c.parts) c.engine)) c.parts.board c.board c.taken end
+      (tree_chip_of c.after (record c.watch { setup = c.setup }) c.pads c.tags c.digests)
+  outcome_of its_setup plan end follows within =
+      let watch_to : c.watch ≡ record c.watch { setup = c.setup } = λ i. record c.watch { setup = its_setup i } in
+      record {
+        run = record { follows = c.watched.follows; within = within };
+        follows =
+            subst (λ w. Follows (plan (tree_chip_of c.engine w c.parts.pads c.parts.tags c.parts.digests)) (device_during c.parts.board none_taken)
+            (device_during c.board c.taken) (plans.ended end (tree_chip_of c.after (record c.watch { setup = c.setup }) c.pads c.tags c.digests))) watch_from
+            (subst (λ w. Follows (plan chip_from) (device_during c.parts.board none_taken) (device_during c.board c.taken)
+            (plans.ended end (tree_chip_of c.after w c.pads c.tags c.digests))) watch_to follows);
+      }
+
+  pub called : {A : Type 0} → c.watch.setup ≡ c.setup → (plan : TreeChip → Plan (TreeChip × TreeFault) (TreeChip × A)) (says : Taken → Result A TreeFault → Option TreeAnswer)
+      (answer : TreeAnswer) (end : Result A TreeFault) (found : Option TreeState) (hurt : List Bool) → Some answer ≡ says c.taken end → EndsBy plan end
+      → IsEngineLeft found → HasTreeCalled c.setup plan says (state_of c.setup c.parts) (state_of c.setup (left found hurt)) (Some answer)
   called its_setup plan says answer end found hurt is follows kept =
-      let watch_to : c.watch ≡ watch_in c.setup (state_of c.setup (left found hurt)) = λ i. record c.watch { setup = its_setup i } in
       record {
         engine = c.engine;
         was_on = c.there;
+        board = c.board;
         after = c.after;
         taken = c.taken;
         end = end;
-        outcome =
-            record {
-              run = record { follows = c.watched.follows; within = kept.1 };
-              follows =
-                  subst (λ w. Follows (plan (tree_chip_of c.engine w c.parts.pads c.parts.tags c.parts.digests)) (device_during c.parts.board none_taken)
-                  (device_during c.board c.taken)
-                  (plans.ended end (tree_chip_of c.after (watch_in c.setup (state_of c.setup (left found hurt))) c.pads c.tags c.digests))) watch_from
-                  (subst (λ w. Follows (plan chip_from) (device_during c.parts.board none_taken) (device_during c.board c.taken)
-                  (plans.ended end (tree_chip_of c.after w c.pads c.tags c.digests))) watch_to follows);
-            };
+        outcome = outcome_of its_setup plan end follows kept.1;
         is_said = is;
+        rests = refl;
         kept = kept.0;
+      }
+
+  -- the watch stopped it, with power on
+  pub called_shown : {A : Type 0} → c.watch.setup ≡ c.setup → (plan : TreeChip → Plan (TreeChip × TreeFault) (TreeChip × A)) (says : Taken → Result A TreeFault → Option TreeAnswer)
+      (end : Result A TreeFault) → None ≡ says c.taken end → EndsBy plan end → c.board.powered ≡ true
+      → HasTreeCalled c.setup plan says (state_of c.setup c.parts) (state_of c.setup left_resting) None
+  called_shown its_setup plan says end is follows lit =
+      record {
+        engine = c.engine;
+        was_on = c.there;
+        board = c.board;
+        after = c.after;
+        taken = c.taken;
+        end = end;
+        outcome = outcome_of its_setup plan end follows (λ dark. absurd (true≢false (sym lit ∙ dark)));
+        is_said = is;
+        rests = refl;
+        kept = refl;
       }
 
   module _ (outcome : Outcome) (effect : TreeCallEffect c.setup outcome from to) where

@@ -39,7 +39,7 @@ use Rattle.tree_session.specs.World.{plain_of_parts, state_of, IsTreeWorld}
 use Rattle.tree_session.specs.Answered.{IsTreeAnswered, IsRooted, IsEngineShown, SaysOfWrite, AnswersWith, IsNodeExhibit, IsNodeRefusal, AllAreMade, tree_write_bound, IsBoardSpilled}
 use Rattle.tree_session.proofs.BoardSteps.{goes_on, cut_off, latched, unlatched, untouched, then_rests, taken-exact}
 use Rattle.tree_session.proofs.PlainStates.{plain_is, plain-kept, plain-written, writes-are}
-use Rattle.tree_session.proofs.Worlds.{TreeEngineCall, EndsBy, IsEngineLeft, lit_left, dark_left, called, from, to, ended_to, still_up, left, left_resting, trusted_from, powered_from, seals_kept, on_after, rooted_after, off_after, rooted_cut, rooted_still, cut_rooted_still, ended_after, none_is}
+use Rattle.tree_session.proofs.Worlds.{TreeEngineCall, EndsBy, IsEngineLeft, lit_left, dark_left, called, called_shown, from, to, ended_to, still_up, left, left_resting, trusted_from, powered_from, seals_kept, on_after, rooted_after, off_after, rooted_cut, rooted_still, cut_rooted_still, ended_after, none_is}
 use Rattle.tree_session.proofs.Spills.{board_spilled, spilled_most, few_steps, board_written, group_kept}
 use Rattle.tree_session.proofs.EngineCalls.{undecided_line, kept_plain, rooted_shown, refused_node, shown_node, forged-minors}
 
@@ -57,7 +57,7 @@ pub record WasWritten (c : TreeEngineCall) (a : ℕ) (line : Line) (answer : Res
   pub follows : EndsBy c (write_plan c.setup c.parts.board.regs a line) answer
 
 module _ (c : TreeEngineCall) (a : ℕ) (within : a < tree_lines c.setup.shape) (line : Line) (whole : IsLine line) where
-  answered : (answer : TreeAnswer) (end : Result ℕ TreeFault) (found : Option TreeState) (hurt : List Bool) → answer ≡ write_said c.taken end
+  answered : (answer : TreeAnswer) (end : Result ℕ TreeFault) (found : Option TreeState) (hurt : List Bool) → Some answer ≡ write_said c.taken end
       → EndsBy c (write_plan c.setup c.parts.board.regs a line) end → c.watch.setup ≡ c.setup → IsEngineLeft c found → c.watch.exhibit ≡ None
       → IsRooted c.setup (plain_of_parts c.setup (left c found hurt))
       → plain_of_parts c.setup (left c found hurt) ≡ plain_said c.setup.shape (plain_of_parts c.setup c.parts) (Do.Write a line) answer c.board
@@ -181,13 +181,13 @@ module _ (c : TreeEngineCall) (a : ℕ) (within : a < tree_lines c.setup.shape) 
         ]
 
     -- by its latches
-    not_latched : c.taken.latches ≤ 0 → Say.CutLost (steps_in c.taken) ≡ write_said c.taken (Err Fail.Cut)
+    not_latched : c.taken.latches ≤ 0 → Some (Say.CutLost (steps_in c.taken)) ≡ write_said c.taken (Err Fail.Cut)
     not_latched none =
-        ap (λ (b : Bool). if b then Say.CutKept (steps_in c.taken) else Say.CutLost (steps_in c.taken)) (sym (le-ltb 0 c.taken.latches none))
+        ap (λ (b : Bool). Some (if b then Say.CutKept (steps_in c.taken) else Say.CutLost (steps_in c.taken))) (sym (le-ltb 0 c.taken.latches none))
 
-    was_latched : 0 < c.taken.latches → Say.CutKept (steps_in c.taken) ≡ write_said c.taken (Err Fail.Cut)
+    was_latched : 0 < c.taken.latches → Some (Say.CutKept (steps_in c.taken)) ≡ write_said c.taken (Err Fail.Cut)
     was_latched some =
-        ap (λ (b : Bool). if b then Say.CutKept (steps_in c.taken) else Say.CutLost (steps_in c.taken)) (sym (lt-ltb 0 c.taken.latches some))
+        ap (λ (b : Bool). Some (if b then Say.CutKept (steps_in c.taken) else Say.CutLost (steps_in c.taken))) (sym (lt-ltb 0 c.taken.latches some))
 
     module _ (none : c.taken.latches ≤ 0) where
       -- the path was fetched so far as power lasted
@@ -340,6 +340,9 @@ module _ (c : TreeEngineCall) (a : ℕ) (within : a < tree_lines c.setup.shape) 
             subst (λ s. IsNodeExhibit c.setup s a exhibit) (sym plain) (shown_node c a within (record c.board { powered = false }) refl exhibit is why.1),
           );
           plain = plain;
+          called =
+              called_shown c ((show.watch tt).setup ∙ c.world.its_watch.its_setup) (write_plan c.setup c.parts.board.regs a line) write_said (Err Fail.Shown) refl
+              it.follows (show.effect.power.1 (powered_from c));
           steps = steps_in c.taken;
           taken = then_rests (steps_in c.taken) c.parts.board c.board (goes_on c.parts.board c.board c.taken c.watched (show.effect.power.1 (powered_from c)));
           board = (

@@ -32,7 +32,7 @@ use Rattle.tree_session.specs.declared.answers.TreeAnswer.TheVariants as Say
 use Rattle.tree_session.specs.Answers.{tree_text}
 use Rattle.tree_session.specs.Commands.{reading_of_tree, tree_takes_memory}
 use Rattle.tree_session.specs.State.{SessionState}
-use Rattle.tree_session.specs.Called.{IsTreeCalled}
+use Rattle.tree_session.specs.Called.{IsTreeCallOf, IsTreeCalled}
 
 -- ---- the answers that the state decides
 
@@ -407,6 +407,8 @@ pub record IsEngineShown (setup : Setup) (old : SessionState) (command : TreeCom
   pub holds : IsExhibit setup.formulas exhibit
   pub shows : ShowsEngine setup old.plain command new.plain exhibit
   pub plain : IsPlainKept old.plain new.plain
+  -- exactly what was done before it was shown
+  pub called : IsTreeCallOf setup old command new None
   pub steps : ℕ
   pub taken : TakesTreeSteps steps false old.plain.board new.plain.board
   pub board : IsBoardLeft setup old.plain command steps new.plain

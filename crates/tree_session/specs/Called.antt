@@ -1,5 +1,5 @@
--- What a command does beside what it answers, exactly: the board followed the plan of the command's call, the answer is a
--- function of how the plan ended, and what is on the chip afterwards is what the plan left.
+-- What a command does beside what it answers or shows, exactly: the board followed the plan of the command's call, the answer
+-- is a function of how the plan ended, and what is on the chip afterwards is what the plan left.
 use Rattle.std.specs.Prelude.{ℕ, ◌≡◌, nat_lt, Bool, true, false, Option, Some, None, Result, Ok, Err, if◌then◌else◌}
 use Rattle.pmem_base.specs.declared.lines.Line.{Line}
 use Rattle.pmem_base.specs.Shape.{Shape}
@@ -29,25 +29,28 @@ use Rattle.tree_session.specs.State.{SessionState, watch_in}
 abbrev pub chip_in : Setup → SessionState → TreeState → TreeChip
 chip_in setup state engine = tree_chip_of engine (watch_in setup state) state.pads state.tags state.digests
 
--- ---- what is said
+-- ---- what is answered; where the watch stopped the engine nothing is, and its exhibit stands for an answer
 
-abbrev pub read_said : Taken → Result Line TreeFault → TreeAnswer
-read_said taken (Ok line) = Say.Got line (steps_in taken)
-read_said taken (Err (Fail.Node x)) = Say.RefusedNode x (steps_in taken)
-read_said taken (Err (Fail.Tag a)) = Say.RefusedData a (steps_in taken)
-read_said taken (Err fault) = Say.Cut (steps_in taken)
+abbrev pub read_said : Taken → Result Line TreeFault → Option TreeAnswer
+read_said taken (Ok line) = Some (Say.Got line (steps_in taken))
+read_said taken (Err (Fail.Node x)) = Some (Say.RefusedNode x (steps_in taken))
+read_said taken (Err (Fail.Tag a)) = Some (Say.RefusedData a (steps_in taken))
+read_said taken (Err Fail.Cut) = Some (Say.Cut (steps_in taken))
+read_said taken (Err fault) = None
 
 -- a cut write is kept where it was armed, by its first latch
-abbrev pub write_said : Taken → Result ℕ TreeFault → TreeAnswer
-write_said taken (Ok counter) = Say.Written (steps_in taken)
-write_said taken (Err (Fail.Node x)) = Say.RefusedNode x (steps_in taken)
-write_said taken (Err Fail.Spent) = Say.Spent (steps_in taken)
-write_said taken (Err fault) = if nat_lt 0 taken.latches then Say.CutKept (steps_in taken) else Say.CutLost (steps_in taken)
+abbrev pub write_said : Taken → Result ℕ TreeFault → Option TreeAnswer
+write_said taken (Ok counter) = Some (Say.Written (steps_in taken))
+write_said taken (Err (Fail.Node x)) = Some (Say.RefusedNode x (steps_in taken))
+write_said taken (Err Fail.Spent) = Some (Say.Spent (steps_in taken))
+write_said taken (Err Fail.Cut) = Some (if nat_lt 0 taken.latches then Say.CutKept (steps_in taken) else Say.CutLost (steps_in taken))
+write_said taken (Err fault) = None
 
-abbrev pub on_said : Taken → Result (TreeState × Work) TreeRec → TreeAnswer
-on_said taken (Ok made) = Say.Recovered made.1.digests (steps_in taken)
-on_said taken (Err (Stop.Shadow kept found)) = Say.RefusedShadow kept found (steps_in taken)
-on_said taken (Err fault) = Say.Cut (steps_in taken)
+abbrev pub on_said : Taken → Result (TreeState × Work) TreeRec → Option TreeAnswer
+on_said taken (Ok made) = Some (Say.Recovered made.1.digests (steps_in taken))
+on_said taken (Err (Stop.Shadow kept found)) = Some (Say.RefusedShadow kept found (steps_in taken))
+on_said taken (Err Stop.Cut) = Some (Say.Cut (steps_in taken))
+on_said taken (Err fault) = None
 
 -- ---- the state after
 
@@ -72,37 +75,50 @@ abbrev pub board_resting : Result (TreeState × Work) TreeRec → BoardMemory �
 board_resting (Ok made) board = board
 board_resting (Err fault) board = record board { powered = false }
 
--- one call of the engine, which ended so; the engine is gone where power was cut
-pub record HasTreeCalled {A : Type 0} (setup : Setup) (plan : TreeChip → Plan (TreeChip × TreeFault) (TreeChip × A)) (says : Taken → Result A TreeFault → TreeAnswer)
-    (old new : SessionState) (answer : TreeAnswer) : Type 0 where
+-- an exhibit takes power and the engine
+abbrev pub board_left : Option TreeAnswer → BoardMemory → BoardMemory
+board_left (Some answer) board = board
+board_left None board = record board { powered = false }
+
+-- and so does a cut
+abbrev pub engine_kept : Option TreeAnswer → BoardMemory → TreeState → Option TreeState
+engine_kept (Some answer) board engine = if board.powered then Some engine else None
+engine_kept None board engine = None
+
+-- one call of the engine, which ended so
+pub record HasTreeCalled {A : Type 0} (setup : Setup) (plan : TreeChip → Plan (TreeChip × TreeFault) (TreeChip × A)) (says : Taken → Result A TreeFault → Option TreeAnswer)
+    (old new : SessionState) (said : Option TreeAnswer) : Type 0 where
   pub engine : TreeState
   pub was_on : old.engine ≡ Some engine
+  pub board : BoardMemory
   pub after : TreeState
   pub taken : Taken
   pub end : Result A TreeFault
-  pub outcome : IsOutcome (plan (chip_in setup old engine)) old.plain.board new.plain.board taken end (chip_in setup new after)
-  pub is_said : answer ≡ says taken end
-  pub kept : new.engine ≡ (if new.plain.board.powered then Some after else None)
+  pub outcome : IsOutcome (plan (chip_in setup old engine)) old.plain.board board taken end (chip_in setup new after)
+  pub is_said : said ≡ says taken end
+  pub rests : new.plain.board ≡ board_left said board
+  pub kept : new.engine ≡ engine_kept said board after
 
--- power came on, or a recovery was cut or refused
-pub record HasTreeStarted (setup : Setup) (old new : SessionState) (answer : TreeAnswer) : Type 0 where
+-- power came on, or a recovery was cut, refused or shown
+pub record HasTreeStarted (setup : Setup) (old new : SessionState) (said : Option TreeAnswer) : Type 0 where
   pub board : BoardMemory
   pub taken : Taken
   pub end : Result (TreeState × Work) TreeRec
   pub outcome :
       IsOutcome (tree_recover_plan setup old.plain.board.regs (recover_parts (watch_in setup old) old.digests)) (record old.plain.board { powered = true }) board
       taken end (recover_parts (watch_in setup new) new.digests)
-  pub is_said : answer ≡ on_said taken end
+  pub is_said : said ≡ on_said taken end
   pub rests : new.plain.board ≡ board_resting end board
   pub made : new.engine ≡ engine_made end
   pub pads : new.pads ≡ old.pads
   pub tags : new.tags ≡ old.tags
 
-abbrev pub IsTreeCallOf : Setup → SessionState → TreeCommand → SessionState → TreeAnswer → Type 0
-IsTreeCallOf setup old (Do.Write a line) new answer = HasTreeCalled setup (write_plan setup old.plain.board.regs a line) write_said old new answer
-IsTreeCallOf setup old (Do.Read a) new answer = HasTreeCalled setup (read_plan setup a) read_said old new answer
-IsTreeCallOf setup old Do.On new answer = HasTreeStarted setup old new answer
-IsTreeCallOf setup old command new answer = ⊥
+-- the call of a command, after which this was answered, or an exhibit shown
+abbrev pub IsTreeCallOf : Setup → SessionState → TreeCommand → SessionState → Option TreeAnswer → Type 0
+IsTreeCallOf setup old (Do.Write a line) new said = HasTreeCalled setup (write_plan setup old.plain.board.regs a line) write_said old new said
+IsTreeCallOf setup old (Do.Read a) new said = HasTreeCalled setup (read_plan setup a) read_said old new said
+IsTreeCallOf setup old Do.On new said = HasTreeStarted setup old new said
+IsTreeCallOf setup old command new said = ⊥
 
 -- ---- without a call
 
@@ -125,4 +141,4 @@ pub record IsChipStill (old : SessionState) (command : TreeCommand) (known : Tre
 abbrev pub IsTreeCalled : Setup → SessionState → TreeCommand → SessionState → TreeAnswer → Option TreeAnswer → Type 0
 IsTreeCalled setup old command new answer (Some known) = IsChipStill old command known new
 IsTreeCalled setup old command new answer None =
-    IsTreeCallOf setup old command new answer × (new.plain ≡ plain_said setup.shape old.plain command answer new.plain.board)
+    IsTreeCallOf setup old command new (Some answer) × (new.plain ≡ plain_said setup.shape old.plain command answer new.plain.board)

@@ -1,12 +1,18 @@
--- That the contract of a session's reply leaves nothing open: of two answers of one command, both are the same.
-use Rattle.std.specs.Prelude.{◌≡◌}
+-- That the contract of a session's reply leaves nothing open: of two replies to one command, both are the same.
+use Rattle.std.specs.Prelude.{◌≡◌, Result, Ok, Err}
+use Rattle.pmem_base.specs.declared.answers.Exhibit.{Exhibit}
 use Rattle.suite.specs.Setup.{Setup}
 use Rattle.tree_session.specs.declared.commands.TreeCommand.{TreeCommand}
 use Rattle.tree_session.specs.declared.answers.TreeAnswer.{TreeAnswer}
 use Rattle.tree_session.specs.State.{SessionState}
-use Rattle.tree_session.specs.Answered.{IsTreeAnswered}
+use Rattle.tree_session.specs.Answered.{IsTreeAnswered, IsTreeShownBy}
+
+-- the reply to a command: an answer, or an exhibit in its place
+abbrev pub IsTreeReplied : Setup → SessionState → TreeCommand → Result TreeAnswer Exhibit → SessionState → Type 0
+IsTreeReplied setup old command (Ok answer) new = IsTreeAnswered setup old command answer new
+IsTreeReplied setup old command (Err exhibit) new = IsTreeShownBy setup old command exhibit new
 
 abbrev pub TreeRepliesAreDetermined : Type 0
 TreeRepliesAreDetermined =
-    (setup : Setup) (command : TreeCommand) (first second : TreeAnswer) (old one other : SessionState)
-    → IsTreeAnswered setup old command first one → IsTreeAnswered setup old command second other → (first ≡ second) × (one ≡ other)
+    (setup : Setup) (command : TreeCommand) (first second : Result TreeAnswer Exhibit) (old one other : SessionState)
+    → IsTreeReplied setup old command first one → IsTreeReplied setup old command second other → (first ≡ second) × (one ≡ other)

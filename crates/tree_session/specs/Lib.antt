@@ -4,6 +4,7 @@ pub mod State
 pub mod World
 pub mod Fields
 pub mod During
+pub mod Promised
 pub mod Called
 pub mod Answered
 pub mod Determined

@@ -1,17 +1,19 @@
 -- The state of a session over a counter tree, which is plain data.
-use Rattle.std.specs.Prelude.{ℕ, ◌≡◌, true, false, List, replicate, Option, Some, None, slice_set, length}
+use Rattle.std.specs.Prelude.{ℕ, ◌≡◌, ◌<◌, true, false, List, replicate, Option, Some, None, slice_set, length}
 use Rattle.pmem_base.specs.declared.lines.Line.{Line}
 use Rattle.pmem_base.specs.declared.answers.Exhibit.{Exhibit}
 use Rattle.pmem_base.specs.Shape.{Shape}
 use Rattle.pmem_base.specs.Lines.{zero_line}
+use Rattle.pmem_base.specs.Layout.{meta_lines}
 use Rattle.board.specs.Counts.{RisesBy}
 use Rattle.suite.specs.Formulas.{Formulas}
 use Rattle.suite.specs.Setup.{Setup}
 use Rattle.counter_tree.specs.Layout.{tree_lines, tree_slots, tree_size}
 use Rattle.counter_tree.specs.declared.nodes.Node.{Node}
 use Rattle.counter_tree.specs.declared.watch.LineSeal.{LineSeal}
-use Rattle.counter_tree.specs.Watch.{WatchState}
-use Rattle.asit_shadow.specs.Formatting.{AreLinesFormatted, first_tree_regs}
+use Rattle.counter_tree.specs.Nodes.{zero_node}
+use Rattle.counter_tree.specs.Watch.{WatchState, last_seal_of}
+use Rattle.asit_shadow.specs.Formatting.{AreLinesFormatted, first_tree_regs, first_tree_seal, first_slots, first_engine}
 use Rattle.asit_shadow.specs.Plain.{PlainTree}
 use Rattle.asit_shadow.specs.State.{TreeState}
 
@@ -42,8 +44,8 @@ abbrev pub watch_in : Setup → SessionState → WatchState
 watch_in setup state =
     record { setup = setup; seals = state.seals; nodes = state.nodes; slots = state.slots; exhibit = state.shown }
 
--- A formatted device with power on: all lines are zeros, the top alone is named, nothing was tampered with, and
--- nothing waits to be cut.
+-- A formatted device with power on: all lines are zeros, the top alone is named and cached, the watch knows what was
+-- written, nothing was tampered with, and nothing waits to be cut.
 pub record IsNewTree (setup : Setup) (state : SessionState) : Type 0 where
   pub shape : state.shape ≡ setup.shape
   pub memory : state.plain.memory ≡ replicate (tree_lines setup.shape) zero_line
@@ -62,4 +64,11 @@ pub record IsNewTree (setup : Setup) (state : SessionState) : Type 0 where
   pub writes : RisesBy (tree_size setup.shape) 0 state.plain.board.writes
   pub latches : RisesBy 1 0 state.plain.board.latches
   pub cuts : state.plain.board.cuts ≡ 0
+  pub engine : state.engine ≡ Some (first_engine setup)
+  pub seal_count : length state.seals ≡ tree_lines setup.shape
+  pub seals :
+      (a : ℕ) → a < tree_lines setup.shape
+      → last_seal_of (watch_in setup state) a ≡ Some (first_tree_seal setup.formulas a)
+  pub nodes : state.nodes ≡ replicate (meta_lines setup.shape) zero_node
+  pub slots : state.slots ≡ first_slots setup.shape
   pub shown : state.shown ≡ None

@@ -9,17 +9,10 @@ ghost use Rattle.board.specs.MemBoard.{memory_of};
 ghost use Rattle.watched_board.specs.Watching.{IsWatched, device_during, none_taken};
 ghost use Rattle.access_log.specs.Traced.{GoesOn};
 ghost use Rattle.counter_tree.specs.Layout.{tree_lines, tree_slots, tree_size};
-ghost use Rattle.call_plan.specs.Plans.{ended};
-ghost use Rattle.call_plan.specs.Following.{Follows};
-ghost use Rattle.pmem_recovery.specs.Parts.{setup_with};
-ghost use Rattle.asit_shadow.specs.Parts.{tree_setup_at, IsTreeUsable};
-ghost use Rattle.asit_shadow.specs.Plans.{tree_chip_at, read_plan};
-ghost use Rattle.asit_shadow.specs.WritePlans.{write_plan};
-ghost use Rattle.asit_shadow.specs.RecoverPlans.{recover_parts_at, tree_recover_plan};
-ghost use Rattle.tree_session.specs.During.{parts_during, rest_during, rest_now};
-ghost use Rattle.asit_shadow.specs.Calls.{HasReadTreeLine, HasWrittenTreeLine};
-ghost use Rattle.asit_shadow.specs.Recovering.{IsRestUsable, HasTreeRecovered};
-ghost use Rattle.asit_shadow.specs.Formatting.{HasTreeFormatted};
+ghost use Rattle.asit_shadow.specs.Parts.{IsTreeUsable};
+ghost use Rattle.asit_shadow.specs.Recovering.{IsRestUsable};
+ghost use Rattle.tree_session.specs.During.{parts_during, rest_during};
+ghost use Rattle.tree_session.specs.Promised.{ReadsLine, FollowsRead, WritesLine, FollowsWrite, Recovers, FollowsRecovery, Formats};
 
 use access_log::{AccessLog, Entry, Logged};
 use asit_shadow::{TreeEngine, TreeFault, TreeRec, tree_format, tree_recover};
@@ -51,12 +44,10 @@ pub(crate) fn read<S: Suite, W: Watch>(
     requires line { at < tree_lines engine.old.shape }
     requires on { (memory_of board.old).powered ≡ true }
     requires usable { IsTreeUsable engine.old.shape (parts_during W.Watch engine.old board.old none_taken watch.old) }
-    ensures read { HasReadTreeLine (tree_setup_at S.Suite engine.old suite.old) at
-        (parts_during W.Watch engine.old board.old none_taken watch.old)
-        (parts_during W.Watch engine.new board.new result.taken watch.new) result.answer }
-    ensures plan { Follows (read_plan (tree_setup_at S.Suite engine.old suite.old) at (tree_chip_at S.Suite W.Watch engine.old suite.old watch.old))
-        (device_during (memory_of board.old) none_taken) (device_during (memory_of board.new) result.taken)
-        (ended result.answer (tree_chip_at S.Suite W.Watch engine.new suite.new watch.new)) }
+    ensures read { ReadsLine S.Suite W.Watch engine.old board.old suite.old watch.old
+        engine.new board.new result.taken suite.new watch.new at result.answer }
+    ensures plan { FollowsRead S.Suite W.Watch engine.old board.old suite.old watch.old
+        engine.new board.new result.taken suite.new watch.new at result.answer }
     ensures watched { IsWatched (memory_of board.old) (memory_of board.new) result.taken }
     ensures logged { GoesOn log.old (memory_of board.old) log.new (memory_of board.new) }
     ensures usable { IsTreeUsable engine.old.shape (parts_during W.Watch engine.new board.new result.taken watch.new) }
@@ -87,12 +78,10 @@ fn read_logged<'a, K: Start + Entry, S: Suite, W: Watch>(
     requires on { (memory_of board.old).powered ≡ true }
     requires usable { IsTreeUsable engine.old.shape (parts_during W.Watch engine.old board.old none_taken watch.old) }
     ensures name { result.board.ghost_name ≡ K.name }
-    ensures read { HasReadTreeLine (tree_setup_at S.Suite engine.old suite.old) at
-        (parts_during W.Watch engine.old board.old none_taken watch.old)
-        (parts_during W.Watch engine.new result.board.now result.taken watch.new) result.answer }
-    ensures plan { Follows (read_plan (tree_setup_at S.Suite engine.old suite.old) at (tree_chip_at S.Suite W.Watch engine.old suite.old watch.old))
-        (device_during (memory_of board.old) none_taken) (device_during (memory_of result.board.now) result.taken)
-        (ended result.answer (tree_chip_at S.Suite W.Watch engine.new suite.new watch.new)) }
+    ensures read { ReadsLine S.Suite W.Watch engine.old board.old suite.old watch.old
+        engine.new result.board.now result.taken suite.new watch.new at result.answer }
+    ensures plan { FollowsRead S.Suite W.Watch engine.old board.old suite.old watch.old
+        engine.new result.board.now result.taken suite.new watch.new at result.answer }
     ensures watched { IsWatched K.start (memory_of result.board.now) result.taken }
     ensures logged { GoesOn K.log K.start log.new (memory_of result.board.now) }
     ensures usable { IsTreeUsable engine.old.shape (parts_during W.Watch engine.new result.board.now result.taken watch.new) }
@@ -117,13 +106,10 @@ pub(crate) fn write<S: Suite, W: Watch>(
     requires line { at < tree_lines engine.old.shape }
     requires on { (memory_of board.old).powered ≡ true }
     requires usable { IsTreeUsable engine.old.shape (parts_during W.Watch engine.old board.old none_taken watch.old) }
-    ensures written { HasWrittenTreeLine (tree_setup_at S.Suite engine.old suite.old) at line.now
-        (parts_during W.Watch engine.old board.old none_taken watch.old)
-        (parts_during W.Watch engine.new board.new result.taken watch.new) result.answer }
-    ensures plan { Follows (write_plan (tree_setup_at S.Suite engine.old suite.old) (memory_of board.old).regs at line.now
-        (tree_chip_at S.Suite W.Watch engine.old suite.old watch.old))
-        (device_during (memory_of board.old) none_taken) (device_during (memory_of board.new) result.taken)
-        (ended result.answer (tree_chip_at S.Suite W.Watch engine.new suite.new watch.new)) }
+    ensures written { WritesLine S.Suite W.Watch engine.old board.old suite.old watch.old
+        engine.new board.new result.taken suite.new watch.new at line.now result.answer }
+    ensures plan { FollowsWrite S.Suite W.Watch engine.old board.old suite.old watch.old
+        engine.new board.new result.taken suite.new watch.new at line.now result.answer }
     ensures watched { IsWatched (memory_of board.old) (memory_of board.new) result.taken }
     ensures logged { GoesOn log.old (memory_of board.old) log.new (memory_of board.new) }
     ensures usable { IsTreeUsable engine.old.shape (parts_during W.Watch engine.new board.new result.taken watch.new) }
@@ -155,13 +141,10 @@ fn write_logged<'a, K: Start + Entry, S: Suite, W: Watch>(
     requires on { (memory_of board.old).powered ≡ true }
     requires usable { IsTreeUsable engine.old.shape (parts_during W.Watch engine.old board.old none_taken watch.old) }
     ensures name { result.board.ghost_name ≡ K.name }
-    ensures written { HasWrittenTreeLine (tree_setup_at S.Suite engine.old suite.old) at line.now
-        (parts_during W.Watch engine.old board.old none_taken watch.old)
-        (parts_during W.Watch engine.new result.board.now result.taken watch.new) result.answer }
-    ensures plan { Follows (write_plan (tree_setup_at S.Suite engine.old suite.old) (memory_of board.old).regs at line.now
-        (tree_chip_at S.Suite W.Watch engine.old suite.old watch.old))
-        (device_during (memory_of board.old) none_taken) (device_during (memory_of result.board.now) result.taken)
-        (ended result.answer (tree_chip_at S.Suite W.Watch engine.new suite.new watch.new)) }
+    ensures written { WritesLine S.Suite W.Watch engine.old board.old suite.old watch.old
+        engine.new result.board.now result.taken suite.new watch.new at line.now result.answer }
+    ensures plan { FollowsWrite S.Suite W.Watch engine.old board.old suite.old watch.old
+        engine.new result.board.now result.taken suite.new watch.new at line.now result.answer }
     ensures watched { IsWatched K.start (memory_of result.board.now) result.taken }
     ensures logged { GoesOn K.log K.start log.new (memory_of result.board.now) }
     ensures usable { IsTreeUsable engine.old.shape (parts_during W.Watch engine.new result.board.now result.taken watch.new) }
@@ -184,15 +167,10 @@ pub(crate) fn recover<S: Suite, W: Watch>(
 ) -> CallEnd<Result<(TreeEngine, Work), TreeRec>>
     requires on { (memory_of board.old).powered ≡ true }
     requires usable { IsRestUsable (shape_of geo.now) (rest_during W.Watch board.old none_taken watch.old) }
-    ensures recovered { HasTreeRecovered (setup_with S.Suite geo.now suite.old)
-        (rest_during W.Watch board.old none_taken watch.old)
-        (rest_during W.Watch board.new result.taken watch.new)
-        (S.digests suite.old) (S.digests suite.new) result.answer }
-    ensures plan { result.answer ≢ Err TreeRec.Memory
-        → Follows (tree_recover_plan (setup_with S.Suite geo.now suite.old) (memory_of board.old).regs
-        (recover_parts_at S.Suite W.Watch suite.old watch.old))
-        (device_during (memory_of board.old) none_taken) (device_during (memory_of board.new) result.taken)
-        (ended result.answer (recover_parts_at S.Suite W.Watch suite.new watch.new)) }
+    ensures recovered { Recovers S.Suite W.Watch geo.now board.old suite.old watch.old
+        board.new result.taken suite.new watch.new result.answer }
+    ensures plan { FollowsRecovery S.Suite W.Watch geo.now board.old suite.old watch.old
+        board.new result.taken suite.new watch.new result.answer }
     ensures watched { IsWatched (memory_of board.old) (memory_of board.new) result.taken }
     ensures logged { GoesOn log.old (memory_of board.old) log.new (memory_of board.new) }
     ensures usable { IsRestUsable (shape_of geo.now) (rest_during W.Watch board.new result.taken watch.new) }
@@ -224,15 +202,10 @@ fn recover_logged<'a, K: Start + Entry, S: Suite, W: Watch>(
     requires on { (memory_of board.old).powered ≡ true }
     requires usable { IsRestUsable (shape_of geo.now) (rest_during W.Watch board.old none_taken watch.old) }
     ensures name { result.board.ghost_name ≡ K.name }
-    ensures recovered { HasTreeRecovered (setup_with S.Suite geo.now suite.old)
-        (rest_during W.Watch board.old none_taken watch.old)
-        (rest_during W.Watch result.board.now result.taken watch.new)
-        (S.digests suite.old) (S.digests suite.new) result.answer }
-    ensures plan { result.answer ≢ Err TreeRec.Memory
-        → Follows (tree_recover_plan (setup_with S.Suite geo.now suite.old) (memory_of board.old).regs
-        (recover_parts_at S.Suite W.Watch suite.old watch.old))
-        (device_during (memory_of board.old) none_taken) (device_during (memory_of result.board.now) result.taken)
-        (ended result.answer (recover_parts_at S.Suite W.Watch suite.new watch.new)) }
+    ensures recovered { Recovers S.Suite W.Watch geo.now board.old suite.old watch.old
+        result.board.now result.taken suite.new watch.new result.answer }
+    ensures plan { FollowsRecovery S.Suite W.Watch geo.now board.old suite.old watch.old
+        result.board.now result.taken suite.new watch.new result.answer }
     ensures watched { IsWatched K.start (memory_of result.board.now) result.taken }
     ensures logged { GoesOn K.log K.start log.new (memory_of result.board.now) }
     ensures usable { IsRestUsable (shape_of geo.now) (rest_during W.Watch result.board.now result.taken watch.new) }
@@ -260,8 +233,8 @@ pub(crate) fn format<S: Suite, W: Watch>(
     requires seals { length (W.watched watch.old).seals ≡ tree_lines (shape_of geo.now) }
     requires nodes { length (W.watched watch.old).nodes ≡ meta_lines (shape_of geo.now) }
     requires slots { length (W.watched watch.old).slots ≡ tree_slots (shape_of geo.now) }
-    ensures formatted { IfOk result (HasTreeFormatted (setup_with S.Suite geo.now suite.old)
-        (rest_now W.Watch board.old watch.old) (rest_now W.Watch board.new watch.new)) }
+    ensures formatted { IfOk result (Formats S.Suite W.Watch geo.now board.old suite.old watch.old
+        board.new watch.new) }
     ensures none { (memory_of board.new).snapshot ≡ None }
     ensures each_line { All IsLine (memory_of board.new).lines }
     ensures keys { S.keys suite.new ≡ S.keys suite.old }
@@ -289,8 +262,8 @@ fn format_kept<'a, K: Start, S: Suite, W: Watch>(
     requires nodes { length (W.watched watch.old).nodes ≡ meta_lines (shape_of geo.now) }
     requires slots { length (W.watched watch.old).slots ≡ tree_slots (shape_of geo.now) }
     ensures name { result.board.ghost_name ≡ K.name }
-    ensures formatted { IfOk result.answer (HasTreeFormatted (setup_with S.Suite geo.now suite.old)
-        (rest_now W.Watch board.old watch.old) (rest_now W.Watch result.board.now watch.new)) }
+    ensures formatted { IfOk result.answer (Formats S.Suite W.Watch geo.now board.old suite.old watch.old
+        result.board.now watch.new) }
     ensures none { (memory_of result.board.now).snapshot ≡ None }
     ensures each_line { All IsLine (memory_of result.board.now).lines }
     ensures keys { S.keys suite.new ≡ S.keys suite.old }

@@ -6,8 +6,8 @@ ghost use Rattle.tree_session.specs.Guarantees.{IsTreeKept, IsTreeShown, IsTreeU
 use pmem_base::Geo;
 use suite::Suite;
 
-/// A law: two answers of one command in one state are the same, with the same state after them: so a session's relation
-/// leaves no answer open. Want of memory and exhibits are told apart from answers.
+/// A law: two replies to one command in one state, answers or exhibits, are the same, with the same state after them:
+/// so a session's relation leaves nothing open but where memory is wanting.
 pub fn tree_replies_are_determined()
     ensures { TreeRepliesAreDetermined }
 {}

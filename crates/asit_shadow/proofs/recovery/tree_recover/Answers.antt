@@ -10,7 +10,7 @@ use Rattle.call_plan.specs.Plans.{Plan}
 use Rattle.call_plan.specs.Following.{Follows}
 use Rattle.pmem_recovery.specs.declared.faults.Work.{Work}
 use Rattle.asit_shadow.specs.declared.recovery.TreeRec.{TreeRec}
-use Rattle.asit_shadow.specs.RecoverPlans.{RecoverParts, recover_parts, fill_plan, recover_parts_at}
+use Rattle.asit_shadow.specs.RecoverPlans.{RecoverParts, fill_plan, recover_parts_at}
 use Rattle.pmem_base.specs.Lines.{IsLine, zero_line}
 use Rattle.pmem_base.proofs.LineLemmas.{IsLine-zero_line}
 use Rattle.counter_tree.specs.Layout.{tree_slots}

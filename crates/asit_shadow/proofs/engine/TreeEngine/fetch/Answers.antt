@@ -10,11 +10,11 @@ use Rattle.call_plan.proofs.Loops.{AreTurnsLeft, turns_start, turn_ok, turn_err,
 use Rattle.counter_tree.specs.declared.nodes.Node.{Node}
 use Rattle.bonsai_tree.specs.Positions.{child_slot}
 use Rattle.counter_tree.specs.Nodes.{counter}
-use Rattle.asit_shadow.specs.State.{TreeState, IsCachedAs, top_node}
-use Rattle.asit_shadow.specs.Parts.{TreeEngineParts, tree_parts_of, AreTreeTrusted, tree_parts_at, tree_setup_at}
+use Rattle.asit_shadow.specs.State.{IsCachedAs, top_node}
+use Rattle.asit_shadow.specs.Parts.{AreTreeTrusted, tree_parts_at, tree_setup_at}
 use Rattle.asit_shadow.specs.Paths.{line_path}
 use Rattle.asit_shadow.specs.declared.fault.TreeFault.{TreeFault}
-use Rattle.asit_shadow.specs.Plans.{TreeChip, tree_chip_of, level_plan, fetch_turn, fetch_plan, tree_chip_at}
+use Rattle.asit_shadow.specs.Plans.{TreeChip, level_plan, fetch_turn, fetch_plan, tree_chip_at}
 use Rattle.asit_shadow.specs.Fetching.{HasFetchedNode, HasNoNode, IsPathFetchedTo}
 use Rattle.asit_shadow.proofs.PathSteps.{IsFetchReady, IsNextLevel, path-start, last-start, last-end, place-is, version-is, next-low, path-next, had-in}
 use Rattle.asit_shadow.proofs.FetchStops.{fetch-stopped}

@@ -2,18 +2,15 @@
 use Rattle.std.proofs.Common.{refl, sym, ap, subst, ◌∙◌}
 use Rattle.std.specs.Prelude.{Result, Ok, Err, not, ◌||◌}
 use Rattle.pmem_base.specs.declared.lines.Line.{Line}
-use Rattle.suite.specs.Setup.{Setup}
 use Rattle.pmem_engine.specs.Outcomes.{is_going}
 use Rattle.counter_tree.proofs.ReadPlans.{leaving}
 use Rattle.asit_shadow.specs.declared.fault.TreeFault.{TreeFault}
 use Rattle.asit_shadow.specs.Plans.{TreeChip, tree_chip_of, read_line_plan, ended_engine, tree_chip_at}
 use Rattle.asit_shadow.proofs.FetchPlans.{same_engine}
 use Rattle.asit_shadow.proofs.CalledPlans.{called_down, called_ok, called_err}
-use Rattle.asit_shadow.specs.State.{TreeState}
-use Rattle.asit_shadow.specs.Parts.{TreeEngineParts, tree_parts_of, tree_parts_at, tree_setup_at}
+use Rattle.asit_shadow.specs.Parts.{tree_parts_at, tree_setup_at}
 use Rattle.asit_shadow.specs.Calls.{outcome_of_tree_fault, IsLineRead}
 use Rattle.asit_shadow.proofs.CallEnds.{answers-up, or_false, worked}
-use Rattle.asit_shadow.proofs.engine.TreeEngine.read.Given.{Over}
 use Rattle.asit_shadow.proofs.engine.TreeEngine.read.Goals as goal
 
 pub returns-in-Ok-clause-read : goal.returns-in-Ok-clause-read

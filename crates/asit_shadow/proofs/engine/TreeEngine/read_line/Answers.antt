@@ -4,7 +4,6 @@ use Rattle.std.specs.Prelude.{Result, Ok, Err, IsSome, slice_index}
 use Rattle.pmem_base.specs.declared.lines.Line.{Line}
 use Rattle.pmem_base.specs.Geo.{shape_of}
 use Rattle.pmem_base.specs.Shape.{Shape}
-use Rattle.suite.specs.Setup.{Setup}
 use Rattle.call_plan.specs.Following.{Follows}
 use Rattle.counter_tree.specs.Plans.{ReadParts, read_parts, line_plan}
 use Rattle.counter_tree.proofs.ReadPlans.{leaving}
@@ -16,8 +15,7 @@ use Rattle.asit_shadow.specs.declared.fault.TreeFault.{TreeFault}
 use Rattle.asit_shadow.specs.declared.fault.TreeFault.TheVariants as Fail
 use Rattle.asit_shadow.specs.Plans.{TreeChip, tree_chip_of, read_parts_of, fault_of_line, read_line_plan, tree_chip_at}
 use Rattle.asit_shadow.proofs.CalledPlans.{unfetched_read, fetched_read, refused_read}
-use Rattle.asit_shadow.specs.State.{TreeState}
-use Rattle.asit_shadow.specs.Parts.{TreeEngineParts, tree_parts_of, tree_parts_at, tree_setup_at}
+use Rattle.asit_shadow.specs.Parts.{tree_parts_at, tree_setup_at}
 use Rattle.asit_shadow.proofs.ReadEnds.{IsPathHad, line_counter-is, read-ok, read-cut, read-refused, read-shown}
 use Rattle.asit_shadow.proofs.engine.TreeEngine.read_line.Given.{Over}
 use Rattle.asit_shadow.proofs.engine.TreeEngine.read_line.Goals.{After-fetch_line}
