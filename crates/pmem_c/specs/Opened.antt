@@ -16,6 +16,10 @@ use Rattle.pmem_c.specs.declared.opening.SessionKind.TheVariants.{Run, Wear, Txn
 use Rattle.pmem_c.specs.declared.opening.SuiteKind.{SuiteKind}
 use Rattle.pmem_c.specs.declared.opening.SuiteKind.TheVariants.{Aes, Weak, Blur}
 
+-- the geometry of these numbers
+abbrev pub shape_with : ℕ → ℕ → ℕ → ℕ → ℕ → Shape
+shape_with levels sets ways loss major = record { levels = levels; sets = sets; ways = ways; loss = loss; major = major }
+
 -- ---- new sessions of this geometry, under a suite's formulas and these keys
 
 pub record IsNewRun (f : List ℕ → Formulas) (shape : Shape) (keys : List ℕ) (world : WorldState) : Type 0 where

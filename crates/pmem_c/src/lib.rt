@@ -10,6 +10,7 @@ mod words;
 
 ghost use Rattle.std.specs.Prelude.{◌≡◌, ℕ, List, drop, length};
 ghost use Rattle.pmem_c.specs.Answered.{IsAnswer, IsCopied};
+ghost use Rattle.pmem_c.specs.Opened.{shape_with};
 ghost use Rattle.pmem_c.specs.Sessions.{IsHandle, HasOpened, HasToldHeld, HasClosed, reply_held};
 
 use crate::answering::{answer, copy_out};
@@ -67,7 +68,7 @@ pub extern "C" fn pmem_session_open(
 ) -> u8
     requires handle { IsHandle pmem.old }
     ensures handle { IsHandle pmem.new }
-    ensures opened { HasOpened pmem.old.handle.held kind suite (record { levels = levels; sets = sets; ways = ways; loss = loss; major = major })
+    ensures opened { HasOpened pmem.old.handle.held kind suite (shape_with levels sets ways loss major)
         every key.now tag_key.now result pmem.new.handle.held }
 {
     if pmem.is_open {

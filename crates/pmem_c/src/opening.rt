@@ -3,7 +3,7 @@ ghost use Rattle.std.specs.Prelude.{◌≡◌, ◌≤◌, ◌++◌, ◌∷◌, [
 ghost use Rattle.pmem_base.specs.Geo.{shape_of};
 ghost use Rattle.suite.specs.Weak.{blur_flag};
 ghost use Rattle.pmem_c.specs.declared.opening.Unopened.TheVariants.{OutOfRange};
-ghost use Rattle.pmem_c.specs.Opened.{AreNumbers, HasGeometry, IsOpened, IsUnopened, IsOpenedAes, IsOpenedUnder, IsOpenedWeak, are_in_range, kind_of, suite_of};
+ghost use Rattle.pmem_c.specs.Opened.{AreNumbers, HasGeometry, IsOpened, IsUnopened, IsOpenedAes, IsOpenedUnder, IsOpenedWeak, are_in_range, kind_of, shape_with, suite_of};
 
 use crate::session::Session;
 use any_session::{AnySession, TalkSession, WorldSession};
@@ -74,8 +74,7 @@ fn are_in_range(every: u32, tag_key: &[u8]) -> bool
 
 /// A geometry, where all its numbers are in their ranges.
 fn geometry(levels: u8, sets: u8, ways: u8, loss: u8, major: u64) -> Option<Geo>
-    ensures some { IfSome result (λ geo. shape_of geo
-        ≡ record { levels = levels; sets = sets; ways = ways; loss = loss; major = major }) }
+    ensures some { IfSome result (λ geo. shape_of geo ≡ shape_with levels sets ways loss major) }
     ensures none { result ≡ None → HasGeometry levels sets ways loss → ⊥ }
 {
     match Geo::new(levels, sets, ways, loss, major) {
@@ -232,10 +231,10 @@ pub(crate) fn boxed_session(
     key: &[u8; 16],
     tag_key: &[u8],
 ) -> Result<Box<Session, Global>, u8>
-    ensures opened { IfOk result (λ kept. IsOpened kind suite (record { levels = levels; sets = sets; ways = ways; loss = loss; major = major })
+    ensures opened { IfOk result (λ kept. IsOpened kind suite (shape_with levels sets ways loss major)
         every key.now tag_key.now kept.value.any) }
     ensures reply { IfOk result (λ kept. kept.value.reply.items ≡ []) }
-    ensures none { IfErr result (IsUnopened kind suite (record { levels = levels; sets = sets; ways = ways; loss = loss; major = major })
+    ensures none { IfErr result (IsUnopened kind suite (shape_with levels sets ways loss major)
         every tag_key.now) }
 {
     let Some(geo) = geometry(levels, sets, ways, loss, major) else {

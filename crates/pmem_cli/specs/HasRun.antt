@@ -14,7 +14,7 @@ use Rattle.pmem_cli.specs.declared.options.Choices.{Choices}
 use Rattle.pmem_cli.specs.declared.options.Task.{Task}
 use Rattle.pmem_cli.specs.declared.ending.Ending.{Ending}
 use Rattle.pmem_cli.specs.declared.ending.Ending.TheVariants.{Stopped}
-use Rattle.pmem_cli.specs.Causes.{Rose}
+use Rattle.pmem_cli.specs.Causes.{Rose, AnyRose}
 use Rattle.pmem_cli.specs.Checked.{IsChecked}
 use Rattle.pmem_cli.specs.Endings.{ending_text, ending_status}
 use Rattle.pmem_cli.specs.Keys.{formulas_of, setup_chosen}
@@ -92,6 +92,11 @@ TaskOutcome (Task.Wear c) status pull_failed trace left before after = HasSessio
 TaskOutcome (Task.Tree c) status pull_failed trace left before after = HasSession (tree_chosen c) c.log status pull_failed trace left before after
 TaskOutcome (Task.Txn c) status pull_failed trace left before after = HasSession (txn_chosen c) c.log status pull_failed trace left before after
 
+-- the same of a source and a sink before and after a call
+abbrev pub HasDone : {S K : Type 0} → Task → ℕ → (S → Option (List ℕ)) → (S → ℕ) → S → S → (K → Option (List ℕ)) → K → K → Type 0
+HasDone task status left pulls_failed trace_old trace_new put out_old out_new =
+    TaskOutcome task status (Rose (pulls_failed trace_old) (pulls_failed trace_new)) (left trace_old) (left trace_new) (put out_old) (put out_new)
+
 -- all lines of these bytes are in the grammar, and there are no more of them than a trace may have
 abbrev pub IsInGrammar : List ℕ → Type 0
 IsInGrammar bytes = All (λ line. IsOk (reading_of line)) (lines_of bytes) × (length (lines_of bytes) ≤ line_limit)
@@ -104,6 +109,11 @@ IsComplete (Task.Wear c) status trace fault = IsTalkComplete (telling (wear_chos
 IsComplete (Task.Tree c) status trace fault = IsTalkComplete (telling (tree_chosen c) c.log).protocol status trace fault
 IsComplete (Task.Txn c) status trace fault = IsTalkComplete (telling (txn_chosen c) c.log).protocol status trace fault
 IsComplete task status trace fault = ⊤
+
+-- the same of a source and a sink before and after a call
+abbrev pub GoesThrough : {S K : Type 0} → Task → ℕ → (S → Option (List ℕ)) → (S → ℕ) → S → S → (K → ℕ) → K → K → Type 0
+GoesThrough task status left pulls_failed trace_old trace_new pushes_failed out_old out_new =
+    IsComplete task status (left trace_old) (AnyRose pulls_failed trace_old trace_new pushes_failed out_old out_new)
 
 -- The one line that faulty words are answered with was put, or the sink failed and a front of it was.
 abbrev pub AreRefusedWords : Option (List ℕ) → Option (List ℕ) → ℕ → ℕ → Type 0
@@ -134,6 +144,10 @@ pub record HasRunSample (setup : Setup) (commands : List Command) (stop : Stop) 
   pub replayed : IsReplayed setup stop steps
   pub summed : AreStepSums setup (start setup) steps
   pub said : HasSaidText stop from to text
+
+-- and so it was with a sample trace
+abbrev pub RunsSample : Setup → ℕ → ℕ → Stop → Output → Output → Type 0
+RunsSample setup seed count stop from to = HasRunSample setup (sample_trace seed count) stop from to
 
 -- a run came to its stop
 pub record RunEnds (setup : Setup) (ending : Ending) (trace left : Option (List ℕ)) (from to : Output) : Type 0 where

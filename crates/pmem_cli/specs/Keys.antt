@@ -1,7 +1,9 @@
 -- What a run is set up with: the chosen geometry, and the formulas of the chosen suite under the chosen keys.
 use Rattle.std.specs.Prelude.{ℕ, true, false, List, [], ◌∷◌, ◌++◌, take, Option, Some, None, unwrap_or}
 use Rattle.std.specs.List.{range_with_len}
+use Rattle.pmem_base.specs.declared.geometry.Geo.{Geo}
 use Rattle.pmem_base.specs.declared.lines.Line.{Line}
+use Rattle.pmem_base.specs.Geo.{shape_of}
 use Rattle.suite.specs.Formulas.{Formulas}
 use Rattle.suite.specs.Aes.{aes_formulas}
 use Rattle.suite.specs.Weak.{weak_formulas, blur_flag}
@@ -47,6 +49,10 @@ shape_chosen c =
 
 unfoldable pub setup_chosen : Choices → Setup
 setup_chosen c = record { shape = shape_chosen c; formulas = formulas_of c }
+
+-- of a geometry, and of the formulas that a suite has under its keys
+abbrev pub setup_made : {U : Type 0} → Geo → (List ℕ → Formulas) → (U → List ℕ) → U → Setup
+setup_made geo formulas_of keys suite = record { shape = shape_of geo; formulas = formulas_of (keys suite) }
 
 -- after how many writes the gap of a levelled memory moves: 100 where none is chosen
 abbrev pub every_chosen : Choices → ℕ

@@ -2,6 +2,7 @@
 use Rattle.std.specs.Prelude.{◌≡◌, ◌≢◌, ◌⊎◌, ◌<◌, ◌-◌, ◌++◌, ℕ, false, List, [], ◌∷◌, codes, decimal, length, map, All, Option, Some, None, Ok, Err, IfSome}
 use Rattle.std.specs.List.{flat_map}
 use Rattle.std.specs.Io.KnownBytes.{Appends}
+use Rattle.pmem_base.specs.declared.commands.Command.{Command}
 use Rattle.pmem_base.specs.Shape.{Shape}
 use Rattle.suite.specs.Formulas.{Formulas}
 use Rattle.suite.specs.Setup.{Setup}
@@ -28,6 +29,7 @@ use Rattle.pmem_cli.specs.Replies.{GoesOn, EndsShown}
 use Rattle.pmem_cli.specs.Sampled.{HasSaidText}
 use Rattle.pmem_cli.specs.Standing.{standing_of, IsFirstWorld, IsWorldStep}
 use Rattle.pmem_cli.specs.Sums.{AreStepSums}
+use Rattle.pmem_cli.specs.Turns.{AnswersLine}
 use Rattle.pmem_cli.specs.Untampered.{IsUntampered}
 
 -- ---- texts
@@ -103,6 +105,12 @@ logged_protocol formulas_of =
       wants_memory = λ old line. WantsMemoryLogged old.shape old.state (reading_of line);
       runs = λ world. world.shown ≡ false;
     }
+
+-- so a line is answered that reads as this command, whatever its number
+abbrev pub AnswersTold : (List ℕ → Formulas) → Option Stop → Command → WorldState → WorldState → Output → Output → Type 0
+AnswersTold formulas_of stop command old new from to =
+    (line : List ℕ) (number : ℕ) → reading_of line ≡ Ok (Some command)
+    → AnswersLine (logged_protocol formulas_of) stop line number old new from to
 
 -- ---- the run of a trace
 
@@ -193,3 +201,7 @@ pub record AreRepliedLogged (setup : Setup) (machine : Machine) (given : List �
 abbrev pub HasRepliedLoggedFirst : Setup → Machine → Option (List ℕ) → Option (List ℕ) → Output → Option (List ℕ) → Type 0
 HasRepliedLoggedFirst setup machine trace left_before from put =
     IfSome trace (λ bytes. IfSome left_before (λ behind. (given : List ℕ) × (bytes ≡ given ++ behind) × AreRepliedLogged setup machine given from put))
+
+-- and from the trace's start on
+abbrev pub HasRepliedLoggedFromStart : Setup → Option (List ℕ) → Option (List ℕ) → Output → Option (List ℕ) → Type 0
+HasRepliedLoggedFromStart setup trace left_before from put = HasRepliedLoggedFirst setup (start setup) trace left_before from put

@@ -1,5 +1,5 @@
 -- What a printer, which holds bytes back for a while, has put of the texts that it was given.
-use Rattle.std.specs.Prelude.{◌≡◌, ◌++◌, ℕ, List, Option}
+use Rattle.std.specs.Prelude.{◌≡◌, ◌++◌, ◌⊎◌, ℕ, List, Option}
 use Rattle.std.specs.Io.KnownBytes.{Appends}
 
 -- a front of these bytes was put
@@ -30,3 +30,27 @@ PutsAtLeast before put text = (more : List ℕ) × Appends before.put put (befor
 -- a front of what waited and then the text was put
 abbrev pub PrintsFront : Output → Output → List ℕ → Type 0
 PrintsFront before after text = AppendsFront before.put after.put (before.waiting ++ text)
+
+-- ---- a sink, a source and a printer before and after a call
+
+-- a text was printed between two states of a sink, of which `put` tells what was put: so much waited before, and so much waits
+abbrev pub HasPrinted : {K : Type 0} → (K → Option (List ℕ)) → K → K → List ℕ → List ℕ → List ℕ → Type 0
+HasPrinted put out_old out_new waited waiting text = Prints (with_waiting (put out_old) waited) (with_waiting (put out_new) waiting) text
+
+-- a front of the text was, where the sink failed
+abbrev pub HasPrintedFront : {K : Type 0} → (K → Option (List ℕ)) → K → K → List ℕ → List ℕ → List ℕ → Type 0
+HasPrintedFront put out_old out_new waited waiting text =
+    PrintsFront (with_waiting (put out_old) waited) (with_waiting (put out_new) waiting) text
+
+-- A fact of what the source had left and has left, and of what was printed before and after.
+abbrev pub Across : {S K : Type 0} → (Option (List ℕ) → Option (List ℕ) → Output → Output → Type 0)
+    → (S → Option (List ℕ)) → S → S → (K → Option (List ℕ)) → K → K → List ℕ → List ℕ → Type 0
+Across fact left trace_old trace_new put out_old out_new waited waiting =
+    fact (left trace_old) (left trace_new) (with_waiting (put out_old) waited) (with_waiting (put out_new) waiting)
+
+-- The source is as it was. Or a fact of what it had left at first and before its last pull, of what was printed before,
+-- and of what is put now.
+abbrev pub IfPulled : {S K : Type 0} → (Option (List ℕ) → Option (List ℕ) → Output → Option (List ℕ) → Type 0)
+    → (S → Option (List ℕ)) → (S → Option (List ℕ)) → S → S → (K → Option (List ℕ)) → K → K → List ℕ → Type 0
+IfPulled fact left left_before trace_old trace_new put out_old out_new waited =
+    (trace_new ≡ trace_old) ⊎ fact (left trace_old) (left_before trace_new) (with_waiting (put out_old) waited) (put out_new)

@@ -49,6 +49,11 @@ AnswersCommand (Some Words) command before after from to = ⊥
 AnswersCommand (Some ReadFault) command before after from to = ⊥
 AnswersCommand (Some TooManyLines) command before after from to = ⊥
 
+-- so a world answered it, whose suite has these formulas
+abbrev pub AnswersByWorld : (List ℕ → Formulas) → Option Stop → Command → WorldState → WorldState → Output → Output → Type 0
+AnswersByWorld formulas_of stop command old new from to =
+    AnswersCommand stop command (standing_of formulas_of old) (standing_of formulas_of new) from to
+
 -- ---- the lines of a trace
 
 -- the line's command was answered by the world

@@ -7,8 +7,8 @@ use Rattle.plain_model.specs.Run.{Machine, Step, start, steps_text, IsRunFrom}
 use Rattle.pmem_cli.specs.declared.options.Task.{Task}
 use Rattle.pmem_cli.specs.Checked.{HasLookedFirst}
 use Rattle.pmem_cli.specs.Keys.{setup_chosen}
-use Rattle.pmem_cli.specs.Logged.{HasRepliedLoggedFirst}
-use Rattle.pmem_cli.specs.Printed.{Output, PutsAtLeast}
+use Rattle.pmem_cli.specs.Logged.{HasRepliedLoggedFromStart}
+use Rattle.pmem_cli.specs.Printed.{Output, PutsAtLeast, with_waiting}
 use Rattle.pmem_cli.specs.Pulling.{IsUndecided}
 use Rattle.pmem_cli.specs.Sessions.{HasSaidFirst}
 use Rattle.pmem_cli.specs.Tree.{tree_chosen}
@@ -32,12 +32,22 @@ abbrev pub HasRepliedFirst : Setup → Machine → Option (List ℕ) → Option 
 HasRepliedFirst setup machine trace left_before from put =
     IfSome trace (λ bytes. IfSome left_before (λ behind. (given : List ℕ) × (bytes ≡ given ++ behind) × AreReplied setup machine given from put))
 
+-- and from the trace's start on
+abbrev pub HasRepliedFromStart : Setup → Option (List ℕ) → Option (List ℕ) → Output → Option (List ℕ) → Type 0
+HasRepliedFromStart setup trace left_before from put = HasRepliedFirst setup (start setup) trace left_before from put
+
 -- A run that was given any byte is so, whatever its status; a check was given nothing before that decides its end.
 abbrev pub TaskRepliesFirst : Task → Option (List ℕ) → Option (List ℕ) → Option (List ℕ) → Output → Option (List ℕ) → Type 0
-TaskRepliesFirst (Task.Run c) trace left left_before from put = left ≢ trace → HasRepliedFirst (setup_chosen c) (start (setup_chosen c)) trace left_before from put
-TaskRepliesFirst (Task.Log c) trace left left_before from put = left ≢ trace → HasRepliedLoggedFirst (setup_chosen c) (start (setup_chosen c)) trace left_before from put
+TaskRepliesFirst (Task.Run c) trace left left_before from put = left ≢ trace → HasRepliedFromStart (setup_chosen c) trace left_before from put
+TaskRepliesFirst (Task.Log c) trace left left_before from put = left ≢ trace → HasRepliedLoggedFromStart (setup_chosen c) trace left_before from put
 TaskRepliesFirst (Task.Check c) trace left left_before from put = left ≢ trace → HasLookedFirst None 0 trace left_before
 TaskRepliesFirst (Task.Wear c) trace left left_before from put = left ≢ trace → HasSaidFirst (wear_chosen c) c.log trace left_before from put
 TaskRepliesFirst (Task.Tree c) trace left left_before from put = left ≢ trace → HasSaidFirst (tree_chosen c) c.log trace left_before from put
 TaskRepliesFirst (Task.Txn c) trace left left_before from put = left ≢ trace → HasSaidFirst (txn_chosen c) c.log trace left_before from put
 TaskRepliesFirst task trace left left_before from put = ⊤
+
+-- the same of a source and a sink before and after a call, of which so much waited to be put before
+abbrev pub RepliesBeforePull : {S K : Type 0} → Task → (S → Option (List ℕ)) → (S → Option (List ℕ)) → S → S → (K → Option (List ℕ)) → K → K
+    → List ℕ → Type 0
+RepliesBeforePull task left left_before trace_old trace_new put out_old out_new waited =
+    TaskRepliesFirst task (left trace_old) (left trace_new) (left_before trace_new) (with_waiting (put out_old) waited) (put out_new)

@@ -6,10 +6,15 @@ use Rattle.plain_model.specs.declared.Stop.{Stop}
 use Rattle.plain_model.specs.declared.Stop.TheVariants.{ReadFault}
 use Rattle.plain_model.specs.Lines.{lines_of, IsWithin, ended}
 use Rattle.plain_model.specs.Run.{line_limit, stop_text, status_of}
+use Rattle.trace_text.specs.declared.talk.Talk.{Ghosts}
 use Rattle.trace_text.specs.Talks.{Sort, skipped, asked, faulty}
-use Rattle.trace_text.specs.Conversations.{Protocol, line_sort, texts_of, IsTalk, AreRepliesGiven, TalkEnds}
+use Rattle.trace_text.specs.Conversations.{Protocol, talk_protocol, line_sort, texts_of, IsTalk, AreRepliesGiven, TalkEnds}
 use Rattle.pmem_cli.specs.Printed.{Output, AppendsFront, PutsAtLeast}
 use Rattle.pmem_cli.specs.Pulling.{IsUndecided}
+
+-- a session by itself, as what answers the lines of a trace
+abbrev pub talk_of : {T : Type 0} → Ghosts T → Protocol T (List ℕ)
+talk_of session = talk_protocol session.sort_of session.answers session.shows session.wants_memory
 
 -- The trace ends by a stop, and its replies and the stop's line were put: the whole of them, with the
 -- stop's own status, or a front of them, with status 4. Whatever the status, the stop is a failed pull only

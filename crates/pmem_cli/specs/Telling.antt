@@ -4,9 +4,11 @@ use Rattle.access_log.specs.declared.access.Access.{Access}
 use Rattle.plain_model.specs.declared.Stop.{Stop}
 use Rattle.plain_model.specs.declared.Stop.TheVariants.{Memory, WriteFault}
 use Rattle.plain_model.specs.Texts.{as_line}
+use Rattle.trace_text.specs.declared.talk.Talk.{Ghosts}
 use Rattle.trace_text.specs.Conversations.{Protocol}
 use Rattle.pmem_cli.specs.Logged.{log_text}
 use Rattle.pmem_cli.specs.Printed.{Output, Prints, PrintsFront}
+use Rattle.pmem_cli.specs.Talked.{talk_of}
 
 -- a reply, the command's accesses of the board in their order, and the tags and digests that were made
 pub record Told (X : Type 0) : Type 0 where
@@ -52,6 +54,10 @@ voice {S} {X} protocol logs work true =
       said_by = map (λ (told : Told X). told.said);
     }
 
+-- of a session by itself, as its replies are told
+abbrev pub voice_of : {T : Type 0} → Ghosts T → Bool → Voice T (List ℕ)
+voice_of session logged = voice (talk_of session) session.logs session.work logged
+
 -- A line was told with its log before it, or the sink failed at that; where the log was lost, nothing was.
 abbrev pub TellsLine : Option Stop → Option (List Access) → ℕ → ℕ → List ℕ → Output → Output → Type 0
 TellsLine None (Some accesses) tags digests text from to = Prints from to (log_text accesses tags digests ++ as_line text)
@@ -59,3 +65,7 @@ TellsLine (Some WriteFault) (Some accesses) tags digests text from to =
     PrintsFront from to (log_text accesses tags digests ++ as_line text)
 TellsLine (Some Memory) None tags digests text from to = to ≡ from
 TellsLine stop log tags digests text from to = ⊥
+
+-- the same of how many tags and digests were made before the line and after it
+abbrev pub TellsWork : Option Stop → Option (List Access) → ℕ × ℕ → ℕ × ℕ → List ℕ → Output → Output → Type 0
+TellsWork stop log before after text from to = TellsLine stop log (after.0 - before.0) (after.1 - before.1) text from to

@@ -1,6 +1,8 @@
 -- A memory over a counter tree, as the session of a command.
 use Rattle.std.specs.Prelude.{◌≡◌, ℕ, List, [], Some, Ok, All}
 use Rattle.pmem_base.specs.declared.answers.Exhibit.{Exhibit}
+use Rattle.pmem_base.specs.declared.geometry.Geo.{Geo}
+use Rattle.suite.specs.Formulas.{Formulas}
 use Rattle.suite.specs.Setup.{Setup}
 use Rattle.collision_witness.specs.Exhibits.{IsExhibit}
 use Rattle.tree_session.specs.declared.commands.TreeCommand.{TreeCommand}
@@ -11,7 +13,7 @@ use Rattle.tree_session.specs.Guarantees.{TreeReply, AreAllowed, History, first_
 use Rattle.tree_session.specs.Logged.{IsTreeLogOf}
 use Rattle.tree_session.specs.State.{SessionState, IsNewTree}
 use Rattle.pmem_cli.specs.declared.options.Choices.{Choices}
-use Rattle.pmem_cli.specs.Keys.{setup_chosen}
+use Rattle.pmem_cli.specs.Keys.{setup_made, setup_chosen}
 use Rattle.pmem_cli.specs.Sessions.{Session, Said, replies_among, exhibits_among}
 
 -- an exhibit that ends the session in place of an answer to the line's command
@@ -57,6 +59,10 @@ counter_tree_session setup =
       work = λ state. (state.tags, state.digests);
       promises = λ first said. IsAsPromised setup said;
     }
+
+-- of a geometry and a suite
+abbrev pub tree_made : {U : Type 0} → Geo → (List ℕ → Formulas) → (U → List ℕ) → U → Session SessionState TreeReply
+tree_made geo formulas_of keys suite = counter_tree_session (setup_made geo formulas_of keys suite)
 
 -- as it is chosen
 abbrev pub tree_chosen : Choices → Session SessionState TreeReply

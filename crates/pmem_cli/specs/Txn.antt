@@ -1,5 +1,7 @@
 -- A memory that is written by transactions, as the session of a command.
-use Rattle.std.specs.Prelude.{◌≡◌, Some, Ok}
+use Rattle.std.specs.Prelude.{◌≡◌, ℕ, List, Some, Ok}
+use Rattle.pmem_base.specs.declared.geometry.Geo.{Geo}
+use Rattle.suite.specs.Formulas.{Formulas}
 use Rattle.suite.specs.Setup.{Setup}
 use Rattle.line_txn.specs.Store.{logged_lines}
 use Rattle.txn_session.specs.Answered.{IsTxnAnswered, IsTxnShownOf, IsTxnStarvedOf}
@@ -9,7 +11,7 @@ use Rattle.txn_session.specs.Guarantees.{TxnReply, AreTxnReplies, AreTxnSpentAsU
 use Rattle.txn_session.specs.Logged.{IsTxnLogOf}
 use Rattle.txn_session.specs.State.{TxnState, IsNewTxn}
 use Rattle.pmem_cli.specs.declared.options.Choices.{Choices}
-use Rattle.pmem_cli.specs.Keys.{setup_chosen}
+use Rattle.pmem_cli.specs.Keys.{setup_made, setup_chosen}
 use Rattle.pmem_cli.specs.Sessions.{Session, replies_among}
 
 -- of this setup
@@ -30,6 +32,10 @@ transactions_session setup =
           λ first said. AreTxnReplies (logged_lines setup.shape) (replies_among said)
           × AreTxnSpentAsUsedUp setup first (replies_among said);
     }
+
+-- of a geometry and a suite
+abbrev pub txn_made : {U : Type 0} → Geo → (List ℕ → Formulas) → (U → List ℕ) → U → Session TxnState TxnReply
+txn_made geo formulas_of keys suite = transactions_session (setup_made geo formulas_of keys suite)
 
 -- as it is chosen
 abbrev pub txn_chosen : Choices → Session TxnState TxnReply

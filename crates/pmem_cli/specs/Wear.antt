@@ -1,5 +1,7 @@
 -- A levelled memory, as the session of a command.
-use Rattle.std.specs.Prelude.{◌≡◌, ℕ, Some, Ok}
+use Rattle.std.specs.Prelude.{◌≡◌, ℕ, List, Some, Ok}
+use Rattle.pmem_base.specs.declared.geometry.Geo.{Geo}
+use Rattle.suite.specs.Formulas.{Formulas}
 use Rattle.suite.specs.Setup.{Setup}
 use Rattle.start_gap.specs.Gapped.{logical_lines}
 use Rattle.wear_session.specs.Answered.{IsWearAnswered, IsWearShownOf, IsWearStarvedOf}
@@ -9,7 +11,7 @@ use Rattle.wear_session.specs.Guarantees.{WearReply, AreWearReplies, AreWearSpen
 use Rattle.wear_session.specs.Logged.{IsWearLogOf}
 use Rattle.wear_session.specs.State.{WearState, IsNewWear}
 use Rattle.pmem_cli.specs.declared.options.Choices.{Choices}
-use Rattle.pmem_cli.specs.Keys.{setup_chosen, every_chosen}
+use Rattle.pmem_cli.specs.Keys.{setup_made, setup_chosen, every_chosen}
 use Rattle.pmem_cli.specs.Sessions.{Session, replies_among}
 
 -- of this setup, whose gap moves at each so many writes
@@ -30,6 +32,10 @@ levelled_session setup every =
           λ first said. AreWearReplies (logical_lines setup.shape) every (replies_among said)
           × AreWearSpentAsUsedUp setup first (replies_among said);
     }
+
+-- of a geometry and a suite
+abbrev pub wear_made : {U : Type 0} → Geo → (List ℕ → Formulas) → (U → List ℕ) → U → ℕ → Session WearState WearReply
+wear_made geo formulas_of keys suite every = levelled_session (setup_made geo formulas_of keys suite) every
 
 -- as it is chosen
 abbrev pub wear_chosen : Choices → Session WearState WearReply

@@ -5,7 +5,7 @@ ghost use Rattle.plain_model.specs.Run.{stop_text, status_of, kind_number};
 ghost use Rattle.pmem_cli.specs.Causes.{HasCause, Rose};
 ghost use Rattle.pmem_cli.specs.Endings.{ending_text, ending_status};
 ghost use Rattle.pmem_cli.specs.declared.ending.Ending.TheVariants.{Stopped};
-ghost use Rattle.pmem_cli.specs.Printed.{Prints, PrintsFront, with_waiting};
+ghost use Rattle.pmem_cli.specs.Printed.{HasPrinted, HasPrintedFront};
 
 use crate::printer::Printer;
 use crate::sink::Sink;
@@ -107,8 +107,8 @@ fn ending_number(ending: Ending) -> u8
 
 /// Prints the last line, and pushes all that waits.
 fn tell<K: Sink>(ending: Ending, printer: &mut Printer, out: &mut K) -> Result<(), Failed>
-    ensures ok { OnOk result (Prints (with_waiting (K.put out.old) printer.old) (with_waiting (K.put out.new) []) (ending_text ending)) }
-    ensures err { OnErr result (PrintsFront (with_waiting (K.put out.old) printer.old) (with_waiting (K.put out.new) []) (ending_text ending)) }
+    ensures ok { OnOk result (HasPrinted K.put out.old out.new printer.old [] (ending_text ending)) }
+    ensures err { OnErr result (HasPrintedFront K.put out.old out.new printer.old [] (ending_text ending)) }
     ensures cause { HasCause (K.faults out.old) (K.faults out.new) result }
 {
     printer.print(out, write_ending(ending).as_slice())?;
@@ -122,12 +122,12 @@ pub(crate) fn finish<K: Sink>(ending: Ending, printer: &mut Printer, out: &mut K
     ensures write { ending ≡ Stopped Stop.WriteFault → result ≡ 4 }
     ensures kept { ending ≡ Stopped Stop.WriteFault → out.new ≡ out.old }
     ensures whole { result ≢ 4 → result ≢ 2
-        → Prints (with_waiting (K.put out.old) printer.old) (with_waiting (K.put out.new) []) (ending_text ending) }
+        → HasPrinted K.put out.old out.new printer.old [] (ending_text ending) }
     ensures words_told { result ≡ 2
-        → Prints (with_waiting (K.put out.old) printer.old) (with_waiting (K.put out.new) []) (ending_text ending)
+        → HasPrinted K.put out.old out.new printer.old [] (ending_text ending)
         ⊎ Rose (K.faults out.old) (K.faults out.new) }
     ensures front { ending ≢ Stopped Stop.WriteFault
-        → PrintsFront (with_waiting (K.put out.old) printer.old) (with_waiting (K.put out.new) []) (ending_text ending) }
+        → HasPrintedFront K.put out.old out.new printer.old [] (ending_text ending) }
     ensures fault { result ≡ 4 → (ending ≡ Stopped Stop.WriteFault) ⊎ Rose (K.faults out.old) (K.faults out.new) }
     ensures failed { K.faults out.new ≢ K.faults out.old → (result ≡ 4) ⊎ (result ≡ 2) }
     ensures later { K.faults out.old ≤ K.faults out.new }

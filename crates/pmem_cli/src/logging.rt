@@ -1,19 +1,15 @@
 //! A run whose accesses of the board are told before each reply.
-ghost use Rattle.std.specs.Prelude.{◌≡◌, ◌≤◌, ◌⊎◌, ◌++◌, [], length, OnOk, OnErr, Some, Ok, false, ℕ, List};
-ghost use Rattle.pmem_base.specs.Geo.{shape_of};
+ghost use Rattle.std.specs.Prelude.{◌≡◌, ◌≤◌, ◌++◌, [], length, OnOk, OnErr, Some, Ok, false};
 ghost use Rattle.pmem_base.specs.Ranges.{IsCommand};
-ghost use Rattle.suite.specs.Setup.{Setup};
-ghost use Rattle.plain_model.specs.Grammar.{reading_of};
-ghost use Rattle.plain_model.specs.Run.{start};
 ghost use Rattle.plain_model.specs.Texts.{reply_text};
 ghost use Rattle.pmem_replay.specs.Stepped.{reply_in};
 ghost use Rattle.trace_text.specs.Answers.{HasSmallMinors};
 ghost use Rattle.pmem_cli.specs.Causes.{HasCause};
-ghost use Rattle.pmem_cli.specs.Keys.{setup_chosen};
-ghost use Rattle.pmem_cli.specs.Logged.{LoggedStep, log_text, logged_protocol, HasReplayedLogged, HasRepliedLoggedFirst};
-ghost use Rattle.pmem_cli.specs.Printed.{Prints, PrintsFront, with_waiting};
+ghost use Rattle.pmem_cli.specs.Keys.{setup_chosen, setup_made};
+ghost use Rattle.pmem_cli.specs.Logged.{LoggedStep, log_text, logged_protocol, HasReplayedLogged, AnswersTold, HasRepliedLoggedFromStart};
+ghost use Rattle.pmem_cli.specs.Printed.{with_waiting, HasPrinted, HasPrintedFront, Across, IfPulled};
 ghost use Rattle.pmem_cli.specs.Pulling.{IsInTime};
-ghost use Rattle.pmem_cli.specs.Turns.{AnswersLine, StopsByCause};
+ghost use Rattle.pmem_cli.specs.Turns.{StopsByCause};
 ghost use Rattle.pmem_cli.specs.Words.{AreChosen};
 
 use crate::options::{Choices, SuiteName};
@@ -53,9 +49,9 @@ pub(crate) fn print_log<K: Sink>(
     printer: &mut Printer,
     out: &mut K,
 ) -> Result<(), Failed>
-    ensures ok { OnOk result (Prints (with_waiting (K.put out.old) printer.old) (with_waiting (K.put out.new) printer.new)
+    ensures ok { OnOk result (HasPrinted K.put out.old out.new printer.old printer.new
         (log_text accesses.now tags digests)) }
-    ensures err { OnErr result (PrintsFront (with_waiting (K.put out.old) printer.old) (with_waiting (K.put out.new) printer.new)
+    ensures err { OnErr result (HasPrintedFront K.put out.old out.new printer.old printer.new
         (log_text accesses.now tags digests)) }
     ensures cause { HasCause (K.faults out.old) (K.faults out.new) result }
 {
@@ -76,9 +72,9 @@ fn print_told<U: Counted + Drop, K: Sink>(
     requires from { reply.now.from ≤ reply.now.to }
     requires to { reply.now.to ≤ length world.now.ledger.marks }
     requires minors { HasSmallMinors reply.now.answer }
-    ensures ok { OnOk result (Prints (with_waiting (K.put out.old) printer.old) (with_waiting (K.put out.new) printer.new)
+    ensures ok { OnOk result (HasPrinted K.put out.old out.new printer.old printer.new
         (log_text accesses.now tags digests ++ reply_text (reply_in world.now reply.now))) }
-    ensures err { OnErr result (PrintsFront (with_waiting (K.put out.old) printer.old) (with_waiting (K.put out.new) printer.new)
+    ensures err { OnErr result (HasPrintedFront K.put out.old out.new printer.old printer.new
         (log_text accesses.now tags digests ++ reply_text (reply_in world.now reply.now))) }
     ensures cause { HasCause (K.faults out.old) (K.faults out.new) result }
 {
@@ -97,8 +93,7 @@ fn answer_told<U: Counted + Drop, K: Sink>(
 ) -> Option<Stop>
     requires running { world.old.shown ≡ false }
     requires range { IsCommand command.now }
-    ensures answered { (line : List ℕ) (number : ℕ) → reading_of line ≡ Ok (Some command.now)
-        → AnswersLine (logged_protocol U.formulas_of) result line number world.old world.new
+    ensures answered { AnswersTold U.formulas_of result command.now world.old world.new
         (with_waiting (K.put out.old) printer.old) (with_waiting (K.put out.new) printer.new) }
     ensures cause { StopsByCause result 0 0 (K.faults out.old) (K.faults out.new) }
 {
@@ -157,12 +152,12 @@ fn log_with<U: Counted + Drop, S: Source, K: Sink>(
     out: &mut K,
 ) -> Stop
     requires { (U.tags suite ≡ 0) × (U.digests suite ≡ 0) }
-    ensures run { HasReplayedLogged (record { shape = shape_of geo; formulas = U.formulas_of (U.keys suite) }) result (S.left trace.old) (S.left trace.new)
-        (with_waiting (K.put out.old) printer.old) (with_waiting (K.put out.new) printer.new) }
+    ensures run { Across (HasReplayedLogged (setup_made geo U.formulas_of U.keys suite) result)
+        S.left trace.old trace.new K.put out.old out.new printer.old printer.new }
     ensures cause { StopsByCause (Some result) (S.faults trace.old) (S.faults trace.new) (K.faults out.old) (K.faults out.new) }
     ensures in_time { IsInTime (S.pulls trace.old) (S.pulls trace.new) }
-    ensures replies_first { let setup : Setup = record { shape = shape_of geo; formulas = U.formulas_of (U.keys suite) } in (trace.new ≡ trace.old)
-        ⊎ HasRepliedLoggedFirst setup (start setup) (S.left trace.old) (S.left_before trace.new) (with_waiting (K.put out.old) printer.old) (K.put out.new) }
+    ensures replies_first { IfPulled (HasRepliedLoggedFromStart (setup_made geo U.formulas_of U.keys suite))
+        S.left S.left_before trace.old trace.new K.put out.old out.new printer.old }
 {
     match World::new(alloc, geo, suite) {
         Ok(world) => serve_all(alloc, LoggedWorld { world }, trace, printer, out),
@@ -179,12 +174,12 @@ pub(crate) fn log_trace<S: Source, K: Sink>(
     out: &mut K,
 ) -> Stop
     requires { AreChosen choices.now }
-    ensures run { HasReplayedLogged (setup_chosen choices.now) result (S.left trace.old) (S.left trace.new)
-        (with_waiting (K.put out.old) printer.old) (with_waiting (K.put out.new) printer.new) }
+    ensures run { Across (HasReplayedLogged (setup_chosen choices.now) result)
+        S.left trace.old trace.new K.put out.old out.new printer.old printer.new }
     ensures cause { StopsByCause (Some result) (S.faults trace.old) (S.faults trace.new) (K.faults out.old) (K.faults out.new) }
     ensures in_time { IsInTime (S.pulls trace.old) (S.pulls trace.new) }
-    ensures replies_first { let setup = setup_chosen choices.now in (trace.new ≡ trace.old)
-        ⊎ HasRepliedLoggedFirst setup (start setup) (S.left trace.old) (S.left_before trace.new) (with_waiting (K.put out.old) printer.old) (K.put out.new) }
+    ensures replies_first { IfPulled (HasRepliedLoggedFromStart (setup_chosen choices.now))
+        S.left S.left_before trace.old trace.new K.put out.old out.new printer.old }
 {
     let geo = choices.geometry();
     match choices.suite_name() {

@@ -4,7 +4,7 @@ ghost use Rattle.plain_model.specs.declared.Stop.TheVariants as Stop;
 ghost use Rattle.trace_text.specs.Samples.{sample_trace, commands_text};
 ghost use Rattle.pmem_cli.specs.Causes.{CountsFault, HasCause};
 ghost use Rattle.pmem_cli.specs.HasRun.{TextOutcome};
-ghost use Rattle.pmem_cli.specs.Printed.{Prints, PrintsFront, with_waiting};
+ghost use Rattle.pmem_cli.specs.Printed.{with_waiting, HasPrinted, HasPrintedFront};
 
 use crate::printer::Printer;
 use crate::sink::Sink;
@@ -21,9 +21,9 @@ fn print_sample<K: Sink>(
     printer: &mut Printer,
     out: &mut K,
 ) -> Result<(), Failed>
-    ensures ok { OnOk result (Prints (with_waiting (K.put out.old) printer.old) (with_waiting (K.put out.new) printer.new)
+    ensures ok { OnOk result (HasPrinted K.put out.old out.new printer.old printer.new
         (commands_text (sample_trace seed count))) }
-    ensures err { OnErr result (PrintsFront (with_waiting (K.put out.old) printer.old) (with_waiting (K.put out.new) printer.new)
+    ensures err { OnErr result (HasPrintedFront K.put out.old out.new printer.old printer.new
         (commands_text (sample_trace seed count))) }
     ensures cause { HasCause (K.faults out.old) (K.faults out.new) result }
 {

@@ -5,7 +5,7 @@ ghost use Rattle.plain_model.specs.Texts.{answer_text, command_text, mark_text, 
 ghost use Rattle.trace_text.specs.Commands.{IsWritable};
 ghost use Rattle.trace_text.specs.Answers.{HasSmallMinors};
 ghost use Rattle.pmem_cli.specs.Logged.{access_text, accesses_text, work_text};
-ghost use Rattle.pmem_cli.specs.Printed.{Prints, PrintsFront, with_waiting};
+ghost use Rattle.pmem_cli.specs.Printed.{HasPrinted, HasPrintedFront};
 
 use crate::sink::{Sink, push_all};
 use crate::source::Failed;
@@ -40,9 +40,9 @@ fn flush_waiting<K: Sink>(
     waiting: &mut ArrayVec<u8, WAITING_BYTES>,
     out: &mut K,
 ) -> Result<(), Failed>
-    ensures ok { OnOk result (Prints (with_waiting (K.put out.old) waiting.old.items) (with_waiting (K.put out.new) waiting.new.items) []) }
+    ensures ok { OnOk result (HasPrinted K.put out.old out.new waiting.old.items waiting.new.items []) }
     ensures emptied { waiting.new.items ≡ [] }
-    ensures err { OnErr result (PrintsFront (with_waiting (K.put out.old) waiting.old.items) (with_waiting (K.put out.new) waiting.new.items) []) }
+    ensures err { OnErr result (HasPrintedFront K.put out.old out.new waiting.old.items waiting.new.items []) }
     ensures cause { HasCause (K.faults out.old) (K.faults out.new) result }
 {
     let pushed = push_all(out, waiting.as_slice());
@@ -57,8 +57,8 @@ fn print_text<K: Sink>(
     text: &[u8],
 ) -> Result<(), Failed>
     requires { length text.now ≤ 65536 }
-    ensures ok { OnOk result (Prints (with_waiting (K.put out.old) waiting.old.items) (with_waiting (K.put out.new) waiting.new.items) text.now) }
-    ensures err { OnErr result (PrintsFront (with_waiting (K.put out.old) waiting.old.items) (with_waiting (K.put out.new) waiting.new.items) text.now) }
+    ensures ok { OnOk result (HasPrinted K.put out.old out.new waiting.old.items waiting.new.items text.now) }
+    ensures err { OnErr result (HasPrintedFront K.put out.old out.new waiting.old.items waiting.new.items text.now) }
     ensures failed { OnErr result (waiting.new.items ≡ []) }
     ensures cause { HasCause (K.faults out.old) (K.faults out.new) result }
 {
@@ -82,9 +82,9 @@ impl Printer {
 
     /// Pushes all that waits. After a failed push nothing waits any more.
     pub fn flush<K: Sink>(&mut self, out: &mut K) -> Result<(), Failed>
-        ensures ok { OnOk result (Prints (with_waiting (K.put out.old) self.old) (with_waiting (K.put out.new) self.new) []) }
+        ensures ok { OnOk result (HasPrinted K.put out.old out.new self.old self.new []) }
         ensures emptied { self.new ≡ [] }
-        ensures err { OnErr result (PrintsFront (with_waiting (K.put out.old) self.old) (with_waiting (K.put out.new) self.new) []) }
+        ensures err { OnErr result (HasPrintedFront K.put out.old out.new self.old self.new []) }
         ensures cause { HasCause (K.faults out.old) (K.faults out.new) result }
     {
         flush_waiting(&mut self.waiting, out)
@@ -93,8 +93,8 @@ impl Printer {
     /// Prints a text, which may wait.
     pub fn print<K: Sink>(&mut self, out: &mut K, text: &[u8]) -> Result<(), Failed>
         requires { length text.now ≤ 65536 }
-        ensures ok { OnOk result (Prints (with_waiting (K.put out.old) self.old) (with_waiting (K.put out.new) self.new) text.now) }
-        ensures err { OnErr result (PrintsFront (with_waiting (K.put out.old) self.old) (with_waiting (K.put out.new) self.new) text.now) }
+        ensures ok { OnOk result (HasPrinted K.put out.old out.new self.old self.new text.now) }
+        ensures err { OnErr result (HasPrintedFront K.put out.old out.new self.old self.new text.now) }
         ensures failed { OnErr result (self.new ≡ []) }
         ensures cause { HasCause (K.faults out.old) (K.faults out.new) result }
     {
@@ -104,10 +104,8 @@ impl Printer {
     /// Prints a text as a line, with its LF.
     pub fn print_line<K: Sink>(&mut self, out: &mut K, text: &[u8]) -> Result<(), Failed>
         requires { length text.now ≤ 65536 }
-        ensures ok { OnOk result (Prints (with_waiting (K.put out.old) self.old) (with_waiting (K.put out.new) self.new)
-            (as_line text.now)) }
-        ensures err { OnErr result (PrintsFront (with_waiting (K.put out.old) self.old) (with_waiting (K.put out.new) self.new)
-            (as_line text.now)) }
+        ensures ok { OnOk result (HasPrinted K.put out.old out.new self.old self.new (as_line text.now)) }
+        ensures err { OnErr result (HasPrintedFront K.put out.old out.new self.old self.new (as_line text.now)) }
         ensures cause { HasCause (K.faults out.old) (K.faults out.new) result }
     {
         self.print(out, text)?;
@@ -117,9 +115,9 @@ impl Printer {
     /// Prints the text of an answer, with its LF.
     pub fn print_answer<K: Sink>(&mut self, out: &mut K, answer: &Answer) -> Result<(), Failed>
         requires { HasSmallMinors answer.now }
-        ensures ok { OnOk result (Prints (with_waiting (K.put out.old) self.old) (with_waiting (K.put out.new) self.new)
+        ensures ok { OnOk result (HasPrinted K.put out.old out.new self.old self.new
             (as_line (answer_text answer.now))) }
-        ensures err { OnErr result (PrintsFront (with_waiting (K.put out.old) self.old) (with_waiting (K.put out.new) self.new)
+        ensures err { OnErr result (HasPrintedFront K.put out.old out.new self.old self.new
             (as_line (answer_text answer.now))) }
         ensures cause { HasCause (K.faults out.old) (K.faults out.new) result }
     {
@@ -131,9 +129,8 @@ impl Printer {
 
     /// Prints the text of a mark, with its LF.
     fn print_mark<K: Sink>(&mut self, out: &mut K, mark: &Mark) -> Result<(), Failed>
-        ensures ok { OnOk result (Prints (with_waiting (K.put out.old) self.old) (with_waiting (K.put out.new) self.new)
-            (as_line (mark_text mark.now))) }
-        ensures err { OnErr result (PrintsFront (with_waiting (K.put out.old) self.old) (with_waiting (K.put out.new) self.new)
+        ensures ok { OnOk result (HasPrinted K.put out.old out.new self.old self.new (as_line (mark_text mark.now))) }
+        ensures err { OnErr result (HasPrintedFront K.put out.old out.new self.old self.new
             (as_line (mark_text mark.now))) }
         ensures cause { HasCause (K.faults out.old) (K.faults out.new) result }
     {
@@ -145,9 +142,9 @@ impl Printer {
 
     /// Prints the text of an access, with its LF.
     fn print_access<K: Sink>(&mut self, out: &mut K, access: &Access) -> Result<(), Failed>
-        ensures ok { OnOk result (Prints (with_waiting (K.put out.old) self.old) (with_waiting (K.put out.new) self.new)
+        ensures ok { OnOk result (HasPrinted K.put out.old out.new self.old self.new
             (as_line (access_text access.now))) }
-        ensures err { OnErr result (PrintsFront (with_waiting (K.put out.old) self.old) (with_waiting (K.put out.new) self.new)
+        ensures err { OnErr result (HasPrintedFront K.put out.old out.new self.old self.new
             (as_line (access_text access.now))) }
         ensures cause { HasCause (K.faults out.old) (K.faults out.new) result }
     {
@@ -164,9 +161,9 @@ impl Printer {
         tags: u64,
         digests: u64,
     ) -> Result<(), Failed>
-        ensures ok { OnOk result (Prints (with_waiting (K.put out.old) self.old) (with_waiting (K.put out.new) self.new)
+        ensures ok { OnOk result (HasPrinted K.put out.old out.new self.old self.new
             (as_line (work_text tags digests))) }
-        ensures err { OnErr result (PrintsFront (with_waiting (K.put out.old) self.old) (with_waiting (K.put out.new) self.new)
+        ensures err { OnErr result (HasPrintedFront K.put out.old out.new self.old self.new
             (as_line (work_text tags digests))) }
         ensures cause { HasCause (K.faults out.old) (K.faults out.new) result }
     {
@@ -179,9 +176,9 @@ impl Printer {
     /// Prints the text of a command, with its LF.
     pub fn print_command<K: Sink>(&mut self, out: &mut K, command: &Command) -> Result<(), Failed>
         requires { IsWritable command.now }
-        ensures ok { OnOk result (Prints (with_waiting (K.put out.old) self.old) (with_waiting (K.put out.new) self.new)
+        ensures ok { OnOk result (HasPrinted K.put out.old out.new self.old self.new
             (as_line (command_text command.now))) }
-        ensures err { OnErr result (PrintsFront (with_waiting (K.put out.old) self.old) (with_waiting (K.put out.new) self.new)
+        ensures err { OnErr result (HasPrintedFront K.put out.old out.new self.old self.new
             (as_line (command_text command.now))) }
         ensures cause { HasCause (K.faults out.old) (K.faults out.new) result }
     {
@@ -197,10 +194,8 @@ pub(crate) fn print_marks<K: Sink>(
     printer: &mut Printer,
     out: &mut K,
 ) -> Result<(), Failed>
-    ensures ok { OnOk result (Prints (with_waiting (K.put out.old) printer.old) (with_waiting (K.put out.new) printer.new)
-        (marks_text marks.now)) }
-    ensures err { OnErr result (PrintsFront (with_waiting (K.put out.old) printer.old) (with_waiting (K.put out.new) printer.new)
-        (marks_text marks.now)) }
+    ensures ok { OnOk result (HasPrinted K.put out.old out.new printer.old printer.new (marks_text marks.now)) }
+    ensures err { OnErr result (HasPrintedFront K.put out.old out.new printer.old printer.new (marks_text marks.now)) }
     ensures cause { HasCause (K.faults out.old) (K.faults out.new) result }
 {
     'each: for mark in marks {
@@ -239,9 +234,8 @@ pub(crate) fn print_accesses<K: Sink>(
     printer: &mut Printer,
     out: &mut K,
 ) -> Result<(), Failed>
-    ensures ok { OnOk result (Prints (with_waiting (K.put out.old) printer.old) (with_waiting (K.put out.new) printer.new)
-        (accesses_text accesses.now)) }
-    ensures err { OnErr result (PrintsFront (with_waiting (K.put out.old) printer.old) (with_waiting (K.put out.new) printer.new)
+    ensures ok { OnOk result (HasPrinted K.put out.old out.new printer.old printer.new (accesses_text accesses.now)) }
+    ensures err { OnErr result (HasPrintedFront K.put out.old out.new printer.old printer.new
         (accesses_text accesses.now)) }
     ensures cause { HasCause (K.faults out.old) (K.faults out.new) result }
 {

@@ -1,18 +1,15 @@
 //! The whole program: words and bytes in, bytes and a status out.
 ghost use Rattle.std.specs.Prelude.{◌≡◌, ◌≢◌, ◌≤◌, ◌+◌, ◌⊎◌, ◌↔◌, [], IfSome, IsNone, Some, map, string_bytes};
-ghost use Rattle.pmem_base.specs.Geo.{shape_of};
 ghost use Rattle.plain_model.specs.declared.Stop.TheVariants as Stop;
-ghost use Rattle.plain_model.specs.Run.{start};
-ghost use Rattle.suite.specs.Setup.{Setup};
 ghost use Rattle.pmem_cli.specs.Causes.{CountsFault, Rose};
 ghost use Rattle.pmem_cli.specs.Pulling.{IsInTime};
 ghost use Rattle.pmem_cli.specs.declared.ending.Ending.TheVariants.{Stopped};
-ghost use Rattle.pmem_cli.specs.Keys.{setup_chosen};
+ghost use Rattle.pmem_cli.specs.Keys.{setup_chosen, setup_made};
 ghost use Rattle.pmem_cli.specs.Words.{task_of, AreChosen, HasChosen, PullsNothing};
-ghost use Rattle.pmem_cli.specs.Printed.{with_waiting};
-ghost use Rattle.pmem_cli.specs.RepliesFirst.{HasRepliedFirst, TaskRepliesFirst};
+ghost use Rattle.pmem_cli.specs.Printed.{Across, IfPulled};
+ghost use Rattle.pmem_cli.specs.RepliesFirst.{HasRepliedFromStart, RepliesBeforePull};
 ghost use Rattle.pmem_cli.specs.Turns.{StopsByCause};
-ghost use Rattle.pmem_cli.specs.HasRun.{TaskOutcome, HasEnded, HasReplayed, IsComplete, AreRefusedWords};
+ghost use Rattle.pmem_cli.specs.HasRun.{HasEnded, HasReplayed, AreRefusedWords, HasDone, GoesThrough};
 
 use crate::checking::check;
 use crate::ending::{Ending, finish};
@@ -43,12 +40,12 @@ fn run_with<U: Counted + Drop, S: Source, K: Sink>(
     out: &mut K,
 ) -> Stop
     requires { (U.tags suite ≡ 0) × (U.digests suite ≡ 0) }
-    ensures run { HasReplayed (record { shape = shape_of geo; formulas = U.formulas_of (U.keys suite) }) result (S.left trace.old) (S.left trace.new)
-        (with_waiting (K.put out.old) printer.old) (with_waiting (K.put out.new) printer.new) }
+    ensures run { Across (HasReplayed (setup_made geo U.formulas_of U.keys suite) result)
+        S.left trace.old trace.new K.put out.old out.new printer.old printer.new }
     ensures cause { StopsByCause (Some result) (S.faults trace.old) (S.faults trace.new) (K.faults out.old) (K.faults out.new) }
     ensures in_time { IsInTime (S.pulls trace.old) (S.pulls trace.new) }
-    ensures replies_first { let setup : Setup = record { shape = shape_of geo; formulas = U.formulas_of (U.keys suite) } in (trace.new ≡ trace.old)
-        ⊎ HasRepliedFirst setup (start setup) (S.left trace.old) (S.left_before trace.new) (with_waiting (K.put out.old) printer.old) (K.put out.new) }
+    ensures replies_first { IfPulled (HasRepliedFromStart (setup_made geo U.formulas_of U.keys suite))
+        S.left S.left_before trace.old trace.new K.put out.old out.new printer.old }
 {
     match World::new(alloc, geo, suite) {
         Ok(world) => serve_all(alloc, world, trace, printer, out),
@@ -65,12 +62,12 @@ fn run_trace<S: Source, K: Sink>(
     out: &mut K,
 ) -> Stop
     requires { AreChosen choices.now }
-    ensures run { HasReplayed (setup_chosen choices.now) result (S.left trace.old) (S.left trace.new)
-        (with_waiting (K.put out.old) printer.old) (with_waiting (K.put out.new) printer.new) }
+    ensures run { Across (HasReplayed (setup_chosen choices.now) result)
+        S.left trace.old trace.new K.put out.old out.new printer.old printer.new }
     ensures cause { StopsByCause (Some result) (S.faults trace.old) (S.faults trace.new) (K.faults out.old) (K.faults out.new) }
     ensures in_time { IsInTime (S.pulls trace.old) (S.pulls trace.new) }
-    ensures replies_first { let setup = setup_chosen choices.now in (trace.new ≡ trace.old)
-        ⊎ HasRepliedFirst setup (start setup) (S.left trace.old) (S.left_before trace.new) (with_waiting (K.put out.old) printer.old) (K.put out.new) }
+    ensures replies_first { IfPulled (HasRepliedFromStart (setup_chosen choices.now))
+        S.left S.left_before trace.old trace.new K.put out.old out.new printer.old }
 {
     let geo = choices.geometry();
     match choices.suite_name() {
@@ -89,14 +86,12 @@ fn do_task<S: Source, K: Sink>(
     out: &mut K,
 ) -> Ending
     requires { HasChosen task }
-    ensures ended { HasEnded task result (S.left trace.old) (S.left trace.new)
-        (with_waiting (K.put out.old) printer.old) (with_waiting (K.put out.new) printer.new) }
+    ensures ended { Across (HasEnded task result) S.left trace.old trace.new K.put out.old out.new printer.old printer.new }
     ensures words { result ≢ Stopped Stop.Words }
     ensures reads { CountsFault (result ≡ Stopped Stop.ReadFault) (S.faults trace.old) (S.faults trace.new) }
     ensures writes { CountsFault (result ≡ Stopped Stop.WriteFault) (K.faults out.old) (K.faults out.new) }
     ensures in_time { IsInTime (S.pulls trace.old) (S.pulls trace.new) }
-    ensures replies_first { TaskRepliesFirst task (S.left trace.old) (S.left trace.new) (S.left_before trace.new)
-        (with_waiting (K.put out.old) printer.old) (K.put out.new) }
+    ensures replies_first { RepliesBeforePull task S.left S.left_before trace.old trace.new K.put out.old out.new printer.old }
     ensures unread { PullsNothing task → trace.new ≡ trace.old }
 {
     match task {
@@ -123,8 +118,7 @@ fn do_words<S: Source, K: Sink>(
 ) -> Ending
     ensures words { (result ≡ Stopped Stop.Words) ↔ IsNone (task_of (map string_bytes words.now)) }
     ensures ended { IfSome (task_of (map string_bytes words.now)) (λ task.
-        HasEnded task result (S.left trace.old) (S.left trace.new)
-        (with_waiting (K.put out.old) printer.old) (with_waiting (K.put out.new) printer.new)) }
+        Across (HasEnded task result) S.left trace.old trace.new K.put out.old out.new printer.old printer.new) }
     ensures untouched { result ≡ Stopped Stop.Words → trace.new ≡ trace.old }
     ensures kept { result ≡ Stopped Stop.Words → out.new ≡ out.old }
     ensures empty { result ≡ Stopped Stop.Words → printer.new ≡ printer.old }
@@ -132,8 +126,7 @@ fn do_words<S: Source, K: Sink>(
     ensures writes { CountsFault (result ≡ Stopped Stop.WriteFault) (K.faults out.old) (K.faults out.new) }
     ensures in_time { IsInTime (S.pulls trace.old) (S.pulls trace.new) }
     ensures replies_first { IfSome (task_of (map string_bytes words.now)) (λ task.
-        TaskRepliesFirst task (S.left trace.old) (S.left trace.new) (S.left_before trace.new)
-        (with_waiting (K.put out.old) printer.old) (K.put out.new)) }
+        RepliesBeforePull task S.left S.left_before trace.old trace.new K.put out.old out.new printer.old) }
     ensures unread { IfSome (task_of (map string_bytes words.now)) (λ task. PullsNothing task → trace.new ≡ trace.old) }
 {
     match read_task(words) {
@@ -153,12 +146,11 @@ pub fn run<S: Source, K: Sink>(alloc: Global, words: &[String], trace: &mut S, o
     // What was put is what the task asks for, as the status says: the replies to the trace's commands
     // and the last line, a sample trace, or whether the exhibit holds.
     ensures told { IfSome (task_of (map string_bytes words.now)) (λ task.
-        TaskOutcome task result (Rose (S.faults trace.old) (S.faults trace.new)) (S.left trace.old) (S.left trace.new) (K.put out.old) (K.put out.new)) }
+        HasDone task result S.left S.faults trace.old trace.new K.put out.old out.new) }
 
     // A run of a trace in the grammar and within the limits goes through, unless source or sink fails.
     ensures complete { IfSome (task_of (map string_bytes words.now)) (λ task.
-        IsComplete task result (S.left trace.old)
-        (Rose (S.faults trace.old) (S.faults trace.new) ⊎ Rose (K.faults out.old) (K.faults out.new))) }
+        GoesThrough task result S.left S.faults trace.old trace.new K.faults out.old out.new) }
 
     // The statuses for faults come only where source or sink failed. A push that fails gives 4 in place of
     // every status but 2, a pull that fails gives 3 or 4, and neither is made again.
@@ -176,7 +168,7 @@ pub fn run<S: Source, K: Sink>(alloc: Global, words: &[String], trace: &mut S, o
     // No reply waits while a pull is made: the replies to all whole lines that the source had given before its
     // last pull were put, also where a push failed since. A sink may fail at any push.
     ensures replies_first { IfSome (task_of (map string_bytes words.now)) (λ task.
-        TaskRepliesFirst task (S.left trace.old) (S.left trace.new) (S.left_before trace.new) (with_waiting (K.put out.old) []) (K.put out.new)) }
+        RepliesBeforePull task S.left S.left_before trace.old trace.new K.put out.old out.new []) }
 {
     let mut printer = Printer::new();
     let ending = do_words(alloc, words, trace, &mut printer, out);

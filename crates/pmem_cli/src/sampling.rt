@@ -1,16 +1,16 @@
 //! Sample traces, run.
 ghost use Rattle.std.specs.Prelude.{◌≡◌, IfOk, Some, false};
-ghost use Rattle.pmem_base.specs.Geo.{shape_of};
 ghost use Rattle.pmem_base.specs.Ranges.{IsCommand};
 ghost use Rattle.plain_model.specs.Defaults.{default_setup};
 ghost use Rattle.trace_text.specs.Answers.{HasSmallMinors};
 ghost use Rattle.trace_text.specs.Samples.{sample_trace};
-ghost use Rattle.pmem_cli.specs.HasRun.{HasRunSample};
+ghost use Rattle.pmem_cli.specs.HasRun.{RunsSample};
 ghost use Rattle.pmem_cli.specs.Printed.{with_waiting};
 ghost use Rattle.pmem_cli.specs.Replies.{IsExecuted};
 ghost use Rattle.pmem_cli.specs.Sampled.{HasReachedAnswer, HasToldSample};
 ghost use Rattle.pmem_cli.specs.Turns.{StopsByCause};
 ghost use Rattle.pmem_cli.specs.Standing.{Standing, standing_of};
+ghost use Rattle.pmem_cli.specs.Keys.{setup_made};
 
 use crate::options::Choices;
 use crate::printer::Printer;
@@ -113,7 +113,7 @@ fn sample_with<U: Counted + Drop, K: Sink>(
     out: &mut K,
 ) -> Stop
     requires { (U.tags suite ≡ 0) × (U.digests suite ≡ 0) }
-    ensures run { HasRunSample (record { shape = shape_of geo; formulas = U.formulas_of (U.keys suite) }) (sample_trace seed count) result
+    ensures run { RunsSample (setup_made geo U.formulas_of U.keys suite) seed count result
         (with_waiting (K.put out.old) printer.old) (with_waiting (K.put out.new) printer.new) }
     ensures cause { StopsByCause (Some result) 0 0 (K.faults out.old) (K.faults out.new) }
 {
@@ -132,7 +132,7 @@ pub(crate) fn sample<K: Sink>(
     printer: &mut Printer,
     out: &mut K,
 ) -> Stop
-    ensures run { HasRunSample default_setup (sample_trace seed count) result
+    ensures run { RunsSample default_setup seed count result
         (with_waiting (K.put out.old) printer.old) (with_waiting (K.put out.new) printer.new) }
     ensures cause { StopsByCause (Some result) 0 0 (K.faults out.old) (K.faults out.new) }
 {

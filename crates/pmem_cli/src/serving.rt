@@ -8,9 +8,8 @@ ghost use Rattle.pmem_replay.specs.Stepped.{reply_in};
 ghost use Rattle.trace_text.specs.Answers.{HasSmallMinors};
 ghost use Rattle.trace_text.specs.Conversations.{Protocol};
 ghost use Rattle.pmem_cli.specs.Causes.{HasCause};
-ghost use Rattle.pmem_cli.specs.Printed.{Prints, PrintsFront, with_waiting};
-ghost use Rattle.pmem_cli.specs.Replies.{AnswersCommand, world_protocol};
-ghost use Rattle.pmem_cli.specs.Standing.{standing_of};
+ghost use Rattle.pmem_cli.specs.Printed.{with_waiting, HasPrinted, HasPrintedFront};
+ghost use Rattle.pmem_cli.specs.Replies.{world_protocol, AnswersByWorld};
 ghost use Rattle.pmem_cli.specs.Turns.{AnswersLine, StopsByCause};
 
 use crate::printer::{Printer, print_marks};
@@ -63,9 +62,9 @@ pub(crate) fn print_reply<U: Counted + Drop, K: Sink>(
     requires from { reply.now.from ≤ reply.now.to }
     requires to { reply.now.to ≤ length world.now.ledger.marks }
     requires minors { HasSmallMinors reply.now.answer }
-    ensures ok { OnOk result (Prints (with_waiting (K.put out.old) printer.old) (with_waiting (K.put out.new) printer.new)
+    ensures ok { OnOk result (HasPrinted K.put out.old out.new printer.old printer.new
         (reply_text (reply_in world.now reply.now))) }
-    ensures err { OnErr result (PrintsFront (with_waiting (K.put out.old) printer.old) (with_waiting (K.put out.new) printer.new)
+    ensures err { OnErr result (HasPrintedFront K.put out.old out.new printer.old printer.new
         (reply_text (reply_in world.now reply.now))) }
     ensures cause { HasCause (K.faults out.old) (K.faults out.new) result }
 {
@@ -83,7 +82,7 @@ fn answer_command<U: Counted + Drop, K: Sink>(
 ) -> Option<Stop>
     requires running { world.old.shown ≡ false }
     requires range { IsCommand command.now }
-    ensures answered { AnswersCommand result command.now (standing_of U.formulas_of world.old) (standing_of U.formulas_of world.new)
+    ensures answered { AnswersByWorld U.formulas_of result command.now world.old world.new
         (with_waiting (K.put out.old) printer.old) (with_waiting (K.put out.new) printer.new) }
     ensures cause { StopsByCause result 0 0 (K.faults out.old) (K.faults out.new) }
 {

@@ -1,13 +1,12 @@
 //! The run of a trace, whoever answers its lines.
-ghost use Rattle.std.specs.Prelude.{◌≡◌, ◌<◌, ◌≤◌, ◌⊎◌, ℕ, List, [], length, OnOk, OnErr, Option, Some, None, Contains};
+ghost use Rattle.std.specs.Prelude.{◌≡◌, ◌<◌, ◌≤◌, ◌⊎◌, [], length, OnOk, OnErr, Option, Some, None, Contains};
 ghost use Rattle.std.specs.Io.KnownBytes.{prepend_known};
 ghost use Rattle.pmem_cli.specs.declared.lines.Found.TheVariants.{Line};
 ghost use Rattle.pmem_cli.specs.Causes.{HasCause};
-ghost use Rattle.pmem_cli.specs.Pieces.{Finds};
 ghost use Rattle.pmem_cli.specs.Pulling.{IsInTime, PullsInTime, PullsUndecided};
-ghost use Rattle.pmem_cli.specs.Printed.{Prints, PrintsFront, PutsAtLeast, with_waiting};
+ghost use Rattle.pmem_cli.specs.Printed.{with_waiting, HasPrinted, HasPrintedFront, Across, IfPulled};
 ghost use Rattle.pmem_cli.specs.Talked.{HasToldFirst};
-ghost use Rattle.pmem_cli.specs.Turns.{Turns, HasStopped, StopsByCause};
+ghost use Rattle.pmem_cli.specs.Turns.{StopsByCause, TurnsFound, TurnsRead, PutsBeforePull, HasAnswered};
 
 use crate::lines::{Found, LINE_BYTES, LineReader};
 use crate::printer::Printer;
@@ -35,8 +34,7 @@ fn answer_found<W: Serve, K: Sink>(
     requires within { served < 1000000 }
     requires short { length line.now ≤ 1024 }
     requires running { W.protocol.runs server.old }
-    ensures turn { (ahead behind left : Option (List ℕ)) → Finds found ahead behind line.now
-        → Turns W.protocol result ahead behind left server.old server.new
+    ensures turn { TurnsFound W.protocol result found line.now server.old server.new
         (with_waiting (K.put out.old) printer.old) (with_waiting (K.put out.new) printer.new) served }
     ensures cause { StopsByCause result 0 0 (K.faults out.old) (K.faults out.new) }
     ensures goes_on { result ≡ None → found ≡ Line }
@@ -71,9 +69,8 @@ fn answer_next<W: Serve, S: Source, K: Sink>(
     requires pushed { Contains reader.old 10 ⊎ (printer.old ≡ []) }
     requires within { served ≤ 1000000 }
     requires running { W.protocol.runs server.old }
-    ensures turn { Turns W.protocol result (prepend_known reader.old (S.left trace.old)) (prepend_known reader.new (S.left trace.new))
-        (S.left trace.new) server.old server.new
-        (with_waiting (K.put out.old) printer.old) (with_waiting (K.put out.new) printer.new) served }
+    ensures turn { Across (TurnsRead W.protocol result served server.old server.new reader.old reader.new)
+        S.left trace.old trace.new K.put out.old out.new printer.old printer.new }
     ensures cause { StopsByCause result (S.faults trace.old) (S.faults trace.new) (K.faults out.old) (K.faults out.new) }
     ensures pulls { PullsInTime result (S.pulls trace.old) (S.pulls trace.new) }
     ensures last_pull { (trace.new ≡ trace.old) ⊎ ((printer.old ≡ [])
@@ -100,8 +97,8 @@ fn flush_before_pull<K: Sink>(
     out: &mut K,
 ) -> Result<(), Failed>
     ensures pushed { Contains reader.now 10 ⊎ (printer.new ≡ []) }
-    ensures ok { OnOk result (Prints (with_waiting (K.put out.old) printer.old) (with_waiting (K.put out.new) printer.new) []) }
-    ensures err { OnErr result (PrintsFront (with_waiting (K.put out.old) printer.old) (with_waiting (K.put out.new) printer.new) []) }
+    ensures ok { OnOk result (HasPrinted K.put out.old out.new printer.old printer.new []) }
+    ensures err { OnErr result (HasPrintedFront K.put out.old out.new printer.old printer.new []) }
     ensures cause { HasCause (K.faults out.old) (K.faults out.new) result }
 {
     if reader.has_line() {
@@ -123,13 +120,12 @@ fn serve_next<W: Serve, S: Source, K: Sink>(
 ) -> Option<Stop>
     requires within { served ≤ 1000000 }
     requires running { W.protocol.runs server.old }
-    ensures turn { Turns W.protocol result (prepend_known reader.old (S.left trace.old)) (prepend_known reader.new (S.left trace.new))
-        (S.left trace.new) server.old server.new
-        (with_waiting (K.put out.old) printer.old) (with_waiting (K.put out.new) printer.new) served }
+    ensures turn { Across (TurnsRead W.protocol result served server.old server.new reader.old reader.new)
+        S.left trace.old trace.new K.put out.old out.new printer.old printer.new }
     ensures cause { StopsByCause result (S.faults trace.old) (S.faults trace.new) (K.faults out.old) (K.faults out.new) }
     ensures pulls { PullsInTime result (S.pulls trace.old) (S.pulls trace.new) }
-    ensures last_pull { (trace.new ≡ trace.old) ⊎ (PutsAtLeast (with_waiting (K.put out.old) printer.old) (K.put out.new) []
-        × PullsUndecided served (prepend_known reader.old (S.left trace.old)) (S.left_before trace.new)) }
+    ensures last_pull { IfPulled (PutsBeforePull served reader.old)
+        S.left S.left_before trace.old trace.new K.put out.old out.new printer.old }
     ensures within_limit { result ≡ None → served < 1000000 }
 {
     match flush_before_pull(reader, printer, out) {
@@ -147,12 +143,12 @@ pub(crate) fn serve_all<W: Serve + Drop, S: Source, K: Sink>(
     out: &mut K,
 ) -> Stop
     requires running { W.protocol.runs server }
-    ensures stopped { HasStopped W.protocol result (S.left trace.old) (S.left trace.new) server
-        (with_waiting (K.put out.old) printer.old) (with_waiting (K.put out.new) printer.new) 0 }
+    ensures stopped { Across (HasAnswered W.protocol result server)
+        S.left trace.old trace.new K.put out.old out.new printer.old printer.new }
     ensures cause { StopsByCause (Some result) (S.faults trace.old) (S.faults trace.new) (K.faults out.old) (K.faults out.new) }
     ensures in_time { IsInTime (S.pulls trace.old) (S.pulls trace.new) }
-    ensures replies_first { (trace.new ≡ trace.old) ⊎ HasToldFirst W.protocol server (S.left trace.old) (S.left_before trace.new)
-        (with_waiting (K.put out.old) printer.old) (K.put out.new) }
+    ensures replies_first { IfPulled (HasToldFirst W.protocol server)
+        S.left S.left_before trace.old trace.new K.put out.old out.new printer.old }
 {
     let mut server = server;
     let mut reader = LineReader::new();

@@ -2,11 +2,11 @@
 ghost use Rattle.std.specs.Prelude.{◌≡◌, ◌≢◌, ◌≤◌, ◌+◌, ◌⊎◌, [], ℕ, List, Some};
 ghost use Rattle.plain_model.specs.declared.Stop.TheVariants as Stop;
 ghost use Rattle.trace_text.specs.Conversations.{talk_protocol};
-ghost use Rattle.pmem_cli.specs.Causes.{Rose};
-ghost use Rattle.pmem_cli.specs.Printed.{with_waiting};
+ghost use Rattle.pmem_cli.specs.Causes.{Rose, AnyRose};
+ghost use Rattle.pmem_cli.specs.Printed.{Across, IfPulled};
 ghost use Rattle.pmem_cli.specs.Pulling.{IsInTime};
-ghost use Rattle.pmem_cli.specs.Talked.{HasTalked, IsTalkComplete, HasToldFirst};
-ghost use Rattle.pmem_cli.specs.Turns.{HasStopped, StopsByCause};
+ghost use Rattle.pmem_cli.specs.Talked.{HasTalked, IsTalkComplete, HasToldFirst, talk_of};
+ghost use Rattle.pmem_cli.specs.Turns.{StopsByCause, HasAnswered};
 
 use crate::ending::{Ending, finish};
 use crate::printer::Printer;
@@ -73,12 +73,12 @@ pub(crate) fn talk_trace<T: Talk + Drop, S: Source, K: Sink>(
     printer: &mut Printer,
     out: &mut K,
 ) -> Stop
-    ensures stopped { HasStopped (talk_protocol T.sort_of T.answers T.shows T.wants_memory) result (S.left trace.old) (S.left trace.new) session
-        (with_waiting (K.put out.old) printer.old) (with_waiting (K.put out.new) printer.new) 0 }
+    ensures stopped { Across (HasAnswered (talk_of T.Talk) result session)
+        S.left trace.old trace.new K.put out.old out.new printer.old printer.new }
     ensures cause { StopsByCause (Some result) (S.faults trace.old) (S.faults trace.new) (K.faults out.old) (K.faults out.new) }
     ensures in_time { IsInTime (S.pulls trace.old) (S.pulls trace.new) }
-    ensures replies_first { (trace.new ≡ trace.old) ⊎ HasToldFirst (talk_protocol T.sort_of T.answers T.shows T.wants_memory) session
-        (S.left trace.old) (S.left_before trace.new) (with_waiting (K.put out.old) printer.old) (K.put out.new) }
+    ensures replies_first { IfPulled (HasToldFirst (talk_of T.Talk) session)
+        S.left S.left_before trace.old trace.new K.put out.old out.new printer.old }
 {
     serve_all(alloc, Talker { session }, trace, printer, out)
 }
@@ -92,13 +92,13 @@ pub fn talk_all<T: Talk + Drop, S: Source, K: Sink>(
 ) -> u8
     // What was put is the texts of the answers to the trace's lines, each in the state that those before it left,
     // and the last line, as the status says.
-    ensures told { HasTalked (talk_protocol T.sort_of T.answers T.shows T.wants_memory) session result (Rose (S.faults trace.old) (S.faults trace.new))
+    ensures told { HasTalked (talk_of T.Talk) session result (Rose (S.faults trace.old) (S.faults trace.new))
         (S.left trace.old) (S.left trace.new) (K.put out.old) (K.put out.new) }
     ensures words { result ≢ 2 }
 
     // A trace in the session's grammar and within the limits goes through, unless source or sink fails.
-    ensures complete { IsTalkComplete (talk_protocol T.sort_of T.answers T.shows T.wants_memory) result (S.left trace.old)
-        (Rose (S.faults trace.old) (S.faults trace.new) ⊎ Rose (K.faults out.old) (K.faults out.new)) }
+    ensures complete { IsTalkComplete (talk_of T.Talk) result (S.left trace.old)
+        (AnyRose S.faults trace.old trace.new K.faults out.old out.new) }
 
     // The statuses for faults come only where source or sink failed. A push that fails gives 4, a pull that fails
     // gives 3 or 4, and neither is made again.
@@ -114,8 +114,8 @@ pub fn talk_all<T: Talk + Drop, S: Source, K: Sink>(
 
     // No answer waits while a pull is made: the answers to all whole lines that the source had given before its
     // last pull were put, also where a push failed since. A sink may fail at any push.
-    ensures replies_first { (trace.new ≡ trace.old) ⊎ HasToldFirst (talk_protocol T.sort_of T.answers T.shows T.wants_memory) session
-        (S.left trace.old) (S.left_before trace.new) (with_waiting (K.put out.old) []) (K.put out.new) }
+    ensures replies_first { IfPulled (HasToldFirst (talk_of T.Talk) session)
+        S.left S.left_before trace.old trace.new K.put out.old out.new [] }
 {
     let mut printer = Printer::new();
     let stop = talk_trace(alloc, session, trace, &mut printer, out);

@@ -1,14 +1,14 @@
 //! A session whose accesses of the board are told before each answer.
-ghost use Rattle.std.specs.Prelude.{◌≡◌, ◌≤◌, ◌⊎◌, ◌-◌, ◌++◌, ℕ, List, length, OnOk, OnErr, Some};
+ghost use Rattle.std.specs.Prelude.{◌≤◌, ◌-◌, ◌++◌, ℕ, List, length, OnOk, OnErr, Some};
 ghost use Rattle.plain_model.specs.Texts.{as_line};
 ghost use Rattle.trace_text.specs.Conversations.{talk_protocol};
 ghost use Rattle.pmem_cli.specs.Causes.{HasCause};
 ghost use Rattle.pmem_cli.specs.Logged.{log_text};
-ghost use Rattle.pmem_cli.specs.Printed.{Prints, PrintsFront, with_waiting};
+ghost use Rattle.pmem_cli.specs.Printed.{with_waiting, HasPrinted, HasPrintedFront, Across, IfPulled};
 ghost use Rattle.pmem_cli.specs.Pulling.{IsInTime};
 ghost use Rattle.pmem_cli.specs.Talked.{HasToldFirst};
-ghost use Rattle.pmem_cli.specs.Telling.{TellsLine, told_protocol, voice};
-ghost use Rattle.pmem_cli.specs.Turns.{HasStopped, StopsByCause};
+ghost use Rattle.pmem_cli.specs.Telling.{told_protocol, TellsWork, voice_of};
+ghost use Rattle.pmem_cli.specs.Turns.{StopsByCause, HasAnswered};
 
 use crate::logging::print_log;
 use crate::printer::Printer;
@@ -46,9 +46,9 @@ fn print_told<K: Sink>(
     out: &mut K,
 ) -> Result<(), Failed>
     requires short { length text.now ≤ 65536 }
-    ensures ok { OnOk result (Prints (with_waiting (K.put out.old) printer.old) (with_waiting (K.put out.new) printer.new)
+    ensures ok { OnOk result (HasPrinted K.put out.old out.new printer.old printer.new
         (log_text accesses.now tags digests ++ as_line text.now)) }
-    ensures err { OnErr result (PrintsFront (with_waiting (K.put out.old) printer.old) (with_waiting (K.put out.new) printer.new)
+    ensures err { OnErr result (HasPrintedFront K.put out.old out.new printer.old printer.new
         (log_text accesses.now tags digests ++ as_line text.now)) }
     ensures cause { HasCause (K.faults out.old) (K.faults out.new) result }
 {
@@ -67,7 +67,7 @@ fn tell_line<K: Sink>(
     out: &mut K,
 ) -> Option<Stop>
     requires short { length text.now ≤ 65536 }
-    ensures told { TellsLine result log.now (after.0 - before.0) (after.1 - before.1) text.now
+    ensures told { TellsWork result log.now before after text.now
         (with_waiting (K.put out.old) printer.old) (with_waiting (K.put out.new) printer.new) }
     ensures cause { StopsByCause result 0 0 (K.faults out.old) (K.faults out.new) }
 {
@@ -129,13 +129,12 @@ pub(crate) fn converse<T: Talk + Drop, S: Source, K: Sink>(
     printer: &mut Printer,
     out: &mut K,
 ) -> Stop
-    ensures stopped { HasStopped (voice (talk_protocol T.sort_of T.answers T.shows T.wants_memory) T.logs T.work logged).protocol result
-        (S.left trace.old) (S.left trace.new) session (with_waiting (K.put out.old) printer.old) (with_waiting (K.put out.new) printer.new) 0 }
+    ensures stopped { Across (HasAnswered (voice_of T.Talk logged).protocol result session)
+        S.left trace.old trace.new K.put out.old out.new printer.old printer.new }
     ensures cause { StopsByCause (Some result) (S.faults trace.old) (S.faults trace.new) (K.faults out.old) (K.faults out.new) }
     ensures in_time { IsInTime (S.pulls trace.old) (S.pulls trace.new) }
-    ensures replies_first { (trace.new ≡ trace.old)
-        ⊎ HasToldFirst (voice (talk_protocol T.sort_of T.answers T.shows T.wants_memory) T.logs T.work logged).protocol session
-        (S.left trace.old) (S.left_before trace.new) (with_waiting (K.put out.old) printer.old) (K.put out.new) }
+    ensures replies_first { IfPulled (HasToldFirst (voice_of T.Talk logged).protocol session)
+        S.left S.left_before trace.old trace.new K.put out.old out.new printer.old }
 {
     if logged {
         serve_all(alloc, Teller { session }, trace, printer, out)

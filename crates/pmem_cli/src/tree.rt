@@ -1,13 +1,10 @@
 //! A trace answered by a memory over a counter tree.
-ghost use Rattle.std.specs.Prelude.{◌≡◌, ◌⊎◌, Some};
-ghost use Rattle.pmem_base.specs.Geo.{shape_of};
-ghost use Rattle.suite.specs.Setup.{Setup};
-ghost use Rattle.pmem_cli.specs.Keys.{setup_chosen};
-ghost use Rattle.pmem_cli.specs.Printed.{with_waiting};
+ghost use Rattle.std.specs.Prelude.{◌≡◌, Some};
+ghost use Rattle.pmem_cli.specs.Printed.{Across, IfPulled};
 ghost use Rattle.pmem_cli.specs.Pulling.{IsInTime};
 ghost use Rattle.pmem_cli.specs.Sessions.{HasConversed, HasSaidFirst};
 ghost use Rattle.pmem_cli.specs.Turns.{StopsByCause};
-ghost use Rattle.pmem_cli.specs.Tree.{counter_tree_session};
+ghost use Rattle.pmem_cli.specs.Tree.{tree_made, tree_chosen};
 ghost use Rattle.pmem_cli.specs.Words.{AreChosen};
 
 use crate::options::{Choices, SuiteName};
@@ -35,13 +32,12 @@ fn tree_with<U: Counted + Drop, S: Source, K: Sink>(
     out: &mut K,
 ) -> Stop
     requires keys { U.keys watch_suite ≡ U.keys suite }
-    ensures talked { let setup : Setup = record { shape = shape_of geo; formulas = U.formulas_of (U.keys suite) } in
-        HasConversed (counter_tree_session setup) logged result (S.left trace.old) (S.left trace.new)
-        (with_waiting (K.put out.old) printer.old) (with_waiting (K.put out.new) printer.new) }
+    ensures talked { Across (HasConversed (tree_made geo U.formulas_of U.keys suite) logged result)
+        S.left trace.old trace.new K.put out.old out.new printer.old printer.new }
     ensures cause { StopsByCause (Some result) (S.faults trace.old) (S.faults trace.new) (K.faults out.old) (K.faults out.new) }
     ensures in_time { IsInTime (S.pulls trace.old) (S.pulls trace.new) }
-    ensures replies_first { let setup : Setup = record { shape = shape_of geo; formulas = U.formulas_of (U.keys suite) } in (trace.new ≡ trace.old)
-        ⊎ HasSaidFirst (counter_tree_session setup) logged (S.left trace.old) (S.left_before trace.new) (with_waiting (K.put out.old) printer.old) (K.put out.new) }
+    ensures replies_first { IfPulled (HasSaidFirst (tree_made geo U.formulas_of U.keys suite) logged)
+        S.left S.left_before trace.old trace.new K.put out.old out.new printer.old }
 {
     sessions_keep_lines(&geo, &suite);
     match TreeWorld::new(alloc, geo, suite, watch_suite) {
@@ -59,12 +55,12 @@ pub(crate) fn tree_trace<S: Source, K: Sink>(
     out: &mut K,
 ) -> Stop
     requires { AreChosen choices.now }
-    ensures talked { HasConversed (counter_tree_session (setup_chosen choices.now)) choices.now.log result (S.left trace.old) (S.left trace.new)
-        (with_waiting (K.put out.old) printer.old) (with_waiting (K.put out.new) printer.new) }
+    ensures talked { Across (HasConversed (tree_chosen choices.now) choices.now.log result)
+        S.left trace.old trace.new K.put out.old out.new printer.old printer.new }
     ensures cause { StopsByCause (Some result) (S.faults trace.old) (S.faults trace.new) (K.faults out.old) (K.faults out.new) }
     ensures in_time { IsInTime (S.pulls trace.old) (S.pulls trace.new) }
-    ensures replies_first { (trace.new ≡ trace.old) ⊎ HasSaidFirst (counter_tree_session (setup_chosen choices.now)) choices.now.log
-        (S.left trace.old) (S.left_before trace.new) (with_waiting (K.put out.old) printer.old) (K.put out.new) }
+    ensures replies_first { IfPulled (HasSaidFirst (tree_chosen choices.now) choices.now.log)
+        S.left S.left_before trace.old trace.new K.put out.old out.new printer.old }
 {
     let geo = choices.geometry();
     match choices.suite_name() {

@@ -1,13 +1,10 @@
 //! A trace answered by a levelled memory.
-ghost use Rattle.std.specs.Prelude.{◌≡◌, ◌≤◌, ◌⊎◌, Some};
-ghost use Rattle.pmem_base.specs.Geo.{shape_of};
-ghost use Rattle.suite.specs.Setup.{Setup};
-ghost use Rattle.pmem_cli.specs.Keys.{setup_chosen, every_chosen};
-ghost use Rattle.pmem_cli.specs.Printed.{with_waiting};
+ghost use Rattle.std.specs.Prelude.{◌≤◌, Some};
+ghost use Rattle.pmem_cli.specs.Printed.{Across, IfPulled};
 ghost use Rattle.pmem_cli.specs.Pulling.{IsInTime};
 ghost use Rattle.pmem_cli.specs.Sessions.{HasConversed, HasSaidFirst};
 ghost use Rattle.pmem_cli.specs.Turns.{StopsByCause};
-ghost use Rattle.pmem_cli.specs.Wear.{levelled_session};
+ghost use Rattle.pmem_cli.specs.Wear.{wear_made, wear_chosen};
 ghost use Rattle.pmem_cli.specs.Words.{AreChosen};
 
 use crate::options::{Choices, SuiteName};
@@ -34,13 +31,12 @@ fn wear_with<U: Counted + Drop, S: Source, K: Sink>(
     out: &mut K,
 ) -> Stop
     requires { 1 ≤ every }
-    ensures talked { let setup : Setup = record { shape = shape_of geo; formulas = U.formulas_of (U.keys suite) } in
-        HasConversed (levelled_session setup every) logged result (S.left trace.old) (S.left trace.new)
-        (with_waiting (K.put out.old) printer.old) (with_waiting (K.put out.new) printer.new) }
+    ensures talked { Across (HasConversed (wear_made geo U.formulas_of U.keys suite every) logged result)
+        S.left trace.old trace.new K.put out.old out.new printer.old printer.new }
     ensures cause { StopsByCause (Some result) (S.faults trace.old) (S.faults trace.new) (K.faults out.old) (K.faults out.new) }
     ensures in_time { IsInTime (S.pulls trace.old) (S.pulls trace.new) }
-    ensures replies_first { let setup : Setup = record { shape = shape_of geo; formulas = U.formulas_of (U.keys suite) } in (trace.new ≡ trace.old)
-        ⊎ HasSaidFirst (levelled_session setup every) logged (S.left trace.old) (S.left_before trace.new) (with_waiting (K.put out.old) printer.old) (K.put out.new) }
+    ensures replies_first { IfPulled (HasSaidFirst (wear_made geo U.formulas_of U.keys suite every) logged)
+        S.left S.left_before trace.old trace.new K.put out.old out.new printer.old }
 {
     sessions_keep_lines(&geo, &suite);
     match WearWorld::new(alloc, geo, suite, every) {
@@ -58,12 +54,12 @@ pub(crate) fn wear_trace<S: Source, K: Sink>(
     out: &mut K,
 ) -> Stop
     requires { AreChosen choices.now }
-    ensures talked { HasConversed (levelled_session (setup_chosen choices.now) (every_chosen choices.now)) choices.now.log result (S.left trace.old) (S.left trace.new)
-        (with_waiting (K.put out.old) printer.old) (with_waiting (K.put out.new) printer.new) }
+    ensures talked { Across (HasConversed (wear_chosen choices.now) choices.now.log result)
+        S.left trace.old trace.new K.put out.old out.new printer.old printer.new }
     ensures cause { StopsByCause (Some result) (S.faults trace.old) (S.faults trace.new) (K.faults out.old) (K.faults out.new) }
     ensures in_time { IsInTime (S.pulls trace.old) (S.pulls trace.new) }
-    ensures replies_first { (trace.new ≡ trace.old) ⊎ HasSaidFirst (levelled_session (setup_chosen choices.now) (every_chosen choices.now)) choices.now.log
-        (S.left trace.old) (S.left_before trace.new) (with_waiting (K.put out.old) printer.old) (K.put out.new) }
+    ensures replies_first { IfPulled (HasSaidFirst (wear_chosen choices.now) choices.now.log)
+        S.left S.left_before trace.old trace.new K.put out.old out.new printer.old }
 {
     let geo = choices.geometry();
     let every = choices.every();
