@@ -356,9 +356,9 @@ def add_import(commands: Any) -> None:
                                "when it gives way, and is read when it isn't there")
         each.add_argument("--top", type=count_from(1), metavar="N",
                           help="make no trace, but list the N ranges of 4,096 bytes that are used most")
-        each.add_argument("--fence-at", type=addresses, default=(), metavar="ADDRESS,..",
+        each.add_argument("--fence-at", type=addresses, action="extend", metavar="ADDRESS,..",
                           help="a fence also before an instruction at one of these addresses is run, and after a store "
-                               "or load that begins at one")
+                               "or load that begins at one; it may be given several times")
         each.add_argument("--within", type=address_range, metavar="LOW-HIGH",
                           help="only stores and loads that lie within these addresses")
         each.add_argument("--skip", type=count_from(0), default=0, metavar="N",
@@ -693,8 +693,9 @@ def run_import(words: argparse.Namespace) -> None:
     """`explore import`."""
     check_writable(words.output)
     levels = words.levels or default_levels(words.machine_name)
-    rules = importing.Rules(MACHINES[words.machine_name].data_lines(levels), words.port, words.fence_every, words.fence_at,
-                            words.within, words.skip, words.commands, words.combine, words.cache, words.machine_name, levels)
+    rules = importing.Rules(MACHINES[words.machine_name].data_lines(levels), words.port, words.fence_every,
+                            tuple(words.fence_at or ()), words.within, words.skip, words.commands, words.combine, words.cache,
+                            words.machine_name, levels)
     if words.top:
         put(importing.hottest(words.file, words.kind, rules, words.top), words.output)
     else:

@@ -10,6 +10,7 @@ from .layout import DATA, TAGS, Layout
 from .moments import Moment
 from .output import json_text, table_text
 from .program import MARKS, Question, Recording, text_of
+from .second_cuts import Seconds
 from .shared import Shared
 from .steps import Totals, mentioned_lines, stepping_indexes, tampered_lines
 from .together import Together
@@ -113,6 +114,9 @@ class CutFinder:
         self.observe: Optional[Callable[[Cut, Readings], None]] = None
         self.texts: Dict[bytes, str] = {}
         self.behind: List[Moment] = []
+        self.is_twice = False
+        self.shared: Optional[Shared] = None
+        self.seconds: Optional[Seconds] = None
         self.last_seen: Optional[Tuple[Readings, Sequence[int], bytes, Seen]] = None
         self.before: Readings = []
         self.plain_before: Readings = []
@@ -192,7 +196,8 @@ class CutFinder:
     def moments(self, indexes: Sequence[int], with_end: bool) -> List[Moment]:
         """Each cut of these commands, with the moment before its command in front."""
         moments = []
-        steps, since = 0, None  # type: int, Optional[int]
+        steps = 0
+        since: Optional[int] = None
         chosen = set(indexes)
         for index, reply in enumerate(self.recording.replies):
             total = self.totals.of(index)
@@ -212,13 +217,16 @@ class CutFinder:
     def answers(self, moments: Sequence[Moment], what: str) -> Iterator[Tuple[Moment, bytes]]:
         """What is printed of each moment. Where a run of the whole trace is worth it, its log tells which cuts one recovery
         stands for."""
+        if self.seconds is not None:
+            yield from self.seconds.answers(moments, what)
+            return
         if sum(moment.kind == "cut" for moment in moments) >= len(self.recording.commands) \
                 and self.together.library_for(self.recording, len(moments)):
             log = self.recording.program.logged(self.recording.script, self.recording.settings)
             if log is not None:
-                shared = Shared(self.recording, self.together, log, self)
-                self.behind = shared.behind
-                yield from shared.answers(moments, what)
+                self.shared = Shared(self.recording, self.together, log, self, self.is_twice)
+                self.behind = self.shared.behind
+                yield from self.shared.answers(moments, what)
                 return
         found = self.together.answers(self.recording, map(self.question, moments), len(moments), what)
         for moment, (_, data) in zip(moments, found):
@@ -314,24 +322,24 @@ class CutFinder:
     def find(self, lines: Optional[range], twice: bool, rows_checked: int) -> List[Cut]:
         """All cuts of the commands on these lines of the trace. So many of them are compared with those of a run from
         the trace's start."""
+        self.is_twice = twice
         indexes = stepping_indexes(self.recording, lines)
         self.totals.count(indexes)
         moments = self.moments(indexes, lines is None and not self.recording.ends_in_exhibit)
         cuts = list(self.cuts(moments, "cuts"))
-        self.check(cuts, rows_checked)
-        return self.with_second_cuts(cuts) if twice else cuts
+        if self.together.library_for(self.recording, len(cuts)):
+            self.check(self.sample(cuts, rows_checked))
+        return self.with_second_cuts(cuts, rows_checked) if twice else cuts
 
-    def check(self, cuts: Sequence[Cut], count: int) -> None:
-        """Compares so many cuts, spread over the trace, with those of runs from its start that read all lines that the
-        trace names."""
+    def check(self, cuts: Sequence[Cut]) -> None:
+        """Compares these cuts with those of runs from the trace's start that read all lines that it names."""
         finder = CutFinder(self.recording, Together(self.together.program, self.together.jobs, True), False, True)
         finder.lines, finder.places = self.lines, self.places
         finder.reads, finder.before_reads = self.reads, self.before_reads
         finder.totals = self.totals
-        some = self.sample(cuts, count) if self.together.library_for(self.recording, len(cuts)) else []
-        moments = [moment for cut in some for moment in (
-            Moment("before", cut.index), Moment("cut" if cut.command else "end", cut.index, cut.number, cut.steps))]
-        for cut, other in zip(some, finder.cuts(moments, "rows compared")):
+        moments = [moment for cut in cuts for moment in (
+            Moment("before", cut.index), Moment("cut" if cut.command else "end", cut.index, cut.number, cut.steps, cut.recovery_steps))]
+        for cut, other in zip(cuts, finder.cuts(moments, "rows compared")):
             if cut != other:
                 raise ExploreError(f"{self.recording.trace.name}: a cut after {cut.steps} steps isn't answered the same by a "
                                    "run that is asked there and by a run from the start: use --from-start")
@@ -344,8 +352,8 @@ class CutFinder:
         places.update(spread(range(len(cuts)), count - len(places)))
         return [cuts[place] for place in sorted(places)]
 
-    def with_second_cuts(self, cuts: Sequence[Cut]) -> List[Cut]:
-        """The cuts with those of each recovery."""
+    def with_second_cuts(self, cuts: Sequence[Cut], rows_checked: int) -> List[Cut]:
+        """The cuts with those of each recovery. So many of those that another one told are compared as `check` does."""
         moments: List[Moment] = []
         for cut in cuts:
             if not moments or moments[-1].index != cut.index:
@@ -353,9 +361,14 @@ class CutFinder:
             if cut.command is not None:
                 moments += [Moment("cut", cut.index, cut.number, cut.steps, number)
                             for number in range(cut.recovery.steps)]
+        if self.shared is not None:
+            self.seconds = Seconds(self.shared, {(cut.index, cut.number): cut.answer.encode() for cut in cuts})
         again: Dict[Tuple[int, int], List[Cut]] = {}
         for second in self.cuts(moments, "cuts of recovery"):
             again.setdefault((second.index, second.number), []).append(second)
+        if self.seconds is not None:
+            self.check([again[moment.index, moment.number][moment.recovery_steps or 0]
+                        for moment in spread(self.seconds.told, rows_checked)])
         return [replace(cut, again=tuple(again.get((cut.index, cut.number), ()))) for cut in cuts]
 
 
@@ -365,7 +378,8 @@ class InPlay:
 
     def __init__(self, recording: Recording, places: Dict[int, int]) -> None:
         self.lines: List[Tuple[int, ...]] = []
-        waiting, last = Waiting(), frozenset()  # type: Waiting, FrozenSet[int]
+        waiting = Waiting()
+        last: FrozenSet[int] = frozenset()
         for command, reply in zip(recording.commands, recording.replies):
             now = {line for _, line, _ in waiting.all()}
             now.update(int(mark.split(" ")[1]) for mark in reply.marks if mark.startswith("seal "))

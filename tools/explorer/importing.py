@@ -3,6 +3,7 @@ import csv
 import io
 import os
 import re
+import sys
 from collections import Counter
 from dataclasses import dataclass
 from typing import BinaryIO, Callable, Dict, Iterable, Iterator, List, Optional, Sequence, Set, Tuple
@@ -32,6 +33,7 @@ CSV_WORDS = {"store": STORE, "s": STORE, "write": STORE, "w": STORE, "load": LOA
 # What pmemcheck's log has beside stores, flushes and fences: none of it reaches memory.
 PMEMCHECK_START = re.compile(rb"^(?:==[0-9]+== ?|--[0-9]+-- ?)?(.*)$", re.DOTALL)
 TOP_BYTES = 4096
+DECIMAL = "(an address that doesn't begin with 0x is decimal)"
 
 
 @dataclass(frozen=True)
@@ -210,6 +212,7 @@ class Maker:
         self.unfenced = 0
         self.stores = 0
         self.fences_at: Set[int] = set(rules.fence_at)
+        self.unmet: Set[int] = set(rules.fence_at)
         self.folded: Dict[int, Set[int]] = {}
         self.front: Front = Straight()
         if rules.cache is not None:
@@ -266,18 +269,23 @@ class Maker:
         """What a load or a flush of the lines of an access makes."""
         return [command for line, _, _ in pieces(access.address, access.size) for command in self.reaching(made(line))]
 
+    def is_fence_at(self, access: Access) -> bool:
+        """Whether a fence was asked for where an access begins; that address is met then."""
+        self.unmet.discard(access.address)
+        return access.address in self.fences_at
+
     def commands(self, access: Access) -> List[str]:
         """The commands of one access."""
         if access.kind == FENCE:
             return self.fence()
-        commands = self.fence() if access.kind == INSTRUCTION and access.address in self.fences_at else []
+        commands = self.fence() if access.kind == INSTRUCTION and self.is_fence_at(access) else []
         if access.kind == STORE:
             commands += self.store(access)
         elif access.kind == LOAD:
             commands += self.on_lines(access, self.front.load)
         elif access.kind == FLUSH:
             commands += self.on_lines(access, self.front.flush)
-        if access.kind != INSTRUCTION and access.address in self.fences_at:
+        if access.kind != INSTRUCTION and self.is_fence_at(access):
             commands += self.fence()
         if self.fence_every and self.unfenced >= self.fence_every:
             commands += self.fence()
@@ -289,7 +297,13 @@ def within_text(rules: Rules) -> str:
     if rules.within is None:
         return ""
     low, high = rules.within
-    return f" within {low:#x}-{high:#x} (an address that doesn't begin with 0x is decimal)"
+    return f" within {low:#x}-{high:#x} {DECIMAL}"
+
+
+def unmet_told(maker: Maker) -> List[str]:
+    """The addresses where a fence was asked for and no access begins."""
+    end = " up to the trace's end" if maker.is_cut_off else ""
+    return [f"no fence at {address:#x}, as nothing that is looked at begins there{end} {DECIMAL}" for address in sorted(maker.unmet)]
 
 
 def is_taken(access: Access, rules: Rules) -> bool:
@@ -389,6 +403,8 @@ def import_trace(name: str, kind: str, rules: Rules) -> str:
     if not commands:
         raise ExploreError(f"{shown_name(name)} has no store or load to import"
                            + within_text(rules))
+    for note in unmet_told(maker):
+        sys.stderr.write(f"explore: {note}\n")
     notes: List[str] = []
     if rules.machine_name != "run":
         made = converted(commands_of("\n".join(commands).encode()), rules.machine_name, rules.levels)

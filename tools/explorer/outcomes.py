@@ -15,7 +15,7 @@ from .processes import new_selector, start
 from .program import Output, Recording
 from .symbols import LINE_BYTES, Names
 from .together import FromStart, Progress, in_order
-from .trace import shown_line, short_text
+from .trace import short_text, told_line
 
 RIGHT, WRONG = "ok", "fails"
 MOST_CHANGED = 64
@@ -143,7 +143,7 @@ class Outcomes:
             workers = [FromStart[Outcome](selector, done, begin) for _ in range(jobs)]
             for outcome, output in in_order(selector, asked, workers, done, Progress("checks", len(asked))):
                 last = output.data.strip().split(b"\n")[-1]
-                outcome.verdict = Verdict(output.status == 0, shown_line(last) or f"status {output.status}")
+                outcome.verdict = Verdict(output.status == 0, told_line(last) or f"status {output.status}")
                 for name in files_of(outcome, Path(folder)):
                     name.unlink()
 
@@ -242,8 +242,8 @@ def failing_trace(outcomes: Outcomes, outcome: Outcome, check: str) -> str:
         commands += [f"cut {cut.recovery_steps}", "on", "on"] if cut.recovery_steps is not None else ["on"]
     commands += [recording.settings.machine.read(line).decode() for line in outcomes.lines]
     reason = outcome.verdict.reason if outcome.verdict else ""
-    return "\n".join([f"# Of {shown_line(recording.trace.name.encode())}: {moment_text(cut)}.",
-                      f"# {shown_line(check.encode())} says: {reason}",
+    return "\n".join([f"# Of {told_line(recording.trace.name.encode())}: {moment_text(cut)}.",
+                      f"# {told_line(check.encode())} says: {reason}",
                       f"# To run it: pmem {' '.join(recording.settings.words())}", *commands]) + "\n"
 
 

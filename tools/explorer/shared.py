@@ -9,7 +9,7 @@ later command, where nothing else reached the device: the recovery that began by
 the same latch, has the same chip and device before it from there on. It made so many more steps."""
 import re
 from dataclasses import dataclass
-from typing import Dict, Iterator, List, Optional, Protocol, Sequence, Tuple
+from typing import Dict, Generic, Iterator, List, Optional, Protocol, Sequence, Tuple, TypeVar
 
 from .accesses import LATCHED, LINE, LOOK, WORK, logs_of
 from .logged import logged_again, wrong
@@ -199,14 +199,23 @@ def is_cut(replies: bytes) -> bool:
     return replies.startswith(b"cut ", len(without_answer(replies)))
 
 
-class Known:
+class HasMoment(Protocol):
+    """What is known of a moment."""
+
+    moment: Moment
+
+
+Teller = TypeVar("Teller", bound=HasMoment)
+
+
+class Known(Generic[Teller]):
     """The first cuts of which is known what is printed, as long as others are told by them."""
 
-    def __init__(self, asked: Iterator[First]) -> None:
+    def __init__(self, asked: Iterator[Teller]) -> None:
         self.asked = asked
-        self.known: Dict[Moment, First] = {}
+        self.known: Dict[Moment, Teller] = {}
 
-    def first(self, moment: Moment) -> First:
+    def first(self, moment: Moment) -> Teller:
         """The first cut at a moment; those up to it are asked for."""
         while True:
             found = self.known.get(moment)
@@ -242,9 +251,9 @@ class Others:
 
 class Shared:
     """The cuts of one trace, of which the log is `data`. `behind`: those that come behind a group's end and that another one told
-    of."""
+    of. `told_by`: where they are noted all those that another one told of, with its moment and its stretch."""
 
-    def __init__(self, recording: Recording, together: Together, data: bytes, finder: Finder) -> None:
+    def __init__(self, recording: Recording, together: Together, data: bytes, finder: Finder, are_noted: bool = False) -> None:
         self.recording = recording
         self.together = together
         self.finder = finder
@@ -252,6 +261,8 @@ class Shared:
         self.later: Dict[int, int] = {}
         self.earlier: Dict[int, int] = {}
         self.behind: List[Moment] = []
+        self.are_noted = are_noted
+        self.told_by: Dict[Tuple[int, int], Tuple[Moment, Stretch]] = {}
         sizes: List[int] = []
         is_armed = False
         ended: Optional[int] = None
@@ -322,7 +333,7 @@ class Shared:
         for moment, stretch, (_, data) in zip(moments, stretches, answers):
             yield First(moment, stretch, self.lines_asked(moment, stretch), data, self.recording.program.path)
 
-    def questions(self, moments: Sequence[Moment], firsts: Sequence[Optional[Moment]], known: Known) -> Iterator[Question]:
+    def questions(self, moments: Sequence[Moment], firsts: Sequence[Optional[Moment]], known: Known[First]) -> Iterator[Question]:
         """The questions of all but the first cuts, up to the cut where a first one tells of the rest."""
         for moment, first in zip(moments, firsts):
             if first is moment:
@@ -370,8 +381,11 @@ class Shared:
             reply = self.recording.output[ends[first.moment.index]:ends[first.moment.index + 1]]
             marks += without_answer(reply)
         found = first.same_at(moment, to_the_cut, marks, self.finder.lines_at(moment))
-        if found is not None and first.is_behind(moment) and moment.kind == "cut":
-            self.behind.append(moment)
+        if found is not None and moment.kind == "cut":
+            if self.are_noted:
+                self.told_by[moment.index, moment.number] = first.moment, first.stretch
+            if first.is_behind(moment):
+                self.behind.append(moment)
         return found
 
     def from_start(self, moment: Moment) -> bytes:

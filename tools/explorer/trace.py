@@ -60,7 +60,16 @@ def words_of(line: bytes) -> List[bytes]:
 
 def shown_line(line: bytes) -> str:
     """A line of a file as messages show it: shortened, and without what a terminal would act on."""
-    text = short_text(line.decode("ascii", "replace").strip())[:100]
+    return printable(short_text(line.decode("ascii", "replace").strip())[:100])
+
+
+def told_line(line: bytes) -> str:
+    """A line of another program's words as messages show it: up to 200 characters of it, its words whole."""
+    return printable(line.decode("ascii", "replace").strip()[:200])
+
+
+def printable(text: str) -> str:
+    """A text without what a terminal would act on."""
     return "".join(letter if letter.isascii() and letter.isprintable() else "?" for letter in text)
 
 

@@ -57,6 +57,19 @@ class LackeyTest(ExploreTest):
                          ["part", "read", "read", "read", "fence", "part", "fence", "part", "part", "fence", "post",
                           "fence"])
 
+    def test_fences_at_addresses_that_are_named_apart(self) -> None:
+        words = ("import", "lackey", "-", "--fence-every", "0", "--fence-at")
+        self.assertEqual(self.output(*words, "0x401010", "--fence-at", "0x601040", text=LACKEY),
+                         self.output(*words, "0x401010,0x601040", text=LACKEY))
+
+    def test_an_address_where_no_fence_can_be_is_told(self) -> None:
+        ran = self.explore("import", "lackey", "-", "--fence-at", "0x401003,401010", "--fence-at", "0x401011", text=LACKEY)
+        self.assertEqual((ran.returncode, ran.stderr), (0, "".join(
+            f"explore: no fence at {address}, as nothing that is looked at begins there (an address that doesn't begin with 0x "
+            "is decimal)\n" for address in ("0x61e72", "0x401011"))))
+        ran = self.explore("import", "lackey", "-", "--fence-at", "0x602000", "--commands", "3", text=LACKEY)
+        self.assertIn("no fence at 0x602000, as nothing that is looked at begins there up to the trace's end", ran.stderr)
+
     def test_a_full_queue_is_drained(self) -> None:
         text = self.output("import", "lackey", "-", "--fence-every", "0",
                            text="".join(f" S {64 * number:08x},4\n" for number in range(18)))

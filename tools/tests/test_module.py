@@ -58,7 +58,7 @@ class TypesTest(unittest.TestCase):
     def test_all_is_typed(self) -> None:
         if not shutil.which("mypy"):
             self.skipTest("mypy isn't there")
-        folders = ["tools/explorer", "tools/tests", "tools/pagemaker", "lessons/goals.py"]
+        folders = ["tools/explorer", "tools/tests", "tools/pagemaker", "tools/calls.py", "lessons/goals.py"]
         for words in (folders, scripts()):
             result = subprocess.run(["mypy", "--cache-dir", os.devnull, *words], cwd=ROOT, stdout=subprocess.PIPE,
                                     stderr=subprocess.STDOUT, universal_newlines=True, check=False)

@@ -82,6 +82,13 @@ class OutcomesTest(ExploreTest):
         (failure,) = suite.iter("failure")
         self.assertIn("entry 2 is missing", str(failure.get("message")))
 
+    def test_what_a_check_says_is_told_in_its_own_words(self) -> None:
+        check = self.script("check_of_all_lines.py", "import sys\nsys.exit('AssertionErrorInTheLog: \\x1b[1m' + 300 * 'x')\n")
+        result = self.explore("cuts", self.trace(BUG), "--check", f"{sys.executable} {check}", "--failing", self.path("failing.trace"))
+        said = "AssertionErrorInTheLog: ?[1m"
+        self.assertIn(f": {said}{(200 - len(said)) * 'x'}\n", result.stdout)
+        self.assertIn("/check_of_all_lines.py says: AssertionErrorInTheLog: ", Path(self.path("failing.trace")).read_text())
+
     def test_the_failing_trace_is_ready_for_the_program(self) -> None:
         self.explore("cuts", self.trace(BUG), "--check", self.check(), "--failing", self.path("failing.trace"))
         text = Path(self.path("failing.trace")).read_text()

@@ -196,7 +196,7 @@ class SharedTest(ExploreTest):
         self.assertEqual([(cut.index, cut.number) for cut in finder.sample(cuts, 4)], [(2, 0), (2, 7), (4, 0), (5, 0)])
         wrong = [replace(cut, recovery=Recovery("on 1 1 1")) if (cut.index, cut.number) == (4, 0) else cut for cut in cuts]
         with self.assertRaises(ExploreError):
-            finder.check(wrong, 4)
+            finder.check(finder.sample(wrong, 4))
 
 
 if __name__ == "__main__":
