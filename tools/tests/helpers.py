@@ -9,9 +9,8 @@ from functools import lru_cache
 from pathlib import Path
 from typing import Any, List, Optional
 
-TOOLS = Path(__file__).resolve().parents[1]
-EXPLORE = TOOLS / "explore"
-sys.path.insert(0, str(TOOLS))
+from .starter import EXPLORE as EXPLORE, TOOLS as TOOLS, starter
+
 EXAMPLES = TOOLS.parent / "examples"
 
 ONES = "11" * 64
@@ -84,7 +83,9 @@ exec '{os.path.abspath(program_path())}' "$@"
         return path
 
     def explore(self, *words: str, text: Optional[str] = None, **variables: str) -> "subprocess.CompletedProcess[str]":
-        """Runs `explore` on these words, with text on its standard input."""
+        """Runs `explore` on these words, with text on its standard input. Where variables are given, Python is started with them."""
+        if not variables:
+            return starter().run(words, text or "", dict(os.environ))
         return subprocess.run([sys.executable, str(EXPLORE), *words], input=text or "", stdout=subprocess.PIPE,
                               stderr=subprocess.PIPE, universal_newlines=True, env={**os.environ, **variables},
                               check=False)

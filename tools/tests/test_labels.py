@@ -2,7 +2,6 @@
 import unittest
 from typing import List, Tuple
 
-from . import helpers  # noqa: F401
 from explorer.labels import MARK, MOST_LINES, is_free, labels_of, meet, placed
 
 Point = Tuple[float, float]

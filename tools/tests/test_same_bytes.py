@@ -2,7 +2,6 @@
 import unittest
 from typing import List, Tuple
 
-from . import helpers  # noqa: F401
 from explorer.same_bytes import Unsettled, cuts_within
 
 
