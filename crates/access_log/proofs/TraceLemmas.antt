@@ -1,6 +1,7 @@
 -- A log goes on by what the watched board answered.
 use Rattle.std.proofs.Common.{◌≡◌, ℕ, ◌<◌, ◌≤◌, List, [], ◌∷◌, ◌++◌, refl, sym, ◌∙◌, ap, inl, inr, subst, arith, Option, Some, None}
 use Rattle.std.specs.Prelude.{length, option_map, IfSome}
+use Rattle.std.proofs.lemmas.List.{append-nil, append_assoc, append_cancel_left}
 use Rattle.std.proofs.lemmas.Option.{same_Some}
 use Rattle.pmem_base.specs.declared.lines.Line.{Line}
 use Rattle.pmem_base.specs.declared.registers.Regs.{Regs}
@@ -11,8 +12,8 @@ use Rattle.board.specs.Steps.{HasRead, HasWritten, HasLatched, WasCut}
 use Rattle.watched_board.specs.declared.taken.Taken.{Taken}
 use Rattle.watched_board.specs.Watching.{counted, device_during, AreInCount, FollowsOn}
 use Rattle.watched_board.proofs.StepLaws.{few_exact}
-use Rattle.access_log.specs.declared.access.Access.{Access}
-use Rattle.access_log.specs.declared.access.Access.TheVariants as Did
+use Rattle.board.specs.declared.access.Access.{Access}
+use Rattle.board.specs.declared.access.Access.TheVariants as Did
 use Rattle.access_log.specs.Traced.{Traced, traced_of, after_access, after_accesses, LeadsTo, GoesOn, IsNoted}
 
 -- one access more
@@ -53,8 +54,34 @@ goes_on-between log_old log_new old its_old its_new new before after goes first 
     subst (λ t. IfSome log_new (λ accesses. after_accesses first accesses ≡ t)) (sym after)
     (goes first (subst (λ t. IfSome log_old (λ accesses. after_accesses first accesses ≡ t)) (sym before) leads))
 
-same_traced : (a b : Traced) → a.lines ≡ b.lines → a.armed ≡ b.armed → a.reads ≡ b.reads → a.writes ≡ b.writes → a.latches ≡ b.latches → a ≡ b
-same_traced a b lines armed reads writes latches = grind arith
+same_traced : (a b : Traced) → a.lines ≡ b.lines → a.armed ≡ b.armed → a.reads ≡ b.reads → a.writes ≡ b.writes → a.latches ≡ b.latches
+    → a.accesses ≡ b.accesses → a ≡ b
+same_traced a b lines armed reads writes latches accesses = grind arith
+
+-- ---- what a log holds
+
+one_access : (t : Traced) (access : Access) → (after_access t access).accesses ≡ t.accesses ++ access ∷ []
+one_access t (Did.Read at) = refl
+one_access t (Did.Write at line) = refl
+one_access t (Did.Latch armed) = refl
+
+accesses_after : (t : Traced) (accesses : List Access) → (after_accesses t accesses).accesses ≡ t.accesses ++ accesses
+accesses_after t [] = sym (append-nil t.accesses)
+accesses_after t (access ∷ later) =
+    accesses_after (after_access t access) later ∙ ap (λ (l : List Access). l ++ later) (one_access t access)
+    ∙ append_assoc t.accesses (access ∷ []) later
+
+-- the accesses of a log that was begun empty are those that the board answered since
+pub exact_log : (old new : BoardMemory) (accesses : List Access) → GoesOn (Some []) old (Some accesses) new → new.accesses ≡ old.accesses ++ accesses
+exact_log old new accesses goes =
+    sym (ap (λ (t : Traced). t.accesses) (goes (traced_of old) refl)) ∙ accesses_after (traced_of old) accesses
+
+pub same_log : (old new : BoardMemory) (accesses others : List Access) → GoesOn (Some []) old (Some accesses) new → GoesOn (Some []) old (Some others) new
+    → accesses ≡ others
+same_log old new accesses others it its =
+    append_cancel_left old.accesses accesses others (sym (exact_log old new accesses it) ∙ exact_log old new others its)
+
+-- ---- one access of a watched board
 
 -- a count of the board rose with the call's own
 rose : (before more later : ℕ) → before ≤ last_count → more < last_count → RisesOnce more later → counted before later ≡ risen (counted before more)
@@ -67,7 +94,7 @@ pub read-traced : (start old new : BoardMemory) (taken_old taken_new : Taken) (a
 read-traced start old new taken_old taken_new at line in_count before after done =
     same_traced _ _ (same_Some _ _ done.lines) (ap (λ (r : Regs). length r.group.items) done.regs) done.reads.is_risen
     (after.writes ∙ ap (counted start.writes) done.writes ∙ sym before.writes)
-    (after.latches ∙ ap (counted start.latches) done.latches ∙ sym before.latches)
+    (after.latches ∙ ap (counted start.latches) done.latches ∙ sym before.latches) (same_Some _ _ done.accesses)
 
 pub write-traced : (start old new : BoardMemory) (taken_old taken_new : Taken) (at : ℕ) (line : Line)
     → AreInCount start → FollowsOn start old taken_old → FollowsOn start new taken_new
@@ -75,7 +102,7 @@ pub write-traced : (start old new : BoardMemory) (taken_old taken_new : Taken) (
 write-traced start old new taken_old taken_new at line in_count before after done =
     same_traced _ _ (same_Some _ _ done.lines) (ap (λ (r : Regs). length r.group.items) done.regs) done.reads
     (after.writes ∙ rose start.writes taken_old.writes taken_new.writes in_count.writes (few_exact taken_old before.few).0 done.writes ∙ ap risen (sym before.writes))
-    (after.latches ∙ ap (counted start.latches) done.latches ∙ sym before.latches)
+    (after.latches ∙ ap (counted start.latches) done.latches ∙ sym before.latches) (same_Some _ _ done.accesses)
 
 pub latch-traced : (start old new : BoardMemory) (taken_old taken_new : Taken) (regs : Regs)
     → AreInCount start → FollowsOn start old taken_old → FollowsOn start new taken_new
@@ -84,6 +111,7 @@ latch-traced start old new taken_old taken_new regs in_count before after done =
     same_traced _ _ (same_Some _ _ done.lines) (ap (λ (r : Regs). length r.group.items) done.regs) done.reads
     (after.writes ∙ ap (counted start.writes) done.writes ∙ sym before.writes)
     (after.latches ∙ rose start.latches taken_old.latches taken_new.latches in_count.latches (few_exact taken_old before.few).1 done.latches ∙ ap risen (sym before.latches))
+    (same_Some _ _ done.accesses)
 
 pub cut-traced : (start old new : BoardMemory) (taken_old taken_new : Taken)
     → AreInCount start → FollowsOn start old taken_old → FollowsOn start new taken_new
@@ -91,4 +119,4 @@ pub cut-traced : (start old new : BoardMemory) (taken_old taken_new : Taken)
 cut-traced start old new taken_old taken_new in_count before after done =
     same_traced _ _ (same_Some _ _ done.lines) (ap (λ (r : Regs). length r.group.items) done.regs) done.reads
     (after.writes ∙ ap (counted start.writes) done.writes ∙ sym before.writes)
-    (after.latches ∙ ap (counted start.latches) done.latches ∙ sym before.latches)
+    (after.latches ∙ ap (counted start.latches) done.latches ∙ sym before.latches) (same_Some _ _ done.accesses)

@@ -2,7 +2,7 @@
 ghost use Rattle.std.specs.Prelude.{◌≡◌, [], Some, None, option_map};
 ghost use Rattle.access_log.specs.Traced.{IsNoted};
 
-use crate::Access;
+use board::Access;
 use std::alloc::Global;
 use std::marker::Model;
 
@@ -16,7 +16,7 @@ pub struct AccessLog {
 impl Model for AccessLog {
     ghost use Rattle.std.specs.Prelude.{List, Option};
     ghost use Rattle.std.specs.Option.{option_map};
-    ghost use Rattle.access_log.specs.declared.access.Access.{Access};
+    ghost use Rattle.board.specs.declared.access.Access.{Access};
 
     ghost Value = { Option (List Access) };
 

@@ -4,12 +4,12 @@ ghost use Rattle.std.proofs.Props.{props};
 ghost use Rattle.board.specs.MemBoard.{memory_of};
 ghost use Rattle.board.specs.Steps.{HasRead, HasWritten, HasLatched, WasCut};
 ghost use Rattle.watched_board.specs.Watching.{IsWatched, device_during, none_taken};
-ghost use Rattle.access_log.specs.declared.access.Access.{Access};
-ghost use Rattle.access_log.specs.declared.access.Access.TheVariants as Did;
-ghost use Rattle.access_log.specs.Traced.{GoesOn, IsNoted};
+ghost use Rattle.board.specs.declared.access.Access.{Access};
+ghost use Rattle.board.specs.declared.access.Access.TheVariants as Did;
+ghost use Rattle.access_log.specs.Traced.{GoesOn, IsNoted, as_seen};
 
-use crate::{Access, AccessLog};
-use board::{Board, MemBoard};
+use crate::AccessLog;
+use board::{Access, Board, MemBoard};
 use pmem_base::{Cut, GhostLine, Line, Regs};
 use std::marker::Brand;
 use watched_board::{Left, Start, Watched};
@@ -40,7 +40,7 @@ impl<'a, K: Start + Entry> Logged<'a, K> {
         requires name { board.ghost_name ≡ K.name }
         requires on { (memory_of board.old).powered ≡ true }
         requires log { log ≡ K.log }
-        ensures device { device_during (memory_of result.watched.board.now) result.watched.taken ≡ device_during K.start none_taken }
+        ensures device { as_seen result.watched.board.now result.watched.taken ≡ device_during K.start none_taken }
     {
         Logged {
             watched: Watched::new(board),
@@ -52,8 +52,8 @@ impl<'a, K: Start + Entry> Logged<'a, K> {
     pub fn left<T>(self, answer: T, log: &mut AccessLog) -> Left<'a, T>
         ensures name { result.board.ghost_name ≡ K.name }
         ensures watched { IsWatched K.start (memory_of result.board.now) result.taken }
-        ensures device { device_during (memory_of result.board.now) result.taken
-            ≡ device_during (memory_of self.entry.watched.board.now) self.entry.watched.taken }
+        ensures device { as_seen result.board.now result.taken
+            ≡ as_seen self.entry.watched.board.now self.entry.watched.taken }
         ensures log { GoesOn K.log K.start log.new (memory_of result.board.now) }
         ensures answer { result.answer ≡ answer }
     {
@@ -75,10 +75,10 @@ impl<K: Start + Entry> Board for Logged<'_, K> {
 
     fn read_line(&mut self, at: u32) -> Result<Line, Cut>
         requires { at < length (memory_of self.old.watched.board.now).lines }
-        ensures ok { IfOk result (λ line. HasRead (device_during (memory_of self.old.watched.board.now) self.old.watched.taken) at line
-            (device_during (memory_of self.new.watched.board.now) self.new.watched.taken)) }
-        ensures cut { OnErr result (WasCut (device_during (memory_of self.old.watched.board.now) self.old.watched.taken)
-            (device_during (memory_of self.new.watched.board.now) self.new.watched.taken)) }
+        ensures ok { IfOk result (λ line. HasRead (as_seen self.old.watched.board.now self.old.watched.taken) at line
+            (as_seen self.new.watched.board.now self.new.watched.taken)) }
+        ensures cut { OnErr result (WasCut (as_seen self.old.watched.board.now self.old.watched.taken)
+            (as_seen self.new.watched.board.now self.new.watched.taken)) }
         ensures only_off { OnErr result ((memory_of self.old.watched.board.now).powered ≡ false) }
         ensures noted { OnOk result (IsNoted self.old.log (Did.Read at) self.new.log) }
         ensures silent { OnErr result (self.new.log ≡ self.old.log) }
@@ -90,10 +90,10 @@ impl<K: Start + Entry> Board for Logged<'_, K> {
 
     fn write_line(&mut self, at: u32, line: &Line) -> Result<(), Cut>
         requires { at < length (memory_of self.old.watched.board.now).lines }
-        ensures ok { OnOk result (HasWritten (device_during (memory_of self.old.watched.board.now) self.old.watched.taken) at line.now
-            (device_during (memory_of self.new.watched.board.now) self.new.watched.taken)) }
-        ensures cut { OnErr result (WasCut (device_during (memory_of self.old.watched.board.now) self.old.watched.taken)
-            (device_during (memory_of self.new.watched.board.now) self.new.watched.taken)) }
+        ensures ok { OnOk result (HasWritten (as_seen self.old.watched.board.now self.old.watched.taken) at line.now
+            (as_seen self.new.watched.board.now self.new.watched.taken)) }
+        ensures cut { OnErr result (WasCut (as_seen self.old.watched.board.now self.old.watched.taken)
+            (as_seen self.new.watched.board.now self.new.watched.taken)) }
         ensures noted { OnOk result (IsNoted self.old.log (Did.Write at line.now) self.new.log) }
         ensures silent { OnErr result (self.new.log ≡ self.old.log) }
     {
@@ -106,10 +106,10 @@ impl<K: Start + Entry> Board for Logged<'_, K> {
     }
 
     fn latch(&mut self, regs: &Regs) -> Result<(), Cut>
-        ensures ok { OnOk result (HasLatched (device_during (memory_of self.old.watched.board.now) self.old.watched.taken) regs.now
-            (device_during (memory_of self.new.watched.board.now) self.new.watched.taken)) }
-        ensures cut { OnErr result (WasCut (device_during (memory_of self.old.watched.board.now) self.old.watched.taken)
-            (device_during (memory_of self.new.watched.board.now) self.new.watched.taken)) }
+        ensures ok { OnOk result (HasLatched (as_seen self.old.watched.board.now self.old.watched.taken) regs.now
+            (as_seen self.new.watched.board.now self.new.watched.taken)) }
+        ensures cut { OnErr result (WasCut (as_seen self.old.watched.board.now self.old.watched.taken)
+            (as_seen self.new.watched.board.now self.new.watched.taken)) }
         ensures noted { OnOk result (IsNoted self.old.log (Did.Latch (length regs.now.group.items)) self.new.log) }
         ensures silent { OnErr result (self.new.log ≡ self.old.log) }
     {

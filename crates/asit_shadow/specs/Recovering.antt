@@ -1,11 +1,11 @@
 -- What recovery makes of a device and its watch, by its answer.
-use Rattle.std.specs.Prelude.{ℕ, suc, ◌≡◌, ◌≢◌, ◌<◌, ◌^◌, ◌⊎◌, true, List, [], All, Option, Some, None, IfSome, MatchOption, Result, Ok, Err, length, replicate, ⊤}
+use Rattle.std.specs.Prelude.{ℕ, ◌≡◌, ◌≢◌, ◌<◌, ◌^◌, ◌⊎◌, true, List, [], All, Option, Some, None, IfSome, MatchOption, Result, Ok, Err, length, ⊤}
 use Rattle.pmem_base.specs.declared.lines.Line.{Line}
 use Rattle.pmem_base.specs.Counts.{risen_times}
 use Rattle.pmem_base.specs.Registers.{without_group}
-use Rattle.pmem_base.specs.Lines.{IsLine, line_at, zero_line}
+use Rattle.pmem_base.specs.Lines.{IsLine, line_at}
 use Rattle.pmem_base.specs.Shape.{Shape}
-use Rattle.pmem_base.specs.Layout.{meta_lines, level_start}
+use Rattle.pmem_base.specs.Layout.{meta_lines}
 use Rattle.suite.specs.Setup.{Setup}
 use Rattle.board.specs.Counts.{RisesBy}
 use Rattle.board.specs.Device.{Device}
@@ -230,11 +230,6 @@ IsNameable g None = ⊤
 IsNameable g (Some named) = (named.x < meta_lines g) × (total named.node < 2 ^ 64)
 
 -- ---- the memory that recovery fills
-
--- a shadow tree as it is taken, before it is filled
-abbrev pub unfilled_tree : Shape → ChipTree
-unfilled_tree g =
-    record { height = shadow_height g; lines = replicate (level_start (suc (shadow_height g))) zero_line }
 
 -- each node that a slot line names stands dirty in its slot
 abbrev pub AreNamed : Shape → List Line → List (Option CachedNode) → Type 0

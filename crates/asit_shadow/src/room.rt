@@ -3,7 +3,7 @@ ghost use Rattle.std.specs.Prelude.{◌≡◌, replicate, length, IfOk, Option, 
 ghost use Rattle.pmem_base.specs.Geo.{shape_of};
 ghost use Rattle.pmem_base.specs.Lines.{zero_line};
 ghost use Rattle.counter_tree.specs.Layout.{tree_slots};
-ghost use Rattle.asit_shadow.specs.Recovering.{unfilled_tree};
+ghost use Rattle.counter_tree.specs.Shadow.{unfilled_tree};
 
 use crate::cache::CachedNode;
 use counter_tree::{ShadowTree, tree_slots};

@@ -3,6 +3,7 @@ use Rattle.std.specs.Prelude.{ℕ, ◌≡◌, Bool, List, Option, Some, None, le
 use Rattle.pmem_base.specs.declared.lines.Line.{Line}
 use Rattle.pmem_base.specs.declared.registers.Regs.{Regs}
 use Rattle.pmem_base.specs.Lines.{IsLine}
+use Rattle.board.specs.declared.access.Access.{Access}
 
 pub record Device : Type 0 where
   pub size : ℕ
@@ -17,6 +18,8 @@ pub record Device : Type 0 where
   pub writes : ℕ
   pub latches : ℕ
   pub cuts : ℕ
+  -- the accesses that were answered and not cut, the first one first, where the board tells them
+  pub accesses : Option (List Access)
 
 -- so many lines, of 64 bytes each
 pub record AreLinesOf (size : ℕ) (lines : List Line) : Type 0 where

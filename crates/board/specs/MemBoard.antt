@@ -15,4 +15,5 @@ memory_of board =
       writes = board.writes;
       latches = board.latches;
       cuts = board.cuts;
+      accesses = board.accesses;
     }

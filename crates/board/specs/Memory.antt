@@ -1,10 +1,12 @@
 -- What contracts see of a board in memory, and what its calls do.
-use Rattle.std.specs.Prelude.{ℕ, ◌≡◌, ◌-◌, ◌/◌, ◌%◌, ◌^◌, ◌⊎◌, Bool, true, false, ◌&&◌, List, Option, Some, None, is_none, bit_xor, replicate, length, slice_index, slice_set}
+use Rattle.std.specs.Prelude.{ℕ, ◌≡◌, ◌-◌, ◌/◌, ◌%◌, ◌^◌, ◌⊎◌, ◌++◌, Bool, true, false, ◌&&◌, List, [], ◌∷◌, Option, Some, None, is_none, bit_xor, replicate, length, slice_index, slice_set}
 use Rattle.pmem_base.specs.declared.lines.Line.{Line}
 use Rattle.pmem_base.specs.declared.registers.Regs.{Regs}
 use Rattle.pmem_base.specs.Counts.{risen}
 use Rattle.pmem_base.specs.Lines.{line_at, line_of, zero_line}
 use Rattle.pmem_base.specs.Registers.{empty_regs}
+use Rattle.board.specs.declared.access.Access.{Access}
+use Rattle.board.specs.declared.access.Access.TheVariants as Did
 use Rattle.board.specs.Device.{Device}
 
 pub record BoardMemory : Type 0 where
@@ -18,6 +20,8 @@ pub record BoardMemory : Type 0 where
   pub writes : ℕ
   pub latches : ℕ
   pub cuts : ℕ
+  -- the accesses that were answered and not cut, the first one first
+  pub accesses : List Access
 
 -- so many zero lines, empty registers, power on, and neither a fuse nor a snapshot
 abbrev pub new_memory : ℕ → BoardMemory
@@ -32,6 +36,7 @@ new_memory size =
       writes = 0;
       latches = 0;
       cuts = 0;
+      accesses = [];
     }
 
 -- no persist step can be done: power is off, or the fuse stands at 0
@@ -44,14 +49,16 @@ burnt_fuse None = None
 burnt_fuse (Some left) = Some (left - 1)
 
 -- the memory after a read, a line write, a latch or a cut
-abbrev pub after_read : BoardMemory → BoardMemory
-after_read memory = record memory { reads = risen memory.reads }
+abbrev pub after_read : BoardMemory → ℕ → BoardMemory
+after_read memory at =
+    record memory { reads = risen memory.reads; accesses = memory.accesses ++ Did.Read at ∷ [] }
 
 abbrev pub after_write : BoardMemory → ℕ → Line → BoardMemory
 after_write memory at line =
     record memory {
       lines = slice_set memory.lines at line;
       writes = risen memory.writes;
+      accesses = memory.accesses ++ Did.Write at line ∷ [];
       fuse = burnt_fuse memory.fuse;
     }
 
@@ -60,6 +67,7 @@ after_latch memory regs =
     record memory {
       regs = regs;
       latches = risen memory.latches;
+      accesses = memory.accesses ++ Did.Latch (length regs.group.items) ∷ [];
       fuse = burnt_fuse memory.fuse;
     }
 
@@ -96,4 +104,5 @@ device_of memory =
       writes = memory.writes;
       latches = memory.latches;
       cuts = memory.cuts;
+      accesses = Some memory.accesses;
     }

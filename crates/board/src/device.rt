@@ -8,7 +8,8 @@ use pmem_base::{Cut, Line, Regs};
 /// An untrusted device of lines, with a register file on the chip. One line write or one latch of
 /// all registers is one persist step, and power may be cut between two of them.
 pub trait Board {
-    /// The size, the lines where told, the registers, whether it is steady and live, and the counts.
+    /// The size, the lines where told, the registers, whether it is steady and live, the counts, and the accesses
+    /// where told.
     ghost device: { Self → Device };
 
     /// The number of lines.

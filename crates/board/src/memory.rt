@@ -6,8 +6,8 @@ ghost use Rattle.pmem_base.specs.Lines.{IsLine, line_at};
 ghost use Rattle.board.specs.Device.{AreLinesOf};
 ghost use Rattle.board.specs.Memory.{new_memory, IsSpent, burnt_fuse, after_read, after_write, after_latch, after_cut, with_lines, with_line_at, flipped_line, restored_lines};
 
-use crate::Board;
-use pmem_base::{Cut, Line, MemFault, NoSnap, Regs};
+use crate::{Access, Board, GhostAccesses};
+use pmem_base::{Cut, GhostLine, Line, MemFault, NoSnap, Regs};
 use std::alloc::Global;
 
 /// A board that keeps its lines in memory, and tells them.
@@ -23,6 +23,7 @@ pub struct MemBoard {
     writes: u64,
     latches: u64,
     cuts: u64,
+    accesses: GhostAccesses,
     pub ghost in_range: { length lines.items < 2 ^ 32 },
     pub ghost each_line: { All IsLine lines.items },
     pub ghost same_size: { ForSome snapshot (λ kept. AreLinesOf (length lines.items) kept.items) },
@@ -49,6 +50,7 @@ impl MemBoard {
             writes: 0,
             latches: 0,
             cuts: 0,
+            accesses: GhostAccesses::none(),
         })
     }
 
@@ -205,7 +207,7 @@ impl Board for MemBoard {
         requires { at < length (memory_of self.old).lines }
         ensures cut { IsErr result ↔ ((memory_of self.old).powered ≡ false) }
         ensures line { IfOk result (λ line. line ≡ line_at (memory_of self.old).lines at) }
-        ensures ok { OnOk result (memory_of self.new ≡ after_read (memory_of self.old)) }
+        ensures ok { OnOk result (memory_of self.new ≡ after_read (memory_of self.old) at) }
         ensures err { OnErr result (memory_of self.new ≡ after_cut (memory_of self.old)) }
         ensures reads { (memory_of self.old).reads ≤ (memory_of self.new).reads }
         ensures cuts { (memory_of self.old).cuts ≤ (memory_of self.new).cuts }
@@ -215,6 +217,7 @@ impl Board for MemBoard {
             return Err(Cut);
         }
         self.reads = self.reads.saturating_add(1);
+        self.accesses.note(&Access::Read { at });
         Ok(self.lines[at as usize])
     }
 
@@ -229,6 +232,10 @@ impl Board for MemBoard {
         self.step()?;
         self.poke(at, line);
         self.writes = self.writes.saturating_add(1);
+        self.accesses.note(&Access::Write {
+            at,
+            line: GhostLine::of(line),
+        });
         Ok(())
     }
 
@@ -242,6 +249,9 @@ impl Board for MemBoard {
         self.step()?;
         self.regs.set(regs);
         self.latches = self.latches.saturating_add(1);
+        self.accesses.note(&Access::Latch {
+            armed: regs.group.len() as u32,
+        });
         Ok(())
     }
 

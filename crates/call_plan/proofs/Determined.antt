@@ -5,6 +5,7 @@ use Rattle.std.specs.Prelude.{Bool, true, false, List, Option, Some, IfSome, sli
 use Rattle.pmem_base.specs.declared.lines.Line.{Line}
 use Rattle.pmem_base.specs.declared.registers.Regs.{Regs}
 use Rattle.pmem_base.specs.Lines.{line_at}
+use Rattle.board.specs.declared.access.Access.{Access}
 use Rattle.board.specs.Device.{Device}
 use Rattle.board.specs.Steps.{HasRead, HasWritten, HasLatched, WasCut, Tells, with_line}
 use Rattle.board.proofs.CountLemmas.{RisesBy-once}
@@ -17,17 +18,18 @@ use Rattle.call_plan.proofs.Keeping.{Grows, follows_grows, on_and_off, stays_on}
 
 -- a device is its fields
 same_device : (a b : Device) → a.size ≡ b.size → a.lines ≡ b.lines → a.regs ≡ b.regs → a.steady ≡ b.steady → a.live ≡ b.live → a.reads ≡ b.reads
-    → a.writes ≡ b.writes → a.latches ≡ b.latches → a.cuts ≡ b.cuts → a ≡ b
-same_device a b size lines regs steady live reads writes latches cuts =
+    → a.writes ≡ b.writes → a.latches ≡ b.latches → a.cuts ≡ b.cuts → a.accesses ≡ b.accesses → a ≡ b
+same_device a b size lines regs steady live reads writes latches cuts accesses =
     ap (λ (n : ℕ). record a { size = n }) size
     ∙ ap (λ (l : Option (List Line)). record a { size = b.size; lines = l }) lines
     ∙ ap (λ (r : Regs). record a { size = b.size; lines = b.lines; regs = r }) regs
     ∙ ap (λ (s : Bool). record a { size = b.size; lines = b.lines; regs = b.regs; steady = s }) steady
-    ∙ ap (λ (s : Bool). record b { live = s; reads = a.reads; writes = a.writes; latches = a.latches; cuts = a.cuts }) live
-    ∙ ap (λ (n : ℕ). record b { reads = n; writes = a.writes; latches = a.latches; cuts = a.cuts }) reads
-    ∙ ap (λ (n : ℕ). record b { writes = n; latches = a.latches; cuts = a.cuts }) writes
-    ∙ ap (λ (n : ℕ). record b { latches = n; cuts = a.cuts }) latches
-    ∙ ap (λ (n : ℕ). record b { cuts = n }) cuts
+    ∙ ap (λ (s : Bool). record b { live = s; reads = a.reads; writes = a.writes; latches = a.latches; cuts = a.cuts; accesses = a.accesses }) live
+    ∙ ap (λ (n : ℕ). record b { reads = n; writes = a.writes; latches = a.latches; cuts = a.cuts; accesses = a.accesses }) reads
+    ∙ ap (λ (n : ℕ). record b { writes = n; latches = a.latches; cuts = a.cuts; accesses = a.accesses }) writes
+    ∙ ap (λ (n : ℕ). record b { latches = n; cuts = a.cuts; accesses = a.accesses }) latches
+    ∙ ap (λ (n : ℕ). record b { cuts = n; accesses = a.accesses }) cuts
+    ∙ ap (λ (l : Option (List Access)). record b { accesses = l }) accesses
 
 told_line : (told : Option (List Line)) (lines : List Line) (at : ℕ) (line : Line) → told ≡ Some lines → Tells told at line → line ≡ line_at lines at
 told_line told lines at line is tells = subst (λ t. Tells t at line) is tells
@@ -42,22 +44,25 @@ pub read_is_determined : (old a b : Device) (at : ℕ) (line other : Line) → H
 read_is_determined old a b at line other x y =
     same_device a b (x.size ∙ sym y.size) (x.lines ∙ sym y.lines) (x.regs ∙ sym y.regs) (x.steady ∙ sym y.steady) (x.live ∙ sym y.live)
     (x.reads.is_risen ∙ sym y.reads.is_risen) (x.writes ∙ sym y.writes) (x.latches ∙ sym y.latches) (x.cuts ∙ sym y.cuts)
+    (x.accesses ∙ sym y.accesses)
 
 pub write_is_determined : (old a b : Device) (at : ℕ) (line : Line) → HasWritten old at line a → HasWritten old at line b → a ≡ b
 write_is_determined old a b at line x y =
     same_device a b (x.size ∙ sym y.size) (x.lines ∙ sym y.lines) (x.regs ∙ sym y.regs) (x.steady ∙ sym y.steady) (x.live ∙ sym y.live)
     (x.reads ∙ sym y.reads) (x.writes.is_risen ∙ sym y.writes.is_risen) (x.latches ∙ sym y.latches) (x.cuts ∙ sym y.cuts)
+    (x.accesses ∙ sym y.accesses)
 
 pub latch_is_determined : (old a b : Device) (regs : Regs) → HasLatched old regs a → HasLatched old regs b → a ≡ b
 latch_is_determined old a b regs x y =
     same_device a b (x.size ∙ sym y.size) (x.lines ∙ sym y.lines) (x.regs ∙ sym y.regs) (x.steady ∙ sym y.steady) (x.live ∙ sym y.live)
     (x.reads ∙ sym y.reads) (x.writes ∙ sym y.writes) (x.latches.is_risen ∙ sym y.latches.is_risen) (x.cuts ∙ sym y.cuts)
+    (x.accesses ∙ sym y.accesses)
 
 pub cut_is_determined : (old a b : Device) → WasCut old a → WasCut old b → a ≡ b
 cut_is_determined old a b x y =
     same_device a b (x.size ∙ sym y.size) (x.lines ∙ sym y.lines) (x.regs ∙ sym y.regs) (x.still_unsteady ∙ sym y.still_unsteady)
     (x.off ∙ sym y.off) (x.reads ∙ sym y.reads) (x.writes ∙ sym y.writes) (x.latches ∙ sym y.latches)
-    (x.cuts.is_risen ∙ sym y.cuts.is_risen)
+    (x.cuts.is_risen ∙ sym y.cuts.is_risen) (x.accesses ∙ sym y.accesses)
 
 -- ---- a run that goes on past a step takes more steps than one that is cut before it
 

@@ -4,6 +4,7 @@ use Rattle.std.proofs.Common.{ℕ, ◌≡◌, ◌≤◌, ◌+◌, ◌-◌, Resul
 use Rattle.std.specs.Prelude.{Bool, true, List, [], ◌∷◌, Option, Some, None, IfSome, option_map}
 use Rattle.pmem_base.specs.declared.lines.Line.{Line}
 use Rattle.pmem_base.specs.declared.registers.Regs.{Regs}
+use Rattle.board.specs.declared.access.Access.{Access}
 use Rattle.board.specs.Device.{Device}
 use Rattle.board.specs.Memory.{BoardMemory}
 use Rattle.watched_board.specs.declared.taken.Taken.{Taken}
@@ -30,8 +31,8 @@ below old new taken run =
     let few : taken.writes + taken.latches ≤ 65536 = run.follows.few in
     record { writes = omega arith; latches = omega arith }
 
-told_lines : (a b : List Line) → Some a ≡ Some b → a ≡ b
-told_lines a b same = cc
+told : {X : Type 0} (a b : X) → Some a ≡ Some b → a ≡ b
+told a b same = cc
 
 same_taken : (x y : Taken) → x.writes ≡ y.writes → x.latches ≡ y.latches → x.cuts ≡ y.cuts → x ≡ y
 same_taken x y writes latches cuts =
@@ -49,17 +50,19 @@ same_fuse old a b x y first second powered taken =
 
 -- a board is its fields
 same_board : (a b : BoardMemory) → a.lines ≡ b.lines → a.regs ≡ b.regs → a.powered ≡ b.powered → a.fuse ≡ b.fuse → a.snapshot ≡ b.snapshot
-    → a.reads ≡ b.reads → a.writes ≡ b.writes → a.latches ≡ b.latches → a.cuts ≡ b.cuts → a ≡ b
-same_board a b lines regs powered fuse snapshot reads writes latches cuts =
+    → a.reads ≡ b.reads → a.writes ≡ b.writes → a.latches ≡ b.latches → a.cuts ≡ b.cuts → a.accesses ≡ b.accesses → a ≡ b
+same_board a b lines regs powered fuse snapshot reads writes latches cuts accesses =
     ap (λ (l : List Line). record a { lines = l }) lines
     ∙ ap (λ (r : Regs). record a { lines = b.lines; regs = r }) regs
     ∙ ap (λ (p : Bool). record a { lines = b.lines; regs = b.regs; powered = p }) powered
     ∙ ap (λ (f : Option ℕ). record a { lines = b.lines; regs = b.regs; powered = b.powered; fuse = f }) fuse
-    ∙ ap (λ (s : Option (List Line)). record b { snapshot = s; reads = a.reads; writes = a.writes; latches = a.latches; cuts = a.cuts }) snapshot
-    ∙ ap (λ (n : ℕ). record b { reads = n; writes = a.writes; latches = a.latches; cuts = a.cuts }) reads
-    ∙ ap (λ (n : ℕ). record b { writes = n; latches = a.latches; cuts = a.cuts }) writes
-    ∙ ap (λ (n : ℕ). record b { latches = n; cuts = a.cuts }) latches
-    ∙ ap (λ (n : ℕ). record b { cuts = n }) cuts
+    ∙ ap (λ (s : Option (List Line)).
+    record b { snapshot = s; reads = a.reads; writes = a.writes; latches = a.latches; cuts = a.cuts; accesses = a.accesses }) snapshot
+    ∙ ap (λ (n : ℕ). record b { reads = n; writes = a.writes; latches = a.latches; cuts = a.cuts; accesses = a.accesses }) reads
+    ∙ ap (λ (n : ℕ). record b { writes = n; latches = a.latches; cuts = a.cuts; accesses = a.accesses }) writes
+    ∙ ap (λ (n : ℕ). record b { latches = n; cuts = a.cuts; accesses = a.accesses }) latches
+    ∙ ap (λ (n : ℕ). record b { cuts = n; accesses = a.accesses }) cuts
+    ∙ ap (λ (l : List Access). record b { accesses = l }) accesses
 
 pub determined_on_board : {E T : Type 0} {plan : Plan E T} {old a b : BoardMemory} {x y : Taken} {first second : Result T E} → old.powered ≡ true
     → IsRunOn old a x → IsRunOn old b y → Follows plan (device_during old none_taken) (device_during a x) first
@@ -74,12 +77,13 @@ determined_on_board {plan = plan} {old = old} {a = a} {b = b} {x = x} {y = y} {f
     let cuts : x.cuts ≡ y.cuts = ap (λ (d : Device). d.cuts) device in
     let taken : x ≡ y = same_taken x y writes latches cuts in (
       same.0,
-      same_board a b (told_lines a.lines b.lines (ap (λ (d : Device). d.lines) device)) (ap (λ (d : Device). d.regs) device) powered
+      same_board a b (told a.lines b.lines (ap (λ (d : Device). d.lines) device)) (ap (λ (d : Device). d.regs) device) powered
           (same_fuse old a b x y run_a.follows run_b.follows powered taken) (run_a.follows.snapshot ∙ sym run_b.follows.snapshot)
           (ap (λ (d : Device). d.reads) device)
           (run_a.follows.writes ∙ ap (λ (n : ℕ). counted old.writes n) writes ∙ sym run_b.follows.writes)
           (run_a.follows.latches ∙ ap (λ (n : ℕ). counted old.latches n) latches ∙ sym run_b.follows.latches)
-          (run_a.follows.cuts ∙ ap (λ (n : ℕ). cuts_after old.cuts n) cuts ∙ sym run_b.follows.cuts),
+          (run_a.follows.cuts ∙ ap (λ (n : ℕ). cuts_after old.cuts n) cuts ∙ sym run_b.follows.cuts)
+          (told a.accesses b.accesses (ap (λ (d : Device). d.accesses) device)),
       taken,
     )
 

@@ -9,3 +9,4 @@ pub mod Accepted
 pub mod Book
 pub mod BookView
 pub mod Plans
+pub mod Promised

@@ -1,9 +1,9 @@
 -- The shadow tree: a hash tree over the slot lines, kept on the chip, with its root in the registers.
 use Rattle.pmem_base.specs.Layout.{level_start}
-use Rattle.std.specs.Prelude.{ℕ, zero, suc, ◌≡◌, ◌≢◌, ◌<◌, ◌≤◌, ◌+◌, ◌-◌, ◌^◌, nat_le, List, [], ◌∷◌, find, length, All}
+use Rattle.std.specs.Prelude.{ℕ, zero, suc, ◌≡◌, ◌≢◌, ◌<◌, ◌≤◌, ◌+◌, ◌-◌, ◌^◌, nat_le, List, [], ◌∷◌, find, length, replicate, All}
 use Rattle.std.specs.Option.{unwrap_or}
 use Rattle.pmem_base.specs.declared.lines.Line.{Line}
-use Rattle.pmem_base.specs.Lines.{IsLine, line_at}
+use Rattle.pmem_base.specs.Lines.{IsLine, line_at, zero_line}
 use Rattle.pmem_base.specs.Shape.{Shape}
 use Rattle.suite.specs.Formulas.{Formulas}
 use Rattle.bonsai_tree.specs.Positions.{parent}
@@ -95,6 +95,11 @@ pub record IsChipTree (tree : ChipTree) : Type 0 where
   pub most : tree.height ≤ 5
   pub count : length tree.lines ≡ level_start (suc tree.height)
   pub whole : All IsLine tree.lines
+
+-- the shadow tree of a geometry as it is taken, before it is filled
+abbrev pub unfilled_tree : Shape → ChipTree
+unfilled_tree g =
+    record { height = shadow_height g; lines = replicate (level_start (suc (shadow_height g))) zero_line }
 
 -- position x of it is so many levels below the top
 pub record IsAtLevelOf (tree : ChipTree) (level x : ℕ) : Type 0 where

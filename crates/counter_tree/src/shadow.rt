@@ -1,15 +1,15 @@
 //! The shadow tree: a hash tree over the slot lines, kept on the chip.
-ghost use Rattle.std.specs.Prelude.{ℕ, suc, ◌*◌, ◌+◌, ◌-◌, ◌≡◌, ◌<◌, ◌≤◌, ◌^◌, List, All, length, replicate, slice_set, IfOk};
+ghost use Rattle.std.specs.Prelude.{ℕ, suc, ◌*◌, ◌+◌, ◌-◌, ◌≡◌, ◌<◌, ◌≤◌, ◌^◌, List, All, length, slice_set, IfOk};
 ghost use Rattle.pmem_base.specs.declared.lines.Line.{Line};
 ghost use Rattle.pmem_base.specs.Counts.{risen, risen_times};
 ghost use Rattle.pmem_base.specs.Geo.{shape_of};
 ghost use Rattle.pmem_base.specs.Layout.{level_start};
-ghost use Rattle.pmem_base.specs.Lines.{IsLine, line_at, zero_line};
+ghost use Rattle.pmem_base.specs.Lines.{IsLine, line_at};
 ghost use Rattle.bonsai_tree.specs.Nodes.{node_over};
 ghost use Rattle.bonsai_tree.specs.Paths.{new_path, new_root};
 ghost use Rattle.pmem_base.specs.Lines.{put_lines};
 ghost use Rattle.counter_tree.specs.Layout.{tree_slots};
-ghost use Rattle.counter_tree.specs.Shadow.{shadow_height, root_of, IsShadowTree, tree_with, tree_root_with, ChipTree, IsChipTree, IsAtLevelOf, AreLeaves};
+ghost use Rattle.counter_tree.specs.Shadow.{shadow_height, root_of, IsShadowTree, tree_with, tree_root_with, ChipTree, IsChipTree, unfilled_tree, IsAtLevelOf, AreLeaves};
 
 use crate::layout::tree_slots;
 use bonsai_tree::{child_slot, node_of, parent, set_child};
@@ -64,10 +64,7 @@ impl ShadowTree {
     /// The shadow tree of a geometry, all lines zero: it has a leaf for each slot. An error is want of
     /// memory.
     pub fn new(alloc: Global, geo: &Geo) -> Result<ShadowTree, MemFault>
-        ensures made { IfOk result (λ tree. tree ≡ record {
-          height = shadow_height (shape_of geo.now);
-          lines = replicate (level_start (suc (shadow_height (shape_of geo.now)))) zero_line;
-        }) }
+        ensures made { IfOk result (λ tree. tree ≡ unfilled_tree (shape_of geo.now)) }
         ensures room { IfOk result (λ tree. tree_slots (shape_of geo.now) ≤ 4 ^ tree.height) }
     {
         let height = shadow_height(geo);

@@ -18,7 +18,6 @@ use Rattle.pmem_engine.specs.declared.fault.Fault.{Fault}
 use Rattle.pmem_engine.specs.declared.fault.Fault.TheVariants as Fail
 use Rattle.pmem_engine.specs.Parts.{Parts}
 use Rattle.pmem_engine.specs.Calls.{whole_write, HasReadLine, HasWrittenLine}
-use Rattle.pmem_engine.proofs.CallEnds.StillParts.{sound_trusted}
 use Rattle.pmem_engine.proofs.PostedWrites.StoppedWrites.{stopped}
 use Rattle.engine_lines.specs.declared.edits.Edit.{Edit}
 use Rattle.engine_lines.specs.declared.edits.Edit.TheVariants as Make
@@ -244,7 +243,7 @@ module _ (setup : Setup) (from : Parts) (queue : List Posted) where
               next = write_spent_next page written;
             }
         go (Err Fail.Cut) written = stopped_ends (write_stopped written)
-        go (Err fault) written = absurd (written.unrefused (sound_trusted setup parts done.sound).not_down done.sound)
+        go (Err fault) written = absurd (written.unrefused done.sound)
 
   -- ---- one change
 
@@ -284,7 +283,7 @@ module _ (setup : Setup) (from : Parts) (queue : List Posted) where
                 within_cut setup from (take k queue) made (most + r) (most + (r + w)) it.between (omega arith)
                 (read_cut setup from parts (take k queue) made most done source it.between was);
           } in end))
-      go (Err fault) was put = absurd (was.unrefused (sound_trusted setup parts done.sound).not_down done.sound)
+      go (Err fault) was put = absurd (was.unrefused done.sound)
 
   -- ---- several
 

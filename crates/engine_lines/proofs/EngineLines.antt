@@ -1,6 +1,6 @@
 -- What one call of an engine makes of the lines, each as it was last sealed, and leaves for the next call.
-use Rattle.std.proofs.Common.{rules, ℕ, ◌≡◌, ◌<◌, ◌≤◌, ◌+◌, ◌^◌, ◌⊎◌, inl, inr, Bool, true, false, cond, List, [], length, Result, Ok, Err, refl, sym, ap, subst, ◌∙◌, arith}
-use Rattle.std.specs.Prelude.{All, slice_set, ◌↔◌}
+use Rattle.std.proofs.Common.{rules, ℕ, ◌≡◌, ◌<◌, ◌≤◌, ◌+◌, ◌^◌, ◌⊎◌, inl, inr, true, false, cond, List, [], length, Result, Ok, Err, refl, sym, ap, subst, ◌∙◌, arith}
+use Rattle.std.specs.Prelude.{All, slice_set}
 use Rattle.std.proofs.lemmas.Bool.{cases_Bool}
 use Rattle.std.proofs.lemmas.List.{length-set, length-append, append-nil}
 use Rattle.std.proofs.lemmas.Option.{same_Some}
@@ -24,7 +24,6 @@ use Rattle.pmem_engine.specs.Engine.{EngineState}
 use Rattle.pmem_engine.specs.Parts.{Parts, AreTrusted, AreSound}
 use Rattle.pmem_engine.specs.Outcomes.{outcome_of, is_sealed_by, LeavesTrusted, LeavesSound}
 use Rattle.pmem_engine.specs.Calls.{IsMemory, IsUnrefused, IsUsable, whole_write, HasReadLine, HasWrittenLine}
-use Rattle.pmem_engine.proofs.CallEnds.StillParts.{sound_trusted}
 use Rattle.pmem_engine.proofs.PostedWrites.PlainMakings.{put_whole}
 use Rattle.pmem_engine.proofs.PostedWrites.WriteEnds.{whole_posted}
 use Rattle.engine_lines.specs.Lines.{HasLines, IsCutOrSpent}
@@ -49,10 +48,6 @@ unrefused_fault T Fail.Cut is = tt
 unrefused_fault T (Fail.Spent page) is = tt
 unrefused_fault T fault is = absurd is
 
--- an engine that is down answers nothing but that
-up_of : (down : Bool) (IsDown : Type 0) → IsDown ↔ (down ≡ true) → (IsDown → ⊥) → down ≡ false
-up_of down IsDown exactly not = elim (cases_Bool down) [ inl is ↦ absurd (not (exactly.1 is)) | inr is ↦ is ]
-
 -- ---- a write
 
 -- a whole line is put
@@ -66,11 +61,11 @@ put_whole_line lines at line each low whole =
 module _ (setup : Setup) (write : Posted) (old new : Parts) (answer : Result Ctr Fault)
     (it : HasWrittenLine setup write old new answer) where
   pub trusted_after_write : AreTrusted setup old → LeavesTrusted setup (outcome_of answer) new
-  trusted_after_write trusted = (it.done trusted.not_down).gone.trusted trusted
+  trusted_after_write trusted = it.done.gone.trusted trusted
 
   pub sound_after_write : AreSound setup old → LeavesSound setup (outcome_of answer) new × IsUnrefused answer
   sound_after_write sound =
-      let up = (sound_trusted setup old sound).not_down in ((it.done up).gone.sound sound, it.unrefused up sound)
+      (it.done.gone.sound sound, it.unrefused sound)
 
 module _ (setup : Setup) (at : ℕ) (plain : Line) (old new : Parts) (answer : Result Ctr Fault)
     (it : HasWrittenLine setup (whole_write at plain) old new answer) (lines : List Line)
@@ -120,48 +115,40 @@ pub spent_lines : (setup : Setup) (at : ℕ) (plain : Line) (old new : Parts) (p
     → at < 2 ^ 32 → at < data_lines setup.shape → IsLine plain → HasLines setup lines old → AreTrusted setup old
     → HasWrittenLine setup (whole_write at plain) old new (Err (Fail.Spent page)) → HasLines setup lines new
 spent_lines setup at plain old new page lines low inside whole had trusted it =
-    let none = it.marks trusted.not_down trusted lines had.sealed in
+    let none = it.marks trusted lines had.sealed in
     unsealed_lines setup at plain old new (Err (Fail.Spent page)) it lines low inside whole had trusted
     (ap (λ made. is_sealed_by made at) none.1)
 
 -- ---- marks
 
-pub up_before_write : (setup : Setup) (write : Posted) (old new : Parts) (ctr : Ctr) → HasWrittenLine setup write old new (Ok ctr)
-    → old.engine.down ≡ false
-up_before_write setup write old new ctr it = up_of old.engine.down _ it.down.exactly (λ h. h)
-
 -- a write makes at most 66 marks
 pub few_marks : (setup : Setup) (write : Posted) (old new : Parts) (ctr : Ctr) → HasWrittenLine setup write old new (Ok ctr)
     → length new.ledger.marks ≤ length old.ledger.marks + 66
 few_marks setup write old new ctr it =
-    let marks = (it.done (up_before_write setup write old new ctr it)).gone.marks in
+    let marks = it.done.gone.marks in
     omega (arith, ap length marks, length-append old.ledger.marks it.made, it.few_marks)
-
-pub up_before_read : (setup : Setup) (at : ℕ) (old new : Parts) (line : Line) → HasReadLine setup at old new (Ok line)
-    → old.engine.down ≡ false
-up_before_read setup at old new line it = up_of old.engine.down _ it.down.exactly (λ h. h)
 
 -- a read makes none
 pub no_marks : (setup : Setup) (at : ℕ) (old new : Parts) (line : Line) → HasReadLine setup at old new (Ok line)
     → length new.ledger.marks ≡ length old.ledger.marks
 no_marks setup at old new line it =
-    let marks = (it.done (up_before_read setup at old new line it)).gone.marks in
+    let marks = it.done.gone.marks in
     omega (arith, ap length marks, length-append old.ledger.marks [])
 
 -- ---- a read
 
 module _ (setup : Setup) (at : ℕ) (old new : Parts) (answer : Result Line Fault) (it : HasReadLine setup at old new answer) where
   pub trusted_after_read : AreTrusted setup old → LeavesTrusted setup (outcome_of answer) new
-  trusted_after_read trusted = (it.done trusted.not_down).gone.trusted trusted
+  trusted_after_read trusted = it.done.gone.trusted trusted
 
   pub sound_after_read : AreSound setup old → LeavesSound setup (outcome_of answer) new × IsUnrefused answer
   sound_after_read sound =
-      let up = (sound_trusted setup old sound).not_down in ((it.done up).gone.sound sound, it.unrefused up sound)
+      (it.done.gone.sound sound, it.unrefused sound)
 
   -- no line changes
   pub lines_after_read : (lines : List Line) → HasLines setup lines old → AreTrusted setup old → HasLines setup lines new
   lines_after_read lines had trusted =
-      let same : new.ledger.marks ≡ old.ledger.marks = (it.done trusted.not_down).gone.marks ∙ append-nil old.ledger.marks in
+      let same : new.ledger.marks ≡ old.ledger.marks = it.done.gone.marks ∙ append-nil old.ledger.marks in
       record {
         whole = had.whole;
         sealed = λ a inside. ap (λ marks. plain_line setup.formulas marks a) same ∙ had.sealed a inside;
@@ -171,5 +158,5 @@ module _ (setup : Setup) (at : ℕ) (old new : Parts) (answer : Result Line Faul
 pub line_read : (setup : Setup) (at : ℕ) (old new : Parts) (line : Line) (lines : List Line) → at < data_lines setup.shape
     → HasLines setup lines old → AreTrusted setup old → HasReadLine setup at old new (Ok line) → line ≡ line_at lines at
 line_read setup at old new line lines inside had trusted it =
-    let answered = it.answered trusted.not_down trusted in
+    let answered = it.answered trusted in
     same_Some _ _ (sym answered.0 ∙ had.sealed at inside)

@@ -204,19 +204,19 @@ module _ (setup : Setup) (from parts : Parts) (writes : List Posted) (made : Lis
   pub read_line : (at : ℕ) (to : Parts) (line : Line) → at < layout.data_lines setup.shape → HasReadLine setup at parts to (Ok line)
       → line ≡ line_at (memory_now setup parts) at
   read_line at to line within it =
-      let read = (it.answered trusted.not_down trusted).0 in
+      let read = (it.answered trusted).0 in
       let here = whole.each at within in
       let both : Some line ≡ Some (line_at (memory_now setup parts) at) = sym read ∙ here in
       search (rules, both)
 
   pub read_done : (at : ℕ) (to : Parts) (line : Line) → HasReadLine setup at parts to (Ok line)
       → AreDone setup from writes made (most + read_steps setup.shape) to
-  read_done at to line it = still to (read_steps setup.shape) (it.done trusted.not_down) (it.steps_of_path trusted.not_down).0
+  read_done at to line it = still to (read_steps setup.shape) it.done it.steps_of_path.0
 
   pub read_cut : (at : ℕ) (to : Parts) → HasReadLine setup at parts to (Err Fail.Cut)
       → AreCut setup from writes made (most + read_steps setup.shape) to
   read_cut at to it =
-      let effect = it.done trusted.not_down in
+      let effect = it.done in
       let same : to.ledger.marks ≡ parts.ledger.marks = effect.gone.marks ∙ append-nil parts.ledger.marks in
       record {
         memory = ap (plain_memory setup) same ∙ memory_done;
@@ -225,7 +225,7 @@ module _ (setup : Setup) (from parts : Parts) (writes : List Posted) (made : Lis
         durable = effect.gone.sound done.sound;
         dark = effect.gone.power.1;
         small_group = effect.gone.small_group trusted.no_group;
-        takes = fewer_more from.device parts.device to.device most (read_steps setup.shape) done.takes ((it.steps_of_path trusted.not_down).1 done.live);
+        takes = fewer_more from.device parts.device to.device most (read_steps setup.shape) done.takes (it.steps_of_path.1 done.live);
       }
 
   -- ---- a write
@@ -290,8 +290,8 @@ module _ (setup : Setup) (from parts : Parts) (writes : List Posted) (made : Lis
     pub write_done : (ctr : Ctr) (it : HasWrittenLine setup write parts to (Ok ctr))
         → AreDone setup from (writes ++ write ∷ []) (made ++ it.made) (most + write_steps setup.shape) to
     write_done ctr it =
-        let effect = it.done trusted.not_down in
-        let asked = it.marks trusted.not_down trusted (memory_now setup parts) whole.each in
+        let effect = it.done in
+        let asked = it.marks trusted (memory_now setup parts) whole.each in
         let sealed : is_sealed_by it.made write.at ≡ true = it.own_sealed (search rules) in
         record {
           asked = asked_more it.made asked;
@@ -306,13 +306,13 @@ module _ (setup : Setup) (from parts : Parts) (writes : List Posted) (made : Lis
     -- its counter is used up
     pub spent_next : (page : ℕ) → HasWrittenLine setup write parts to (Err (Fail.Spent page)) → (next ≡ None) × (page ≡ page_of write.at)
     spent_next page it =
-        let none = it.marks trusted.not_down trusted (memory_now setup parts) whole.each in (sym next_is ∙ none.0, none.2)
+        let none = it.marks trusted (memory_now setup parts) whole.each in (sym next_is ∙ none.0, none.2)
 
     spent_still : (more : ℕ) (page : ℕ) (it : HasWrittenLine setup write parts to (Err (Fail.Spent page))) → TakesAtMost more parts.device to.device
         → AreDone setup from writes made (most + more) to
     spent_still more page it takes =
-        let none = (it.marks trusted.not_down trusted (memory_now setup parts) whole.each).1 in
-        still to more (subst (λ m. OneLossEffect setup going m parts to) none (it.done trusted.not_down)) takes
+        let none = (it.marks trusted (memory_now setup parts) whole.each).1 in
+        still to more (subst (λ m. OneLossEffect setup going m parts to) none it.done) takes
 
     pub spent_done : (page : ℕ) → HasWrittenLine setup write parts to (Err (Fail.Spent page))
         → AreDone setup from writes made (most + write_steps setup.shape) to
@@ -322,9 +322,9 @@ module _ (setup : Setup) (from parts : Parts) (writes : List Posted) (made : Lis
     pub spent_path : (page : ℕ) → HasWrittenLine setup write parts to (Err (Fail.Spent page))
         → AreDone setup from writes made (most + path_length setup.shape) to
     spent_path page it =
-        let none = (it.marks trusted.not_down trusted (memory_now setup parts) whole.each).0 in
+        let none = (it.marks trusted (memory_now setup parts) whole.each).0 in
         spent_still (path_length setup.shape) page it
-        (it.steps_of_spent trusted.not_down trusted (memory_now setup parts) whole.each none).0
+        (it.steps_of_spent trusted (memory_now setup parts) whole.each none).0
 
     -- ---- a cut
 
@@ -340,7 +340,7 @@ module _ (setup : Setup) (from parts : Parts) (writes : List Posted) (made : Lis
 
     module _ (it : HasWrittenLine setup write parts to (Err Fail.Cut)) where
       cut_effect : OneLossEffect setup cut_short it.made parts to
-      cut_effect = it.done trusted.not_down
+      cut_effect = it.done
 
       cut_as : (done_writes : List Posted) → memory_now setup to ≡ (moment_after_writes f now done_writes).memory
           → AreCut setup from done_writes (made ++ it.made) (most + write_steps setup.shape) to
@@ -355,12 +355,12 @@ module _ (setup : Setup) (from parts : Parts) (writes : List Posted) (made : Lis
             takes =
                 fewer_more from.device parts.device to.device most (write_steps setup.shape) done.takes
                 (cut_within (marks_of_write f (moment_now setup parts) write) it.made refl
-                (it.steps trusted.not_down trusted (memory_now setup parts) whole.each));
+                (it.steps trusted (memory_now setup parts) whole.each));
           }
 
       pub write_cut : IsCutAfter setup from writes made write it.made (most + write_steps setup.shape) to
           ⊎ IsCutBefore setup from writes made write it.made (most + write_steps setup.shape) to
-      write_cut = elim (it.marks trusted.not_down trusted (memory_now setup parts) whole.each) [
+      write_cut = elim (it.marks trusted (memory_now setup parts) whole.each) [
         | inl asked ↦
             let own = asked_are setup (regs_of parts) parts.ledger trusted.anchored (moment_now setup parts) refl write it.made asked in
             let sealed = asked_sealed f write.at it.made own in

@@ -1,12 +1,10 @@
 //! Changes of data lines, made by an engine one after the other.
-ghost use Rattle.std.specs.Prelude.{◌≡◌, ◌≤◌, ◌<◌, ◌+◌, ◌*◌, length, All, IfOk};
+ghost use Rattle.std.specs.Prelude.{◌≡◌, ◌≤◌, ◌<◌, ◌+◌, ◌*◌, false, not, length, All, IfOk};
 ghost use Rattle.pmem_base.specs.Layout.{data_lines};
-ghost use Rattle.pmem_engine.specs.Parts.{setup_at, parts_at};
+ghost use Rattle.pmem_engine.specs.Outcomes.{outcome_of, is_going};
 ghost use Rattle.pmem_engine.specs.Calls.{IsUsable};
-ghost use Rattle.pmem_engine.specs.Plans.{chip_at, ended_with};
-ghost use Rattle.call_plan.specs.Following.{Follows};
-ghost use Rattle.engine_lines.specs.Edits.{HasLinePut, HasEdited, AreEdited, IsEditOf};
-ghost use Rattle.engine_lines.specs.Plans.{put_plan, edit_plan, edits_plan};
+ghost use Rattle.engine_lines.specs.Edits.{IsEditOf};
+ghost use Rattle.engine_lines.specs.Promised.{PutsLine, EditsLine, EditsInOrder, FollowsPut, FollowsEdit, FollowsEdits, EditsAll};
 ghost use Rattle.seal_ledger.specs.Notes.{HasRoom};
 
 use board::Board;
@@ -31,8 +29,9 @@ impl Default for Edit {
     }
 }
 
-/// Makes these changes in order, up to one that isn't made: a fault is that of the engine's call that ended it. Each
-/// change makes at most 66 marks. What it does of the board is `edits_plan` of `specs/Plans.antt`.
+/// Makes these changes in order, up to one that isn't made: a fault is that of the engine's call that ended it, and of an
+/// engine that is down `Down`, without changes too. Each change makes at most 66 marks. What is done of the board is
+/// `edits_plan` of `specs/Plans.antt`.
 pub fn edit_all<B: Board, S: Suite, A: Audit>(
     engine: &mut Engine,
     board: &mut B,
@@ -43,12 +42,37 @@ pub fn edit_all<B: Board, S: Suite, A: Audit>(
     requires places { All (IsEditOf (data_lines engine.old.shape)) edits.now }
     requires room { HasRoom (A.ledger audit.old) (A.capacity audit.old) (66 * length edits.now) }
     requires usable { IsUsable engine.old.shape engine.old (B.device board.old) (A.ledger audit.old) }
-    ensures edited { AreEdited (setup_at S.Suite engine.old suite.old) edits.now
-        (parts_at B.Board S.Suite A.Audit engine.old board.old suite.old audit.old)
-        (parts_at B.Board S.Suite A.Audit engine.new board.new suite.new audit.new) result }
-    ensures plan { Follows (edits_plan (setup_at S.Suite engine.old suite.old) edits.now
-        (chip_at S.Suite A.Audit engine.old suite.old audit.old, (B.device board.old).regs)) (B.device board.old) (B.device board.new)
-        (ended_with result (chip_at S.Suite A.Audit engine.new suite.new audit.new) (B.device board.new).regs) }
+    ensures edited { EditsAll B.Board S.Suite A.Audit engine.old board.old suite.old audit.old
+        engine.new board.new suite.new audit.new edits.now result }
+    ensures few { IfOk result (λ done. length (A.ledger audit.new).marks ≤ length (A.ledger audit.old).marks + 66 * length edits.now) }
+    ensures capacity { A.capacity audit.new ≡ A.capacity audit.old }
+    ensures keys { S.keys suite.new ≡ S.keys suite.old }
+    ensures usable { IsUsable engine.old.shape engine.new (B.device board.new) (A.ledger audit.new) }
+    ensures shape { engine.new.shape ≡ engine.old.shape }
+{
+    if engine.is_down() {
+        return Err(Fault::Down);
+    }
+    edit_each(engine, board, suite, audit, edits)
+}
+
+// The same of an engine that is up.
+fn edit_each<B: Board, S: Suite, A: Audit>(
+    engine: &mut Engine,
+    board: &mut B,
+    suite: &mut S,
+    audit: &mut A,
+    edits: &[Edit],
+) -> Result<(), Fault>
+    requires places { All (IsEditOf (data_lines engine.old.shape)) edits.now }
+    requires room { HasRoom (A.ledger audit.old) (A.capacity audit.old) (66 * length edits.now) }
+    requires usable { IsUsable engine.old.shape engine.old (B.device board.old) (A.ledger audit.old) }
+    requires up { engine.old.down ≡ false }
+    ensures edited { EditsInOrder B.Board S.Suite A.Audit engine.old board.old suite.old audit.old
+        engine.new board.new suite.new audit.new edits.now result }
+    ensures plan { FollowsEdits B.Board S.Suite A.Audit engine.old board.old suite.old audit.old
+        engine.new board.new suite.new audit.new edits.now result }
+    ensures down { engine.new.down ≡ not (is_going (outcome_of result)) }
     ensures few { IfOk result (λ done. length (A.ledger audit.new).marks ≤ length (A.ledger audit.old).marks + 66 * length edits.now) }
     ensures capacity { A.capacity audit.new ≡ A.capacity audit.old }
     ensures keys { S.keys suite.new ≡ S.keys suite.old }
@@ -74,12 +98,12 @@ fn edit_line<B: Board, S: Suite, A: Audit>(
     requires places { IsEditOf (data_lines engine.old.shape) edit.now }
     requires room { HasRoom (A.ledger audit.old) (A.capacity audit.old) 66 }
     requires usable { IsUsable engine.old.shape engine.old (B.device board.old) (A.ledger audit.old) }
-    ensures edited { HasEdited (setup_at S.Suite engine.old suite.old) edit.now
-        (parts_at B.Board S.Suite A.Audit engine.old board.old suite.old audit.old)
-        (parts_at B.Board S.Suite A.Audit engine.new board.new suite.new audit.new) result }
-    ensures plan { Follows (edit_plan (setup_at S.Suite engine.old suite.old) edit.now
-        (chip_at S.Suite A.Audit engine.old suite.old audit.old, (B.device board.old).regs)) (B.device board.old) (B.device board.new)
-        (ended_with result (chip_at S.Suite A.Audit engine.new suite.new audit.new) (B.device board.new).regs) }
+    requires up { engine.old.down ≡ false }
+    ensures edited { EditsLine B.Board S.Suite A.Audit engine.old board.old suite.old audit.old
+        engine.new board.new suite.new audit.new edit.now result }
+    ensures plan { FollowsEdit B.Board S.Suite A.Audit engine.old board.old suite.old audit.old
+        engine.new board.new suite.new audit.new edit.now result }
+    ensures down { engine.new.down ≡ not (is_going (outcome_of result)) }
     ensures few { IfOk result (λ done. length (A.ledger audit.new).marks ≤ length (A.ledger audit.old).marks + 66) }
     ensures capacity { A.capacity audit.new ≡ A.capacity audit.old }
     ensures keys { S.keys suite.new ≡ S.keys suite.old }
@@ -107,12 +131,12 @@ fn put_line<B: Board, S: Suite, A: Audit>(
     requires line { at < data_lines engine.old.shape }
     requires room { HasRoom (A.ledger audit.old) (A.capacity audit.old) 66 }
     requires usable { IsUsable engine.old.shape engine.old (B.device board.old) (A.ledger audit.old) }
-    ensures put { HasLinePut (setup_at S.Suite engine.old suite.old) at line.now
-        (parts_at B.Board S.Suite A.Audit engine.old board.old suite.old audit.old)
-        (parts_at B.Board S.Suite A.Audit engine.new board.new suite.new audit.new) result }
-    ensures plan { Follows (put_plan (setup_at S.Suite engine.old suite.old) at line.now
-        (chip_at S.Suite A.Audit engine.old suite.old audit.old) (B.device board.old).regs) (B.device board.old) (B.device board.new)
-        (ended_with result (chip_at S.Suite A.Audit engine.new suite.new audit.new) (B.device board.new).regs) }
+    requires up { engine.old.down ≡ false }
+    ensures put { PutsLine B.Board S.Suite A.Audit engine.old board.old suite.old audit.old
+        engine.new board.new suite.new audit.new at line.now result }
+    ensures plan { FollowsPut B.Board S.Suite A.Audit engine.old board.old suite.old audit.old
+        engine.new board.new suite.new audit.new at line.now result }
+    ensures down { engine.new.down ≡ not (is_going (outcome_of result)) }
     ensures few { IfOk result (λ done. length (A.ledger audit.new).marks ≤ length (A.ledger audit.old).marks + 66) }
     ensures capacity { A.capacity audit.new ≡ A.capacity audit.old }
     ensures keys { S.keys suite.new ≡ S.keys suite.old }

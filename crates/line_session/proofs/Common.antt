@@ -19,7 +19,7 @@ pub use Rattle.engine_lines.specs.Writes.{is_own_seal, read_steps, Writing, IsCu
 pub use Rattle.engine_lines.specs.declared.edits.Edit.{Edit}
 pub use Rattle.line_session.specs.StoreCalls.{CallPlan, HasCalledStore}
 pub use Rattle.line_session.specs.During.{OpeningRelation, HasStartedBy, started_as, HasOpenedAfter}
-pub use Rattle.line_session.specs.Started.{HasStarted, chip_with, opening_end}
+pub use Rattle.line_session.specs.Started.{HasStarted, new_chip, opening_end}
 pub use Rattle.line_session.specs.State.{LineSession, chip_in, places_in, moment_in, with_marks, with_power}
 pub use Rattle.line_session.specs.declared.starts.StartFault.{StartFault}
 pub use Rattle.meta_path.specs.Fetching.{spilled}
@@ -39,9 +39,8 @@ pub use Rattle.pmem_base.specs.declared.commands.Posted.{Posted}
 pub use Rattle.pmem_base.specs.declared.lines.Ctr.{Ctr}
 pub use Rattle.pmem_base.specs.declared.lines.Line.{Line}
 pub use Rattle.pmem_base.specs.declared.registers.Regs.{Regs}
-pub use Rattle.pmem_engine.proofs.CallEnds.StillParts.{sound_trusted}
 pub use Rattle.pmem_engine.specs.Calls.{HasReadLine, whole_write, HasWrittenLine}
-pub use Rattle.pmem_engine.specs.Engine.{EngineState}
+pub use Rattle.pmem_engine.specs.Engine.{ChipState, EngineState, on_chip}
 pub use Rattle.pmem_engine.specs.Invariants.{IsDurable, IsSound, IsAnchored, IsSealTagged}
 pub use Rattle.pmem_engine.specs.Mendable.{new_engine}
 pub use Rattle.pmem_engine.specs.Outcomes.{going, OneLossEffect, TakesAtMost, TakesFewer, cut_short}

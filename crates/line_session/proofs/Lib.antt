@@ -7,4 +7,3 @@ pub mod Openings
 pub mod StartPlans
 pub mod NewDevices
 pub mod NewSessions
-pub mod Logs

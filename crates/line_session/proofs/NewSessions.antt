@@ -5,7 +5,7 @@ use Rattle.std.proofs.lemmas.Bool.{true≢false, and_parts}
 use Rattle.std.proofs.lemmas.List.{append-nil, length-replicate, get_or-replicate}
 use Rattle.pmem_base.specs.declared.lines.Line.{Line}
 use Rattle.pmem_base.specs.declared.registers.Regs.{Regs}
-use Rattle.line_session.proofs.Common.{Setup, Device, BoardMemory, LedgerState, EngineState, HasFormatted, device_of, plain_memory, memory_is, zero_line, HasReadLine, parts_of, IsSound, OneLossEffect, going, page_of, path_length, spilled, RisesBy}
+use Rattle.line_session.proofs.Common.{Setup, Device, BoardMemory, LedgerState, EngineState, HasFormatted, device_of, plain_memory, memory_is, zero_line, HasReadLine, parts_of, IsSound, OneLossEffect, going, page_of, path_length, spilled, RisesBy, on_chip}
 use Rattle.pmem_base.specs.Layout as layout
 use Rattle.line_session.specs.State.{IsNewSession}
 use Rattle.line_session.proofs.NewDevices.{none_to_write}
@@ -27,17 +27,17 @@ module _ (setup : Setup) (start : Device) (middle : BoardMemory) (ledger_middle 
       (tags digests tags_new digests_new n : ℕ) (line : Line)
       (was : HasReadLine setup n (parts_of engine (device_of middle) ledger_before tags digests)
       (parts_of after (device_of board) ledger tags_new digests_new) (Ok line)) where
-    sound : IsSound setup engine middle.lines middle.regs ledger_before
-    sound = subst (IsSound setup engine middle.lines middle.regs) (sym same) (formatted.sound middle.lines refl)
+    sound : IsSound setup (on_chip engine) middle.lines middle.regs ledger_before
+    sound = subst (IsSound setup (on_chip engine) middle.lines middle.regs) (sym same) (formatted.sound middle.lines refl)
 
     effect : OneLossEffect setup going [] (parts_of engine (device_of middle) ledger_before tags digests)
         (parts_of after (device_of board) ledger tags_new digests_new)
-    effect = was.done sound.trusted.not_down
+    effect = was.done
 
     pub marks_stay : ledger.marks ≡ ledger_before.marks
     marks_stay = effect.gone.marks ∙ append-nil ledger_before.marks
 
-    pub sound_after : IsSound setup after board.lines board.regs ledger
+    pub sound_after : IsSound setup (on_chip after) board.lines board.regs ledger
     sound_after = effect.gone.sound sound
 
     -- no line was written back
@@ -57,7 +57,7 @@ module _ (setup : Setup) (start : Device) (middle : BoardMemory) (ledger_middle 
 
     pub new_session : start.writes ≡ 0 → start.latches ≡ 0 → start.cuts ≡ 0 → (keys : List ℕ)
         → IsNewSession setup
-        (record { shape = setup.shape; keys = keys; board = board; engine = Some after; ledger = ledger; tags = tags_new; digests = digests_new })
+        (record { shape = setup.shape; keys = keys; board = board; engine = Some (on_chip after); ledger = ledger; tags = tags_new; digests = digests_new })
     new_session no_writes no_latches no_cuts keys =
         record {
           shape = refl;

@@ -7,7 +7,7 @@ pub has_started : {O F : Type 0} (opens : Setup → OpeningRelation O F) (formul
     (old between new : Device) (ledger_old ledger_new : LedgerState) (suite_old suite_between suite_new : SuiteState)
     (recovery : Result (EngineState × Work) RecFault) (engine : EngineState) (work : Work) (answer : Result O F) → recovery ≡ Ok (engine, work)
     → HasRecovered (setup_under formulas_of g suite_old.keys) ledger_old old between suite_old suite_between recovery
-    → opens (setup_under formulas_of engine.shape suite_between.keys)
+    → opens (setup_under formulas_of engine.shape suite_between.keys) engine
     (parts_of engine between ledger_old suite_between.tags suite_between.digests)
     (λ now. parts_of now new ledger_new suite_new.tags suite_new.digests) answer
     → HasStartedBy (setup_under formulas_of g suite_old.keys) (opens (setup_under formulas_of g suite_old.keys)) old new ledger_old ledger_new
@@ -22,10 +22,10 @@ has_started opens formulas_of g old between new ledger_old ledger_new suite_old 
       recovered = done;
       then = (
         answer,
-        subst (λ k. opens (setup_under formulas_of g k) (parts_of engine between ledger_old suite_between.tags suite_between.digests) now answer)
+        subst (λ k. opens (setup_under formulas_of g k) engine (parts_of engine between ledger_old suite_between.tags suite_between.digests) now answer)
             done.keys
             (subst
-            (λ s. opens (setup_under formulas_of s suite_between.keys) (parts_of engine between ledger_old suite_between.tags suite_between.digests) now answer)
+            (λ s. opens (setup_under formulas_of s suite_between.keys) engine (parts_of engine between ledger_old suite_between.tags suite_between.digests) now answer)
             (ap (λ (e : EngineState). e.shape) done.engine) opened),
         refl,
       );

@@ -1,6 +1,6 @@
 -- Two outcomes of one call of a session are the same.
 use Rattle.std.proofs.Common.{ℕ, ◌≡◌, cond, Some, None, Result, refl, sym, ap, subst, ◌∙◌, [], Err, arith}
-use Rattle.line_session.proofs.Common.{same_Some, BoardMemory, Setup, steps_in, EngineState, Chip, LineSession, chip_in, CallPlan, HasCalledStore, StartFault, HasStarted, RecFault, zero_line}
+use Rattle.line_session.proofs.Common.{same_Some, BoardMemory, Setup, steps_in, Chip, LineSession, chip_in, CallPlan, HasCalledStore, StartFault, HasStarted, RecFault, zero_line, ChipState}
 use Rattle.call_plan.specs.Runs.{IsOutcome}
 use Rattle.call_plan.proofs.DeterminedCalls.{call_is_determined}
 use Rattle.line_session.specs.Answered.{CallRelation, IsAnsweredBy}
@@ -16,13 +16,13 @@ same_session : (a b : LineSession) → a.shape ≡ b.shape → a.keys ≡ b.keys
 same_session a b shape keys board engine ledger tags digests = grind arith
 
 -- what is left of the engine
-same_kept : (a b : LineSession) (x y : EngineState) → a.engine ≡ cond a.board.powered (Some x) None → b.engine ≡ cond b.board.powered (Some y) None
+same_kept : (a b : LineSession) (x y : ChipState) → a.engine ≡ cond a.board.powered (Some x) None → b.engine ≡ cond b.board.powered (Some y) None
     → a.board ≡ b.board → x ≡ y → a.engine ≡ b.engine
 same_kept a b x y kept its board same =
-    kept ∙ ap (λ (m : BoardMemory). cond m.powered (Some x) None) board ∙ ap (λ (e : EngineState). cond b.board.powered (Some e) None) same ∙ sym its
+    kept ∙ ap (λ (m : BoardMemory). cond m.powered (Some x) None) board ∙ ap (λ (e : ChipState). cond b.board.powered (Some e) None) same ∙ sym its
 
 -- sessions with the same board, chip, geometry and keys
-same_after : (a b : LineSession) (x y : EngineState) → a.engine ≡ cond a.board.powered (Some x) None → b.engine ≡ cond b.board.powered (Some y) None
+same_after : (a b : LineSession) (x y : ChipState) → a.engine ≡ cond a.board.powered (Some x) None → b.engine ≡ cond b.board.powered (Some y) None
     → a.shape ≡ b.shape → a.keys ≡ b.keys → a.board ≡ b.board → chip_in a x ≡ chip_in b y → a ≡ b
 same_after a b x y kept its shape keys board chip =
     same_session a b shape keys board (same_kept a b x y kept its board (ap (λ (c : Chip). c.engine) chip))

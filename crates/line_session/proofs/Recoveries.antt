@@ -1,7 +1,7 @@
 -- What a recovery leaves that a session over the engine began: as from the engine's start where it is done, and else a
 -- durable device.
 use Rattle.std.proofs.Common.{ℕ, ◌≡◌, ◌<◌, ◌≤◌, ◌-◌, Bool, true, false, List, [], length, inl, inr, Option, Some, None, Ok, Err, refl, sym, ap, subst, ◌∙◌, arith}
-use Rattle.line_session.proofs.Common.{is_some, option_map, MatchOption, true≢false, append-nil, same_Some, Line, Regs, Device, BoardMemory, LedgerState, Setup, recovery_bound, EngineState, Parts, parts_of, AreSound, IsDurable, IsSound, Work, SuiteState, IsTwinOfLastSeal, HasRecovered, most_recovery_steps, Taken, steps_in, device_during, none_taken, IsWatched, unburnt, most_within, AreDone}
+use Rattle.line_session.proofs.Common.{is_some, option_map, MatchOption, true≢false, append-nil, same_Some, Line, Regs, Device, BoardMemory, LedgerState, Setup, recovery_bound, EngineState, Parts, parts_of, AreSound, IsDurable, IsSound, Work, SuiteState, IsTwinOfLastSeal, HasRecovered, most_recovery_steps, Taken, steps_in, device_during, none_taken, IsWatched, unburnt, most_within, AreDone, on_chip}
 use Rattle.pmem_base.specs.Layout as layout
 use Rattle.pmem_base.specs.Registers.{without_group}
 use Rattle.commit_regs.specs.Groups.{redone}
@@ -28,7 +28,7 @@ module _ (setup : Setup) (ledger : LedgerState) (lit : BoardMemory) (between : D
   sound_recovered = go between.lines refl
     where
       go : (found : Option (List Line)) → between.lines ≡ found
-          → MatchOption found ⊥ (λ lines. IsSound setup engine lines between.regs ledger)
+          → MatchOption found ⊥ (λ lines. IsSound setup (on_chip engine) lines between.regs ledger)
       go None none = absurd (true≢false (sym it.told ∙ ap (λ (o : Option (List Line)). is_some o) none))
       go (Some now) there = (it.lines lit.lines refl now there).from_durable durable
 
@@ -56,8 +56,8 @@ pub record IsLeftDurable (setup : Setup) (old : BoardMemory) (new : BoardMemory)
   pub loss : new.regs.loss ≡ old.regs.loss
 
 same_board : (a b : BoardMemory) → a.lines ≡ b.lines → a.regs ≡ b.regs → a.powered ≡ b.powered → a.fuse ≡ b.fuse → a.snapshot ≡ b.snapshot
-    → a.reads ≡ b.reads → a.writes ≡ b.writes → a.latches ≡ b.latches → a.cuts ≡ b.cuts → a ≡ b
-same_board a b lines regs powered fuse snapshot reads writes latches cuts = grind arith
+    → a.reads ≡ b.reads → a.writes ≡ b.writes → a.latches ≡ b.latches → a.cuts ≡ b.cuts → a.accesses ≡ b.accesses → a ≡ b
+same_board a b lines regs powered fuse snapshot reads writes latches cuts accesses = grind arith
 
 -- nothing was done: no step was taken, and nothing was read
 pub untouched : (old new : BoardMemory) (taken : Taken) → IsWatched old new taken → device_during new taken ≡ device_during old none_taken → old.powered ≡ true
@@ -71,6 +71,7 @@ untouched old new taken watched same on =
     same_board new old (same_Some new.lines old.lines (ap (λ (d : Device). d.lines) same)) (ap (λ (d : Device). d.regs) same) (ap (λ (d : Device). d.live) same)
     (follows.burnt lasting ∙ ap (λ k. option_map (λ n. n - k) old.fuse) none ∙ unburnt old.fuse) follows.snapshot (ap (λ (d : Device). d.reads) same)
     (omega (arith, follows.writes, watched.in_count.writes, no_writes)) (omega (arith, follows.latches, watched.in_count.latches, no_latches)) (follows.uncut lasting)
+    (same_Some new.accesses old.accesses (ap (λ (d : Device). d.accesses) same))
 
 -- and power goes off again
 pub rests : (board lit now : BoardMemory) → lit ≡ record board { powered = true } → board.powered ≡ false → now ≡ lit → record now { powered = false } ≡ board

@@ -1,6 +1,6 @@
 -- Recovery and the opening of a store followed one plan.
 use Rattle.std.proofs.Common.{◌≡◌, Result, Ok, Err, sym, subst₂}
-use Rattle.line_session.proofs.Common.{Device, ended, Follows, LedgerState, Setup, EngineState, Chip, chip_of, Work, RecFault, SuiteCounts, recover_plan, CallPlan, started_as, chip_with, opening_end, SuiteState, counts_of, new_engine}
+use Rattle.line_session.proofs.Common.{Device, ended, Follows, LedgerState, Setup, EngineState, Chip, chip_of, Work, RecFault, SuiteCounts, recover_plan, CallPlan, started_as, new_chip, opening_end, SuiteState, counts_of, new_engine}
 use Rattle.call_plan.proofs.Bind.{bind_ok, bind_err, mapped_follows}
 use Rattle.engine_lines.proofs.RegisterPlans.{done_with_regs, stopped_with_regs}
 use Rattle.line_session.specs.declared.starts.StartFault.TheVariants.{Recovery, Opening}
@@ -15,11 +15,11 @@ module _ {F A : Type 0} (setup : Setup) (ledger : LedgerState) (opening : CallPl
   unfolding start_plan
   start_follows counts left done (Ok value) after it opens =
       bind_ok (opening_end ledger opening)
-      (mapped_follows (λ left. (chip_with setup ledger left.0, Recovery left.1)) (λ end. end) (done_with_regs it))
+      (mapped_follows (λ left. (new_chip setup ledger left.0, Recovery left.1)) (λ end. end) (done_with_regs it))
       (mapped_follows (λ left. (left.0, Opening left.1)) (λ end. end) opens)
   start_follows counts left done (Err fault) after it opens =
       bind_ok (opening_end ledger opening)
-      (mapped_follows (λ left. (chip_with setup ledger left.0, Recovery left.1)) (λ end. end) (done_with_regs it))
+      (mapped_follows (λ left. (new_chip setup ledger left.0, Recovery left.1)) (λ end. end) (done_with_regs it))
       (mapped_follows (λ left. (left.0, Opening left.1)) (λ end. end) opens)
 
   -- it wasn't recovered, so ledger and suite are as recovery left them
@@ -32,4 +32,4 @@ module _ {F A : Type 0} (setup : Setup) (ledger : LedgerState) (opening : CallPl
       subst₂ (λ (l : LedgerState) (s : SuiteState). Follows (start_plan setup ledger opening old.regs counts) old new
       (Err (chip_of (new_engine setup.shape) l s.tags s.digests, Recovery fault))) (sym same) (sym suite)
       (bind_err (opening_end ledger opening)
-      (mapped_follows (λ left. (chip_with setup ledger left.0, Recovery left.1)) (λ end. end) (stopped_with_regs it)))
+      (mapped_follows (λ left. (new_chip setup ledger left.0, Recovery left.1)) (λ end. end) (stopped_with_regs it)))

@@ -12,9 +12,9 @@ use Rattle.pmem_recovery.specs.Recovered.{HasRecovered}
 use Rattle.line_session.specs.declared.starts.StartFault.{StartFault}
 use Rattle.line_session.specs.declared.starts.StartFault.TheVariants.{Recovery, Opening}
 
--- what an opening does, from the parts of a recovered engine to those of the engine that it keeps or drops
+-- what an opening does by a recovered engine, from its parts to those of the engine that it keeps or drops
 abbrev pub OpeningRelation : Type 0 → Type 0 → Type 1
-OpeningRelation O F = Parts → (EngineState → Parts) → Result O F → Type 0
+OpeningRelation O F = EngineState → Parts → (EngineState → Parts) → Result O F → Type 0
 
 -- the answer of both by that of the opening
 abbrev pub started_as : {O F : Type 0} → Result O F → Result O (StartFault F)
@@ -27,7 +27,7 @@ abbrev pub HasOpenedAfter :
     → SuiteState → Result O (StartFault F) → Type 0
 HasOpenedAfter {O = O} {F = F} (Ok done) opens between new ledger_between ledger_new suite_between suite_new answer =
     (opened : Result O F)
-    × opens (parts_of done.0 between ledger_between suite_between.tags suite_between.digests)
+    × opens done.0 (parts_of done.0 between ledger_between suite_between.tags suite_between.digests)
     (λ now. parts_of now new ledger_new suite_new.tags suite_new.digests) opened
     × (answer ≡ started_as opened)
 HasOpenedAfter (Err fault) opens between new ledger_between ledger_new suite_between suite_new answer =

@@ -4,5 +4,4 @@ pub mod Started
 pub mod Answered
 pub mod During
 pub mod Determined
-pub mod Logged
 pub mod Promised

@@ -1,15 +1,19 @@
 -- What a call of a store promises, and the turning on of power, of what they are given: a clause names the store, the
 -- device or the board, the suite and the ledger, before and after.
-use Rattle.std.specs.Prelude.{Result}
+use Rattle.std.specs.Prelude.{ℕ, ◌≡◌, ◌<◌, Result, IsSome}
 use Rattle.pmem_base.specs.declared.geometry.Geo.{Geo}
 use Rattle.pmem_base.specs.Shape.{Shape}
+use Rattle.pmem_base.specs.Layout.{data_lines, device_lines}
+use Rattle.pmem_base.specs.Marks.{last_seal}
+use Rattle.pmem_base.specs.Registers.{IsValidRegs}
 use Rattle.board.specs.Device.{Device}
 use Rattle.board.specs.declared.memory.MemBoard.{MemBoard}
 use Rattle.board.specs.MemBoard.{memory_of}
 use Rattle.watched_board.specs.declared.taken.Taken.{Taken}
 use Rattle.watched_board.specs.Watching.{device_during, none_taken}
 use Rattle.seal_ledger.specs.declared.ledger.Ledger.{Ledger}
-use Rattle.seal_ledger.specs.View.{ledger_of}
+use Rattle.seal_ledger.specs.Ledger.{IsOfShape, LedgerState}
+use Rattle.seal_ledger.specs.View.{capacity_of, ledger_of}
 use Rattle.suite.specs.Setup.{Setup}
 use Rattle.suite.specs.declared.Suite.{Ghosts as SuiteOf}
 use Rattle.pmem_engine.specs.Calls.{IsUsable}
@@ -23,6 +27,12 @@ use Rattle.line_session.specs.declared.starts.StartFault.{StartFault}
 abbrev pub IsUsableDuring : Shape → EngineState → MemBoard → Taken → Ledger → Type 0
 IsUsableDuring shape engine board taken ledger =
     IsUsable shape engine (device_during (memory_of board) taken) (ledger_of ledger)
+
+-- the device can be recovered, as the ledger knows it
+abbrev pub CanStart : Shape → Device → LedgerState → Type 0
+CanStart shape device ledger =
+    (device.size ≡ device_lines shape) × IsValidRegs shape device.regs × IsOfShape shape ledger
+    × ((a : ℕ) → a < data_lines shape → IsSome (last_seal ledger.marks a))
 
 -- what a call does of a store, and of its engine's parts
 abbrev pub CallEffect : Type 0 → Type 0 → Type 1
@@ -47,13 +57,20 @@ module _ {S : Type 0} (suite : SuiteOf S) where
         IsMade (device_during (memory_of board) none_taken) s ledger store_new (device_during (memory_of board_new) taken)
         s_new ledger_new answer
 
+  -- the engine serves the device as before, under the same keys and with room for as many marks
+  abbrev pub StaysUsable : {T : Type 0} → (T → EngineState) → T → S → Ledger → T → Device → S → Ledger → Type 0
+  StaysUsable engine_of store s ledger store_new device_new s_new ledger_new =
+      (capacity_of ledger_new ≡ capacity_of ledger) × (suite.keys s_new ≡ suite.keys s)
+      × IsUsable (engine_of store).shape (engine_of store_new) device_new (ledger_of ledger_new)
+      × ((engine_of store_new).shape ≡ (engine_of store).shape)
+
   -- ---- power that comes on
 
   module _ {O F : Type 0} (opens : Setup → OpeningRelation O F) where
     -- the opening alone, by an engine
     abbrev pub IsOpened : EngineState → Device → S → Ledger → Device → S → Ledger → Result O F → Type 0
     IsOpened engine device s ledger device_new s_new ledger_new answer =
-        opens (setup_at suite engine s) (parts_with engine device s ledger)
+        opens (setup_at suite engine s) engine (parts_with engine device s ledger)
         (λ now. parts_with now device_new s_new ledger_new) answer
 
     -- recovery and the opening, over a device

@@ -7,7 +7,7 @@ use Rattle.watched_board.specs.declared.taken.Taken.{Taken}
 use Rattle.watched_board.specs.Watching.{steps_in}
 use Rattle.seal_ledger.specs.Ledger.{LedgerState}
 use Rattle.suite.specs.Setup.{Setup}
-use Rattle.pmem_engine.specs.Engine.{EngineState}
+use Rattle.pmem_engine.specs.Engine.{ChipState, EngineState}
 use Rattle.pmem_engine.specs.Mendable.{new_engine}
 use Rattle.pmem_engine.specs.Plans.{Chip, chip_of}
 use Rattle.pmem_recovery.specs.declared.faults.Work.{Work}
@@ -20,8 +20,8 @@ use Rattle.line_session.specs.State.{LineSession, chip_in, with_power}
 use Rattle.line_session.specs.StoreCalls.{CallPlan}
 
 -- a chip with a new engine, before anything is told of it but the counts
-abbrev pub chip_with : Setup → LedgerState → SuiteCounts → Chip
-chip_with setup ledger counts = chip_of (new_engine setup.shape) ledger counts.tags counts.digests
+abbrev pub new_chip : Setup → LedgerState → SuiteCounts → Chip
+new_chip setup ledger counts = chip_of (new_engine setup.shape) ledger counts.tags counts.digests
 
 -- the lines are opened by the engine that recovery gives, from the registers that recovery leaves
 abbrev pub opening_end : {F A : Type 0} → LedgerState → CallPlan F A → (SuiteCounts × (EngineState × Work)) × Regs
@@ -34,14 +34,14 @@ opening_end ledger opening recovered =
 unfoldable pub start_plan : {F A : Type 0} → Setup → LedgerState → CallPlan F A → Regs → SuiteCounts → Plan (Chip × StartFault F) (Chip × A)
 start_plan setup ledger opening regs counts =
     bind
-    (mapped (λ left. (chip_with setup ledger left.0, Recovery left.1)) (λ end. end) (with_regs regs (recover_plan setup regs counts)))
+    (mapped (λ left. (new_chip setup ledger left.0, Recovery left.1)) (λ end. end) (with_regs regs (recover_plan setup regs counts)))
     (opening_end ledger opening)
 
 -- The session before and after power came on, or didn't: want of memory apart, which does nothing. A cut leaves it off.
 pub record HasStarted {F A : Type 0} (setup : Setup) (opening : CallPlan F A) (steps : ℕ) (end : Result A (StartFault F)) (old new : LineSession) :
     Type 0 where
   pub was_off : old.engine ≡ None
-  pub after : EngineState
+  pub after : ChipState
   pub taken : Taken
   pub outcome :
       IsOutcome (start_plan setup old.ledger opening old.board.regs (suite_counts old.tags old.digests)) (with_power old).board new.board taken end

@@ -12,9 +12,9 @@ use Rattle.suite.specs.Setup.{Setup}
 use Rattle.plain_model.specs.State.{Memory}
 use Rattle.plain_model.specs.View.{DeviceView, view_of, plain_memory}
 use Rattle.plain_model.specs.Asked.{Moment}
-use Rattle.pmem_engine.specs.Engine.{EngineState}
+use Rattle.pmem_engine.specs.Engine.{ChipState}
 use Rattle.pmem_engine.specs.Formatted.{first_seal}
-use Rattle.pmem_engine.specs.Plans.{Chip, chip_of}
+use Rattle.pmem_engine.specs.Plans.{Chip, chip_with}
 
 pub record LineSession : Type 0 where
   -- the geometry, and the keys of the suite
@@ -22,8 +22,8 @@ pub record LineSession : Type 0 where
   pub keys : List ℕ
   -- the device with its registers, its power, a cut that is set, and its counts
   pub board : BoardMemory
-  -- the engine, while power is on
-  pub engine : Option EngineState
+  -- what is on the chip, while power is on and the engine is up
+  pub engine : Option ChipState
   -- all marks in order, those of formatting first, and the true lines of the tree
   pub ledger : LedgerState
   -- how many tags and digests were made
@@ -48,9 +48,9 @@ places_in setup session = plain_memory setup session.ledger.marks
 abbrev pub moment_in : Setup → LineSession → Moment
 moment_in setup session = record { memory = places_in setup session; view = view_in session }
 
--- this engine with the session's ledger and counts
-abbrev pub chip_in : LineSession → EngineState → Chip
-chip_in session engine = chip_of engine session.ledger session.tags session.digests
+-- this with the session's ledger and counts
+abbrev pub chip_in : LineSession → ChipState → Chip
+chip_in session engine = chip_with engine session.ledger session.tags session.digests
 
 -- the session with these marks made
 abbrev pub with_marks : LineSession → List Mark → LineSession

@@ -5,7 +5,7 @@ use Rattle.call_plan.specs.Plans.{Plan}
 use Rattle.call_plan.specs.Runs.{IsOutcome}
 use Rattle.watched_board.specs.declared.taken.Taken.{Taken}
 use Rattle.watched_board.specs.Watching.{steps_in}
-use Rattle.pmem_engine.specs.Engine.{EngineState}
+use Rattle.pmem_engine.specs.Engine.{ChipState}
 use Rattle.pmem_engine.specs.Plans.{Chip}
 use Rattle.line_session.specs.State.{LineSession, chip_in}
 
@@ -17,9 +17,9 @@ CallPlan F A = Regs → Chip → Plan (Chip × F) (Chip × A)
 -- the engine is there unless power was cut.
 pub record HasCalledStore {F A : Type 0} (plan : CallPlan F A) (steps : ℕ) (end : Result A F) (old new : LineSession) : Type 0 where
   pub powered : old.board.powered ≡ true
-  pub engine : EngineState
+  pub engine : ChipState
   pub was_on : old.engine ≡ Some engine
-  pub after : EngineState
+  pub after : ChipState
   pub taken : Taken
   pub outcome : IsOutcome (plan old.board.regs (chip_in old engine)) old.board new.board taken end (chip_in new after)
   pub its_steps : steps ≡ steps_in taken

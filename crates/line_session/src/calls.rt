@@ -1,6 +1,6 @@
 //! A call of a store over a board whose fuse is watched, and whose accesses are logged: one watched board for each
 //! command, so that its steps are those of the whole command.
-ghost use Rattle.std.specs.Prelude.{◌≡◌, ℕ, true, Result, Some, IsSome, IfSome};
+ghost use Rattle.std.specs.Prelude.{◌≡◌, ℕ, true, Result};
 ghost use Rattle.board.specs.MemBoard.{memory_of};
 ghost use Rattle.suite.specs.Setup.{Setup};
 ghost use Rattle.seal_ledger.specs.Ledger.{LedgerState};
@@ -10,24 +10,16 @@ ghost use Rattle.pmem_engine.specs.Parts.{Parts};
 ghost use Rattle.pmem_engine.specs.Calls.{IsUsable};
 ghost use Rattle.watched_board.specs.Watching.{IsWatched, none_taken};
 ghost use Rattle.access_log.specs.Traced.{GoesOn};
-ghost use Rattle.line_session.specs.Promised.{IsMade, IsCalled, IsUsableDuring};
+ghost use Rattle.line_session.specs.Promised.{IsMade, StaysUsable, IsCalled, IsUsableDuring};
 
-use access_log::{AccessLog, Entry, Logged};
+use access_log::AccessLog;
 use board::{Board, MemBoard};
 use seal_ledger::Ledger;
-use std::marker::Brand;
 use suite::Suite;
-use watched_board::{Left, Start, Taken};
-
-/// A call's answer, and the steps that it took.
-#[derive(Drop)]
-pub struct CallEnd<T> {
-    pub taken: Taken,
-    pub answer: T,
-}
+use watched_call::{BoardCall, CallEnd, make_call};
 
 /// A call of a store of lines over an engine: what it needs of the store and of the room for marks, and what it does of
-/// the store and of the engine's parts, by its plan and by what it makes of the lines.
+/// the store and of the engine's parts, by whether the engine is down, by its plan and by what it makes of the lines.
 pub trait StoreCall {
     /// The store.
     type Store;
@@ -61,6 +53,35 @@ pub trait StoreCall {
         ensures shape { (engine_of store.new).shape ≡ (engine_of store.old).shape };
 }
 
+/// A call of a store, as one over a watched board.
+#[derive(Drop)]
+struct OfStore<'a, C> {
+    call: &'a C,
+}
+
+impl<'a, C: StoreCall> BoardCall<Ledger> for OfStore<'a, C> {
+    type Engine = C::Store;
+
+    type Answer = Result<C::Value, C::Fault>;
+
+    ghost can = { λ made store device ledger. C.can made.call.now store (ledger_of ledger) (capacity_of ledger)
+        × IsUsable (C.engine_of store).shape (C.engine_of store) device (ledger_of ledger) };
+
+    ghost relation = { λ made S suite store device s ledger later_store later_device later_s later_ledger answer.
+        IsMade suite C.engine_of (C.relation made.call.now) store device s ledger later_store later_device later_s later_ledger answer
+        × StaysUsable suite C.engine_of store s ledger later_store later_device later_s later_ledger };
+
+    fn make<B: Board, S: Suite>(
+        &self,
+        engine: &mut C::Store,
+        board: &mut B,
+        suite: &mut S,
+        notes: &mut Ledger,
+    ) -> Result<C::Value, C::Fault> {
+        self.call.make(engine, board, suite, notes)
+    }
+}
+
 /// Makes a call over the watched board, whose accesses are logged.
 pub fn call<C: StoreCall, S: Suite>(
     call: &C,
@@ -82,46 +103,5 @@ pub fn call<C: StoreCall, S: Suite>(
     ensures usable { IsUsableDuring (C.engine_of store.old).shape (C.engine_of store.new) board.new result.taken ledger.new }
     ensures shape { (C.engine_of store.new).shape ≡ (C.engine_of store.old).shape }
 {
-    let mut outcome = None;
-    let left = call_logged::<Brand, C, S>(call, store, board, suite, ledger, log, &mut outcome);
-    let Left {
-        board: _,
-        taken,
-        ..
-    } = left;
-    match outcome {
-        Some(answer) => CallEnd { taken, answer },
-        None => unreachable!(),
-    }
-}
-
-fn call_logged<'a, K: Start + Entry, C: StoreCall, S: Suite>(
-    call: &C,
-    store: &mut C::Store,
-    board: &'a mut MemBoard,
-    suite: &mut S,
-    ledger: &mut Ledger,
-    log: &mut AccessLog,
-    outcome: &mut Option<Result<C::Value, C::Fault>>,
-) -> Left<'a, ()>
-    requires can { C.can call.now store.old (ledger_of ledger.old) (capacity_of ledger.old) }
-    requires start { memory_of board.old ≡ K.start }
-    requires name { board.ghost_name ≡ K.name }
-    requires log { log.old ≡ K.log }
-    requires on { (memory_of board.old).powered ≡ true }
-    requires usable { IsUsableDuring (C.engine_of store.old).shape (C.engine_of store.old) board.old none_taken ledger.old }
-    ensures name { result.board.ghost_name ≡ K.name }
-    ensures made { IfSome outcome.new (IsCalled S.Suite C.engine_of (C.relation call.now) store.old board.old suite.old ledger.old
-        store.new result.board.now result.taken suite.new ledger.new) }
-    ensures some { IsSome outcome.new }
-    ensures watched { IsWatched K.start (memory_of result.board.now) result.taken }
-    ensures logged { GoesOn K.log K.start log.new (memory_of result.board.now) }
-    ensures capacity { capacity_of ledger.new ≡ capacity_of ledger.old }
-    ensures keys { S.keys suite.new ≡ S.keys suite.old }
-    ensures usable { IsUsableDuring (C.engine_of store.old).shape (C.engine_of store.new) result.board.now result.taken ledger.new }
-    ensures shape { (C.engine_of store.new).shape ≡ (C.engine_of store.old).shape }
-{
-    let mut logged = Logged::<K>::new(board, log.take());
-    *outcome = Some(call.make(store, &mut logged, suite, ledger));
-    logged.left((), log)
+    make_call(&OfStore { call }, store, board, suite, ledger, log)
 }

@@ -7,7 +7,7 @@ mod laws;
 mod marks;
 mod starts;
 
-pub use calls::{CallEnd, StoreCall, call};
+pub use calls::{StoreCall, call};
 pub use laws::{calls_are_determined, starts_are_determined};
 pub use marks::has_own_seal;
 pub use starts::{StartFault, StoreOpening, start};

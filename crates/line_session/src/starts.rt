@@ -1,5 +1,5 @@
 //! Power comes on: the device is recovered, and a store is opened by the engine that recovery gives.
-ghost use Rattle.std.specs.Prelude.{◌≡◌, ◌<◌, ℕ, true, Result, Some, IsSome, IfOk, IfSome, length};
+ghost use Rattle.std.specs.Prelude.{◌≡◌, ◌<◌, ℕ, true, Result, IsSome, IfOk, length};
 ghost use Rattle.pmem_base.specs.Geo.{shape_of};
 ghost use Rattle.pmem_base.specs.Layout.{data_lines, device_lines};
 ghost use Rattle.pmem_base.specs.Marks.{last_seal};
@@ -13,19 +13,17 @@ ghost use Rattle.pmem_engine.specs.Parts.{Parts};
 ghost use Rattle.pmem_engine.specs.Calls.{IsUsable};
 ghost use Rattle.watched_board.specs.Watching.{IsWatched};
 ghost use Rattle.access_log.specs.Traced.{GoesOn};
-ghost use Rattle.line_session.specs.Promised.{IsOpened, IsStarted, IsStartedOn, IsUsableDuring};
+ghost use Rattle.line_session.specs.Promised.{IsOpened, CanStart, IsStarted, IsStartedOn, IsUsableDuring};
 
-use crate::calls::CallEnd;
-use access_log::{AccessLog, Entry, Logged};
+use access_log::AccessLog;
 use board::{Board, MemBoard};
 use pmem_base::Geo;
 use pmem_engine::Engine;
 use pmem_recovery::{RecFault, recover};
 use seal_ledger::Ledger;
 use std::alloc::Global;
-use std::marker::Brand;
 use suite::Suite;
-use watched_board::{Left, Start};
+use watched_call::{BoardCall, CallEnd, make_call};
 
 /// Why power didn't come on.
 #[derive(Clone, Copy)]
@@ -36,8 +34,8 @@ pub enum StartFault<F> {
     Opening(F),
 }
 
-/// The opening of a store of lines: what it needs of the room for marks, and what it does, by its plan and by what it
-/// makes of the lines.
+/// The opening of a store of lines: what it needs of the room for marks, and what it does, by whether the engine is down,
+/// by its plan and by what it makes of the lines.
 pub trait StoreOpening {
     /// The store, with what its opening tells.
     type Opened: Drop;
@@ -49,7 +47,7 @@ pub trait StoreOpening {
 
     ghost can: { Self → LedgerState → ℕ → Type 0 };
 
-    ghost relation: { Self → Setup → Parts → (EngineState → Parts) → Result Self.Opened Self.Fault → Type 0 };
+    ghost relation: { Self → Setup → EngineState → Parts → (EngineState → Parts) → Result Self.Opened Self.Fault → Type 0 };
 
     /// Opens the store.
     fn open<B: Board, S: Suite>(
@@ -67,6 +65,39 @@ pub trait StoreOpening {
         ensures keys { S.keys suite.new ≡ S.keys suite.old }
         ensures usable { IfOk result (λ opened. IsUsable engine.shape (engine_of opened) (B.device board.new) (ledger_of ledger.new)) }
         ensures shape { IfOk result (λ opened. (engine_of opened).shape ≡ engine.shape) };
+}
+
+/// The device is recovered, and its store opened.
+#[derive(Drop)]
+struct Starting<'a, O> {
+    alloc: Global,
+    geo: &'a Geo,
+    opening: &'a O,
+}
+
+impl<'a, O: StoreOpening> BoardCall<Ledger> for Starting<'a, O> {
+    type Engine = ();
+
+    type Answer = Result<O::Opened, StartFault<O::Fault>>;
+
+    ghost can = { λ starting _ device ledger. O.can starting.opening.now (ledger_of ledger) (capacity_of ledger)
+        × CanStart (shape_of starting.geo.now) device (ledger_of ledger) };
+
+    ghost relation = { λ starting S suite _ device s ledger _ later_device later_s later_ledger answer.
+        IsStarted suite (O.relation starting.opening.now) starting.geo.now device s ledger later_device later_s later_ledger answer
+        × (suite.keys later_s ≡ suite.keys s)
+        × IfOk answer (λ opened. IsUsable (shape_of starting.geo.now) (O.engine_of opened) later_device (ledger_of later_ledger)
+        × ((O.engine_of opened).shape ≡ shape_of starting.geo.now)) };
+
+    fn make<B: Board, S: Suite>(
+        &self,
+        engine: &mut (),
+        board: &mut B,
+        suite: &mut S,
+        notes: &mut Ledger,
+    ) -> Result<O::Opened, StartFault<O::Fault>> {
+        recover_and_open(self.alloc, self.geo, self.opening, board, suite, notes)
+    }
 }
 
 /// Recovers the device, and opens its store, over the watched board, whose accesses are logged.
@@ -93,60 +124,18 @@ pub fn start<O: StoreOpening, S: Suite>(
     ensures usable { IfOk result.answer (λ opened. IsUsableDuring (shape_of geo.now) (O.engine_of opened) board.new result.taken ledger.new) }
     ensures shape { IfOk result.answer (λ opened. (O.engine_of opened).shape ≡ shape_of geo.now) }
 {
-    let mut outcome = None;
-    let left = start_logged::<Brand, O, S>(
-        alloc,
-        geo,
-        opening,
+    make_call(
+        &Starting {
+            alloc,
+            geo,
+            opening,
+        },
+        &mut (),
         board,
         suite,
         ledger,
         log,
-        &mut outcome,
-    );
-    let Left {
-        board: _,
-        taken,
-        ..
-    } = left;
-    match outcome {
-        Some(answer) => CallEnd { taken, answer },
-        None => unreachable!(),
-    }
-}
-
-fn start_logged<'a, K: Start + Entry, O: StoreOpening, S: Suite>(
-    alloc: Global,
-    geo: &Geo,
-    opening: &O,
-    board: &'a mut MemBoard,
-    suite: &mut S,
-    ledger: &mut Ledger,
-    log: &mut AccessLog,
-    outcome: &mut Option<Result<O::Opened, StartFault<O::Fault>>>,
-) -> Left<'a, ()>
-    requires can { O.can opening.now (ledger_of ledger.old) (capacity_of ledger.old) }
-    requires size { length (memory_of board.old).lines ≡ device_lines (shape_of geo.now) }
-    requires start { memory_of board.old ≡ K.start }
-    requires name { board.ghost_name ≡ K.name }
-    requires log { log.old ≡ K.log }
-    requires on { (memory_of board.old).powered ≡ true }
-    requires regs { IsValidRegs (shape_of geo.now) (memory_of board.old).regs }
-    requires ledger { IsOfShape (shape_of geo.now) (ledger_of ledger.old) }
-    requires each_sealed { (a : ℕ) → a < data_lines (shape_of geo.now) → IsSome (last_seal (ledger_of ledger.old).marks a) }
-    ensures name { result.board.ghost_name ≡ K.name }
-    ensures started { IfSome outcome.new (IsStartedOn S.Suite (O.relation opening.now) geo.now board.old suite.old ledger.old
-        result.board.now result.taken suite.new ledger.new) }
-    ensures some { IsSome outcome.new }
-    ensures watched { IsWatched K.start (memory_of result.board.now) result.taken }
-    ensures logged { GoesOn K.log K.start log.new (memory_of result.board.now) }
-    ensures keys { S.keys suite.new ≡ S.keys suite.old }
-    ensures usable { IfSome outcome.new (λ answer. IfOk answer (λ opened. IsUsableDuring (shape_of geo.now) (O.engine_of opened) result.board.now result.taken ledger.new)) }
-    ensures shape { IfSome outcome.new (λ answer. IfOk answer (λ opened. (O.engine_of opened).shape ≡ shape_of geo.now)) }
-{
-    let mut logged = Logged::<K>::new(board, log.take());
-    *outcome = Some(recover_and_open(alloc, geo, opening, &mut logged, suite, ledger));
-    logged.left((), log)
+    )
 }
 
 /// The same over any board.

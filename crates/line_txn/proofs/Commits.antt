@@ -25,6 +25,8 @@ use Rattle.line_txn.specs.Header.{AreDistinctBelow, AreTargets, header_of}
 use Rattle.line_txn.specs.Logged.{CommitStage, logged, decided, cleared, lines_decided, commit_lines_at, with_header, targets_of, bodies_of}
 use Rattle.line_txn.specs.Edits.{IsWholeTxn, body_edits, target_edits, deciding_edits, applying_edits}
 use Rattle.line_txn.specs.Store.{HasStoreCommitted, HasDecided, HasCommitGoneOn, IsServedAs, IsServedBy, IsCommitEnd, IsLeftLogged, IsSoundCommitAnswer, IsSpentUndecided, commit_answer_by, commit_outcome_by}
+use Rattle.line_txn.specs.Plans.{commit_fault}
+use Rattle.line_txn.specs.Promised.{IsCommitRefused}
 use Rattle.line_txn.proofs.LoggedLaws.{whole_at_each_stage, zero_header}
 use Rattle.engine_lines.proofs.EditLaws.{AfterEdits, LeftTrusted, LeftSound, trusted_after_edits, sound_after_edits, edits_leave, LeavesAll}
 use Rattle.engine_lines.proofs.EditStages.{after_last, StopsEditsBy, stops_by}
@@ -259,6 +261,11 @@ empty_list (x ∷ xs) e = absurd (omega (arith, eqb-true (suc (length xs)) 0 e))
 
 pub some_list : {X : Type 0} (xs : List X) → eqb (length xs) 0 ≡ false → xs ≡ [] → ⊥
 some_list xs other none = eqb-false (length xs) 0 other (ap length none)
+
+-- a commit with lines of an engine that is down
+pub refused_some : (txn : List (ℕ × Line)) → (txn ≡ [] → ⊥) → IsCommitRefused txn (Err (commit_fault false Fail.Down))
+refused_some [] some = absurd (some refl)
+refused_some (entry ∷ txn) some = refl
 
 pub decided_by : (setup : Setup) (txn : List (ℕ × Line)) (old new : Store) (from to : Parts) (answer : Result Committed CommitFault)
     → (txn ≡ [] → ⊥) → HasDecided setup txn old new from to answer → HasStoreCommitted setup txn old new from to answer

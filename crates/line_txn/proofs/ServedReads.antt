@@ -11,8 +11,10 @@ use Rattle.pmem_engine.specs.Parts.{Parts, AreTrusted}
 use Rattle.pmem_engine.specs.Calls.{HasReadLine}
 use Rattle.engine_lines.specs.Lines.{HasLines}
 use Rattle.engine_lines.proofs.EngineLines.{line_read}
+use Rattle.line_txn.specs.declared.store.Store.{Store}
 use Rattle.line_txn.specs.Logged.{IsLogged, IsReadFrom}
 use Rattle.line_txn.specs.Serving.{body_or_place, served_from}
+use Rattle.line_txn.specs.Promised.{HasReadServed}
 use Rattle.line_txn.proofs.LoggedLaws.{read_from}
 
 -- a target has its body, and no line that isn't one has another place
@@ -68,3 +70,14 @@ read_logged setup n a place targets lines memory old new (Ok line) inside size t
     ∙ ap (line_at lines) there
     ∙ served_line n lines memory targets a inside held
 read_logged setup n a place targets lines memory old new (Err fault) inside size there low had trusted held it = tt
+
+pub read_served : (setup : Setup) (a : ℕ) (store : Store) (place : ℕ) (old new : Parts) (answer : Result Line Fault) → a < store.lines
+    → store.lines + 16 ≡ data_lines setup.shape → place ≡ served_from store.lines store.logged.items a → place < store.lines + 16
+    → HasReadLine setup place old new answer → HasReadServed setup a store old new answer
+read_served setup a store place old new answer inside size there low it =
+    record {
+      was_read = subst (λ (k : ℕ). HasReadLine setup k old new answer) there it;
+      logged =
+          λ trusted lines memory had held.
+          read_logged setup store.lines a place store.logged.items lines memory old new answer inside size there low had trusted held it;
+    }

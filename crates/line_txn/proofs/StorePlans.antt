@@ -1,9 +1,9 @@
 -- The calls of a store followed their plans.
-use Rattle.std.proofs.Common.{ℕ, ◌≡◌, true, false, List, [], ◌∷◌, length, Option, Some, None, Result, Ok, Err, refl, sym, ap, subst, ◌∙◌}
+use Rattle.std.proofs.Common.{ℕ, ◌≡◌, true, false, List, [], ◌∷◌, Option, Some, None, Result, Ok, Err, refl, sym, subst, ◌∙◌}
 use Rattle.pmem_base.specs.declared.lines.Line.{Line}
 use Rattle.pmem_base.specs.declared.registers.Regs.{Regs}
 use Rattle.board.specs.Device.{Device}
-use Rattle.call_plan.specs.Plans.{Plan, bind, mapped, lifted, ended}
+use Rattle.call_plan.specs.Plans.{Plan, lifted, ended}
 use Rattle.call_plan.specs.Following.{Follows}
 use Rattle.call_plan.proofs.Steps.{is_done, is_stopped}
 use Rattle.call_plan.proofs.Bind.{bind_ok, bind_err, mapped_follows, lifted_follows}

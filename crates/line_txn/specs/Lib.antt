@@ -4,4 +4,5 @@ pub mod Edits
 pub mod Serving
 pub mod Store
 pub mod Plans
+pub mod Promised
 pub mod Determined

@@ -1,16 +1,11 @@
 //! Data lines over an engine, written by transactions of several lines.
-ghost use Rattle.std.specs.Prelude.{◌≡◌, ◌≤◌, ◌<◌, ◌+◌, ◌^◌, List, [], true, Some, None, IfOk};
-ghost use Rattle.pmem_base.specs.declared.lines.Line.{Line};
+ghost use Rattle.std.specs.Prelude.{◌≡◌, ◌≤◌, ◌<◌, ◌+◌, ◌^◌, [], false, not, None, IfOk};
 ghost use Rattle.pmem_base.specs.Layout.{data_lines};
-ghost use Rattle.pmem_base.specs.Lines.{line_at};
 ghost use Rattle.pmem_engine.specs.Engine.{EngineState};
-ghost use Rattle.pmem_engine.specs.Parts.{AreTrusted, AreSound, setup_at, parts_at};
-ghost use Rattle.pmem_engine.specs.Outcomes.{LeavesTrusted, LeavesSound};
-ghost use Rattle.pmem_engine.specs.Calls.{IsUsable, HasReadLine};
-ghost use Rattle.pmem_engine.specs.Plans.{chip_at};
-ghost use Rattle.engine_lines.specs.Lines.{HasLines};
+ghost use Rattle.pmem_engine.specs.Outcomes.{is_going};
+ghost use Rattle.pmem_engine.specs.Calls.{IsUsable};
 ghost use Rattle.line_txn.specs.Header.{AreDistinctBelow};
-ghost use Rattle.line_txn.specs.Logged.{IsLogged, targets_of};
+ghost use Rattle.line_txn.specs.Logged.{targets_of};
 ghost use Rattle.seal_ledger.specs.Notes.{HasRoom};
 
 use crate::edits::{applying, deciding, redoing, targets_in};
@@ -73,10 +68,11 @@ pub struct Store {
 impl Store {
     ghost use Rattle.line_txn.specs.Edits.{IsWholeTxn};
     ghost use Rattle.line_txn.specs.Serving.{served_from};
-    ghost use Rattle.line_txn.specs.Plans.{FollowsOpeningTo, FollowsCommit};
-    ghost use Rattle.line_txn.specs.Store.{HasStoreOpened, HasOpenedLogged, LeavesOpenedTrusted, LeavesOpenedSound, HasStoreCommitted, IsLeftLogged, IsSoundCommitAnswer, IsSpentUndecided, IsServedAs, commit_outcome_by, logged_lines};
+    ghost use Rattle.line_txn.specs.Store.{IsSpentUndecided, IsServedAs, commit_outcome_by, logged_lines};
+    ghost use Rattle.line_txn.specs.Promised.{OpensStore, OpensLines, FollowsOpeningLines, ReadsServed, CommitsTxn, CommitsLines, FollowsCommitting, IsCommitRefused};
 
-    /// Reads the header, and redoes the transaction in force. `Header` comes exactly where the line is no header.
+    /// Reads the header, and redoes the transaction in force. `Header` comes exactly where the line is no header. An engine
+    /// that is down reads nothing, and answers `Down`.
     pub fn open<B: Board, S: Suite, A: Audit>(
         engine: Engine,
         board: &mut B,
@@ -85,37 +81,21 @@ impl Store {
     ) -> Result<(Store, Opened), TxnFault>
         requires room { HasRoom (A.ledger audit.old) (A.capacity audit.old) 1056 }
         requires usable { IsUsable engine.shape engine (B.device board.old) (A.ledger audit.old) }
-        ensures opened { HasStoreOpened (setup_at S.Suite engine suite.old)
-            (parts_at B.Board S.Suite A.Audit engine board.old suite.old audit.old)
-            (λ now. parts_at B.Board S.Suite A.Audit now board.new suite.new audit.new) result }
-        ensures plan { FollowsOpeningTo (setup_at S.Suite engine suite.old) (B.device board.old).regs
-            (chip_at S.Suite A.Audit engine suite.old audit.old) (B.device board.old) (B.device board.new)
-            (λ now. chip_at S.Suite A.Audit now suite.new audit.new) result }
-        ensures logged { AreTrusted (setup_at S.Suite engine suite.old)
-            (parts_at B.Board S.Suite A.Audit engine board.old suite.old audit.old)
-            → (lines : List Line)
-            → HasLines (setup_at S.Suite engine suite.old) lines
-            (parts_at B.Board S.Suite A.Audit engine board.old suite.old audit.old)
-            → HasOpenedLogged (setup_at S.Suite engine suite.old) lines
-            (λ now. parts_at B.Board S.Suite A.Audit now board.new suite.new audit.new) result }
-        ensures trusted { AreTrusted (setup_at S.Suite engine suite.old)
-            (parts_at B.Board S.Suite A.Audit engine board.old suite.old audit.old)
-            → LeavesOpenedTrusted (setup_at S.Suite engine suite.old)
-            (λ now. parts_at B.Board S.Suite A.Audit now board.new suite.new audit.new) result }
-        ensures sound { AreSound (setup_at S.Suite engine suite.old)
-            (parts_at B.Board S.Suite A.Audit engine board.old suite.old audit.old)
-            → LeavesOpenedSound (setup_at S.Suite engine suite.old)
-            (λ now. parts_at B.Board S.Suite A.Audit now board.new suite.new audit.new) result }
+        ensures opened { OpensStore B.Board S.Suite A.Audit engine board.old suite.old audit.old
+            board.new suite.new audit.new result }
         ensures capacity { A.capacity audit.new ≡ A.capacity audit.old }
         ensures keys { S.keys suite.new ≡ S.keys suite.old }
         ensures usable { IfOk result (λ opened. IsUsable engine.shape opened.0.engine (B.device board.new) (A.ledger audit.new)) }
         ensures shape { IfOk result (λ opened. opened.0.engine.shape ≡ engine.shape) }
         ensures left { (last : EngineState) × IsUsable engine.shape last (B.device board.new) (A.ledger audit.new) }
     {
+        if engine.is_down() {
+            return Err(TxnFault::Engine(Fault::Down));
+        }
         Store::open_lines(engine, board, suite, audit)
     }
 
-    // The same: the calls of which the rest follows.
+    // The same by an engine that is up: the calls of which the rest follows.
     fn open_lines<B: Board, S: Suite, A: Audit>(
         engine: Engine,
         board: &mut B,
@@ -124,17 +104,17 @@ impl Store {
     ) -> Result<(Store, Opened), TxnFault>
         requires room { HasRoom (A.ledger audit.old) (A.capacity audit.old) 1056 }
         requires usable { IsUsable engine.shape engine (B.device board.old) (A.ledger audit.old) }
-        ensures opened { HasStoreOpened (setup_at S.Suite engine suite.old)
-            (parts_at B.Board S.Suite A.Audit engine board.old suite.old audit.old)
-            (λ now. parts_at B.Board S.Suite A.Audit now board.new suite.new audit.new) result }
-        ensures plan { FollowsOpeningTo (setup_at S.Suite engine suite.old) (B.device board.old).regs
-            (chip_at S.Suite A.Audit engine suite.old audit.old) (B.device board.old) (B.device board.new)
-            (λ now. chip_at S.Suite A.Audit now suite.new audit.new) result }
+        requires up { engine.down ≡ false }
+        ensures opened { OpensLines B.Board S.Suite A.Audit engine board.old suite.old audit.old
+            board.new suite.new audit.new result }
+        ensures plan { FollowsOpeningLines B.Board S.Suite A.Audit engine board.old suite.old audit.old
+            board.new suite.new audit.new result }
         ensures few { logged_lines engine.shape ≤ 2 ^ 30 }
         ensures capacity { A.capacity audit.new ≡ A.capacity audit.old }
         ensures keys { S.keys suite.new ≡ S.keys suite.old }
         ensures usable { IfOk result (λ opened. IsUsable engine.shape opened.0.engine (B.device board.new) (A.ledger audit.new)) }
         ensures shape { IfOk result (λ opened. opened.0.engine.shape ≡ engine.shape) }
+        ensures up { IfOk result (λ opened. opened.0.engine.down ≡ false) }
         ensures left { (last : EngineState) × IsUsable engine.shape last (B.device board.new) (A.ledger audit.new) }
     {
         let mut engine = engine;
@@ -204,17 +184,8 @@ impl Store {
     ) -> Result<Line, Fault>
         requires line { at < self.old.lines }
         requires usable { IsUsable self.old.engine.shape self.old.engine (B.device board.old) (A.ledger audit.old) }
-        ensures read { HasReadLine (setup_at S.Suite self.old.engine suite.old)
-            (served_from self.old.lines self.old.logged.items at)
-            (parts_at B.Board S.Suite A.Audit self.old.engine board.old suite.old audit.old)
-            (parts_at B.Board S.Suite A.Audit self.new.engine board.new suite.new audit.new) result }
-        ensures logged { AreTrusted (setup_at S.Suite self.old.engine suite.old)
-            (parts_at B.Board S.Suite A.Audit self.old.engine board.old suite.old audit.old)
-            → (lines memory : List Line)
-            → HasLines (setup_at S.Suite self.old.engine suite.old) lines
-            (parts_at B.Board S.Suite A.Audit self.old.engine board.old suite.old audit.old)
-            → IsLogged self.old.lines lines self.old.logged.items memory
-            → IfOk result (λ read. read ≡ line_at memory at) }
+        ensures read { ReadsServed B.Board S.Suite A.Audit self.old board.old suite.old audit.old
+            self.new board.new suite.new audit.new at result }
         ensures served { IsServedAs self.old.logged.items self.old.stuck self.old self.new }
         ensures capacity { A.capacity audit.new ≡ A.capacity audit.old }
         ensures keys { S.keys suite.new ≡ S.keys suite.old }
@@ -242,7 +213,8 @@ impl Store {
 
     /// Writes these lines, all of them or none: the bodies into the log, then the header, then each line to its
     /// place, and then the zero header. Without lines nothing is done. Wherever it ends, memory is what it was
-    /// until the header is written, and has the whole transaction from then on.
+    /// until the header is written, and has the whole transaction from then on. Where the engine is down nothing is
+    /// done, and with lines the answer is `Down`.
     pub fn commit<B: Board, S: Suite, A: Audit>(
         &mut self,
         board: &mut B,
@@ -254,31 +226,8 @@ impl Store {
         requires free { self.old.stuck ≡ None }
         requires room { HasRoom (A.ledger audit.old) (A.capacity audit.old) 2112 }
         requires usable { IsUsable self.old.engine.shape self.old.engine (B.device board.old) (A.ledger audit.old) }
-        ensures committed { HasStoreCommitted (setup_at S.Suite self.old.engine suite.old)
-            txn.now.items self.old self.new
-            (parts_at B.Board S.Suite A.Audit self.old.engine board.old suite.old audit.old)
-            (parts_at B.Board S.Suite A.Audit self.new.engine board.new suite.new audit.new) result }
-        ensures plan { FollowsCommit (setup_at S.Suite self.old.engine suite.old)
-            txn.now.items self.old self.new (B.device board.old).regs
-            (chip_at S.Suite A.Audit self.old.engine suite.old audit.old)
-            (chip_at S.Suite A.Audit self.new.engine suite.new audit.new) (B.device board.old) (B.device board.new) result }
-        ensures logged { AreTrusted (setup_at S.Suite self.old.engine suite.old)
-            (parts_at B.Board S.Suite A.Audit self.old.engine board.old suite.old audit.old)
-            → (lines : List Line)
-            → HasLines (setup_at S.Suite self.old.engine suite.old) lines
-            (parts_at B.Board S.Suite A.Audit self.old.engine board.old suite.old audit.old)
-            → IsLeftLogged (setup_at S.Suite self.old.engine suite.old)
-            txn.now.items self.old.lines lines
-            (parts_at B.Board S.Suite A.Audit self.new.engine board.new suite.new audit.new) result }
-        ensures trusted { AreTrusted (setup_at S.Suite self.old.engine suite.old)
-            (parts_at B.Board S.Suite A.Audit self.old.engine board.old suite.old audit.old)
-            → LeavesTrusted (setup_at S.Suite self.old.engine suite.old) (commit_outcome_by result)
-            (parts_at B.Board S.Suite A.Audit self.new.engine board.new suite.new audit.new) }
-        ensures sound { AreSound (setup_at S.Suite self.old.engine suite.old)
-            (parts_at B.Board S.Suite A.Audit self.old.engine board.old suite.old audit.old)
-            → LeavesSound (setup_at S.Suite self.old.engine suite.old) (commit_outcome_by result)
-            (parts_at B.Board S.Suite A.Audit self.new.engine board.new suite.new audit.new)
-            × IsSoundCommitAnswer result }
+        ensures committed { CommitsTxn B.Board S.Suite A.Audit self.old board.old suite.old audit.old
+            self.new board.new suite.new audit.new txn.now.items result }
         ensures spent { IsSpentUndecided result }
         ensures whole { IsWholeTxn txn.now.items }
         ensures capacity { A.capacity audit.new ≡ A.capacity audit.old }
@@ -286,10 +235,30 @@ impl Store {
         ensures usable { IsUsable self.old.engine.shape self.new.engine (B.device board.new) (A.ledger audit.new) }
         ensures shape { self.new.engine.shape ≡ self.old.engine.shape }
     {
+        if self.engine.is_down() {
+            return self.refused(txn);
+        }
         self.commit_lines(board, suite, audit, txn)
     }
 
-    // The same: the calls of which the rest follows.
+    // The answer of a commit where the engine is down.
+    fn refused(&self, txn: &ArrayVec<(u32, Line), 15>) -> Result<Committed, CommitFault>
+        ensures answer { IsCommitRefused txn.now.items result }
+        ensures spent { IsSpentUndecided result }
+        ensures whole { IsWholeTxn txn.now.items }
+    {
+        if txn.is_empty() {
+            return Ok(Committed::Applied);
+        }
+        // its lines are whole
+        let _whole = deciding(self.lines, txn);
+        Err(CommitFault {
+            fault: Fault::Down,
+            committed: false,
+        })
+    }
+
+    // The same by an engine that is up: the calls of which the rest follows.
     fn commit_lines<B: Board, S: Suite, A: Audit>(
         &mut self,
         board: &mut B,
@@ -300,14 +269,12 @@ impl Store {
         requires targets { AreDistinctBelow self.old.lines (targets_of txn.now.items) }
         requires room { HasRoom (A.ledger audit.old) (A.capacity audit.old) 2112 }
         requires usable { IsUsable self.old.engine.shape self.old.engine (B.device board.old) (A.ledger audit.old) }
-        ensures committed { HasStoreCommitted (setup_at S.Suite self.old.engine suite.old)
-            txn.now.items self.old self.new
-            (parts_at B.Board S.Suite A.Audit self.old.engine board.old suite.old audit.old)
-            (parts_at B.Board S.Suite A.Audit self.new.engine board.new suite.new audit.new) result }
-        ensures plan { FollowsCommit (setup_at S.Suite self.old.engine suite.old)
-            txn.now.items self.old self.new (B.device board.old).regs
-            (chip_at S.Suite A.Audit self.old.engine suite.old audit.old)
-            (chip_at S.Suite A.Audit self.new.engine suite.new audit.new) (B.device board.old) (B.device board.new) result }
+        requires up { self.old.engine.down ≡ false }
+        ensures committed { CommitsLines B.Board S.Suite A.Audit self.old board.old suite.old audit.old
+            self.new board.new suite.new audit.new txn.now.items result }
+        ensures plan { FollowsCommitting B.Board S.Suite A.Audit self.old board.old suite.old audit.old
+            self.new board.new suite.new audit.new txn.now.items result }
+        ensures down { self.new.engine.down ≡ not (is_going (commit_outcome_by result)) }
         ensures whole { IsWholeTxn txn.now.items }
         ensures capacity { A.capacity audit.new ≡ A.capacity audit.old }
         ensures keys { S.keys suite.new ≡ S.keys suite.old }

@@ -50,6 +50,10 @@ with_mark slots x dirty =
 abbrev pub victim_of : ℕ → List Slot → Option Slot
 victim_of ways slots = if nat_lt (length slots) ways then None else slice_get slots (ways - 1)
 
+-- a slot has this position, this line and this mark
+abbrev pub HasContents : ℕ → Line → Bool → Slot → Type 0
+HasContents position line dirty slot = (slot.position ≡ position) × (slot.line ≡ line) × (slot.dirty ≡ dirty)
+
 -- the lowest way that no slot has
 abbrev pub free_way : ℕ → List Slot → ℕ
 free_way ways slots =

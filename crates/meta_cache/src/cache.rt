@@ -6,7 +6,7 @@ ghost use Rattle.pmem_base.specs.Geo.{shape_of};
 ghost use Rattle.pmem_base.specs.Layout.{slots};
 ghost use Rattle.pmem_base.specs.Lines.{IsLine};
 ghost use Rattle.meta_cache.specs.Banks.{Slot, Banks, set_of, set_index, slot_number, is_cached, is_cached_dirty, IsBanksOf};
-ghost use Rattle.meta_cache.specs.Sets.{slot_with, touched, with_slot_line, with_mark, victim_of, placed};
+ghost use Rattle.meta_cache.specs.Sets.{slot_with, touched, with_slot_line, with_mark, victim_of, HasContents, placed};
 ghost use Rattle.meta_cache.specs.State.{CacheState, bank_of, empty_banks, slots_of, IsCacheOf, ChangesSet, oldest_dirty_of, dirty_in_bank, oldest_dirty};
 
 use crate::bank::Bank;
@@ -110,7 +110,7 @@ impl Cache {
         requires { bank ≤ self.now.shape.levels }
         ensures some { IsSome result ↔ IsSome (victim_of self.now.shape.ways (slots_of self.now bank x)) }
         ensures value { IfSome result (λ victim. IfSome (victim_of self.now.shape.ways (slots_of self.now bank x))
-            (λ slot. (slot.position ≡ victim.0) × (slot.line ≡ victim.1.now) × (slot.dirty ≡ victim.2))) }
+            (HasContents victim.0 victim.1.now victim.2)) }
     {
         let n = self.set_of(x);
         let ways = self.geo.ways();

@@ -4,7 +4,7 @@ ghost use Rattle.std.specs.Option.{option_copied};
 ghost use Rattle.std.specs.List.{list_any, position_or_len};
 ghost use Rattle.meta_cache.specs.declared.slot.Slot.{Slot};
 ghost use Rattle.meta_cache.specs.Alone.{IsAlone};
-ghost use Rattle.meta_cache.specs.Sets.{holds, slot_with, touched, with_slot_line, with_mark, victim_of, free_way, next_way, without_victim, placed, oldest_dirty_in, ArePositionsApart};
+ghost use Rattle.meta_cache.specs.Sets.{holds, slot_with, touched, with_slot_line, with_mark, victim_of, HasContents, free_way, next_way, without_victim, placed, oldest_dirty_in, ArePositionsApart};
 
 use crate::slot::Slot;
 use arrayvec::ArrayVec;
@@ -122,8 +122,7 @@ impl Set {
         requires least { 1 ≤ ways }
         requires room { length self.now ≤ ways }
         ensures value { MatchOption result (victim_of ways self.now ≡ None)
-            (λ victim. IfSome (victim_of ways self.now) (λ slot.
-            (slot.position ≡ victim.0) × (slot.line ≡ victim.1.now) × (slot.dirty ≡ victim.2))) }
+            (λ victim. IfSome (victim_of ways self.now) (HasContents victim.0 victim.1.now victim.2)) }
         ensures some { IsSome result ↔ IsSome (victim_of ways self.now) }
     {
         if self.slots.len() < usize::from(ways) {

@@ -7,3 +7,4 @@ pub mod Naming
 pub mod Plans
 pub mod FetchPlans
 pub mod Storing
+pub mod Promised

@@ -9,12 +9,12 @@ ghost use Rattle.call_plan.specs.Plans.{ended};
 ghost use Rattle.call_plan.specs.Following.{Follows};
 ghost use Rattle.meta_cache.specs.Banks.{is_cached};
 ghost use Rattle.meta_cache.specs.Sets.{victim_of};
-ghost use Rattle.meta_path.specs.Blocks.{slots_at, IsPathCached, AreInTheirBanks, AreCachedTrue, dirty_count};
-ghost use Rattle.meta_path.specs.Levels.{expected_digest, HasParent, HasDirtyVictim, HasRoomMade, dirty_position, IsLevelFetched, IsLevelRead, IsLevelFault};
-ghost use Rattle.meta_path.specs.Fetching.{IsFetchedTo, IsPathFault};
+ghost use Rattle.meta_path.specs.Blocks.{slots_at, IsPathCached, AreInTheirBanks, dirty_count};
+ghost use Rattle.meta_path.specs.Levels.{expected_digest, HasParent, HasDirtyVictim, HasRoomMade, dirty_position};
 ghost use Rattle.meta_path.specs.Plans.{room_plan};
-ghost use Rattle.meta_path.specs.FetchPlans.{fetch_parts, check_plan, level_plan, fetch_plan};
-ghost use Rattle.meta_path.specs.Keeping.{KeepsBlocks, IsUndisturbed, IsTrueTree, IsFaultCaused};
+ghost use Rattle.meta_path.specs.Keeping.{KeepsBlocks};
+ghost use Rattle.meta_path.specs.Promised.{FetchesBlocks, FailsAtBlock, LeavesCachedPath, FailsByBoard, FollowsBlocks};
+ghost use Rattle.meta_path.specs.Promised.{FetchesLevel, FailsAtLevel, FollowsLevel, ReadsLevel, FollowsCheck, HasExpectedDigest};
 
 use crate::faults::PathFault;
 use crate::writing::{cached_line, write_back};
@@ -43,27 +43,19 @@ pub fn fetch_path<B: Board, S: Suite, A: Audit>(
     requires truth { length (A.ledger audit.old).truth ≡ meta_lines (shape_of geo.now) }
     requires size { (B.device board.old).size ≡ device_lines (shape_of geo.now) }
 
-    ensures ok { OnOk result (IsFetchedTo (shape_of geo.now) (S.formulas_of (S.keys suite.old))
-        (A.ledger audit.old).truth page ((shape_of geo.now).levels + 1)
-        (record { cache = cache.old; device = B.device board.old; digests = S.digests suite.old })
-        (record { cache = cache.new; device = B.device board.new; digests = S.digests suite.new })) }
+    ensures ok { OnOk result (FetchesBlocks B.Board S.Suite A.Audit geo.now cache.old board.old suite.old audit.old
+        cache.new board.new suite.new audit.new page) }
     ensures cached { OnOk result (IsPathCached (shape_of geo.now) cache.new.banks page) }
     ensures ledger { OnOk result (A.ledger audit.new ≡ A.ledger audit.old) }
     ensures capacity { A.capacity audit.new ≡ A.capacity audit.old }
 
-    ensures fault { IfErr result (IsPathFault (shape_of geo.now) (S.formulas_of (S.keys suite.old)) page
-        (record { cache = cache.old; device = B.device board.old; digests = S.digests suite.old })
-        (record { cache = cache.new; device = B.device board.new; digests = S.digests suite.new })
-        (A.ledger audit.old) (A.ledger audit.new)) }
+    ensures fault { IfErr result (FailsAtBlock B.Board S.Suite A.Audit geo.now cache.old board.old suite.old audit.old
+        cache.new board.new suite.new audit.new page) }
     ensures no_fault { IsPathCached (shape_of geo.now) cache.old.banks page → IsOk result }
-    ensures undisturbed { IsPathCached (shape_of geo.now) cache.old.banks page → IsUndisturbed
-        (record { cache = cache.old; device = B.device board.old; digests = S.digests suite.old })
-        (record { cache = cache.new; device = B.device board.new; digests = S.digests suite.new }) }
-    ensures cause { IsTrueTree (shape_of geo.now) (S.formulas_of (S.keys suite.old)) (A.ledger audit.old).truth
-        (B.device board.old).regs.root
-        → AreCachedTrue cache.old.banks (A.ledger audit.old).truth
-        → IfErr result (IsFaultCaused (shape_of geo.now) (S.formulas_of (S.keys suite.old)) (B.device board.new).lines
-        (A.ledger audit.old) (A.ledger audit.new)) }
+    ensures undisturbed { LeavesCachedPath B.Board S.Suite A.Audit geo.now cache.old board.old suite.old audit.old
+        cache.new board.new suite.new audit.new page }
+    ensures cause { FailsByBoard B.Board S.Suite A.Audit geo.now cache.old board.old suite.old audit.old
+        cache.new board.new suite.new audit.new result }
 
     ensures keeps { KeepsBlocks (shape_of geo.now) (A.ledger audit.old).truth page cache.old.banks cache.new.banks
         (B.device board.old) (B.device board.new) }
@@ -75,9 +67,8 @@ pub fn fetch_path<B: Board, S: Suite, A: Audit>(
     ensures pads { S.pads suite.new ≡ S.pads suite.old }
     ensures tags { S.tags suite.new ≡ S.tags suite.old }
 
-    ensures plan { Follows (fetch_plan (S.formulas_of (S.keys suite.old)) (B.device board.old).regs.root page
-        (fetch_parts cache.old (A.ledger audit.old) (S.digests suite.old))) (B.device board.old) (B.device board.new)
-        (ended result (fetch_parts cache.new (A.ledger audit.new) (S.digests suite.new))) }
+    ensures plan { FollowsBlocks B.Board S.Suite A.Audit geo.now cache.old board.old suite.old audit.old
+        cache.new board.new suite.new audit.new page result }
 {
     cache.are_banks();
     let path = path(geo, page);
@@ -105,22 +96,17 @@ fn fetch_level<B: Board, S: Suite, A: Audit>(
     requires bank { bank ≤ (shape_of geo.now).levels }
     requires position { x < meta_lines (shape_of geo.now) }
     requires parent { HasParent (shape_of geo.now) cache.old.banks bank x }
-    ensures ok { OnOk result (IsLevelFetched (shape_of geo.now) (S.formulas_of (S.keys suite.old))
-        (A.ledger audit.old).truth bank x
-        (record { cache = cache.old; device = B.device board.old; digests = S.digests suite.old })
-        (record { cache = cache.new; device = B.device board.new; digests = S.digests suite.new })) }
-    ensures fault { IfErr result (IsLevelFault (shape_of geo.now) (S.formulas_of (S.keys suite.old)) bank x
-        (record { cache = cache.old; device = B.device board.old; digests = S.digests suite.old })
-        (record { cache = cache.new; device = B.device board.new; digests = S.digests suite.new })
-        (A.ledger audit.old) (A.ledger audit.new)) }
+    ensures ok { OnOk result (FetchesLevel B.Board S.Suite A.Audit geo.now cache.old board.old suite.old audit.old
+        cache.new board.new suite.new audit.new bank x) }
+    ensures fault { IfErr result (FailsAtLevel B.Board S.Suite A.Audit geo.now cache.old board.old suite.old audit.old
+        cache.new board.new suite.new audit.new bank x) }
     ensures ledger { OnOk result (A.ledger audit.new ≡ A.ledger audit.old) }
     ensures capacity { A.capacity audit.new ≡ A.capacity audit.old }
     ensures keys { S.keys suite.new ≡ S.keys suite.old }
     ensures pads { S.pads suite.new ≡ S.pads suite.old }
     ensures tags { S.tags suite.new ≡ S.tags suite.old }
-    ensures plan { Follows (level_plan (S.formulas_of (S.keys suite.old)) (B.device board.old).regs.root bank x
-        (fetch_parts cache.old (A.ledger audit.old) (S.digests suite.old))) (B.device board.old) (B.device board.new)
-        (ended result (fetch_parts cache.new (A.ledger audit.new) (S.digests suite.new))) }
+    ensures plan { FollowsLevel B.Board S.Suite A.Audit geo.now cache.old board.old suite.old audit.old
+        cache.new board.new suite.new audit.new bank x result }
 {
     if cache.look(bank, x).is_some() {
         cache.touch(bank, x);
@@ -151,24 +137,19 @@ fn read_checked<B: Board, S: Suite, A: Audit>(
     requires position { x < meta_lines (shape_of geo.now) }
     requires parent { HasParent (shape_of geo.now) cache.now.banks bank x }
     requires absent { is_cached (shape_of geo.now) cache.now.banks bank x ≡ false }
-    ensures read { IfOk result (λ line. IsLevelRead (shape_of geo.now) bank x line
-        (record { cache = cache.now; device = B.device board.old; digests = S.digests suite.old })
-        (record { cache = cache.now; device = B.device board.new; digests = S.digests suite.new })) }
-    ensures digest { IfOk result (λ line. (S.formulas_of (S.keys suite.old)).digest_of x line
-        ≡ expected_digest (shape_of geo.now) (B.device board.old).regs.root cache.now.banks bank x) }
+    ensures read { IfOk result (ReadsLevel B.Board S.Suite A.Audit geo.now cache.now board.old suite.old audit.old
+        cache.now board.new suite.new audit.new bank x) }
+    ensures digest { IfOk result (HasExpectedDigest B.Board S.Suite (shape_of geo.now) cache.now board.old suite.old bank x) }
     ensures line { IfOk result (λ line. line ≡ line_at (A.ledger audit.old).truth x) }
     ensures ledger { OnOk result (A.ledger audit.new ≡ A.ledger audit.old) }
     ensures capacity { A.capacity audit.new ≡ A.capacity audit.old }
-    ensures fault { IfErr result (IsLevelFault (shape_of geo.now) (S.formulas_of (S.keys suite.old)) bank x
-        (record { cache = cache.now; device = B.device board.old; digests = S.digests suite.old })
-        (record { cache = cache.now; device = B.device board.new; digests = S.digests suite.new })
-        (A.ledger audit.old) (A.ledger audit.new)) }
+    ensures fault { IfErr result (FailsAtLevel B.Board S.Suite A.Audit geo.now cache.now board.old suite.old audit.old
+        cache.now board.new suite.new audit.new bank x) }
     ensures keys { S.keys suite.new ≡ S.keys suite.old }
     ensures pads { S.pads suite.new ≡ S.pads suite.old }
     ensures tags { S.tags suite.new ≡ S.tags suite.old }
-    ensures plan { Follows (check_plan (S.formulas_of (S.keys suite.old)) (B.device board.old).regs.root bank x
-        (fetch_parts cache.now (A.ledger audit.old) (S.digests suite.old))) (B.device board.old) (B.device board.new)
-        (ended result (fetch_parts cache.now (A.ledger audit.new) (S.digests suite.new))) }
+    ensures plan { FollowsCheck B.Board S.Suite A.Audit geo.now cache.now board.old suite.old audit.old
+        cache.now board.new suite.new audit.new bank x result }
 {
     let line = board.read_line(geo.meta_line(x))?;
     line.is_whole();
@@ -192,8 +173,8 @@ fn has_expected<B: Board, S: Suite>(
 ) -> bool
     requires bank { bank ≤ cache.now.shape.levels }
     requires parent { HasParent cache.now.shape cache.now.banks bank x }
-    ensures answer { IsTrue result ↔ ((S.formulas_of (S.keys suite.old)).digest_of x line.now
-        ≡ expected_digest cache.now.shape (B.device board.now).regs.root cache.now.banks bank x) }
+    ensures answer { IsTrue result
+        ↔ HasExpectedDigest B.Board S.Suite cache.now.shape cache.now board.now suite.old bank x line.now }
     ensures keys { S.keys suite.new ≡ S.keys suite.old }
     ensures pads { S.pads suite.new ≡ S.pads suite.old }
     ensures tags { S.tags suite.new ≡ S.tags suite.old }

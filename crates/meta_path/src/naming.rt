@@ -1,15 +1,15 @@
 //! The blocks of a path are named in the shadow tables.
-ghost use Rattle.std.specs.Prelude.{◌≡◌, ◌<◌, ◌≤◌, ◌+◌, ℕ, length, IsTrue, OnOk, OnErr};
+ghost use Rattle.std.specs.Prelude.{◌≡◌, ◌<◌, ◌≤◌, ◌+◌, length, IsTrue, OnOk, OnErr};
 ghost use Rattle.pmem_base.specs.Geo.{shape_of};
-ghost use Rattle.pmem_base.specs.Layout.{pages, slots, meta_lines, shadow_lines, device_lines};
+ghost use Rattle.pmem_base.specs.Layout.{pages, meta_lines, shadow_lines, device_lines};
 ghost use Rattle.call_plan.specs.Plans.{ended};
 ghost use Rattle.call_plan.specs.Following.{Follows};
-ghost use Rattle.shadow_tables.specs.Entries.{slot_entry};
 ghost use Rattle.shadow_tables.specs.Naming.{Names};
 ghost use Rattle.meta_cache.specs.Banks.{is_cached};
 ghost use Rattle.meta_path.specs.Blocks.{number_in, IsPathCached};
-ghost use Rattle.meta_path.specs.Naming.{path_number, naming_writes, IsSlotNamed, IsSlotCut, IsNamedTo, IsNamingCut};
-ghost use Rattle.meta_path.specs.Plans.{slot_plan, naming_plan};
+ghost use Rattle.meta_path.specs.Naming.{naming_writes, IsNamedTo, IsNamingCut};
+ghost use Rattle.meta_path.specs.Plans.{naming_plan};
+ghost use Rattle.meta_path.specs.Promised.{KeepsOtherEntries, NamesSlot, CutsNaming, FollowsNaming};
 
 use board::Board;
 use bonsai_tree::path;
@@ -36,9 +36,7 @@ pub fn make_dirty<B: Board>(
         mirror.old mirror.new (B.device board.old) (B.device board.new)) }
     ensures cut { OnErr result (IsNamingCut (shape_of geo.now) cache.now.banks page
         mirror.old mirror.new (B.device board.old) (B.device board.new)) }
-    ensures others { (bank n : ℕ) → n < slots (shape_of geo.now)
-        → ((bank ≤ (shape_of geo.now).levels) × (n ≡ path_number (shape_of geo.now) cache.now.banks page bank) → ⊥)
-        → slot_entry (shape_of geo.now) mirror.new bank n ≡ slot_entry (shape_of geo.now) mirror.old bank n }
+    ensures others { KeepsOtherEntries (shape_of geo.now) cache.now.banks page mirror.old mirror.new }
     ensures one_a_level { length (naming_writes (shape_of geo.now) cache.now.banks page mirror.old
         ((shape_of geo.now).levels + 1)) ≤ (shape_of geo.now).levels + 1 }
     ensures long { length mirror.new ≡ shadow_lines (shape_of geo.now) }
@@ -69,15 +67,12 @@ fn name_level<B: Board>(
     requires bank { bank ≤ (shape_of geo.now).levels }
     requires position { x < meta_lines (shape_of geo.now) }
     requires cached { IsTrue (is_cached (shape_of geo.now) cache.now.banks bank x) }
-    ensures ok { OnOk result (IsSlotNamed (shape_of geo.now) bank (number_in (shape_of geo.now) cache.now.banks bank x) x
-        mirror.old mirror.new (B.device board.old) (B.device board.new)) }
-    ensures cut { OnErr result (IsSlotCut (shape_of geo.now) bank (number_in (shape_of geo.now) cache.now.banks bank x) x
-        mirror.old mirror.new (B.device board.old) (B.device board.new)) }
+    ensures ok { OnOk result (NamesSlot B.Board geo.now cache.now mirror.old board.old mirror.new board.new bank x) }
+    ensures cut { OnErr result (CutsNaming B.Board geo.now cache.now mirror.old board.old mirror.new board.new bank x) }
     ensures names { Names (shape_of geo.now) mirror.old mirror.new bank
         (number_in (shape_of geo.now) cache.now.banks bank x) x }
     ensures long { length mirror.new ≡ shadow_lines (shape_of geo.now) }
-    ensures plan { Follows (slot_plan (shape_of geo.now) bank (number_in (shape_of geo.now) cache.now.banks bank x) x
-        mirror.old) (B.device board.old) (B.device board.new) (ended result mirror.new) }
+    ensures plan { FollowsNaming B.Board geo.now cache.now mirror.old board.old mirror.new board.new bank x result }
 {
     let slot = cache.slot_of(bank, x);
     if let Some((at, line)) = mirror.name_slot(geo, bank, slot, x) {

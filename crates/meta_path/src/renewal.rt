@@ -1,5 +1,5 @@
 //! New lines of a path: computed over the cached ones, and stored.
-ghost use Rattle.std.specs.Prelude.{◌≡◌, ◌||◌, nat_lt, not, ◌<◌, ◌≤◌, ◌+◌, ℕ, List, length, All, IsTrue};
+ghost use Rattle.std.specs.Prelude.{◌≡◌, ◌||◌, nat_lt, not, ◌<◌, ◌≤◌, ◌+◌, ℕ, length, All, IsTrue};
 ghost use Rattle.pmem_base.specs.declared.lines.Line.{Line};
 ghost use Rattle.pmem_base.specs.Counts.{risen, risen_times};
 ghost use Rattle.pmem_base.specs.Geo.{shape_of};
@@ -10,8 +10,9 @@ ghost use Rattle.bonsai_tree.specs.Paths.{path_with, root_with, with_child_diges
 ghost use Rattle.seal_ledger.specs.Notes.{HasMeta};
 ghost use Rattle.meta_cache.specs.Banks.{set_index, is_cached};
 ghost use Rattle.meta_cache.specs.State.{ChangesSet};
-ghost use Rattle.meta_path.specs.Blocks.{slots_at, cached_line, line_in, IsPathCached, AreInTheirBanks, AreCachedTrue};
-ghost use Rattle.meta_path.specs.Storing.{stored_set, IsPathOf, IsOfCachedPath, IsRenewed, IsStoredTo, HasMetaLines, KeepsSlots};
+ghost use Rattle.meta_path.specs.Blocks.{slots_at, cached_line, line_in, IsPathCached, AreInTheirBanks};
+ghost use Rattle.meta_path.specs.Storing.{stored_set, IsPathOf, IsOfCachedPath, HasMetaLines, KeepsSlots};
+ghost use Rattle.meta_path.specs.Promised.{RenewsTruth, StoresPath};
 
 use crate::writing::cached_line;
 use arrayvec::ArrayVec;
@@ -39,8 +40,7 @@ pub fn next_path<S: Suite>(geo: &Geo, cache: &Cache, suite: &mut S, page: u32, b
         (cached_line (shape_of geo.now) cache.now.banks) page block.now }
     ensures root { result.root ≡ root_with (shape_of geo.now) (S.formulas_of (S.keys suite.old))
         (cached_line (shape_of geo.now) cache.now.banks) page block.now }
-    ensures on_truth { (truth : List Line) → AreCachedTrue cache.now.banks truth
-        → IsRenewed (shape_of geo.now) (S.formulas_of (S.keys suite.old)) truth page block.now result.lines.items result.root }
+    ensures on_truth { RenewsTruth S.Suite geo.now cache.now suite.old page block.now result }
 
     ensures path { IsPathOf (shape_of geo.now) page result.lines.items }
     ensures whole { All (λ entry. IsLine entry.1) result.lines.items }
@@ -92,8 +92,7 @@ fn node_above<S: Suite>(cache: &Cache, suite: &mut S, bank: u8, x: u32, line: &L
 pub fn store_path<A: Audit>(cache: &mut Cache, audit: &mut A, path: &Path, persisted: bool)
     requires path { IsOfCachedPath cache.old.shape cache.old.banks path.now.lines.items }
     requires truth { length (A.ledger audit.old).truth ≡ meta_lines cache.old.shape }
-    ensures cache { (page : ℕ) → IsPathOf cache.old.shape page path.now.lines.items
-        → IsStoredTo cache.old.shape page persisted path.now.lines.items (cache.old.shape.levels + 1) cache.old cache.new }
+    ensures cache { StoresPath persisted path.now cache.old cache.new }
     ensures slots { (page : ℕ) → IsPathOf cache.old.shape page path.now.lines.items
         → KeepsSlots cache.old.shape page persisted path.now.lines.items cache.old.banks cache.new.banks }
     ensures cached { (page : ℕ) → IsPathCached cache.old.shape cache.old.banks page

@@ -1,7 +1,7 @@
 -- Accesses, printed one after the other.
 use Rattle.std.proofs.Common.{◌≡◌, ◌∙◌, ◌+◌, ◌<◌, ◌≤◌, ℕ, List, [], ◌++◌, length, drop, get_or, sym, ap, subst, append_assoc, append-nil}
 use Rattle.std.proofs.lemmas.List.{at_drop_more, drop_all}
-use Rattle.access_log.specs.declared.access.Access.{Access}
+use Rattle.board.specs.declared.access.Access.{Access}
 use Rattle.plain_model.specs.Texts.{as_line}
 use Rattle.pmem_cli.specs.Logged.{access_text, accesses_text}
 use Rattle.pmem_cli.specs.Printed.{Output, Prints, PrintsFront}

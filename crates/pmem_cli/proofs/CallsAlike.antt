@@ -1,4 +1,4 @@
--- Two calls of `run` with the same words for one trace put one text, with one status, or logs of one run.
+-- Two calls of `run` with the same words for one trace put one text, with one status.
 use Rattle.std.proofs.Common.{◌≡◌, ◌≢◌, ◌∙◌, ℕ, List, ◌++◌, refl, sym, ap, ap₂, subst, inl, inr}
 use Rattle.std.specs.Prelude.{IfSome, IsNone, Option, None, Some}
 use Rattle.std.specs.Io.KnownBytes.{Appends}
@@ -13,11 +13,11 @@ use Rattle.pmem_cli.specs.declared.options.Task.{Task}
 use Rattle.pmem_cli.specs.declared.ending.Ending.{Ending}
 use Rattle.pmem_cli.specs.Causes.{Rose}
 use Rattle.pmem_cli.specs.Checked.{IsChecked}
-use Rattle.pmem_cli.specs.Determined.{Call, IsCallWith, IsSettled, IsUndisturbed, AreAnsweredAlike, AreLoggedAlike}
+use Rattle.pmem_cli.specs.Determined.{Call, IsCallWith, IsSettled, IsUndisturbed, AreAnsweredAlike}
 use Rattle.pmem_cli.specs.Endings.{ending_text, ending_status}
 use Rattle.pmem_cli.specs.HasRun.{HasRun, HasTextPut, HasSampled, HasCheckedTrace, TaskOutcome, AreRefusedWords}
 use Rattle.pmem_cli.specs.Keys.{formulas_of, setup_chosen}
-use Rattle.pmem_cli.specs.Logged.{HasLoggedRun, LoggedEnds, steps_logged, logged_texts}
+use Rattle.pmem_cli.specs.Logged.{HasLoggedRun, LoggedStep, LoggedEnds, steps_logged, logged_texts}
 use Rattle.pmem_cli.specs.Words.{task_of}
 use Rattle.pmem_cli.proofs.ChecksAlike.{checks_alike}
 use Rattle.pmem_cli.proofs.LogsAlike.{logs_alike}
@@ -112,7 +112,7 @@ module _ (trace put : List ℕ) where
         (appended b.put_before b.put_after (ending_text other.ending) quiet.put_told (other.whole pushed_too)
         ∙ ap (λ (e : Ending). Some (put ++ ending_text e)) (sym same))
 
-    logged_alike : (choices : Choices) → Said (Task.Log choices) a → Said (Task.Log choices) b → AreLoggedAlike (setup_chosen choices) put a b
+    logged_alike : (choices : Choices) → Said (Task.Log choices) a → Said (Task.Log choices) b → AreAnsweredAlike put a b
     logged_alike choices it its =
         let setup = setup_chosen choices in
         let run : HasLoggedRun setup a.status (Rose a.pulls_before a.pulls_after) a.trace a.left a.put_before a.put_after = it in
@@ -126,21 +126,10 @@ module _ (trace put : List ℕ) where
         (subst (λ (o : Option (List ℕ)). IfSome o (λ bytes. LoggedEnds setup other.stop bytes b.left (steps_logged other.all))) quiet.trace_told
         other.ends)
         run.replayed other.replayed in
-        record {
-          stop = run.stop;
-          status = status;
-          its_status = its_status ∙ ap status_of (sym same.0);
-          all = run.all;
-          others = other.all;
-          first = appended a.put_before a.put_after (logged_texts run.all ++ stop_text run.stop) calm.put_told (run.whole pushed);
-          second =
-              appended b.put_before b.put_after (logged_texts other.all ++ stop_text other.stop) quiet.put_told (other.whole pushed_too)
-              ∙ ap (λ (s : Stop). Some (put ++ (logged_texts other.all ++ stop_text s))) (sym same.0);
-          begin = same.1;
-          end = same.2;
-          new = same.3;
-          one_run = same.4;
-        }
+        put_alike a b (status_of run.stop) (logged_texts run.all ++ stop_text run.stop) status (its_status ∙ ap status_of (sym same.0))
+        (appended a.put_before a.put_after (logged_texts run.all ++ stop_text run.stop) calm.put_told (run.whole pushed))
+        (appended b.put_before b.put_after (logged_texts other.all ++ stop_text other.stop) quiet.put_told (other.whole pushed_too)
+        ∙ ap₂ (λ (xs : List LoggedStep) (s : Stop). Some (put ++ (logged_texts xs ++ stop_text s))) (sym same.1) (sym same.0))
 
     -- ---- by what the words ask for
 
@@ -151,7 +140,7 @@ module _ (trace put : List ℕ) where
     tasks_alike (Some (Task.Make seed count)) settled it its none = texts_alike (commands_text (sample_trace seed count)) it its
     tasks_alike (Some (Task.Sample seed count)) settled it its none = sampled_alike seed count it its
     tasks_alike (Some (Task.Check choices)) settled it its none = checked_alike choices it its
-    tasks_alike (Some (Task.Log choices)) settled it its none = absurd settled
+    tasks_alike (Some (Task.Log choices)) settled it its none = logged_alike choices it its
     tasks_alike (Some (Task.Wear choices)) settled it its none = absurd settled
     tasks_alike (Some (Task.Tree choices)) settled it its none = absurd settled
     tasks_alike (Some (Task.Txn choices)) settled it its none = absurd settled
@@ -172,11 +161,3 @@ calls_alike words trace put a b settled it its calm quiet =
     let second : b.status ≡ 2 = its.faulty.1 none in
     put_alike trace put a b 2 (stop_text Words) first second (refused trace put a calm (it.refused first))
     (refused trace put b quiet (its.refused second)))
-
-pub logged_calls_alike : (words : List Word) (choices : Choices) (trace put : List ℕ) (a b : Call) → task_of words ≡ Some (Task.Log choices)
-    → IsCallWith words a → IsCallWith words b → IsUndisturbed trace put a → IsUndisturbed trace put b
-    → AreLoggedAlike (setup_chosen choices) put a b
-logged_calls_alike words choices trace put a b task it its calm quiet =
-    logged_alike trace put a b calm quiet (λ is. calm.pushed (it.write is)) (λ is. quiet.pushed (its.write is)) (λ is. calm.pulled (it.read is))
-    (λ is. quiet.pulled (its.read is)) choices (subst (λ (o : Option Task). IfSome o (λ t. Said trace put t a)) task it.told)
-    (subst (λ (o : Option Task). IfSome o (λ t. Said trace put t b)) task its.told)

@@ -6,7 +6,7 @@ use Rattle.pmem_base.specs.declared.commands.Command.{Command}
 use Rattle.pmem_base.specs.Shape.{Shape}
 use Rattle.suite.specs.Formulas.{Formulas}
 use Rattle.suite.specs.Setup.{Setup}
-use Rattle.access_log.specs.declared.access.Access.{Access}
+use Rattle.board.specs.declared.access.Access.{Access}
 use Rattle.plain_model.specs.declared.Stop.{Stop}
 use Rattle.plain_model.specs.declared.Stop.TheVariants.{Finished, Words, Memory, ReadFault, WriteFault, Refused, Shown, TooManyLines}
 use Rattle.plain_model.specs.Lines.{lines_of}

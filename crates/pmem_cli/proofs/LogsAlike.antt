@@ -1,111 +1,34 @@
--- Two runs of one trace with their logs tell of one run of one world.
-use Rattle.std.proofs.Common.{◌≡◌, ◌≢◌, ◌∙◌, ◌+◌, ◌-◌, ◌<◌, ℕ, Bool, true, false, cond, List, [], ◌∷◌, ◌++◌, refl, sym, ap, ap₂, subst, inl, inr, arith}
-use Rattle.std.specs.Prelude.{◌⊎◌, ⊤, All, count_by, Option, Some}
+-- Two runs of one trace have one log.
+use Rattle.std.proofs.Common.{◌≡◌, ◌≢◌, ◌∙◌, ◌-◌, ℕ, false, List, [], ◌∷◌, ◌++◌, refl, sym, ap, ap₂, subst, inl, inr}
+use Rattle.std.specs.Prelude.{⊤, All, Option, Some}
 use Rattle.std.proofs.lemmas.List.Elements.{All-head, All-tail}
-use Rattle.std.proofs.lemmas.List.Sums.{sum_by-cons}
-use Rattle.std.proofs.lemmas.Option.{same_Some}
-use Rattle.pmem_base.specs.declared.commands.Command.{Command}
-use Rattle.pmem_base.specs.declared.commands.Command.TheVariants as Do
-use Rattle.pmem_base.specs.Counts.{last_count, risen}
 use Rattle.board.specs.Memory.{BoardMemory}
 use Rattle.suite.specs.Setup.{Setup}
 use Rattle.plain_model.specs.declared.Stop.{Stop}
 use Rattle.plain_model.specs.declared.Stop.TheVariants.{Finished, Words, Memory, ReadFault, WriteFault, Refused, Shown, TooManyLines}
 use Rattle.plain_model.specs.Answers.{is_shown}
 use Rattle.plain_model.specs.Run.{Step, Ends}
-use Rattle.access_log.specs.declared.access.Access.{Access}
-use Rattle.access_log.specs.declared.access.Access.TheVariants as Did
-use Rattle.access_log.specs.Traced.{Traced, traced_of, after_access, after_accesses}
 use Rattle.pmem_replay.specs.World.{WorldState}
 use Rattle.pmem_replay.specs.Stepped.{HasStepped}
 use Rattle.pmem_replay.specs.Determined.{AreSameParts}
 use Rattle.pmem_replay.specs.Logged.{IsLogged}
+use Rattle.pmem_replay.proofs.SameSteps.LogsAlike.{same_logged}
 use Rattle.pmem_replay.proofs.SameSteps.StepsAlike.{steps_alike}
-use Rattle.pmem_cli.specs.Determined.{is_read, is_write, is_latch, AreToldAlike, AreOfOneRun}
 use Rattle.pmem_cli.specs.Logged.{LoggedStep, IsTold, steps_logged, AreTold, IsReplayedTold, LoggedEnds}
 use Rattle.pmem_cli.specs.Standing.{IsFirstWorld}
 use Rattle.pmem_cli.proofs.LoggedTalks.{replayed_plain}
 use Rattle.pmem_cli.proofs.ReplaysAlike.{IsOfTrace, AreRunning, begun, replays_alike}
 
--- ---- how many accesses of a kind there are
-
--- one count of a board, which each access of a kind lets rise
-module _ (kind : Access → Bool) (count : Traced → ℕ)
-    (each : (t : Traced) (x : Access) → count (after_access t x) ≡ cond (kind x) (risen (count t)) (count t)) where
-  by_kind : (one : Bool) (before more all : ℕ) → all ≡ cond one (risen before) before + more → all < last_count
-      → all ≡ before + (cond one 1 0 + more)
-  by_kind true before more all is below = omega (arith, is, below)
-  by_kind false before more all is below = omega (arith, is)
-
-  counted : (t : Traced) (xs : List Access) → count (after_accesses t xs) < last_count
-      → count (after_accesses t xs) ≡ count t + count_by kind xs
-  counted t [] below = omega arith
-  counted t (x ∷ xs) below =
-      let all = count (after_accesses (after_access t x) xs) in
-      let rest = counted (after_access t x) xs below ∙ ap (λ n. n + count_by kind xs) (each t x) in
-      by_kind (kind x) (count t) (count_by kind xs) all rest below
-      ∙ ap (λ n. count t + n) (sym (sum_by-cons (λ y. cond (kind y) 1 0) x xs))
-
-  -- as many in both, where they are one or lead to the same
-  as_many : (first last : Traced) (xs ys : List Access)
-      → (xs ≡ ys) ⊎ ((after_accesses first xs ≡ last) × (after_accesses first ys ≡ last)) → count last < last_count
-      → count_by kind xs ≡ count_by kind ys
-  as_many first last xs ys (inl same) below = ap (count_by kind) same
-  as_many first last xs ys (inr (it, its)) below =
-      let a = counted first xs (subst (λ t. count t < last_count) (sym it) below) in
-      let b = counted first ys (subst (λ t. count t < last_count) (sym its) below) in
-      let both : count first + count_by kind xs ≡ count first + count_by kind ys = sym a ∙ ap count (it ∙ sym its) ∙ b in
-      omega (arith, both)
-
-each_read : (t : Traced) (x : Access) → (after_access t x).reads ≡ cond (is_read x) (risen t.reads) t.reads
-each_read t (Did.Read at) = refl
-each_read t (Did.Write at line) = refl
-each_read t (Did.Latch armed) = refl
-
-each_write : (t : Traced) (x : Access) → (after_access t x).writes ≡ cond (is_write x) (risen t.writes) t.writes
-each_write t (Did.Read at) = refl
-each_write t (Did.Write at line) = refl
-each_write t (Did.Latch armed) = refl
-
-each_latch : (t : Traced) (x : Access) → (after_access t x).latches ≡ cond (is_latch x) (risen t.latches) t.latches
-each_latch t (Did.Read at) = refl
-each_latch t (Did.Write at line) = refl
-each_latch t (Did.Latch armed) = refl
-
 -- ---- two logs of one command
 
-module _ (old new : BoardMemory) (xs ys : List Access) where
-  abbrev AreLed : Type 0
-  AreLed =
-      (xs ≡ ys) ⊎ ((after_accesses (traced_of old) xs ≡ traced_of new) × (after_accesses (traced_of old) ys ≡ traced_of new))
-
-  led : (command : Command) → IsLogged command (Some []) old (Some xs) new → IsLogged command (Some []) old (Some ys) new → AreLed
-  led (Do.Drain port) it its = inr (it (traced_of old) refl, its (traced_of old) refl)
-  led (Do.Fence port) it its = inr (it (traced_of old) refl, its (traced_of old) refl)
-  led (Do.Read port at) it its = inr (it (traced_of old) refl, its (traced_of old) refl)
-  led Do.Turn it its = inr (it (traced_of old) refl, its (traced_of old) refl)
-  led Do.Flush it its = inr (it (traced_of old) refl, its (traced_of old) refl)
-  led (Do.Loss n) it its = inr (it (traced_of old) refl, its (traced_of old) refl)
-  led Do.On it its = inr (it (traced_of old) refl, its (traced_of old) refl)
-  led command it its = inl (same_Some xs ys (it ∙ sym its))
-
-told_alike : (old new : WorldState) (x y : LoggedStep) → x.step ≡ y.step → IsTold old x new → IsTold old y new → AreToldAlike old x y new
+told_alike : (old new : WorldState) (x y : LoggedStep) → x.step ≡ y.step → IsTold old x new → IsTold old y new → x ≡ y
 told_alike old new x y same it its =
     let accessed : IsLogged x.step.command (Some []) old.board (Some y.accesses) new.board =
     subst (λ (s : Step). IsLogged s.command (Some []) old.board (Some y.accesses) new.board) (sym same) its.accessed in
-    let both = led old.board new.board x.accesses y.accesses x.step.command it.accessed accessed in
-    let first = traced_of old.board in
-    let last = traced_of new.board in
-    record {
-      step = same;
-      tags = it.tags ∙ sym its.tags;
-      digests = it.digests ∙ sym its.digests;
-      first = it;
-      second = its;
-      reads = λ below. as_many is_read (λ t. t.reads) each_read first last x.accesses y.accesses both below;
-      writes = λ below. as_many is_write (λ t. t.writes) each_write first last x.accesses y.accesses both below;
-      latches = λ below. as_many is_latch (λ t. t.latches) each_latch first last x.accesses y.accesses both below;
-    }
+    let accesses = same_logged x.step.command old.board new.board x.accesses y.accesses it.accessed accessed in
+    let tags : x.tags ≡ y.tags = it.tags ∙ sym its.tags in
+    let digests : x.digests ≡ y.digests = it.digests ∙ sym its.digests in
+    λ i. record { step = same i; accesses = accesses i; tags = tags i; digests = digests i }
 
 -- what is told between two worlds is told between worlds with the same parts
 told_over : (old new before after : WorldState) (y : LoggedStep) → AreSameParts old before → AreSameParts new after → IsTold before y after
@@ -156,19 +79,19 @@ module _ (setup : Setup) where
   hidden_by TooManyLines trace left steps calm ends = all_hidden steps ends.front.run.none_shown
 
   -- behind the first step there is no other, or its answer is no exhibit
-  behind : (x : LoggedStep) (a b last end : WorldState) (xs ys : List LoggedStep) → steps_logged xs ≡ steps_logged ys
-      → AreHidden (x.step ∷ steps_logged xs) → (IsHidden x.step → AreRunning setup a b) → AreTold setup a xs last → AreTold setup b ys end
-      → (AreRunning setup a b → AreHidden (steps_logged xs) → AreOfOneRun setup a xs ys last) → AreOfOneRun setup a xs ys last
-  behind x a b last end [] [] same hidden running told others on = told
-  behind x a b last end [] (y ∷ ys) same hidden running told others on = absurd (cc (same))
-  behind x a b last end (next ∷ xs) ys same hidden running told others on = on (running hidden.0) hidden.1
+  behind : (x : LoggedStep) (a b : WorldState) (xs ys : List LoggedStep) → steps_logged xs ≡ steps_logged ys
+      → AreHidden (x.step ∷ steps_logged xs) → (IsHidden x.step → AreRunning setup a b)
+      → (AreRunning setup a b → AreHidden (steps_logged xs) → xs ≡ ys) → xs ≡ ys
+  behind x a b [] [] same hidden running on = refl
+  behind x a b [] (y ∷ ys) same hidden running on = absurd (cc (same))
+  behind x a b (next ∷ xs) ys same hidden running on = on (running hidden.0) hidden.1
 
-  one_run : (a b last end : WorldState) (xs ys : List LoggedStep) → AreRunning setup a b → AreHidden (steps_logged xs)
-      → steps_logged xs ≡ steps_logged ys → AreTold setup a xs last → AreTold setup b ys end → AreOfOneRun setup a xs ys last
-  one_run a b last end [] [] running hidden same told others = told
-  one_run a b last end [] (y ∷ ys) running hidden same told others = absurd (cc (same))
-  one_run a b last end (x ∷ xs) [] running hidden same told others = absurd (cc (same))
-  one_run a b last end (x ∷ xs) (y ∷ ys) running hidden same (next, went, told, more) (after, gone, its, others) =
+  one_log : (a b last end : WorldState) (xs ys : List LoggedStep) → AreRunning setup a b → AreHidden (steps_logged xs)
+      → steps_logged xs ≡ steps_logged ys → AreTold setup a xs last → AreTold setup b ys end → xs ≡ ys
+  one_log a b last end [] [] running hidden same told others = refl
+  one_log a b last end [] (y ∷ ys) running hidden same told others = absurd (cc (same))
+  one_log a b last end (x ∷ xs) [] running hidden same told others = absurd (cc (same))
+  one_log a b last end (x ∷ xs) (y ∷ ys) running hidden same (next, went, told, more) (after, gone, its, others) =
       let step : x.step ≡ y.step = cc (same) in
       let rest : steps_logged xs ≡ steps_logged ys = cc (same) in
       let stepped : HasStepped setup b x.step.command y.step.reply after =
@@ -181,9 +104,8 @@ module _ (setup : Setup) where
       let later : IsHidden x.step → AreRunning setup next after =
       λ unshown. record { whole = went.stepped.holds unshown; alike = both.1; unshown = went.stepped.shown ∙ unshown } in
       let on =
-      behind x next after last end xs ys rest hidden later more others
-      (λ runs hides. one_run next after last end xs ys runs hides rest more others) in
-      (next, went, alike, on)
+      behind x next after xs ys rest hidden later (λ runs hides. one_log next after last end xs ys runs hides rest more others) in
+      ap₂ (λ (z : LoggedStep) (zs : List LoggedStep). z ∷ zs) alike on
 
   -- but for want of memory a run ends as one without a log
   plain_ends : (stop : Stop) (trace : List ℕ) (left : Option (List ℕ)) (steps : List Step) → stop ≢ Memory
@@ -196,11 +118,11 @@ module _ (setup : Setup) where
   told_from stop xs had (inl none) = absurd (had none.0)
   told_from stop xs had (inr found) = found
 
-  -- runs of one trace come to one stop, and tell of one run
+  -- runs of one trace come to one stop, with one log
   pub logs_alike : (trace : List ℕ) (stop other : Stop) (left rest : Option (List ℕ)) (xs ys : List LoggedStep) → IsOfTrace stop → IsOfTrace other
       → LoggedEnds setup stop trace left (steps_logged xs) → LoggedEnds setup other trace rest (steps_logged ys)
       → IsReplayedTold setup stop xs → IsReplayedTold setup other ys
-      → (stop ≡ other) × (first last : WorldState) × IsFirstWorld setup first × AreOfOneRun setup first xs ys last
+      → (stop ≡ other) × (xs ≡ ys)
   logs_alike trace stop other left rest xs ys calm quiet ends finishes replayed run =
       let plain = plain_ends stop trace left (steps_logged xs) calm.had_memory ends in
       let same =
@@ -210,4 +132,4 @@ module _ (setup : Setup) where
       let a = told_from stop xs calm.had_memory replayed in
       let b = told_from other ys quiet.had_memory run in
       let hidden = hidden_by stop trace left (steps_logged xs) calm plain in
-      (same.0, a.0, a.1, a.2, one_run a.0 b.0 a.1 b.1 xs ys (begun setup a.0 b.0 a.2 b.2) hidden same.1 a.3 b.3)
+      (same.0, one_log a.0 b.0 a.1 b.1 xs ys (begun setup a.0 b.0 a.2 b.2) hidden same.1 a.3 b.3)

@@ -4,7 +4,7 @@ use Rattle.std.specs.Prelude.{◌-◌}
 use Rattle.pmem_base.specs.declared.answers.Exhibit.{Exhibit}
 use Rattle.pmem_base.specs.declared.answers.Answer.TheVariants as Say
 use Rattle.collision_witness.specs.Texts.{exhibit_text}
-use Rattle.access_log.specs.declared.access.Access.{Access}
+use Rattle.board.specs.declared.access.Access.{Access}
 use Rattle.plain_model.specs.declared.Stop.{Stop}
 use Rattle.plain_model.specs.declared.Stop.TheVariants.{Memory, WriteFault, Shown}
 use Rattle.plain_model.specs.Texts.{answer_text}

@@ -3,10 +3,11 @@ use Rattle.std.proofs.Common.{◌≡◌, ◌∙◌, ◌-◌, ◌<◌, ◌≤◌,
 use Rattle.std.specs.Prelude.{Some, None, codes, length, Option, IfNone, if◌then◌else◌}
 use Rattle.std.specs.List.{position_or_len}
 use Rattle.std.specs.Str.{bytes_eq}
-use Rattle.std.proofs.lemmas.Bool.{true≢false}
+use Rattle.std.proofs.lemmas.Bool.{true≢false, false_from_ne_true}
 use Rattle.std.proofs.lemmas.List.{drop-drop, take_all}
+use Rattle.std.proofs.lemmas.Slice.Eq.{bytes_eq-Decides}
 use Rattle.collision_witness.specs.Words.{Word}
-use Rattle.pmem_cli.specs.Words.{is_equals, is_flag, option_parts, choose, choose_log, some_or, next_value, take_options, ◌>>=◌}
+use Rattle.pmem_cli.specs.Words.{is_equals, is_flag, option_parts, choose, choose_log, some_or, next_value, take_options, session_asked, task_of, ◌>>=◌}
 use Rattle.pmem_cli.specs.declared.options.Allowed.{Allowed}
 use Rattle.pmem_cli.specs.declared.options.Choices.{Choices}
 
@@ -105,3 +106,16 @@ taken-on allowed c word words rest name value own chosen valued split found same
 pub IfNone-fact : {T : Type 0} (found : Option T) (P : Type 0) → P → IfNone found P
 IfNone-fact None P holds = holds
 IfNone-fact (Some value) P holds = tt
+
+-- ---- what the first word asks for
+
+-- bytes that are no such text fail its test
+differs : (word text : List ℕ) → (word ≡ text → ⊥) → bytes_eq word text ≡ false
+differs word text other = false_from_ne_true (bytes_eq word text) (λ same. other ((bytes_eq-Decides word text).0 same))
+
+-- a word that is none of these asks for a session, if anything
+pub asks_session : (name : Word) (words : List Word) → (name ≡ codes "run" → ⊥) → (name ≡ codes "check" → ⊥) → (name ≡ codes "make" → ⊥) → (name ≡ codes "sample" → ⊥)
+    → task_of (name ∷ words) ≡ session_asked name words
+unfolding task_of
+asks_session name words run check make sample =
+    rw (differs name (codes "run") run, differs name (codes "check") check, differs name (codes "make") make, differs name (codes "sample") sample) refl

@@ -14,8 +14,8 @@ use Rattle.plain_model.specs.Grammar.{Reading, reading_of}
 use Rattle.plain_model.specs.Texts.{as_line}
 use Rattle.plain_model.specs.State.{PlainState}
 use Rattle.plain_model.specs.Run.{Machine, Step, step_text, start, line_limit, machine_after_all, stop_text, status_of, IsRunFrom, IsFrontFrom, EndsFrom}
-use Rattle.access_log.specs.declared.access.Access.{Access}
-use Rattle.access_log.specs.declared.access.Access.TheVariants as Did
+use Rattle.board.specs.declared.access.Access.{Access}
+use Rattle.board.specs.declared.access.Access.TheVariants as Did
 use Rattle.pmem_replay.specs.World.{WorldState}
 use Rattle.pmem_replay.specs.Stepped.{CanWantMemory}
 use Rattle.pmem_replay.specs.Logged.{IsLogged, CanAccess}

@@ -1,6 +1,6 @@
 -- Replies that are told with what their commands took of the board and the suite.
 use Rattle.std.specs.Prelude.{◌≡◌, ◌⊎◌, ◌-◌, ◌++◌, ℕ, Bool, true, false, List, [], map, Option, Some, None}
-use Rattle.access_log.specs.declared.access.Access.{Access}
+use Rattle.board.specs.declared.access.Access.{Access}
 use Rattle.plain_model.specs.declared.Stop.{Stop}
 use Rattle.plain_model.specs.declared.Stop.TheVariants.{Memory, WriteFault}
 use Rattle.plain_model.specs.Texts.{as_line}

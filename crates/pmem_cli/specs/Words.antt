@@ -162,18 +162,27 @@ seed_and_count (seed ∷ count ∷ []) = do
   Some (its_seed, its_count)
 seed_and_count words = None
 
+-- a run with these options, and whether its log is told
+abbrev pub run_asked : List Word → Option Task
+run_asked words = take_options Allowed.Run no_choices words >>= λ c. Some (if c.log then Task.Log c else Task.Run c)
+
+-- a session of the memory of this name, with these options
+abbrev pub session_asked : Word → List Word → Option Task
+session_asked name words =
+    if bytes_eq name (codes "wear") then (take_options Allowed.Wear no_choices words >>= λ c. Some (Task.Wear c))
+    else if bytes_eq name (codes "tree") then (take_options Allowed.Tree no_choices words >>= λ c. Some (Task.Tree c))
+    else if bytes_eq name (codes "txn") then (take_options Allowed.Run no_choices words >>= λ c. Some (Task.Txn c))
+    else None
+
 -- what the words ask for, or nothing where they break the rules
 unfoldable pub task_of : List Word → Option Task
 task_of [] = None
 task_of (name ∷ words) =
-    if bytes_eq name (codes "run") then (take_options Allowed.Run no_choices words >>= λ c. Some (if c.log then Task.Log c else Task.Run c))
+    if bytes_eq name (codes "run") then run_asked words
     else if bytes_eq name (codes "check") then (take_options Allowed.Suite no_choices words >>= λ c. Some (Task.Check c))
     else if bytes_eq name (codes "make") then (seed_and_count words >>= λ found. Some (Task.Make found.0 found.1))
     else if bytes_eq name (codes "sample") then (seed_and_count words >>= λ found. Some (Task.Sample found.0 found.1))
-    else if bytes_eq name (codes "wear") then (take_options Allowed.Wear no_choices words >>= λ c. Some (Task.Wear c))
-    else if bytes_eq name (codes "tree") then (take_options Allowed.Tree no_choices words >>= λ c. Some (Task.Tree c))
-    else if bytes_eq name (codes "txn") then (take_options Allowed.Run no_choices words >>= λ c. Some (Task.Txn c))
-    else None
+    else session_asked name words
 
 -- ---- what is known of them
 

@@ -23,7 +23,7 @@ mod tree;
 mod txn;
 mod wear;
 
-pub use determined::{logged_run_is_determined, run_is_determined};
+pub use determined::run_is_determined;
 pub use program::run;
 pub use pulls::Pulls;
 pub use sink::{MemSink, Sink, StdSink};

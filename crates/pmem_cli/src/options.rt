@@ -6,7 +6,7 @@ ghost use Rattle.pmem_base.specs.Geo.{shape_of};
 ghost use Rattle.suite.specs.Suites.{aes_counts, aes_keys, weak_counts, weak_keys};
 ghost use Rattle.suite.specs.Weak.{blur_flag};
 ghost use Rattle.pmem_cli.specs.Keys.{chosen_key, chosen_tag_key, shape_chosen, every_chosen};
-ghost use Rattle.pmem_cli.specs.Words.{suite_named, number_where, value_of, is_up_to, choose_log, is_flag, choose_suite, choose_tree, choose_run, choose_wear, choose, no_choices, is_equals, option_parts, next_value, take_options, seed_and_count, task_of, AreChosen, HasChosen, map_some};
+ghost use Rattle.pmem_cli.specs.Words.{suite_named, number_where, value_of, is_up_to, choose_log, is_flag, choose_suite, choose_tree, choose_run, choose_wear, choose, no_choices, is_equals, option_parts, next_value, take_options, seed_and_count, run_asked, session_asked, task_of, AreChosen, HasChosen, map_some};
 
 use collision_witness::{read_number, read_number_up_to, read_tag};
 use pmem_base::{Geo, Line};
@@ -464,6 +464,32 @@ fn read_seed_and_count(words: &[String]) -> Option<(u64, u32)>
     Some((seed, count as u32))
 }
 
+/// A run with these options, and whether its log is told.
+fn read_run(words: &[String]) -> Option<Task>
+    ensures task { result ≡ run_asked (map string_bytes words.now) }
+    ensures chosen { IfSome result HasChosen }
+{
+    let choices = read_options(Allowed::Run, words)?;
+    if choices.log {
+        Some(Task::Log(choices))
+    } else {
+        Some(Task::Run(choices))
+    }
+}
+
+/// A session of the memory of this name, with these options.
+fn read_session(name: &str, words: &[String]) -> Option<Task>
+    ensures task { result ≡ session_asked name.now (map string_bytes words.now) }
+    ensures chosen { IfSome result HasChosen }
+{
+    match name {
+        "wear" => Some(Task::Wear(read_options(Allowed::Wear, words)?)),
+        "tree" => Some(Task::Tree(read_options(Allowed::Tree, words)?)),
+        "txn" => Some(Task::Txn(read_options(Allowed::Run, words)?)),
+        _ => None,
+    }
+}
+
 /// What the words ask for, or nothing where they break the rules.
 #[tactic(auto, unfolding(crate::specs::Words::task_of))]
 pub(crate) fn read_task(words: &[String]) -> Option<Task>
@@ -474,14 +500,7 @@ pub(crate) fn read_task(words: &[String]) -> Option<Task>
         return None;
     };
     match name.as_str() {
-        "run" => {
-            let choices = read_options(Allowed::Run, words)?;
-            if choices.log {
-                Some(Task::Log(choices))
-            } else {
-                Some(Task::Run(choices))
-            }
-        }
+        "run" => read_run(words),
         "check" => Some(Task::Check(read_options(Allowed::Suite, words)?)),
         "make" => {
             let (seed, count) = read_seed_and_count(words)?;
@@ -491,9 +510,6 @@ pub(crate) fn read_task(words: &[String]) -> Option<Task>
             let (seed, count) = read_seed_and_count(words)?;
             Some(Task::Sample { seed, count })
         }
-        "wear" => Some(Task::Wear(read_options(Allowed::Wear, words)?)),
-        "tree" => Some(Task::Tree(read_options(Allowed::Tree, words)?)),
-        "txn" => Some(Task::Txn(read_options(Allowed::Run, words)?)),
-        _ => None,
+        _ => read_session(name.as_str(), words),
     }
 }

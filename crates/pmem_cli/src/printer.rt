@@ -9,8 +9,8 @@ ghost use Rattle.pmem_cli.specs.Printed.{HasPrinted, HasPrintedFront};
 
 use crate::sink::{Sink, push_all};
 use crate::source::Failed;
-use access_log::Access;
 use arrayvec::ArrayVec;
+use board::Access;
 use collision_witness::push_counts;
 use pmem_base::{Answer, Command, Mark};
 use std::marker::Model;

@@ -3,6 +3,7 @@ pub mod CallChains
 pub mod StillParts
 pub mod ToldLines
 pub mod UnwrittenLines
+pub mod EngineCalls
 pub mod ErrorAnswers
 pub mod ExactWork
 pub mod MetaLines

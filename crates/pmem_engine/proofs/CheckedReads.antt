@@ -7,4 +7,3 @@ pub mod PathCosts
 pub mod FetchAnswers
 pub mod FetchCalls
 pub mod LineReads
-pub mod ReadEnds

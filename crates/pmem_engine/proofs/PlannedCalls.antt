@@ -6,13 +6,13 @@ pub mod CommitPlans
 pub mod SealPlans
 pub mod RisingMarks
 pub mod ResealPlans
-pub mod CalledEngines
 pub mod TurnPlans
 pub mod CachePlans
 pub mod ReadPlans
 pub mod LossPlans
 pub mod FinishPlans
 pub mod PostedPlans
+pub mod StateEnds
 pub mod TreeBlocks
 pub mod KeptLines
 pub mod TurnLines

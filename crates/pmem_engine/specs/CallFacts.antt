@@ -1,5 +1,5 @@
 -- What the relations of the engine's calls are made of: what a call asks, how it ends, its work, marks and steps.
-use Rattle.std.specs.Prelude.{ℕ, ◌≡◌, ◌≢◌, ◌<◌, ◌≤◌, ◌+◌, ◌*◌, ◌%◌, ◌-◌, ◌==◌, ◌⊎◌, ◌↔◌, true, false, not, All, map, ◌||◌, nat_lt, List, [], ◌++◌, length, unwrap_or, is_none, Option, Some, None, option_map, IsSome, IsTrue, Result, Ok, Err, MatchBool, ⊤, if◌then◌else◌}
+use Rattle.std.specs.Prelude.{ℕ, Bool, ◌≡◌, ◌≢◌, ◌<◌, ◌≤◌, ◌+◌, ◌*◌, ◌%◌, ◌-◌, ◌==◌, ◌⊎◌, true, false, not, All, map, ◌||◌, nat_lt, List, [], ◌++◌, length, unwrap_or, is_none, Option, Some, None, option_map, IsSome, IsTrue, Result, Ok, Err, MatchBool, ⊤, if◌then◌else◌}
 use Rattle.pmem_base.specs.declared.lines.Line.{Line}
 use Rattle.pmem_base.specs.declared.lines.Ctr.{Ctr}
 use Rattle.pmem_base.specs.declared.commands.Posted.{Posted}
@@ -37,7 +37,7 @@ use Rattle.plain_model.specs.Bounds.{path_length, seal_count, begin_count, writi
 use Rattle.plain_model.specs.Fits.{IsResealOf, IsLeftAfterTurn, IsLowestLeft, IsTurnMark, oldest_page}
 use Rattle.pmem_engine.specs.declared.fault.Fault.{Fault}
 use Rattle.pmem_engine.specs.declared.fault.Fault.TheVariants as Fail
-use Rattle.pmem_engine.specs.Engine.{EngineState}
+use Rattle.pmem_engine.specs.Engine.{ChipState, EngineState}
 use Rattle.pmem_engine.specs.Parts.{Parts, regs_of, HoldsSeal, meta_line_in}
 use Rattle.pmem_engine.specs.Outcomes.{Outcome, going, cut_short, outcome_of, is_going, is_sealed_by, TakesSteps, TakesAtMost, TakesFewer}
 use Rattle.pmem_engine.specs.Faults.{IsMetaRefused, IsClashShown, IsTagRefused, IsForgedShown}
@@ -45,21 +45,26 @@ use Rattle.pmem_engine.specs.Faults.{IsMetaRefused, IsClashShown, IsTagRefused, 
 -- ---- what a call asks of its parts
 
 -- the device and its registers are of this geometry, and no group is armed, unless the engine is down
-pub record IsReady (g : Shape) (engine : EngineState) (device : Device) : Type 0 where
+pub record IsReadyWith (g : Shape) (down : Bool) (device : Device) : Type 0 where
   pub its_size : device.size ≡ layout.device_lines g
   pub valid_regs : IsValidRegs g device.regs
-  pub no_group : engine.down ≡ false → device.regs.group.items ≡ []
+  pub no_group : down ≡ false → device.regs.group.items ≡ []
 
 -- so is the ledger, and each data line was sealed
-pub record IsUsable (g : Shape) (engine : EngineState) (device : Device) (ledger : LedgerState) :
-    Type 0 where
-  pub ready : IsReady g engine device
+pub record IsUsableWith (g : Shape) (down : Bool) (device : Device) (ledger : LedgerState) : Type 0 where
+  pub ready : IsReadyWith g down device
   pub true_lines : length ledger.truth ≡ layout.meta_lines g
   pub line_count : ledger.data_lines ≡ layout.data_lines g
   pub each_sealed : (a : ℕ) → a < layout.data_lines g → IsSome (last_seal ledger.marks a)
 
+abbrev pub IsReady : Shape → EngineState → Device → Type 0
+IsReady g engine device = IsReadyWith g engine.down device
+
+abbrev pub IsUsable : Shape → EngineState → Device → LedgerState → Type 0
+IsUsable g engine device ledger = IsUsableWith g engine.down device ledger
+
 -- the slot of each block of the page's path is named in the mirror
-pub record IsPathNamedInMirror (g : Shape) (engine : EngineState) (page : ℕ) : Type 0 where
+pub record IsPathNamedInMirror (g : Shape) (engine : ChipState) (page : ℕ) : Type 0 where
   pub each :
       (j : ℕ) → j ≤ g.levels
       → slot_entry g engine.mirror j (path_number g engine.cache page j) ≡ path_at g page j + 1
@@ -85,11 +90,17 @@ pub record IsLeftAlone (old new : Parts) : Type 0 where
   pub tags : new.tags ≡ old.tags
   pub digests : new.digests ≡ old.digests
 
--- Down comes exactly of an engine that is down, and does nothing
-pub record AnswersDown {T : Type 0} (old new : Parts) (answer : Result T Fault) : Type 0 where
-  pub exactly : IsDownAnswer answer ↔ (old.engine.down ≡ true)
-  pub still : IsDownAnswer answer → IsLeftAlone old new
-  pub after : new.engine.down ≡ (old.engine.down || not (is_going (outcome_of answer)))
+-- A call that is guarded by the flag whether its engine is down, before and later. Of an engine that is up this is
+-- promised, and it is down later where the call was cut or shown. Of one that is down nothing is done, and this is refused.
+pub record IsGuarded (down later : Bool) (outcome : Outcome) (old new : Parts) (promised refused : Type 0) : Type 0 where
+  pub did : down ≡ false → promised
+  pub refuses : down ≡ true → IsLeftAlone old new × refused
+  pub after : later ≡ (down || not (is_going outcome))
+
+-- a call of the engine itself
+abbrev pub IsEngineCall : {T : Type 0} → Bool → Bool → Parts → Parts → Result T Fault → Type 0 → Type 0
+IsEngineCall down later old new answer promised =
+    IsGuarded down later (outcome_of answer) old new promised (answer ≡ Err Fail.Down)
 
 -- so many steps, or at a cut fewer
 abbrev pub TakesWithin : Outcome → ℕ → Parts → Parts → Type 0

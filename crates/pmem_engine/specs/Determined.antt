@@ -7,7 +7,7 @@ use Rattle.call_plan.specs.Runs.{IsOutcome}
 use Rattle.pmem_base.specs.declared.lines.Line.{Line}
 use Rattle.pmem_base.specs.declared.commands.Posted.{Posted}
 use Rattle.suite.specs.Setup.{Setup}
-use Rattle.pmem_engine.specs.Engine.{EngineState}
+use Rattle.pmem_engine.specs.Engine.{ChipState}
 use Rattle.pmem_engine.specs.CallFacts.{whole_write}
 use Rattle.pmem_engine.specs.Plans.{Chip, read_plan, turn_plan, flush_plan, set_loss_plan}
 use Rattle.pmem_engine.specs.WritePlans.{write_plan}
@@ -20,7 +20,7 @@ IsDetermined {S = S} {A = A} {F = F} old plan =
     → (first ≡ second) × (left ≡ other) × (a ≡ b) × (x ≡ y)
 
 abbrev pub FlushIsDetermined : Type 0
-FlushIsDetermined = (engine : EngineState) (old : BoardMemory) → IsDetermined old (flush_plan engine)
+FlushIsDetermined = (engine : ChipState) (old : BoardMemory) → IsDetermined old (flush_plan engine)
 
 abbrev pub TurnIsDetermined : Type 0
 TurnIsDetermined = (setup : Setup) (chip : Chip) (old : BoardMemory) → IsDetermined old (turn_plan setup old.regs chip)
@@ -40,4 +40,4 @@ WritePartIsDetermined =
     → IsDetermined old (write_plan setup old.regs write chip)
 
 abbrev pub SetLossIsDetermined : Type 0
-SetLossIsDetermined = (n : ℕ) (engine : EngineState) (old : BoardMemory) → IsDetermined old (set_loss_plan n old.regs engine)
+SetLossIsDetermined = (n : ℕ) (engine : ChipState) (old : BoardMemory) → IsDetermined old (set_loss_plan n old.regs engine)

@@ -14,30 +14,29 @@ use Rattle.meta_cache.specs.State.{CacheState}
 use Rattle.meta_path.specs.Blocks.{bank_dirty_count}
 use Rattle.meta_path.specs.Storing.{IsCleaned}
 use Rattle.suite.specs.Setup.{Setup}
-use Rattle.pmem_engine.specs.Engine.{EngineState}
-use Rattle.pmem_engine.specs.Parts.{parts_of}
+use Rattle.pmem_engine.specs.Engine.{ChipState}
+use Rattle.pmem_engine.specs.Parts.{parts_with}
 use Rattle.pmem_engine.specs.Outcomes.{going, OneLossEffect}
 
 -- the engine's cache
-abbrev pub cache_of : EngineState → CacheState
+abbrev pub cache_of : ChipState → CacheState
 cache_of engine = record { shape = engine.shape; banks = engine.cache }
 
 -- the block at x, which was dirty in this bank, was written to its place, and is clean
-pub record HasWrittenBack (bank x : ℕ) (old new : EngineState) (before after : Device) : Type 0 where
+pub record HasWrittenBack (bank x : ℕ) (old new : ChipState) (before after : Device) : Type 0 where
   pub its_bank : bank ≤ old.shape.levels
   pub its_level : level_of x ≡ bank
   pub on_tree : x < meta_lines old.shape
   pub was_dirty : is_cached_dirty old.shape old.cache bank x ≡ true
   pub cleaned : IsCleaned old.shape bank x (cache_of old) (cache_of new) before after
   pub mirror : new.mirror ≡ old.mirror
-  pub down : new.down ≡ old.down
 
 -- no block of a bank is dirty
-abbrev pub IsBankClean : EngineState → ℕ → Type 0
+abbrev pub IsBankClean : ChipState → ℕ → Type 0
 IsBankClean engine bank = (x : ℕ) → is_cached_dirty engine.shape engine.cache bank x ≡ false
 
 -- the oldest dirty block was written back, where one is dirty
-abbrev pub HasWrittenOldest : EngineState → EngineState → Device → Device → Result (Option ℕ) Cut → Type 0
+abbrev pub HasWrittenOldest : ChipState → ChipState → Device → Device → Result (Option ℕ) Cut → Type 0
 HasWrittenOldest old new before after (Ok None) =
     (new ≡ old) × (after ≡ before) × ((bank : ℕ) → IsBankClean old bank)
 HasWrittenOldest old new before after (Ok (Some x)) = HasWrittenBack (level_of x) x old new before after
@@ -48,10 +47,9 @@ HasWrittenOldest old new before after (Err cut) =
 -- ---- the stop-loss number
 
 -- so many dirty counter blocks were written back
-pub record HasWrittenBlocks (count : ℕ) (old new : EngineState) (before after : Device) : Type 0 where
+pub record HasWrittenBlocks (count : ℕ) (old new : ChipState) (before after : Device) : Type 0 where
   pub shape : new.shape ≡ old.shape
   pub mirror : new.mirror ≡ old.mirror
-  pub down : new.down ≡ old.down
   pub dirty :
       bank_dirty_count old.shape new.cache old.shape.levels + count
       ≡ bank_dirty_count old.shape old.cache old.shape.levels
@@ -65,11 +63,11 @@ pub record HasWrittenBlocks (count : ℕ) (old new : EngineState) (before after 
   pub none : count ≡ 0 → new.cache ≡ old.cache
   pub done :
       (setup : Setup) (ledger : LedgerState) (tags digests : ℕ) → setup.shape ≡ old.shape
-      → OneLossEffect setup going [] (parts_of old before ledger tags digests) (parts_of new after ledger tags digests)
+      → OneLossEffect setup going [] (parts_with old before ledger tags digests) (parts_with new after ledger tags digests)
 
 -- what a new number asks for was written: nothing for a greater one, every dirty counter block for a
 -- smaller one
-pub record HasMadeWay (n count : ℕ) (old new : EngineState) (before after : Device) : Type 0 where
+pub record HasMadeWay (n count : ℕ) (old new : ChipState) (before after : Device) : Type 0 where
   pub written : HasWrittenBlocks count old new before after
   pub greater : before.regs.loss < n → count ≡ 0
   pub smaller :
@@ -77,7 +75,7 @@ pub record HasMadeWay (n count : ℕ) (old new : EngineState) (before after : De
       → IsBankClean new new.shape.levels × (count ≡ bank_dirty_count old.shape old.cache old.shape.levels)
 
 -- a cut came before one of these writes
-pub record IsCutInBlocks (n : ℕ) (old new : EngineState) (before after : Device) : Type 0 where
+pub record IsCutInBlocks (n : ℕ) (old new : ChipState) (before after : Device) : Type 0 where
   pub count : ℕ
   pub mid : Device
   pub written : HasWrittenBlocks count old new before mid
@@ -89,14 +87,14 @@ abbrev pub with_loss : Regs → ℕ → Regs
 with_loss regs n = record (without_group regs) { loss = n }
 
 -- the number was latched once that was written
-pub record IsLossLatched (n steps : ℕ) (old new : EngineState) (before after : Device) : Type 0 where
+pub record IsLossLatched (n steps : ℕ) (old new : ChipState) (before after : Device) : Type 0 where
   pub count : ℕ
   pub mid : Device
   pub steps_are : steps ≡ count + 1
   pub way : HasMadeWay n count old new before mid
   pub latched : HasLatched mid (with_loss mid.regs n) after
 
-abbrev pub HasChangedLoss : ℕ → EngineState → EngineState → Device → Device → Result ℕ Cut → Type 0
+abbrev pub HasChangedLoss : ℕ → ChipState → ChipState → Device → Device → Result ℕ Cut → Type 0
 HasChangedLoss n old new before after (Ok steps) =
     ((n ≡ before.regs.loss) × (steps ≡ 0) × (new ≡ old) × (after ≡ before))
     ⊎ ((n ≢ before.regs.loss) × IsLossLatched n steps old new before after)

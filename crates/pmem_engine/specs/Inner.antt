@@ -1,8 +1,8 @@
 -- What the parts of the engine's calls do: a path is fetched, a line is unsealed, a path is named.
-use Rattle.std.specs.Prelude.{ℕ, ◌≡◌, false, not, ◌||◌, [], length, Some, option_map, IsOk, Result, Ok, Err, ⊤}
+use Rattle.std.specs.Prelude.{ℕ, ◌≡◌, false, [], length, Some, option_map, IsOk, Result, Ok, Err, ⊤}
 use Rattle.pmem_base.specs.declared.faults.Cut.{Cut}
-use Rattle.pmem_base.specs.declared.lines.Line.{Line}
 use Rattle.pmem_base.specs.declared.lines.Ctr.{Ctr}
+use Rattle.pmem_base.specs.declared.registers.Regs.{Regs}
 use Rattle.pmem_base.specs.Counts.{risen}
 use Rattle.pmem_base.specs.Shape.{Shape}
 use Rattle.pmem_base.specs.Layout as layout
@@ -11,6 +11,7 @@ use Rattle.pmem_base.specs.Marks.{last_seal}
 use Rattle.bonsai_tree.specs.Positions.{counter_position}
 use Rattle.board.specs.Counts.{RisesBy}
 use Rattle.board.specs.Steps.{Tells}
+use Rattle.seal_ledger.specs.Ledger.{LedgerState}
 use Rattle.split_counters.specs.declared.Block.{Block}
 use Rattle.split_counters.specs.Blocks.{unpacked}
 use Rattle.meta_path.specs.Blocks.{line_in, IsPathCached, dirty_count}
@@ -21,25 +22,15 @@ use Rattle.meta_path.specs.declared.faults.PathFault.TheVariants as Path
 use Rattle.suite.specs.Setup.{Setup}
 use Rattle.plain_model.specs.View.{plain_line}
 use Rattle.plain_model.specs.Bounds.{path_length}
-use Rattle.pmem_engine.specs.declared.fault.Fault.{Fault}
 use Rattle.pmem_engine.specs.declared.fault.LineFault.{LineFault}
 use Rattle.pmem_engine.specs.declared.fault.LineFault.TheVariants as AtLine
 use Rattle.pmem_engine.specs.declared.reading.Unsealed.{Unsealed}
 use Rattle.pmem_engine.specs.Parts.{Parts, regs_of, AreTrusted, AreSound, HoldsSeal}
-use Rattle.pmem_engine.specs.Outcomes.{of_path, of_line, of_cut, Outcome, shown, outcome_of, is_going, OneLossEffect, TakesSteps}
+use Rattle.pmem_engine.specs.Outcomes.{of_path, of_line, of_cut, shown, outcome_of, OneLossEffect, TakesSteps}
 use Rattle.pmem_engine.specs.Faults.{IsMetaRefused, IsClashShown, IsTagRefused, IsForgedShown}
-use Rattle.pmem_engine.specs.Engine.{EngineState}
-use Rattle.pmem_engine.specs.CallFacts.{IsPathNamedInMirror, IsDownAnswer, IsUnrefused, TakesWithin, TakesWithinOfLive, IsPastFetch, fetch_state, IsWork, naming_work, KeepsMetaLines, IsAnswerOfRead, IsReadWork, AnswersRead}
-
--- the engine once a call has ended so: it is down where the call was cut or shown
-abbrev pub ended_by : EngineState → Outcome → EngineState
-ended_by engine outcome =
-    record {
-      shape = engine.shape;
-      cache = engine.cache;
-      mirror = engine.mirror;
-      down = engine.down || not (is_going outcome);
-    }
+use Rattle.pmem_engine.specs.Engine.{ChipState}
+use Rattle.pmem_engine.specs.Invariants.{IsTrusted}
+use Rattle.pmem_engine.specs.CallFacts.{IsPathNamedInMirror, IsUnrefused, TakesWithin, TakesWithinOfLive, IsPastFetch, fetch_state, IsWork, naming_work, KeepsMetaLines}
 
 -- ---- a fetch
 
@@ -61,7 +52,6 @@ pub record HasFetched (setup : Setup) (page : ℕ) (old new : Parts) (answer : R
       → IsFetchedTo setup.shape setup.formulas old.ledger.truth page (path_length setup.shape)
       (fetch_state setup.shape old) (fetch_state setup.shape new)
   pub mirror : new.engine.mirror ≡ old.engine.mirror
-  pub down : new.engine.down ≡ old.engine.down
   pub regs : regs_of new ≡ regs_of old
   pub tags : new.tags ≡ old.tags
   pub same_ledger : (outcome_of (of_path answer) ≡ shown → ⊥) → new.ledger ≡ old.ledger
@@ -111,23 +101,15 @@ pub record HasUnsealed (setup : Setup) (a : ℕ) (ctr : Ctr) (old new : Parts) (
 -- ---- a line read
 
 -- the page's counter block as it is cached
-abbrev pub cached_block : Shape → EngineState → ℕ → Block
+abbrev pub cached_block : Shape → ChipState → ℕ → Block
 cached_block g engine page = unpacked (line_in g engine.cache g.levels (counter_position g page))
 
--- a read of an engine that isn't down
-pub record UpReadOutcome (setup : Setup) (a : ℕ) (old new : Parts) (answer : Result Line Fault) : Type 0 where
-  pub done : OneLossEffect setup (outcome_of answer) [] old new
-  pub answered : AreTrusted setup old → AnswersRead setup a old new answer
-  pub unrefused : AreSound setup old → IsUnrefused answer
-  pub not_down : IsDownAnswer answer → ⊥
-  pub path_fetched : IsPastFetch old new answer → IsPathCached setup.shape new.engine.cache (page_of a)
-  pub possible : IsAnswerOfRead answer
-  pub work : IsOk answer → IsReadWork setup.shape a old new
-  pub mirror : new.engine.mirror ≡ old.engine.mirror
-  pub down : new.engine.down ≡ old.engine.down
-  pub steps_of_path : TakesWithinOfLive (outcome_of answer) (path_length setup.shape) old new
-  pub steps_of_dirty :
-      TakesWithinOfLive (outcome_of answer) (dirty_count setup.shape old.engine.cache) old new
+-- the counter of a line is that of its last seal, where the chip is trusted and the line's path cached
+abbrev pub IsCounterOfTrusted : ChipState → Regs → ℕ → Ctr → Type 0
+IsCounterOfTrusted engine regs at ctr =
+    (setup : Setup) (ledger : LedgerState) → IsTrusted setup engine regs ledger
+    → IsPathCached setup.shape engine.cache (page_of at)
+    → option_map (λ seal. seal.ctr) (last_seal ledger.marks at) ≡ Some ctr
 
 -- ---- a path named
 
@@ -142,7 +124,6 @@ pub record HasNamedPath (setup : Setup) (page : ℕ) (old new : Parts) (answer :
       old new
   pub meta_lines : IsOk answer → KeepsMetaLines setup.shape old.device.lines new.device.lines
   pub cache : new.engine.cache ≡ old.engine.cache
-  pub down : new.engine.down ≡ old.engine.down
   pub regs : regs_of new ≡ regs_of old
   pub ledger : new.ledger ≡ old.ledger
   pub tags : new.tags ≡ old.tags

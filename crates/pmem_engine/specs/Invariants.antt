@@ -23,7 +23,7 @@ use Rattle.meta_cache.specs.declared.slot.Slot.{Slot}
 use Rattle.meta_cache.specs.Banks.{set_of, set_index, slot_number, is_cached_dirty}
 use Rattle.suite.specs.Setup.{Setup}
 use Rattle.plain_model.specs.View.{OpenPage, view_of}
-use Rattle.pmem_engine.specs.Engine.{EngineState}
+use Rattle.pmem_engine.specs.Engine.{ChipState}
 use Rattle.pmem_engine.specs.Truth.{true_block, true_counter}
 
 -- ---- anchored
@@ -70,12 +70,11 @@ pub record IsTrueSlot (g : Shape) (truth : List Line) (bank set : ℕ) (slot : S
   pub its_bank : level_of slot.position ≡ bank
   pub its_set : set_index g slot.position ≡ set
 
-pub record IsTrusted (setup : Setup) (engine : EngineState) (regs : Regs) (ledger : LedgerState) :
+pub record IsTrusted (setup : Setup) (engine : ChipState) (regs : Regs) (ledger : LedgerState) :
     Type 0 where
   pub its_shape : engine.shape ≡ setup.shape
   pub anchored : IsAnchored setup regs ledger
   pub no_group : regs.group.items ≡ []
-  pub not_down : engine.down ≡ false
   pub cached_true :
       (bank set : ℕ) → All (IsTrueSlot setup.shape ledger.truth bank set) (set_of engine.cache bank set)
 
@@ -130,7 +129,7 @@ abbrev pub IsDirtyNamed : Shape → List Line → ℕ → ℕ → Slot → Type 
 IsDirtyNamed g shadow bank set slot =
     slot.dirty ≡ true → slot_entry g shadow bank (slot_number g set slot) ≡ slot.position + 1
 
-pub record IsSound (setup : Setup) (engine : EngineState) (lines : List Line) (regs : Regs)
+pub record IsSound (setup : Setup) (engine : ChipState) (lines : List Line) (regs : Regs)
     (ledger : LedgerState) : Type 0 where
   pub trusted : IsTrusted setup engine regs ledger
   pub durable : IsDurable setup lines regs ledger

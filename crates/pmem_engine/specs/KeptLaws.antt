@@ -15,7 +15,7 @@ use Rattle.meta_path.specs.Plans.{cleaned}
 use Rattle.meta_path.specs.Work.{told_line}
 use Rattle.suite.specs.Setup.{Setup}
 use Rattle.pmem_engine.specs.declared.fault.Fault.{Fault}
-use Rattle.pmem_engine.specs.Engine.{EngineState}
+use Rattle.pmem_engine.specs.Engine.{ChipState}
 use Rattle.pmem_engine.specs.Flushed.{cache_of, with_loss}
 use Rattle.pmem_engine.specs.Plans.{Chip, with_cache, read_plan, turn_plan, flush_plan, dirty_counter_blocks, counter_blocks_plan, set_loss_plan, register_at, held_of}
 
@@ -33,12 +33,12 @@ KeepsOtherLines g old new =
     → told_line new.lines at ≡ told_line old.lines at
 
 -- so are the copy of the shadow lines and the geometry
-pub record KeepsMirror (old new : EngineState) : Type 0 where
+pub record KeepsMirror (old new : ChipState) : Type 0 where
   pub mirror : new.mirror ≡ old.mirror
   pub shape : new.shape ≡ old.shape
 
 -- and the registers, and no latch was counted
-pub record WritesMetadataAlone (old new : Device) (before after : EngineState) : Type 0 where
+pub record WritesMetadataAlone (old new : Device) (before after : ChipState) : Type 0 where
   pub lines : KeepsOtherLines before.shape old new
   pub engine : KeepsMirror before after
   pub regs : new.regs ≡ old.regs
@@ -53,24 +53,24 @@ ReadsWriteMetadataAlone =
 
 abbrev pub FlushesWriteMetadataAlone : Type 0
 FlushesWriteMetadataAlone =
-    (engine : EngineState) (old new : Device) (end : Result (EngineState × Option ℕ) (EngineState × Fault))
+    (engine : ChipState) (old new : Device) (end : Result (ChipState × Option ℕ) (ChipState × Fault))
     → AreInTheirBanks engine.shape engine.cache → Follows (flush_plan engine) old new end
     → WritesMetadataAlone old new engine (left_at end)
 
 -- of the registers the number alone is another one, where that is answered; else they are as they were
-abbrev pub NumberAt : ℕ → Regs → Regs → Result (EngineState × ℕ) (EngineState × Fault) → Type 0
+abbrev pub NumberAt : ℕ → Regs → Regs → Result (ChipState × ℕ) (ChipState × Fault) → Type 0
 NumberAt n before after (Ok end) = after ≡ (if n == before.loss then before else with_loss before n)
 NumberAt n before after (Err left) = after ≡ before
 
-pub record SetsNumberAlone (n : ℕ) (before : EngineState) (old new : Device)
-    (end : Result (EngineState × ℕ) (EngineState × Fault)) : Type 0 where
+pub record SetsNumberAlone (n : ℕ) (before : ChipState) (old new : Device)
+    (end : Result (ChipState × ℕ) (ChipState × Fault)) : Type 0 where
   pub lines : KeepsOtherLines before.shape old new
   pub engine : KeepsMirror before (left_at end)
   pub regs : NumberAt n old.regs new.regs end
 
 abbrev pub LossesWriteMetadataAlone : Type 0
 LossesWriteMetadataAlone =
-    (n : ℕ) (engine : EngineState) (old new : Device) (end : Result (EngineState × ℕ) (EngineState × Fault))
+    (n : ℕ) (engine : ChipState) (old new : Device) (end : Result (ChipState × ℕ) (ChipState × Fault))
     → AreInTheirBanks engine.shape engine.cache → Follows (set_loss_plan n old.regs engine) old new end
     → SetsNumberAlone n engine old new end
 
@@ -94,31 +94,31 @@ TurnsKeepMirror =
 -- ---- another number writes the dirty counter blocks, the oldest first
 
 -- the engine once these counter blocks are clean
-abbrev pub with_clean : List ℕ → EngineState → EngineState
+abbrev pub with_clean : List ℕ → ChipState → ChipState
 with_clean [] engine = engine
 with_clean (x ∷ xs) engine = with_clean xs (with_cache engine (cleaned (cache_of engine) engine.shape.levels x))
 
 -- their places, and their lines as they are cached
-abbrev pub block_entries : List ℕ → EngineState → List (ℕ × Line)
+abbrev pub block_entries : List ℕ → ChipState → List (ℕ × Line)
 block_entries [] engine = []
 block_entries (x ∷ xs) engine =
     (layout.meta_line engine.shape x, line_in engine.shape engine.cache engine.shape.levels x)
     ∷ block_entries xs (with_cache engine (cleaned (cache_of engine) engine.shape.levels x))
 
 -- these blocks were written, in order, and are clean, and nothing else changed
-pub record AreWrittenBack (blocks : List ℕ) (engine left : EngineState) (old new : Device) : Type 0 where
+pub record AreWrittenBack (blocks : List ℕ) (engine left : ChipState) (old new : Device) : Type 0 where
   pub lines : new.lines ≡ redone_told (block_entries blocks engine) old.lines
   pub engine_left : left ≡ with_clean blocks engine
   pub regs : new.regs ≡ old.regs
   pub reads : new.reads ≡ old.reads
 
 -- all of them, or where power is cut the first of them
-abbrev pub IsWrittenInOrder : EngineState → Device → Device → Result (EngineState × ℕ) (EngineState × Cut) → Type 0
+abbrev pub IsWrittenInOrder : ChipState → Device → Device → Result (ChipState × ℕ) (ChipState × Cut) → Type 0
 IsWrittenInOrder engine old new (Ok end) = AreWrittenBack (dirty_counter_blocks engine) engine end.0 old new
 IsWrittenInOrder engine old new (Err left) =
     (front : List ℕ) × IsFront front (dirty_counter_blocks engine) × AreWrittenBack front engine left.0 old new
 
 abbrev pub BlocksAreWrittenInOrder : Type 0
 BlocksAreWrittenInOrder =
-    (engine : EngineState) (old new : Device) (end : Result (EngineState × ℕ) (EngineState × Cut))
+    (engine : ChipState) (old new : Device) (end : Result (ChipState × ℕ) (ChipState × Cut))
     → Follows (counter_blocks_plan engine) old new end → IsWrittenInOrder engine old new end

@@ -12,29 +12,39 @@ use Rattle.seal_ledger.specs.Ledger.{LedgerState}
 use Rattle.seal_ledger.specs.declared.Audit.{Ghosts as AuditOf}
 use Rattle.suite.specs.Setup.{Setup}
 use Rattle.suite.specs.declared.Suite.{Ghosts as SuiteOf}
-use Rattle.pmem_engine.specs.Engine.{EngineState}
+use Rattle.pmem_engine.specs.Engine.{ChipState, EngineState, on_chip}
 use Rattle.pmem_engine.specs.Recached.{IsTrueOrDirty}
 use Rattle.pmem_engine.specs.Invariants.{stored_meta, IsTrusted, IsSound, IsDurable, IsSealStored, IsCounterStored}
 
--- the engine, the device, the ledger, and the suite's counts of tags and digests
+-- what is on the chip, the device, the ledger, and the suite's counts of tags and digests
 pub record Parts : Type 0 where
-  pub engine : EngineState
+  pub engine : ChipState
   pub device : Device
   pub ledger : LedgerState
   pub tags : ℕ
   pub digests : ℕ
 
-abbrev pub parts_of : EngineState → Device → LedgerState → ℕ → ℕ → Parts
-parts_of engine device ledger tags digests =
+abbrev pub parts_with : ChipState → Device → LedgerState → ℕ → ℕ → Parts
+parts_with engine device ledger tags digests =
     record { engine = engine; device = device; ledger = ledger; tags = tags; digests = digests }
+
+-- of an engine; whether it is down isn't told by them
+abbrev pub parts_of : EngineState → Device → LedgerState → ℕ → ℕ → Parts
+parts_of engine device ledger tags digests = parts_with (on_chip engine) device ledger tags digests
 
 -- what a call sees of the engine, the board, the suite and the audit at a moment: the parts, and the setup
 module _ {B S A : Type 0} (board : BoardOf B) (suite : SuiteOf S) (audit : AuditOf A) where
+  abbrev pub parts_with_at : ChipState → B → S → A → Parts
+  parts_with_at engine b s a = parts_with engine (board.device b) (audit.ledger a) (suite.tags s) (suite.digests s)
+
   abbrev pub parts_at : EngineState → B → S → A → Parts
-  parts_at engine b s a = parts_of engine (board.device b) (audit.ledger a) (suite.tags s) (suite.digests s)
+  parts_at engine b s a = parts_with_at (on_chip engine) b s a
+
+abbrev pub setup_with_at : {S : Type 0} → SuiteOf S → ChipState → S → Setup
+setup_with_at suite engine s = record { shape = engine.shape; formulas = suite.formulas_of (suite.keys s) }
 
 abbrev pub setup_at : {S : Type 0} → SuiteOf S → EngineState → S → Setup
-setup_at suite engine s = record { shape = engine.shape; formulas = suite.formulas_of (suite.keys s) }
+setup_at suite engine s = setup_with_at suite (on_chip engine) s
 
 -- the registers
 abbrev pub regs_of : Parts → Regs

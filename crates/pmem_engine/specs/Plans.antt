@@ -30,16 +30,15 @@ use Rattle.meta_path.specs.declared.faults.PathFault.{PathFault}
 use Rattle.meta_path.specs.FetchPlans.{FetchParts, fetch_parts, fetch_plan}
 use Rattle.meta_path.specs.Plans.{naming_plan, write_back_plan, oldest_plan}
 use Rattle.pmem_engine.specs.declared.fault.Fault.{Fault}
-use Rattle.pmem_engine.specs.declared.fault.Fault.TheVariants as Fail
 use Rattle.pmem_engine.specs.declared.fault.LineFault.{LineFault}
 use Rattle.pmem_engine.specs.declared.fault.LineFault.TheVariants as AtLine
 use Rattle.pmem_engine.specs.declared.reading.Unsealed.{Unsealed}
 use Rattle.pmem_engine.specs.declared.resealing.HeldLine.{HeldLine}
 use Rattle.pmem_engine.specs.declared.resealing.NextSeal.{NextSeal}
-use Rattle.pmem_engine.specs.Engine.{EngineState}
+use Rattle.pmem_engine.specs.Engine.{ChipState, EngineState, on_chip}
 use Rattle.pmem_engine.specs.Parts.{Parts}
-use Rattle.pmem_engine.specs.Outcomes.{outcome_of_fault, fault_of_cut, fault_of_line, fault_of_path}
-use Rattle.pmem_engine.specs.Inner.{ended_by, cached_block}
+use Rattle.pmem_engine.specs.Outcomes.{fault_of_cut, fault_of_line, fault_of_path}
+use Rattle.pmem_engine.specs.Inner.{cached_block}
 use Rattle.pmem_engine.specs.DirtyOrder.{dirty_order}
 use Rattle.pmem_engine.specs.Flushed.{cache_of, with_loss}
 use Rattle.pmem_engine.specs.Committing.{next_seal_of, entries_of}
@@ -47,116 +46,103 @@ use Rattle.pmem_engine.specs.Resealing.{line_of_page}
 
 -- ---- the state beside the board
 
--- the engine, the ledger, and the suite's counts of tags and digests
+-- what the engine keeps on the chip, the ledger, and the suite's counts of tags and digests
 pub record Chip : Type 0 where
-  pub engine : EngineState
+  pub engine : ChipState
   pub ledger : LedgerState
   pub tags : ℕ
   pub digests : ℕ
 
-abbrev pub chip_of : EngineState → LedgerState → ℕ → ℕ → Chip
-chip_of engine ledger tags digests =
+abbrev pub chip_with : ChipState → LedgerState → ℕ → ℕ → Chip
+chip_with engine ledger tags digests =
     record { engine = engine; ledger = ledger; tags = tags; digests = digests }
+
+-- of an engine; whether it is down isn't told by it
+abbrev pub chip_of : EngineState → LedgerState → ℕ → ℕ → Chip
+chip_of engine ledger tags digests = chip_with (on_chip engine) ledger tags digests
 
 -- of a call's parts
 abbrev pub chip_in : Parts → Chip
-chip_in parts = chip_of parts.engine parts.ledger parts.tags parts.digests
+chip_in parts = chip_with parts.engine parts.ledger parts.tags parts.digests
 
 -- the same at a moment of a call
 module _ {S A : Type 0} (suite : SuiteOf S) (audit : AuditOf A) where
+  abbrev pub chip_with_at : ChipState → S → A → Chip
+  chip_with_at engine s a = chip_with engine (audit.ledger a) (suite.tags s) (suite.digests s)
+
   abbrev pub chip_at : EngineState → S → A → Chip
-  chip_at engine s a = chip_of engine (audit.ledger a) (suite.tags s) (suite.digests s)
+  chip_at engine s a = chip_with_at (on_chip engine) s a
 
 -- the end of a part after which others need the registers: where it is done, with those that it leaves
 abbrev pub ended_with : {S F : Type 0} → Result (Unit {0}) F → S → Regs → Result (S × Regs) (S × F)
 ended_with (Ok value) state regs = Ok (state, regs)
 ended_with (Err fault) state regs = Err (state, fault)
 
-abbrev pub with_engine : Chip → EngineState → Chip
-with_engine chip engine = chip_of engine chip.ledger chip.tags chip.digests
+abbrev pub with_engine : Chip → ChipState → Chip
+with_engine chip engine = chip_with engine chip.ledger chip.tags chip.digests
 
 abbrev pub with_ledger : Chip → LedgerState → Chip
-with_ledger chip ledger = chip_of chip.engine ledger chip.tags chip.digests
+with_ledger chip ledger = chip_with chip.engine ledger chip.tags chip.digests
 
 abbrev pub with_tags : Chip → ℕ → Chip
-with_tags chip tags = chip_of chip.engine chip.ledger tags chip.digests
-
--- ---- a call
-
--- An engine that is down does nothing, and one that a cut or an exhibit stops is down. The first two arguments
--- say where the engine stands in the state, and the third what a part's faults are to the call.
-unfoldable pub called :
-    {S A F : Type 0} → (S → EngineState) → (S → EngineState → S) → (F → Fault) → S
-    → Plan (S × F) (S × A) → Plan (S × Fault) (S × A)
-called engine_of with fault s plan =
-    if (engine_of s).down then stop (s, Fail.Down)
-    else mapped
-    (λ left. (with left.0 (ended_by (engine_of left.0) (outcome_of_fault (fault left.1))), fault left.1))
-    (λ end. end) plan
-
--- a call that works on the engine alone, and one on all of the chip
-abbrev pub engine_call : {A F : Type 0} → (F → Fault) → EngineState → Plan (EngineState × F) (EngineState × A) → Plan (EngineState × Fault) (EngineState × A)
-engine_call fault engine plan = called (λ old. old) (λ old new. new) fault engine plan
-
-abbrev pub chip_call : {A F : Type 0} → (F → Fault) → Chip → Plan (Chip × F) (Chip × A) → Plan (Chip × Fault) (Chip × A)
-chip_call fault chip plan = called (λ old. old.engine) with_engine fault chip plan
+with_tags chip tags = chip_with chip.engine chip.ledger tags chip.digests
 
 -- ---- parts that work on the cache, or on the copy of the shadow lines
 
 -- the engine with another cache
-abbrev pub with_cache : EngineState → CacheState → EngineState
+abbrev pub with_cache : ChipState → CacheState → ChipState
 with_cache engine cache = record engine { cache = cache.banks }
 
 -- the engine with another copy of the shadow lines
-abbrev pub with_mirror : EngineState → List Line → EngineState
+abbrev pub with_mirror : ChipState → List Line → ChipState
 with_mirror engine mirror = record engine { mirror = mirror }
 
 -- the oldest dirty block is written to its place
-unfoldable pub oldest_block_plan : EngineState → Plan (EngineState × Cut) (EngineState × Option ℕ)
+unfoldable pub oldest_block_plan : ChipState → Plan (ChipState × Cut) (ChipState × Option ℕ)
 oldest_block_plan engine = lifted (with_cache engine) (λ cut. cut) (oldest_plan (cache_of engine))
 
 -- the dirty block at x of a bank is
-unfoldable pub block_plan : ℕ → ℕ → EngineState → Plan (EngineState × Cut) (EngineState × Unit {0})
+unfoldable pub block_plan : ℕ → ℕ → ChipState → Plan (ChipState × Cut) (ChipState × Unit {0})
 block_plan bank x engine = lifted (with_cache engine) (λ cut. cut) (write_back_plan (cache_of engine) bank x)
 
 -- the page's path is named
-unfoldable pub name_plan : ℕ → EngineState → Plan (EngineState × Cut) (EngineState × Unit {0})
+unfoldable pub name_plan : ℕ → ChipState → Plan (ChipState × Cut) (ChipState × Unit {0})
 name_plan page engine =
     lifted (with_mirror engine) (λ cut. cut) (naming_plan engine.shape engine.cache page engine.mirror)
 
 -- ---- a flush
 
-abbrev pub flush_plan : EngineState → Plan (EngineState × Fault) (EngineState × Option ℕ)
-flush_plan engine = engine_call fault_of_cut engine (oldest_block_plan engine)
+abbrev pub flush_plan : ChipState → Plan (ChipState × Fault) (ChipState × Option ℕ)
+flush_plan engine = lifted (λ now. now) fault_of_cut (oldest_block_plan engine)
 
 -- ---- another stop-loss number
 
 -- the dirty counter blocks, the oldest first
-abbrev pub dirty_counter_blocks : EngineState → List ℕ
+abbrev pub dirty_counter_blocks : ChipState → List ℕ
 dirty_counter_blocks engine = dirty_order (bank_of engine.cache engine.shape.levels)
 
-abbrev pub counter_block_turn : ℕ → EngineState × Unit {0} → Plan (EngineState × Cut) (EngineState × Unit {0})
+abbrev pub counter_block_turn : ℕ → ChipState × Unit {0} → Plan (ChipState × Cut) (ChipState × Unit {0})
 counter_block_turn x before = block_plan before.0.shape.levels x before.0
 
 -- each of them is written to its place, in order; the answer is how many there were
-unfoldable pub counter_blocks_plan : EngineState → Plan (EngineState × Cut) (EngineState × ℕ)
+unfoldable pub counter_blocks_plan : ChipState → Plan (ChipState × Cut) (ChipState × ℕ)
 counter_blocks_plan engine =
     mapped (λ left. left) (λ end. (end.0, bank_dirty_count engine.shape engine.cache engine.shape.levels))
     (for_each counter_block_turn (dirty_counter_blocks engine) (engine, tt))
 
 -- where the number gets smaller
-unfoldable pub make_way_plan : ℕ → Regs → EngineState → Plan (EngineState × Cut) (EngineState × ℕ)
+unfoldable pub make_way_plan : ℕ → Regs → ChipState → Plan (ChipState × Cut) (ChipState × ℕ)
 make_way_plan n regs engine = if nat_lt n regs.loss then counter_blocks_plan engine else done (engine, 0)
 
 -- then the number is latched; the answer is how many steps that took
-unfoldable pub latch_loss_plan : ℕ → Regs → EngineState → Plan (EngineState × Cut) (EngineState × ℕ)
+unfoldable pub latch_loss_plan : ℕ → Regs → ChipState → Plan (ChipState × Cut) (ChipState × ℕ)
 latch_loss_plan n regs engine =
     if n == regs.loss then done (engine, 0)
     else bind (make_way_plan n regs engine)
     (λ end. latch (end.0, the_cut) (with_loss regs n) (done (end.0, end.1 + 1)))
 
-abbrev pub set_loss_plan : ℕ → Regs → EngineState → Plan (EngineState × Fault) (EngineState × ℕ)
-set_loss_plan n regs engine = engine_call fault_of_cut engine (latch_loss_plan n regs engine)
+abbrev pub set_loss_plan : ℕ → Regs → ChipState → Plan (ChipState × Fault) (ChipState × ℕ)
+set_loss_plan n regs engine = lifted (λ now. now) fault_of_cut (latch_loss_plan n regs engine)
 
 -- ---- a line unsealed
 
@@ -182,7 +168,7 @@ abbrev pub fetch_parts_of : Chip → FetchParts
 fetch_parts_of chip = fetch_parts (cache_of chip.engine) chip.ledger chip.digests
 
 abbrev pub with_fetched : Chip → FetchParts → Chip
-with_fetched chip parts = chip_of (with_cache chip.engine parts.cache) parts.ledger chip.tags parts.digests
+with_fetched chip parts = chip_with (with_cache chip.engine parts.cache) parts.ledger chip.tags parts.digests
 
 -- the page's path is fetched and checked against the root
 unfoldable pub fetch_path_plan : Setup → List ℕ → ℕ → Chip → Plan (Chip × PathFault) (Chip × Unit {0})
@@ -195,14 +181,11 @@ its_counter setup regs at chip =
     counter_of regs.progress.items (cached_block setup.shape chip.engine (page_of at)) at
 
 -- its page's path is fetched, and then the line is unsealed under its counter
-unfoldable pub read_line_plan : Setup → Regs → ℕ → Chip → Plan (Chip × Fault) (Chip × Line)
-read_line_plan setup regs at chip =
+unfoldable pub read_plan : Setup → Regs → ℕ → Chip → Plan (Chip × Fault) (Chip × Line)
+read_plan setup regs at chip =
     bind (mapped (λ left. (left.0, fault_of_path left.1)) (λ end. end) (fetch_path_plan setup regs.root (page_of at) chip))
     (λ fetched. mapped (λ left. (left.0, fault_of_line left.1)) (λ end. (end.0, end.1.plain))
     (unseal_plan setup at (its_counter setup regs at fetched.0) fetched.0))
-
-abbrev pub read_plan : Setup → Regs → ℕ → Chip → Plan (Chip × Fault) (Chip × Line)
-read_plan setup regs at chip = chip_call (λ fault. fault) chip (read_line_plan setup regs at chip)
 
 -- ---- a group of one mark
 
@@ -249,8 +232,8 @@ register_at regs n = slice_index_or regs.progress.items n empty_progress
 -- a tag is made, and the line's group is committed; the answer is the line, and how many are left
 abbrev pub seal_anew_plan : Setup → HeldLine → ℕ → Regs → Chip × Unsealed → Plan (Chip × LineFault) (Chip × (ℕ × ℕ))
 seal_anew_plan setup held left regs before =
-    mapped (λ end. (chip_of before.0.engine end.0 (risen before.0.tags) before.0.digests, AtLine.Cut))
-    (λ end. (chip_of before.0.engine end.0 (risen before.0.tags) before.0.digests, (held.at, left - 1)))
+    mapped (λ end. (chip_with before.0.engine end.0 (risen before.0.tags) before.0.digests, AtLine.Cut))
+    (λ end. (chip_with before.0.engine end.0 (risen before.0.tags) before.0.digests, (held.at, left - 1)))
     (commit_plan setup.shape (next_seal_of setup.formulas held.at held.next before.1.plain before.1.tag_line)
     regs before.0.ledger)
 
@@ -269,4 +252,4 @@ oldest_page_plan setup regs chip (register ∷ others) =
     mapped (λ left. left) (λ end. (end.0, Some end.1)) (reseal_plan setup 0 regs chip)
 
 abbrev pub turn_plan : Setup → Regs → Chip → Plan (Chip × Fault) (Chip × Option (ℕ × ℕ))
-turn_plan setup regs chip = chip_call fault_of_line chip (oldest_page_plan setup regs chip regs.progress.items)
+turn_plan setup regs chip = lifted (λ now. now) fault_of_line (oldest_page_plan setup regs chip regs.progress.items)

@@ -11,7 +11,7 @@ use Rattle.std.specs.List.{Contains}
 use Rattle.seal_ledger.specs.Ledger.{LedgerState}
 use Rattle.shadow_tables.specs.Entries.{shadow_of}
 use Rattle.suite.specs.Setup.{Setup}
-use Rattle.pmem_engine.specs.Engine.{EngineState}
+use Rattle.pmem_engine.specs.Engine.{ChipState}
 use Rattle.pmem_engine.specs.Invariants.{IsTrueSlot, stored_meta}
 
 -- metadata line x is the true one on the device, or cached dirty
@@ -30,20 +30,18 @@ pub record IsNewlyCached (g : Shape) (truth : List Line) (bank set : ℕ) (slot 
   pub clean : slot.dirty ≡ false
 
 -- blocks are used, cleaned, dropped or placed: each slot was there before, or has come in
-pub record IsRecached (setup : Setup) (old new : EngineState) (ledger : LedgerState) : Type 0 where
+pub record IsRecached (setup : Setup) (old new : ChipState) (ledger : LedgerState) : Type 0 where
   pub shape : new.shape ≡ old.shape
   pub mirror : new.mirror ≡ old.mirror
-  pub down : new.down ≡ old.down
   pub slots :
       (bank set : ℕ) (slot : Slot) → Contains (set_of new.cache bank set) slot
       → IsFromBefore (set_of old.cache bank set) slot ⊎ IsNewlyCached setup.shape ledger.truth bank set slot
 
 -- the engine's copy of shadow line n is written, and nothing else of it changes
-pub record IsMirrorWritten (old new : EngineState) (n : ℕ) (line : Line) : Type 0 where
+pub record IsMirrorWritten (old new : ChipState) (n : ℕ) (line : Line) : Type 0 where
   pub mirror : new.mirror ≡ slice_set old.mirror n line
   pub shape : new.shape ≡ old.shape
   pub cache : new.cache ≡ old.cache
-  pub down : new.down ≡ old.down
 
 -- a slot as it was, or with its block's new true line
 pub record IsSlotOfStoredPath (g : Shape) (truth : List Line) (page : ℕ) (set : List Slot) (slot : Slot) : Type 0 where
@@ -57,8 +55,7 @@ pub record IsSlotOfStoredPath (g : Shape) (truth : List Line) (page : ℕ) (set 
   pub on_path : is_on_path g page slot.position ≡ true → slot.line ≡ line_at truth slot.position
 
 -- the engine that starts anew: nothing cached, its copy of the shadow lines as they are
-pub record IsNewEngine (setup : Setup) (engine : EngineState) (lines : List Line) : Type 0 where
+pub record IsNewEngine (setup : Setup) (engine : ChipState) (lines : List Line) : Type 0 where
   pub its_shape : engine.shape ≡ setup.shape
   pub empty_cache : (bank set : ℕ) → set_of engine.cache bank set ≡ []
   pub its_mirror : engine.mirror ≡ shadow_of setup.shape lines
-  pub not_down : engine.down ≡ false

@@ -25,32 +25,32 @@ use Rattle.meta_path.specs.Blocks.{cached_line}
 use Rattle.meta_path.specs.Storing.{stored_levels}
 use Rattle.pmem_engine.specs.declared.fault.Fault.{Fault}
 use Rattle.pmem_engine.specs.declared.resealing.NextSeal.{NextSeal}
-use Rattle.pmem_engine.specs.Engine.{EngineState}
+use Rattle.pmem_engine.specs.Engine.{ChipState}
 use Rattle.pmem_engine.specs.Outcomes.{fault_of_cut}
 use Rattle.pmem_engine.specs.Inner.{cached_block}
 use Rattle.pmem_engine.specs.Flushed.{cache_of}
 use Rattle.pmem_engine.specs.Committing.{next_seal_of}
 use Rattle.pmem_engine.specs.Sealing.{next_counter_of, raised_block, seal_group, begin_group}
-use Rattle.pmem_engine.specs.Plans.{Chip, chip_of, with_tags, with_cache, group_plan}
+use Rattle.pmem_engine.specs.Plans.{Chip, chip_with, with_tags, with_cache, group_plan}
 
 -- ---- a page's new path
 
 -- the path over the cached lines, where the page's counter block is another one
-abbrev pub next_lines : Setup → EngineState → ℕ → Block → List (ℕ × Line)
+abbrev pub next_lines : Setup → ChipState → ℕ → Block → List (ℕ × Line)
 next_lines setup engine page block =
     path_with setup.shape setup.formulas (cached_line setup.shape engine.cache) page (packed block)
 
 -- the root then
-abbrev pub next_root : Setup → EngineState → ℕ → Block → List ℕ
+abbrev pub next_root : Setup → ChipState → ℕ → Block → List ℕ
 next_root setup engine page block =
     root_with setup.shape setup.formulas (cached_line setup.shape engine.cache) page (packed block)
 
 -- the chip once the path is made: a digest for each level
 abbrev pub with_path_digests : Shape → Chip → Chip
-with_path_digests g chip = chip_of chip.engine chip.ledger chip.tags (risen_times (path_length g) chip.digests)
+with_path_digests g chip = chip_with chip.engine chip.ledger chip.tags (risen_times (path_length g) chip.digests)
 
 -- the engine with the path stored in its cache
-abbrev pub with_path : Shape → ℕ → Bool → List (ℕ × Line) → EngineState → EngineState
+abbrev pub with_path : Shape → ℕ → Bool → List (ℕ × Line) → ChipState → ChipState
 with_path g page persisted lines engine =
     with_cache engine (stored_levels g page persisted lines (path_length g) (cache_of engine))
 
@@ -61,7 +61,7 @@ with_true_path lines ledger = with_truth ledger (put_lines lines ledger.truth)
 -- the chip once the mark is made, and the page's new path is stored and told
 abbrev pub with_marked_path : Shape → Mark → ℕ → Bool → List (ℕ × Line) → Chip → Chip
 with_marked_path g mark page persisted lines chip =
-    chip_of (with_path g page persisted lines chip.engine) (with_true_path lines (noted chip.ledger mark)) chip.tags
+    chip_with (with_path g page persisted lines chip.engine) (with_true_path lines (noted chip.ledger mark)) chip.tags
     chip.digests
 
 -- ---- a line sealed under its next counter

@@ -28,7 +28,7 @@ use Rattle.plain_model.specs.Asked.{seal_mark}
 use Rattle.pmem_engine.specs.declared.fault.Fault.{Fault}
 use Rattle.pmem_engine.specs.declared.fault.Fault.TheVariants as Fail
 use Rattle.pmem_engine.specs.declared.resealing.NextSeal.{NextSeal}
-use Rattle.pmem_engine.specs.Engine.{EngineState}
+use Rattle.pmem_engine.specs.Engine.{ChipState}
 use Rattle.pmem_engine.specs.Steps.{block_entry}
 use Rattle.pmem_engine.specs.Parts.{Parts, regs_of, AreTrusted}
 use Rattle.pmem_engine.specs.Outcomes.{of_cut, outcome_of, is_sealed_by, OneLossEffect, TakesSteps, TakesFewer}
@@ -39,12 +39,11 @@ use Rattle.pmem_engine.specs.Committing.{entries_of, HasCommitted, IsCutArmed}
 -- ---- parts of a commit
 
 -- the cache has the path's new lines, and the engine is else as it was
-pub record HasStoredPath (g : Shape) (page : ℕ) (persisted : Bool) (lines : List (ℕ × Line)) (old new : EngineState) :
+pub record HasStoredPath (g : Shape) (page : ℕ) (persisted : Bool) (lines : List (ℕ × Line)) (old new : ChipState) :
     Type 0 where
   pub path : IsPathOf g page lines
   pub shape : new.shape ≡ old.shape
   pub mirror : new.mirror ≡ old.mirror
-  pub down : new.down ≡ old.down
   pub slots : KeepsSlots g page persisted lines old.cache new.cache
   pub kept : KeepsButPath g page old.cache new.cache
   pub cached : IsPathCached g new.cache page
@@ -68,7 +67,7 @@ seal_group g next persisted block =
 
 -- what both a commit and a cut amid it leave of the chip
 pub record HasPathSealed (g : Shape) (next : NextSeal) (persisted : Bool) (block : Line) (lines : List (ℕ × Line))
-    (root : List ℕ) (old new : EngineState) (old_regs new_regs : Regs) (before after : LedgerState) : Type 0 where
+    (root : List ℕ) (old new : ChipState) (old_regs new_regs : Regs) (before after : LedgerState) : Type 0 where
   pub is_group : IsGroup (layout.device_lines g) (seal_group g next persisted block)
   pub fits : IsSealValue next.ctr next.cipher next.tag
   pub root_now : new_regs.root ≡ root
@@ -83,7 +82,7 @@ abbrev pub begin_group : Shape → ℕ → Line → List (ℕ × Line)
 begin_group g page block = block_entry g page block ∷ []
 
 pub record HasPageBegun (g : Shape) (page : ℕ) (register : Progress) (block : Line) (lines : List (ℕ × Line))
-    (root : List ℕ) (old new : EngineState) (old_regs new_regs : Regs) (before after : LedgerState) : Type 0 where
+    (root : List ℕ) (old new : ChipState) (old_regs new_regs : Regs) (before after : LedgerState) : Type 0 where
   pub is_group : IsGroup (layout.device_lines g) (begin_group g page block)
   pub root_now : new_regs.root ≡ root
   pub progress : new_regs.progress.items ≡ old_regs.progress.items ++ register ∷ []
@@ -94,7 +93,7 @@ pub record HasPageBegun (g : Shape) (page : ℕ) (register : Progress) (block : 
 -- ---- ends
 
 -- nothing was done before the cut
-pub record IsNothingDone (old new : EngineState) (old_device new_device : Device) (before after : LedgerState) :
+pub record IsNothingDone (old new : ChipState) (old_device new_device : Device) (before after : LedgerState) :
     Type 0 where
   pub engine : new ≡ old
   pub device : WasCut old_device new_device
@@ -102,39 +101,39 @@ pub record IsNothingDone (old new : EngineState) (old_device new_device : Device
 
 -- the group was armed, and finished
 pub record HasSealCommitted (g : Shape) (next : NextSeal) (persisted : Bool) (block : Line) (lines : List (ℕ × Line))
-    (root : List ℕ) (old new : EngineState) (old_device new_device : Device) (before after : LedgerState) : Type 0 where
+    (root : List ℕ) (old new : ChipState) (old_device new_device : Device) (before after : LedgerState) : Type 0 where
   pub device : HasCommitted (seal_group g next persisted block) old_device new_device
   pub path_sealed :
       HasPathSealed g next persisted block lines root old new old_device.regs new_device.regs before after
 
 -- or cut
 pub record IsSealCutArmed (g : Shape) (next : NextSeal) (persisted : Bool) (block : Line) (lines : List (ℕ × Line))
-    (root : List ℕ) (old new : EngineState) (old_device new_device : Device) (before after : LedgerState) : Type 0 where
+    (root : List ℕ) (old new : ChipState) (old_device new_device : Device) (before after : LedgerState) : Type 0 where
   pub device : IsCutArmed (seal_group g next persisted block) old_device new_device
   pub path_sealed :
       HasPathSealed g next persisted block lines root old new old_device.regs new_device.regs before after
 
 abbrev pub IsSealCut :
-    Shape → NextSeal → Bool → Line → List (ℕ × Line) → List ℕ → EngineState → EngineState → Device → Device
+    Shape → NextSeal → Bool → Line → List (ℕ × Line) → List ℕ → ChipState → ChipState → Device → Device
     → LedgerState → LedgerState → Type 0
 IsSealCut g next persisted block lines root old new old_device new_device before after =
     IsNothingDone old new old_device new_device before after
     ⊎ IsSealCutArmed g next persisted block lines root old new old_device new_device before after
 
 pub record HasBeginCommitted (g : Shape) (page : ℕ) (register : Progress) (block : Line) (lines : List (ℕ × Line))
-    (root : List ℕ) (old new : EngineState) (old_device new_device : Device) (before after : LedgerState) : Type 0 where
+    (root : List ℕ) (old new : ChipState) (old_device new_device : Device) (before after : LedgerState) : Type 0 where
   pub device : HasCommitted (begin_group g page block) old_device new_device
   pub page_begun :
       HasPageBegun g page register block lines root old new old_device.regs new_device.regs before after
 
 pub record IsBeginCutArmed (g : Shape) (page : ℕ) (register : Progress) (block : Line) (lines : List (ℕ × Line))
-    (root : List ℕ) (old new : EngineState) (old_device new_device : Device) (before after : LedgerState) : Type 0 where
+    (root : List ℕ) (old new : ChipState) (old_device new_device : Device) (before after : LedgerState) : Type 0 where
   pub device : IsCutArmed (begin_group g page block) old_device new_device
   pub page_begun :
       HasPageBegun g page register block lines root old new old_device.regs new_device.regs before after
 
 abbrev pub IsBeginCut :
-    Shape → ℕ → Progress → Line → List (ℕ × Line) → List ℕ → EngineState → EngineState → Device → Device
+    Shape → ℕ → Progress → Line → List (ℕ × Line) → List ℕ → ChipState → ChipState → Device → Device
     → LedgerState → LedgerState → Type 0
 IsBeginCut g page register block lines root old new old_device new_device before after =
     IsNothingDone old new old_device new_device before after
@@ -143,12 +142,12 @@ IsBeginCut g page register block lines root old new old_device new_device before
 -- ---- the whole
 
 -- the next counter of line a, and its page's counter block with it
-abbrev pub next_counter_of : Shape → EngineState → ℕ → Ctr
+abbrev pub next_counter_of : Shape → ChipState → ℕ → Ctr
 next_counter_of g engine a =
     let block = cached_block g engine (page_of a) in
     record { major = block.major; minor = minor_of block (index_in_page a) + 1 }
 
-abbrev pub raised_block : Shape → EngineState → ℕ → Block
+abbrev pub raised_block : Shape → ChipState → ℕ → Block
 raised_block g engine a =
     let block = cached_block g engine (page_of a) in
     with_minor block (index_in_page a) (minor_of block (index_in_page a) + 1)
@@ -179,7 +178,6 @@ pub record HasSealedNext (setup : Setup) (at : ℕ) (plain : Line) (old new : Pa
       ≡ (if is_sealed_by made a then Some plain else plain_line setup.formulas old.ledger.marks a)
   pub path_cached : IsOk answer → IsPathCached setup.shape new.engine.cache (page_of at)
   pub path_named : IsOk answer → IsPathNamedInMirror setup.shape new.engine (page_of at)
-  pub down : new.engine.down ≡ old.engine.down
   pub steps :
       TakesSealSteps (seal_steps (regs_of old).loss (next_counter_of setup.shape old.engine at)) old new answer
   pub work : IfOk answer (λ ctr. IsWork (seal_work setup.shape (regs_of old).loss ctr) old new)
@@ -219,7 +217,6 @@ pub record HasBegunPage (setup : Setup) (page : ℕ) (old new : Parts) (answer :
   pub done : OneLossEffect setup (outcome_of answer) made old new
   pub marks : HasBeginMarks page made answer
   pub opened : IsOk answer → IsPageOpened setup page old new
-  pub down : new.engine.down ≡ old.engine.down
   pub steps : TakesBeginSteps old new answer
   pub work : IsOk answer → IsWork (begin_work setup.shape 1) old new
   pub cache : KeepsButPath setup.shape page old.engine.cache new.engine.cache

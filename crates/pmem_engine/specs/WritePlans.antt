@@ -15,7 +15,7 @@ use Rattle.pmem_engine.specs.declared.fault.LineFault.{LineFault}
 use Rattle.pmem_engine.specs.Outcomes.{fault_of_cut, fault_of_line, fault_of_path}
 use Rattle.pmem_engine.specs.Inner.{cached_block}
 use Rattle.pmem_engine.specs.Writing.{overflow_of, register_to_finish}
-use Rattle.pmem_engine.specs.Plans.{Chip, with_engine, chip_call, name_plan, fetch_path_plan, its_counter, unseal_plan, register_at, held_of, reseal_plan}
+use Rattle.pmem_engine.specs.Plans.{Chip, with_engine, name_plan, fetch_path_plan, its_counter, unseal_plan, register_at, held_of, reseal_plan}
 use Rattle.pmem_engine.specs.SealPlans.{seal_next_plan, begin_for_plan}
 
 -- ---- the counter
@@ -71,8 +71,8 @@ finish_for_plan setup page overflows regs chip =
 
 -- The page's path is fetched, the line's counter looked at, its plain line made, a page finished where one has to be,
 -- the path named, the page begun where it has to be, and the line sealed; the answer is its counter.
-unfoldable pub write_posted_plan : Setup → Regs → Posted → Chip → Plan (Chip × Fault) (Chip × Ctr)
-write_posted_plan setup regs write chip =
+unfoldable pub write_plan : Setup → Regs → Posted → Chip → Plan (Chip × Fault) (Chip × Ctr)
+write_plan setup regs write chip =
     bind (lifted (λ now. now) fault_of_path (fetch_path_plan setup regs.root (page_of write.at) chip)) (λ fetched.
     bind (overflow_plan setup write.at fetched.0) (λ overflows.
     bind (lifted (λ now. now) fault_of_line (plain_plan setup regs write fetched.0)) (λ made.
@@ -80,6 +80,3 @@ write_posted_plan setup regs write chip =
     bind (lifted (with_engine finished.0) fault_of_cut (name_plan (page_of write.at) finished.0.engine)) (λ named.
     bind (begin_for_plan setup (page_of write.at) overflows finished.1 named.0) (λ begun.
     lifted (λ now. now) fault_of_cut (seal_next_plan setup write.at made.1 begun.1 begun.0)))))))
-
-abbrev pub write_plan : Setup → Regs → Posted → Chip → Plan (Chip × Fault) (Chip × Ctr)
-write_plan setup regs write chip = chip_call (λ fault. fault) chip (write_posted_plan setup regs write chip)

@@ -1,6 +1,5 @@
 -- Parts of a write: its overflow, its plain line, the page that is finished before, and its begin.
-use Rattle.std.specs.Prelude.{ℕ, ◌≡◌, ◌<◌, ◌≤◌, ◌+◌, ◌∷◌, ◌-◌, ◌*◌, ◌^◌, ◌==◌, ◌⊎◌, Bool, true, false, nat_lt, nat_le, List, [], ◌++◌, length, map, Option, Some, None, position, IfOk, IfSome, IsOk, IsTrue, Result, Ok, Err, ⊤, if◌then◌else◌, ◌≢◌, ◌%◌}
-use Rattle.pmem_base.specs.declared.lines.Ctr.{Ctr}
+use Rattle.std.specs.Prelude.{ℕ, ◌≡◌, ◌<◌, ◌≤◌, ◌+◌, ◌∷◌, ◌-◌, ◌*◌, ◌^◌, ◌==◌, Bool, true, false, nat_lt, nat_le, List, [], ◌++◌, length, map, Option, Some, None, position, IfSome, IsOk, IsTrue, Result, Ok, Err, ⊤, if◌then◌else◌}
 use Rattle.pmem_base.specs.declared.lines.Line.{Line}
 use Rattle.pmem_base.specs.declared.commands.Posted.{Posted}
 use Rattle.pmem_base.specs.declared.registers.Progress.{Progress}
@@ -17,8 +16,8 @@ use Rattle.suite.specs.Setup.{Setup}
 use Rattle.meta_path.specs.Blocks.{IsPathCached}
 use Rattle.plain_model.specs.State.{Memory}
 use Rattle.plain_model.specs.View.{plain_line}
-use Rattle.plain_model.specs.Bounds.{path_length, seal_count}
-use Rattle.plain_model.specs.Asked.{Moment, reseal_mark, marks_of_write}
+use Rattle.plain_model.specs.Bounds.{seal_count}
+use Rattle.plain_model.specs.Asked.{Moment, reseal_mark}
 use Rattle.pmem_engine.specs.declared.fault.Fault.{Fault}
 use Rattle.pmem_engine.specs.declared.fault.Fault.TheVariants as Fail
 use Rattle.pmem_engine.specs.declared.fault.LineFault.{LineFault}
@@ -26,7 +25,7 @@ use Rattle.pmem_engine.specs.declared.fault.LineFault.TheVariants as AtLine
 use Rattle.pmem_engine.specs.Parts.{Parts, regs_of, AreTrusted, AreSound, HoldsSeal}
 use Rattle.pmem_engine.specs.Outcomes.{of_line, shown, outcome_of, is_sealed_by, OneLossEffect, TakesSteps, TakesAtMost, TakesFewer, is_seal_of}
 use Rattle.pmem_engine.specs.Faults.{IsTagRefused, IsForgedShown}
-use Rattle.pmem_engine.specs.CallFacts.{IsMemory, IsDownAnswer, IsUnrefused, IsLeftAlone, moment_in, AreMarksOfWrite, memory_after, AnswersWrite, TakesSpent, IsPathNamedInMirror, TakesOfWrite, IsBlockTrue, IsPastFetch, AreUnderMinorZero, AreInWriteOrder, IsWork, unseal_work, reseal_work, unsealed_count, KeepsMetaLines, IsWriteWork}
+use Rattle.pmem_engine.specs.CallFacts.{IsMemory, IsUnrefused, IsLeftAlone, moment_in, AreUnderMinorZero, IsWork, unseal_work, reseal_work, unsealed_count, KeepsMetaLines}
 use Rattle.pmem_engine.specs.Resealing.{register_in}
 use Rattle.pmem_engine.specs.Sealing.{HasBegunPage}
 
@@ -178,44 +177,3 @@ HasFinishedFor false setup page old new answer = HasLeftOut old new answer
 abbrev pub HasBegunFor : Bool → Setup → ℕ → Parts → Parts → Result Unit Fault → Type 0
 HasBegunFor true setup page old new answer = HasBegunPage setup page old new answer
 HasBegunFor false setup page old new answer = HasLeftOut old new answer
-
--- ---- the whole
-
--- a write of an engine that isn't down
-pub record UpWriteOutcome (setup : Setup) (write : Posted) (old new : Parts) (answer : Result Ctr Fault) :
-    Type 0 where
-  pub made : List Mark
-  pub done : OneLossEffect setup (outcome_of answer) made old new
-  pub marks :
-      AreTrusted setup old → (memory : Memory) → IsMemory setup memory old
-      → AreMarksOfWrite (marks_of_write setup.formulas (moment_in setup memory old) write) made write answer
-  pub memory :
-      AreTrusted setup old → (memory : Memory) → write.at < length memory → IsMemory setup memory old
-      → IsMemory setup (memory_after memory write made) new
-  pub answered :
-      AreTrusted setup old → (memory : Memory) → IsMemory setup memory old
-      → AnswersWrite setup (marks_of_write setup.formulas (moment_in setup memory old) write) made write
-      old new answer
-  pub unrefused : AreSound setup old → IsUnrefused answer
-  pub not_down : IsDownAnswer answer → ⊥
-  pub sealed_before :
-      AreTrusted setup old → (a : ℕ) → a < layout.data_lines setup.shape
-      → IsTrue (is_sealed_by made a) → (a ≢ write.at) ⊎ (write.len < 64) → HoldsSeal setup.shape old a
-  pub path_named : IsOk answer → IsPathNamedInMirror setup.shape new.engine (page_of write.at)
-  pub path_fetched : IsPastFetch old new answer → IsPathCached setup.shape new.engine.cache (page_of write.at)
-  pub order : AreInWriteOrder write.at made
-  pub own_sealed : IsOk answer → IsTrue (is_sealed_by made write.at)
-  pub few_steps : TakesAtMost (2 * path_length setup.shape + 264) old.device new.device
-  pub work : IfOk answer (λ ctr. IsWriteWork setup.shape write ctr made old new)
-  pub down : new.engine.down ≡ old.engine.down
-  pub steps :
-      AreTrusted setup old → (memory : Memory) → IsMemory setup memory old
-      → TakesOfWrite setup.shape (marks_of_write setup.formulas (moment_in setup memory old) write) made
-      old new answer
-  pub steps_of_spent :
-      AreTrusted setup old → (memory : Memory) → IsMemory setup memory old
-      → marks_of_write setup.formulas (moment_in setup memory old) write ≡ None
-      → TakesSpent setup.shape (outcome_of answer) old new
-  pub block_written :
-      AreTrusted setup old → IfOk answer (λ ctr. ctr.minor % (regs_of old).loss ≡ 0
-      → IsBlockTrue setup new (page_of write.at))

@@ -1,18 +1,14 @@
 //! The engine's calls. Each ends the engine where it was cut or stopped.
-ghost use Rattle.std.specs.Prelude.{◌≡◌, ◌<◌, ◌||◌, ◌↔◌, ℕ, IsOk, true, false, not, IsTrue, IfErr, OnOk, OnErr};
+ghost use Rattle.std.specs.Prelude.{◌≡◌, ◌<◌, ◌↔◌, IsOk, true, false, not, IsTrue, IfErr, OnOk, OnErr};
 ghost use Rattle.pmem_base.specs.Shape.{is_loss};
 ghost use Rattle.pmem_base.specs.Layout.{data_lines};
 ghost use Rattle.pmem_base.specs.Ranges.{IsPosted};
-ghost use Rattle.suite.specs.Setup.{Setup};
-ghost use Rattle.seal_ledger.specs.Ledger.{LedgerState};
 ghost use Rattle.seal_ledger.specs.Notes.{HasRoom};
 ghost use Rattle.pmem_engine.specs.declared.fault.Fault.TheVariants as Fail;
-ghost use Rattle.call_plan.specs.Plans.{ended};
-ghost use Rattle.pmem_engine.specs.Parts.{parts_of, setup_at, parts_at};
 ghost use Rattle.pmem_engine.specs.Outcomes.{of_cut, outcome_of, is_going};
-ghost use Rattle.pmem_engine.specs.Inner.{ended_by};
+ghost use Rattle.pmem_engine.specs.Engine.{on_chip};
 ghost use Rattle.pmem_engine.specs.CallFacts.{IsReady, IsUsable, whole_write};
-ghost use Rattle.pmem_engine.specs.Calls.{HasReadLine, HasWrittenLine, HasTurned, HasFlushed, HasSetLoss};
+ghost use Rattle.pmem_engine.specs.Promised.{ReadsLine, WritesLine, Turns, Flushes, SetsLoss};
 
 use crate::engine::Engine;
 use crate::fault::{Fault, line_answer};
@@ -32,16 +28,15 @@ impl Engine {
     ) -> Result<Line, Fault>
         requires line { at < data_lines self.old.shape }
         requires usable { IsUsable self.old.shape self.old (B.device board.old) (A.ledger audit.old) }
-        ensures read { HasReadLine (setup_at S.Suite self.old suite.old) at
-            (parts_at B.Board S.Suite A.Audit self.old board.old suite.old audit.old)
-            (parts_at B.Board S.Suite A.Audit self.new board.new suite.new audit.new) result }
+        ensures read { ReadsLine B.Board S.Suite A.Audit self.old board.old suite.old audit.old
+            self.new board.new suite.new audit.new at result }
         ensures capacity { A.capacity audit.new ≡ A.capacity audit.old }
         ensures keys { S.keys suite.new ≡ S.keys suite.old }
         ensures usable { IsUsable self.old.shape self.new (B.device board.new) (A.ledger audit.new) }
         ensures shape { self.new.shape ≡ self.old.shape }
     {
         self.is_up()?;
-        let answer = self.read_line(board, suite, audit, at);
+        let answer = self.chip.read_line(board, suite, audit, at);
         self.ended(answer)
     }
 
@@ -57,10 +52,8 @@ impl Engine {
         requires line { at < data_lines self.old.shape }
         requires room { HasRoom (A.ledger audit.old) (A.capacity audit.old) 66 }
         requires usable { IsUsable self.old.shape self.old (B.device board.old) (A.ledger audit.old) }
-        ensures written { HasWrittenLine (setup_at S.Suite self.old suite.old)
-            (whole_write at line.now)
-            (parts_at B.Board S.Suite A.Audit self.old board.old suite.old audit.old)
-            (parts_at B.Board S.Suite A.Audit self.new board.new suite.new audit.new) result }
+        ensures written { WritesLine B.Board S.Suite A.Audit self.old board.old suite.old audit.old
+            self.new board.new suite.new audit.new (whole_write at line.now) result }
         ensures capacity { A.capacity audit.new ≡ A.capacity audit.old }
         ensures keys { S.keys suite.new ≡ S.keys suite.old }
         ensures usable { IsUsable self.old.shape self.new (B.device board.new) (A.ledger audit.new) }
@@ -89,16 +82,15 @@ impl Engine {
         requires posted { IsPosted write.now }
         requires room { HasRoom (A.ledger audit.old) (A.capacity audit.old) 66 }
         requires usable { IsUsable self.old.shape self.old (B.device board.old) (A.ledger audit.old) }
-        ensures written { HasWrittenLine (setup_at S.Suite self.old suite.old) write.now
-            (parts_at B.Board S.Suite A.Audit self.old board.old suite.old audit.old)
-            (parts_at B.Board S.Suite A.Audit self.new board.new suite.new audit.new) result }
+        ensures written { WritesLine B.Board S.Suite A.Audit self.old board.old suite.old audit.old
+            self.new board.new suite.new audit.new write.now result }
         ensures capacity { A.capacity audit.new ≡ A.capacity audit.old }
         ensures keys { S.keys suite.new ≡ S.keys suite.old }
         ensures usable { IsUsable self.old.shape self.new (B.device board.new) (A.ledger audit.new) }
         ensures shape { self.new.shape ≡ self.old.shape }
     {
         self.is_up()?;
-        let answer = self.write_posted(board, suite, audit, write);
+        let answer = self.chip.write_posted(board, suite, audit, write);
         self.ended(answer)
     }
 
@@ -112,9 +104,8 @@ impl Engine {
     ) -> Result<Option<(u32, u8)>, Fault>
         requires room { HasRoom (A.ledger audit.old) (A.capacity audit.old) 1 }
         requires usable { IsUsable self.old.shape self.old (B.device board.old) (A.ledger audit.old) }
-        ensures turned { HasTurned (setup_at S.Suite self.old suite.old)
-            (parts_at B.Board S.Suite A.Audit self.old board.old suite.old audit.old)
-            (parts_at B.Board S.Suite A.Audit self.new board.new suite.new audit.new) result }
+        ensures turned { Turns B.Board S.Suite A.Audit self.old board.old suite.old audit.old
+            self.new board.new suite.new audit.new result }
         ensures capacity { A.capacity audit.new ≡ A.capacity audit.old }
         ensures keys { S.keys suite.new ≡ S.keys suite.old }
         ensures usable { IsUsable self.old.shape self.new (B.device board.new) (A.ledger audit.new) }
@@ -124,7 +115,7 @@ impl Engine {
         if board.regs().progress.is_empty() {
             return Ok(None);
         }
-        let answer = self.reseal(board, suite, audit, 0);
+        let answer = self.chip.reseal(board, suite, audit, 0);
         let sealed = self.ended(line_answer(answer))?;
         Ok(Some(sealed))
     }
@@ -132,15 +123,13 @@ impl Engine {
     /// Writes the oldest dirty block to its place. None where no block is dirty.
     pub fn flush<B: Board>(&mut self, board: &mut B) -> Result<Option<u32>, Fault>
         requires ready { IsReady self.old.shape self.old (B.device board.old) }
-        ensures flushed { (setup : Setup) (ledger : LedgerState) (tags digests : ℕ) → setup.shape ≡ self.old.shape
-            → HasFlushed setup (parts_of self.old (B.device board.old) ledger tags digests)
-            (parts_of self.new (B.device board.new) ledger tags digests) result }
+        ensures flushed { Flushes B.Board self.old board.old self.new board.new result }
         ensures reads { (B.device board.new).reads ≡ (B.device board.old).reads }
         ensures ready { IsReady self.old.shape self.new (B.device board.new) }
         ensures shape { self.new.shape ≡ self.old.shape }
     {
         self.is_up()?;
-        let answer = self.write_back(board);
+        let answer = self.chip.write_back(board);
         self.ended_or_cut(answer)
     }
 
@@ -149,16 +138,14 @@ impl Engine {
     pub fn set_loss<B: Board>(&mut self, board: &mut B, n: u8) -> Result<u32, Fault>
         requires number { IsTrue (is_loss n) }
         requires ready { IsReady self.old.shape self.old (B.device board.old) }
-        ensures set { (setup : Setup) (ledger : LedgerState) (tags digests : ℕ) → setup.shape ≡ self.old.shape
-            → HasSetLoss setup n (parts_of self.old (B.device board.old) ledger tags digests)
-            (parts_of self.new (B.device board.new) ledger tags digests) result }
+        ensures set { SetsLoss B.Board self.old board.old self.new board.new n result }
         ensures reads { (B.device board.new).reads ≡ (B.device board.old).reads }
         ensures ready { IsReady self.old.shape self.new (B.device board.new) }
         ensures shape { self.new.shape ≡ self.old.shape }
     {
-        self.has_shape();
+        self.chip.has_shape();
         self.is_up()?;
-        let answer = self.latch_loss(board, n);
+        let answer = self.chip.latch_loss(board, n);
         self.ended_or_cut(answer)
     }
 
@@ -177,12 +164,10 @@ impl Engine {
 
     // The answer of a call, which ends the engine where it was cut or stopped.
     fn ended<T>(&mut self, answer: Result<T, Fault>) -> Result<T, Fault>
+        requires up { self.old.down ≡ false }
         ensures answer { result ≡ answer }
-        ensures engine { self.new ≡ ended_by self.old (outcome_of answer) }
-        ensures down { self.new.down ≡ (self.old.down || not (is_going (outcome_of answer))) }
-        ensures shape { self.new.shape ≡ self.old.shape }
-        ensures cache { self.new.cache ≡ self.old.cache }
-        ensures mirror { self.new.mirror ≡ self.old.mirror }
+        ensures down { self.new.down ≡ not (is_going (outcome_of answer)) }
+        ensures chip { on_chip self.new ≡ on_chip self.old }
     {
         if let Err(Fault::Cut | Fault::Shown) = answer {
             self.down = true;
@@ -192,8 +177,10 @@ impl Engine {
 
     // The same of a call that nothing but a cut ends.
     fn ended_or_cut<T>(&mut self, answer: Result<T, Cut>) -> Result<T, Fault>
+        requires up { self.old.down ≡ false }
         ensures answer { result ≡ of_cut answer }
-        ensures engine { self.new ≡ ended_by self.old (outcome_of (of_cut answer)) }
+        ensures down { self.new.down ≡ not (is_going (outcome_of (of_cut answer))) }
+        ensures chip { on_chip self.new ≡ on_chip self.old }
     {
         match answer {
             Ok(value) => Ok(value),

@@ -6,7 +6,7 @@ ghost use Rattle.pmem_base.specs.Layout.{shadow_lines};
 ghost use Rattle.pmem_base.specs.Lines.{IsLine, zero_line};
 ghost use Rattle.meta_cache.specs.Banks.{IsBanksOf};
 ghost use Rattle.meta_cache.specs.State.{empty_banks};
-ghost use Rattle.pmem_engine.specs.Engine.{EngineState};
+ghost use Rattle.pmem_engine.specs.Engine.{ChipState, EngineState};
 
 use meta_cache::Cache;
 use pmem_base::Geo;
@@ -17,33 +17,52 @@ use std::marker::Model;
 /// lines, and whether an earlier call was cut or shown. A contract sees an `EngineState`.
 #[derive(Drop)]
 pub struct Engine {
-    pub(crate) geo: Geo,
-    pub(crate) cache: Cache,
-    pub(crate) mirror: Mirror,
+    pub(crate) chip: OnChip,
     pub(crate) down: bool,
 }
 
 impl Model for Engine {
     ghost use Rattle.pmem_engine.specs.Engine.{EngineState};
+
+    ghost Value = { EngineState };
+
+    ghost view = { λ engine. record {
+      shape = engine.chip.shape;
+      cache = engine.chip.cache;
+      mirror = engine.chip.mirror;
+      down = engine.down;
+    } };
+}
+
+// What the calls of an engine that is up work on: the cache, and the copy of the shadow lines. A contract sees a
+// `ChipState`.
+#[derive(Drop)]
+pub(crate) struct OnChip {
+    pub(crate) geo: Geo,
+    pub(crate) cache: Cache,
+    pub(crate) mirror: Mirror,
+}
+
+impl Model for OnChip {
+    ghost use Rattle.pmem_engine.specs.Engine.{ChipState};
     ghost use Rattle.std.specs.Prelude.{◌≡◌, All, length};
     ghost use Rattle.pmem_base.specs.Geo.{shape_of};
     ghost use Rattle.pmem_base.specs.Layout.{shadow_lines};
     ghost use Rattle.pmem_base.specs.Lines.{IsLine};
     ghost use Rattle.meta_path.specs.Blocks.{AreInTheirBanks};
 
-    ghost Value = { EngineState };
+    ghost Value = { ChipState };
 
-    ghost view = { λ engine. record {
-      shape = shape_of engine.geo;
-      cache = engine.cache.banks;
-      mirror = engine.mirror;
-      down = engine.down;
+    ghost view = { λ chip. record {
+      shape = shape_of chip.geo;
+      cache = chip.cache.banks;
+      mirror = chip.mirror;
     } };
 
-    ghost invariant = { λ engine. (engine.cache.shape ≡ shape_of engine.geo)
-        × AreInTheirBanks (shape_of engine.geo) engine.cache.banks
-        × (length engine.mirror ≡ shadow_lines (shape_of engine.geo))
-        × All IsLine engine.mirror };
+    ghost invariant = { λ chip. (chip.cache.shape ≡ shape_of chip.geo)
+        × AreInTheirBanks (shape_of chip.geo) chip.cache.banks
+        × (length chip.mirror ≡ shadow_lines (shape_of chip.geo))
+        × All IsLine chip.mirror };
 }
 
 impl Engine {
@@ -59,9 +78,7 @@ impl Engine {
         } }
     {
         Engine {
-            geo,
-            cache,
-            mirror,
+            chip: OnChip { geo, cache, mirror },
             down: false,
         }
     }
@@ -70,7 +87,14 @@ impl Engine {
     pub fn geo(&self) -> &Geo
         ensures { shape_of result.now ≡ self.now.shape }
     {
-        &self.geo
+        self.chip.geo()
+    }
+
+    /// Whether an earlier call was cut or shown: no call does anything then.
+    pub fn is_down(&self) -> bool
+        ensures { result ≡ self.now.down }
+    {
+        self.down
     }
 
     /// A law: the cache's slots stand in the banks, sets and ways of the engine's shape; those of a set
@@ -78,10 +102,26 @@ impl Engine {
     pub fn has_banks(&self)
         ensures { IsBanksOf self.now.shape self.now.cache }
     {
+        self.chip.has_banks();
+    }
+}
+
+impl OnChip {
+    // The geometry of the memory.
+    fn geo(&self) -> &Geo
+        ensures { shape_of result.now ≡ self.now.shape }
+    {
+        &self.geo
+    }
+
+    // A law: the cache's slots stand in the banks, sets and ways of its shape.
+    fn has_banks(&self)
+        ensures { IsBanksOf self.now.shape self.now.cache }
+    {
         self.cache.are_banks();
     }
 
-    // A law: the numbers of the engine's shape are in their ranges.
+    // A law: the numbers of the shape are in their ranges.
     pub(crate) fn has_shape(&self)
         ensures { IsShape self.now.shape }
     {

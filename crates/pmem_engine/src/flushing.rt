@@ -1,5 +1,5 @@
 //! Writing back what is dirty, and the stop-loss number.
-ghost use Rattle.std.specs.Prelude.{ℕ, ◌≡◌, ◌≢◌, ◌<◌, ◌≤◌, ◌+◌, [], ◌∷◌, Some, true, IfOk, IfSome, IsNone, OnOk, OnErr, IsTrue, option_map};
+ghost use Rattle.std.specs.Prelude.{ℕ, ◌≡◌, ◌<◌, ◌≤◌, ◌+◌, ◌∷◌, Some, IfOk, IfSome, IsNone, OnOk, OnErr, IsTrue, option_map};
 ghost use Rattle.pmem_base.specs.Shape.{is_loss};
 ghost use Rattle.pmem_base.specs.Layout.{device_lines};
 ghost use Rattle.board.specs.Steps.{WasCut};
@@ -12,12 +12,12 @@ ghost use Rattle.pmem_engine.specs.Plans.{oldest_block_plan, block_plan, counter
 ghost use Rattle.pmem_engine.specs.DirtyOrder.{dirty_order};
 ghost use Rattle.pmem_engine.specs.Flushed.{HasWrittenBack, HasWrittenOldest, HasWrittenBlocks, HasMadeWay, IsCutInBlocks, HasChangedLoss, with_loss, IsBankClean};
 
-use crate::engine::Engine;
+use crate::engine::OnChip;
 use board::Board;
 use meta_path::write_back_one;
 use pmem_base::{Cut, Line, Regs};
 
-impl Engine {
+impl OnChip {
     // Writes the oldest dirty block to its place.
     pub(crate) fn write_back<B: Board>(&mut self, board: &mut B) -> Result<Option<u32>, Cut>
         requires size { (B.device board.old).size ≡ device_lines self.old.shape }

@@ -1,23 +1,17 @@
 //! Reading: a page's path, and a line under its counter.
-ghost use Rattle.std.specs.Prelude.{◌≡◌, ◌<◌, ◌≤◌, All, IsSome, length, option_map};
+ghost use Rattle.std.specs.Prelude.{◌≡◌, ◌<◌, ◌≤◌, All, IsSome, false, length};
 ghost use Rattle.pmem_base.specs.Layout.{data_lines, meta_lines, device_lines, pages, page_of, index_in_page};
 ghost use Rattle.pmem_base.specs.Lines.{IsCtr};
 ghost use Rattle.bonsai_tree.specs.Positions.{counter_position};
 ghost use Rattle.pmem_base.specs.Marks.{last_seal};
 ghost use Rattle.split_counters.specs.Blocks.{IsBlock, block_counter};
 ghost use Rattle.page_reencrypt.specs.Registers.{counter_of};
-ghost use Rattle.seal_ledger.specs.Ledger.{LedgerState};
-ghost use Rattle.meta_path.specs.Blocks.{IsPathCached, line_in};
-ghost use Rattle.suite.specs.Setup.{Setup};
-ghost use Rattle.call_plan.specs.Plans.{ended};
-ghost use Rattle.call_plan.specs.Following.{Follows};
-ghost use Rattle.pmem_engine.specs.Plans.{chip_at, fetch_path_plan, read_line_plan, unseal_plan};
-ghost use Rattle.pmem_engine.specs.Invariants.{IsTrusted};
-ghost use Rattle.pmem_engine.specs.Parts.{parts_at, setup_at};
-ghost use Rattle.pmem_engine.specs.CallFacts.{IsUsable};
-ghost use Rattle.pmem_engine.specs.Inner.{cached_block, HasFetched, HasUnsealed, UpReadOutcome};
+ghost use Rattle.meta_path.specs.Blocks.{line_in};
+ghost use Rattle.pmem_engine.specs.CallFacts.{IsUsableWith};
+ghost use Rattle.pmem_engine.specs.Inner.{cached_block, IsCounterOfTrusted};
+ghost use Rattle.pmem_engine.specs.Promised.{IsLineRead, FollowsRead, FetchesPath, FollowsFetch, UnsealsLine, FollowsUnseal};
 
-use crate::engine::Engine;
+use crate::engine::OnChip;
 use crate::fault::{Fault, LineFault};
 use board::Board;
 use line_seal::{tag_at, unseal};
@@ -35,7 +29,7 @@ pub(crate) struct Unsealed {
     pub(crate) tag_line: Line,
 }
 
-impl Engine {
+impl OnChip {
     // Reads line `at`: its page's path, and the line under its counter.
     pub(crate) fn read_line<B: Board, S: Suite, A: Audit>(
         &mut self,
@@ -45,13 +39,11 @@ impl Engine {
         at: u32,
     ) -> Result<Line, Fault>
         requires line { at < data_lines self.old.shape }
-        requires usable { IsUsable self.old.shape self.old (B.device board.old) (A.ledger audit.old) }
-        ensures read { UpReadOutcome (setup_at S.Suite self.old suite.old) at
-            (parts_at B.Board S.Suite A.Audit self.old board.old suite.old audit.old)
-            (parts_at B.Board S.Suite A.Audit self.new board.new suite.new audit.new) result }
-        ensures plan { Follows (read_line_plan (setup_at S.Suite self.old suite.old) (B.device board.old).regs at
-            (chip_at S.Suite A.Audit self.old suite.old audit.old)) (B.device board.old) (B.device board.new)
-            (ended result (chip_at S.Suite A.Audit self.new suite.new audit.new)) }
+        requires usable { IsUsableWith self.old.shape false (B.device board.old) (A.ledger audit.old) }
+        ensures read { IsLineRead B.Board S.Suite A.Audit self.old board.old suite.old audit.old
+            self.new board.new suite.new audit.new at result }
+        ensures plan { FollowsRead B.Board S.Suite A.Audit self.old board.old suite.old audit.old
+            self.new board.new suite.new audit.new at result }
         ensures capacity { A.capacity audit.new ≡ A.capacity audit.old }
         ensures keys { S.keys suite.new ≡ S.keys suite.old }
     {
@@ -72,12 +64,10 @@ impl Engine {
         requires page { page < pages self.old.shape }
         requires size { (B.device board.old).size ≡ device_lines self.old.shape }
         requires truth { length (A.ledger audit.old).truth ≡ meta_lines self.old.shape }
-        ensures fetched { HasFetched (setup_at S.Suite self.old suite.old) page
-            (parts_at B.Board S.Suite A.Audit self.old board.old suite.old audit.old)
-            (parts_at B.Board S.Suite A.Audit self.new board.new suite.new audit.new) result }
-        ensures plan { Follows (fetch_path_plan (setup_at S.Suite self.old suite.old) (B.device board.old).regs.root page
-            (chip_at S.Suite A.Audit self.old suite.old audit.old)) (B.device board.old) (B.device board.new)
-            (ended result (chip_at S.Suite A.Audit self.new suite.new audit.new)) }
+        ensures fetched { FetchesPath B.Board S.Suite A.Audit self.old board.old suite.old audit.old
+            self.new board.new suite.new audit.new page result }
+        ensures plan { FollowsFetch B.Board S.Suite A.Audit self.old board.old suite.old audit.old
+            self.new board.new suite.new audit.new page result }
         ensures capacity { A.capacity audit.new ≡ A.capacity audit.old }
         ensures keys { S.keys suite.new ≡ S.keys suite.old }
     {
@@ -145,9 +135,7 @@ impl Engine {
     pub(crate) fn counter<B: Board>(&self, board: &B, at: u32) -> Ctr
         requires line { at < data_lines self.now.shape }
         ensures cached { result ≡ counter_of (B.device board.now).regs.progress.items (cached_block self.now.shape self.now (page_of at)) at }
-        ensures last { (setup : Setup) (ledger : LedgerState) → IsTrusted setup self.now (B.device board.now).regs ledger
-            → IsPathCached setup.shape self.now.cache (page_of at)
-            → option_map (λ seal. seal.ctr) (last_seal ledger.marks at) ≡ Some result }
+        ensures last { IsCounterOfTrusted self.now (B.device board.now).regs at result }
     {
         let progress = &board.regs().progress;
         if is_left(progress, at) {
@@ -169,11 +157,10 @@ impl Engine {
         requires size { (B.device board.old).size ≡ device_lines self.now.shape }
         requires lines { (A.ledger audit.old).data_lines ≡ data_lines self.now.shape }
         requires sealed { IsSome (last_seal (A.ledger audit.old).marks at) }
-        ensures unsealed { HasUnsealed (setup_at S.Suite self.now suite.old) at ctr
-            (parts_at B.Board S.Suite A.Audit self.now board.old suite.old audit.old)
-            (parts_at B.Board S.Suite A.Audit self.now board.new suite.new audit.new) result }
-        ensures plan { Follows (unseal_plan (setup_at S.Suite self.now suite.old) at ctr (chip_at S.Suite A.Audit self.now suite.old audit.old))
-            (B.device board.old) (B.device board.new) (ended result (chip_at S.Suite A.Audit self.now suite.new audit.new)) }
+        ensures unsealed { UnsealsLine B.Board S.Suite A.Audit self.now board.old suite.old audit.old
+            self.now board.new suite.new audit.new at ctr result }
+        ensures plan { FollowsUnseal B.Board S.Suite A.Audit self.now board.old suite.old audit.old
+            self.now board.new suite.new audit.new at ctr result }
         ensures capacity { A.capacity audit.new ≡ A.capacity audit.old }
         ensures keys { S.keys suite.new ≡ S.keys suite.old }
     {

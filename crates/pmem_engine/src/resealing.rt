@@ -1,5 +1,5 @@
 //! Sealing a line anew: the lowest line not done of a page under re-encryption.
-ghost use Rattle.std.specs.Prelude.{◌≡◌, ◌≢◌, ◌<◌, ◌≤◌, ◌+◌, ◌-◌, ◌*◌, ◌^◌, false, [], All, AllPairs, length, OnOk, OnErr};
+ghost use Rattle.std.specs.Prelude.{◌≡◌, ◌≢◌, ◌<◌, ◌+◌, ◌-◌, ◌*◌, ◌^◌, false, [], All, AllPairs, length, OnOk, OnErr};
 ghost use Rattle.pmem_base.specs.Counts.{risen};
 ghost use Rattle.pmem_base.specs.Layout.{data_lines, device_lines};
 ghost use Rattle.pmem_base.specs.Lines.{IsLine};
@@ -7,14 +7,11 @@ ghost use Rattle.pmem_base.specs.Registers.{not_done, old_major, IsGroup, IsVali
 ghost use Rattle.seal_ledger.specs.Notes.{HasRoom};
 ghost use Rattle.page_reencrypt.specs.Registers.{registers_with_done};
 ghost use Rattle.pmem_engine.specs.Committing.{next_seal_of, entries_of, HasLineDone};
-ghost use Rattle.pmem_engine.specs.Parts.{parts_at, setup_at};
-ghost use Rattle.pmem_engine.specs.CallFacts.{IsUsable};
-ghost use Rattle.call_plan.specs.Plans.{ended};
-ghost use Rattle.call_plan.specs.Following.{Follows};
-ghost use Rattle.pmem_engine.specs.Plans.{chip_at, commit_plan, reseal_plan};
-ghost use Rattle.pmem_engine.specs.Resealing.{IsNextHeld, HasResealCommitted, IsResealCut, HasResealed};
+ghost use Rattle.pmem_engine.specs.CallFacts.{IsUsableWith};
+ghost use Rattle.pmem_engine.specs.Resealing.{IsNextHeld};
+ghost use Rattle.pmem_engine.specs.Promised.{SealsAnew, FollowsReseal, CommitsReseal, CutsReseal, FollowsResealGroup};
 
-use crate::engine::Engine;
+use crate::engine::OnChip;
 use crate::fault::LineFault;
 use board::Board;
 use commit_regs::{arm, finish_armed};
@@ -112,7 +109,7 @@ pub(crate) fn done_in(regs: &mut Regs, at: u32)
     }
 }
 
-impl Engine {
+impl OnChip {
     // Seals the lowest line not done of register `n`'s page under the page's new major and 0. The
     // answer is the line, and how many lines of the page are left.
     pub(crate) fn reseal<B: Board, S: Suite, A: Audit>(
@@ -122,16 +119,13 @@ impl Engine {
         audit: &mut A,
         n: usize,
     ) -> Result<(u32, u8), LineFault>
-        requires usable { IsUsable self.now.shape self.now (B.device board.old) (A.ledger audit.old) }
-        requires up { self.now.down ≡ false }
+        requires usable { IsUsableWith self.now.shape false (B.device board.old) (A.ledger audit.old) }
         requires room { HasRoom (A.ledger audit.old) (A.capacity audit.old) 1 }
         requires register { n < length (B.device board.old).regs.progress.items }
-        ensures resealed { HasResealed (setup_at S.Suite self.now suite.old) n
-            (parts_at B.Board S.Suite A.Audit self.now board.old suite.old audit.old)
-            (parts_at B.Board S.Suite A.Audit self.now board.new suite.new audit.new) result }
-        ensures plan { Follows (reseal_plan (setup_at S.Suite self.now suite.old) n (B.device board.old).regs
-            (chip_at S.Suite A.Audit self.now suite.old audit.old)) (B.device board.old) (B.device board.new)
-            (ended result (chip_at S.Suite A.Audit self.now suite.new audit.new)) }
+        ensures resealed { SealsAnew B.Board S.Suite A.Audit self.now board.old suite.old audit.old
+            self.now board.new suite.new audit.new n result }
+        ensures plan { FollowsReseal B.Board S.Suite A.Audit self.now board.old suite.old audit.old
+            self.now board.new suite.new audit.new n result }
         ensures capacity { A.capacity audit.new ≡ A.capacity audit.old }
         ensures keys { S.keys suite.new ≡ S.keys suite.old }
     {
@@ -163,12 +157,12 @@ impl Engine {
         requires no_group { (B.device board.old).regs.group.items ≡ [] }
         requires lines { (A.ledger audit.old).data_lines ≡ data_lines self.now.shape }
         requires room { HasRoom (A.ledger audit.old) (A.capacity audit.old) 1 }
-        ensures ok { OnOk result (HasResealCommitted self.now.shape next.now (B.device board.old) (B.device board.new)
-            (A.ledger audit.old) (A.ledger audit.new)) }
-        ensures cut { OnErr result (IsResealCut self.now.shape next.now (B.device board.old) (B.device board.new)
-            (A.ledger audit.old) (A.ledger audit.new)) }
-        ensures plan { Follows (commit_plan self.now.shape next.now (B.device board.old).regs (A.ledger audit.old))
-            (B.device board.old) (B.device board.new) (ended result (A.ledger audit.new)) }
+        ensures ok { OnOk result (CommitsReseal B.Board A.Audit self.now board.old audit.old
+            self.now board.new audit.new next.now) }
+        ensures cut { OnErr result (CutsReseal B.Board A.Audit self.now board.old audit.old
+            self.now board.new audit.new next.now) }
+        ensures plan { FollowsResealGroup B.Board A.Audit self.now board.old audit.old
+            self.now board.new audit.new next.now result }
         ensures capacity { A.capacity audit.new ≡ A.capacity audit.old }
     {
         let mut regs = Regs::empty();

@@ -1,6 +1,6 @@
 //! Sealing with a page's new path: a line under its next counter, and a page's begin. What belongs to
 //! the group is armed by one latch together with the registers.
-ghost use Rattle.std.specs.Prelude.{◌≡◌, ◌≢◌, ◌<◌, ◌≤◌, ◌-◌, ◌^◌, None, false, ◌%◌, ◌==◌, ◌++◌, ◌∷◌, [], true, ℕ, IsTrue, ◌↔◌, List, length, OnOk, OnErr};
+ghost use Rattle.std.specs.Prelude.{◌≡◌, ◌≢◌, ◌<◌, ◌-◌, ◌^◌, None, false, ◌%◌, ◌++◌, ◌∷◌, [], true, length, OnOk, OnErr};
 ghost use Rattle.pmem_base.specs.Lines.{IsCtr};
 ghost use Rattle.pmem_base.specs.Layout.{page_of, index_in_page, data_lines, device_lines, meta_lines, pages, meta_line};
 ghost use Rattle.pmem_base.specs.Registers.{IsGroup, IsValidRegs};
@@ -10,16 +10,13 @@ ghost use Rattle.meta_path.specs.Blocks.{IsPathCached};
 ghost use Rattle.meta_path.specs.Storing.{IsPathOf, HasMetaLines};
 ghost use Rattle.page_reencrypt.specs.Registers.{registers_with_done, register_of};
 ghost use Rattle.split_counters.specs.Blocks.{packed, minor_of, next_block};
-ghost use Rattle.call_plan.specs.Plans.{ended};
-ghost use Rattle.call_plan.specs.Following.{Follows};
-ghost use Rattle.pmem_engine.specs.Parts.{parts_at, setup_at};
-ghost use Rattle.pmem_engine.specs.Plans.{chip_of, chip_at, ended_with};
-ghost use Rattle.pmem_engine.specs.SealPlans.{with_path, with_true_path, commit_seal_plan, commit_begin_plan, seal_next_plan, begin_page_plan};
-ghost use Rattle.pmem_engine.specs.CallFacts.{IsUsable, IsPathNamedInMirror};
+ghost use Rattle.pmem_engine.specs.SealPlans.{with_path, with_true_path};
+ghost use Rattle.pmem_engine.specs.CallFacts.{IsUsableWith, IsPathNamedInMirror};
 ghost use Rattle.pmem_engine.specs.Inner.{cached_block};
-ghost use Rattle.pmem_engine.specs.Sealing.{next_counter_of, raised_block, HasSealedNext, HasBegunPage, HasStoredPath, seal_group, begin_group, HasSealCommitted, IsSealCut, HasBeginCommitted, IsBeginCut};
+ghost use Rattle.pmem_engine.specs.Sealing.{next_counter_of, raised_block, HasStoredPath, seal_group, begin_group};
+ghost use Rattle.pmem_engine.specs.Promised.{SealsNext, FollowsSeal, BeginsPage, FollowsBegin, CommitsSeal, CutsSeal, FollowsSealGroup, CommitsBegin, CutsBegin, FollowsBeginGroup};
 
-use crate::engine::Engine;
+use crate::engine::OnChip;
 use crate::fault::Fault;
 use crate::resealing::{NextSeal, next_seal};
 use board::Board;
@@ -32,7 +29,7 @@ use split_counters::{pack, raise_at};
 use stop_loss::due;
 use suite::Suite;
 
-impl Engine {
+impl OnChip {
     // Seals a plain line under its next counter, which isn't used up. The page's path is cached and
     // named.
     pub(crate) fn seal_next<B: Board, S: Suite, A: Audit>(
@@ -44,18 +41,15 @@ impl Engine {
         plain: &Line,
     ) -> Result<Ctr, Cut>
         requires line { at < data_lines self.old.shape }
-        requires usable { IsUsable self.old.shape self.old (B.device board.old) (A.ledger audit.old) }
-        requires up { self.old.down ≡ false }
+        requires usable { IsUsableWith self.old.shape false (B.device board.old) (A.ledger audit.old) }
         requires room { HasRoom (A.ledger audit.old) (A.capacity audit.old) 1 }
         requires cached { IsPathCached self.old.shape self.old.cache (page_of at) }
         requires named { IsPathNamedInMirror self.old.shape self.old (page_of at) }
         requires minor { minor_of (cached_block self.old.shape self.old (page_of at)) (index_in_page at) < 127 }
-        ensures sealed { HasSealedNext (setup_at S.Suite self.old suite.old) at plain.now
-            (parts_at B.Board S.Suite A.Audit self.old board.old suite.old audit.old)
-            (parts_at B.Board S.Suite A.Audit self.new board.new suite.new audit.new) result }
-        ensures plan { Follows (seal_next_plan (setup_at S.Suite self.old suite.old) at plain.now (B.device board.old).regs
-            (chip_at S.Suite A.Audit self.old suite.old audit.old)) (B.device board.old) (B.device board.new)
-            (ended result (chip_at S.Suite A.Audit self.new suite.new audit.new)) }
+        ensures sealed { SealsNext B.Board S.Suite A.Audit self.old board.old suite.old audit.old
+            self.new board.new suite.new audit.new at plain.now result }
+        ensures plan { FollowsSeal B.Board S.Suite A.Audit self.old board.old suite.old audit.old
+            self.new board.new suite.new audit.new at plain.now result }
         ensures capacity { A.capacity audit.new ≡ A.capacity audit.old }
         ensures keys { S.keys suite.new ≡ S.keys suite.old }
     {
@@ -93,21 +87,18 @@ impl Engine {
         page: u32,
     ) -> Result<(), Fault>
         requires page { page < pages self.old.shape }
-        requires usable { IsUsable self.old.shape self.old (B.device board.old) (A.ledger audit.old) }
-        requires up { self.old.down ≡ false }
+        requires usable { IsUsableWith self.old.shape false (B.device board.old) (A.ledger audit.old) }
         requires room { HasRoom (A.ledger audit.old) (A.capacity audit.old) 1 }
         requires cached { IsPathCached self.old.shape self.old.cache page }
         requires named { IsPathNamedInMirror self.old.shape self.old page }
         requires closed { register_of (B.device board.old).regs.progress.items page ≡ None }
         requires not_full { length (B.device board.old).regs.progress.items < 4 }
         requires major { (cached_block self.old.shape self.old page).major < 2 ^ 64 - 1 }
-        ensures begun { HasBegunPage (setup_at S.Suite self.old suite.old) page
-            (parts_at B.Board S.Suite A.Audit self.old board.old suite.old audit.old)
-            (parts_at B.Board S.Suite A.Audit self.new board.new suite.new audit.new) result }
+        ensures begun { BeginsPage B.Board S.Suite A.Audit self.old board.old suite.old audit.old
+            self.new board.new suite.new audit.new page result }
         ensures rolled { OnOk result (cached_block self.old.shape self.new page ≡ next_block (cached_block self.old.shape self.old page)) }
-        ensures plan { Follows (begin_page_plan (setup_at S.Suite self.old suite.old) page (B.device board.old).regs
-            (chip_at S.Suite A.Audit self.old suite.old audit.old)) (B.device board.old) (B.device board.new)
-            (ended_with result (chip_at S.Suite A.Audit self.new suite.new audit.new) (B.device board.new).regs) }
+        ensures plan { FollowsBegin B.Board S.Suite A.Audit self.old board.old suite.old audit.old
+            self.new board.new suite.new audit.new page result }
         ensures capacity { A.capacity audit.new ≡ A.capacity audit.old }
         ensures keys { S.keys suite.new ≡ S.keys suite.old }
     {
@@ -137,14 +128,12 @@ impl Engine {
         requires lines { (A.ledger audit.old).data_lines ≡ data_lines self.old.shape }
         requires truth { length (A.ledger audit.old).truth ≡ meta_lines self.old.shape }
         requires room { HasRoom (A.ledger audit.old) (A.capacity audit.old) 1 }
-        ensures ok { OnOk result (HasSealCommitted self.old.shape next.now persisted block.now path.now.lines.items path.now.root
-            self.old self.new (B.device board.old) (B.device board.new) (A.ledger audit.old) (A.ledger audit.new)) }
-        ensures cut { OnErr result (IsSealCut self.old.shape next.now persisted block.now path.now.lines.items path.now.root
-            self.old self.new (B.device board.old) (B.device board.new) (A.ledger audit.old) (A.ledger audit.new)) }
-        ensures plan { (tags digests : ℕ) → Follows (commit_seal_plan self.old.shape next.now persisted block.now path.now.lines.items
-            path.now.root (B.device board.old).regs (chip_of self.old (A.ledger audit.old) tags digests))
-            (B.device board.old) (B.device board.new)
-            (ended_with result (chip_of self.new (A.ledger audit.new) tags digests) (B.device board.new).regs) }
+        ensures ok { OnOk result (CommitsSeal B.Board A.Audit self.old board.old audit.old
+            self.new board.new audit.new next.now persisted block.now path.now) }
+        ensures cut { OnErr result (CutsSeal B.Board A.Audit self.old board.old audit.old
+            self.new board.new audit.new next.now persisted block.now path.now) }
+        ensures plan { FollowsSealGroup B.Board A.Audit self.old board.old audit.old
+            self.new board.new audit.new next.now persisted block.now path.now result }
         ensures capacity { A.capacity audit.new ≡ A.capacity audit.old }
     {
         let mut regs = Regs::empty();
@@ -201,14 +190,12 @@ impl Engine {
         requires no_group { (B.device board.old).regs.group.items ≡ [] }
         requires truth { length (A.ledger audit.old).truth ≡ meta_lines self.old.shape }
         requires room { HasRoom (A.ledger audit.old) (A.capacity audit.old) 1 }
-        ensures ok { OnOk result (HasBeginCommitted self.old.shape page register.now block.now path.now.lines.items path.now.root
-            self.old self.new (B.device board.old) (B.device board.new) (A.ledger audit.old) (A.ledger audit.new)) }
-        ensures cut { OnErr result (IsBeginCut self.old.shape page register.now block.now path.now.lines.items path.now.root
-            self.old self.new (B.device board.old) (B.device board.new) (A.ledger audit.old) (A.ledger audit.new)) }
-        ensures plan { (tags digests : ℕ) → Follows (commit_begin_plan self.old.shape page register.now block.now path.now.lines.items
-            path.now.root (B.device board.old).regs (chip_of self.old (A.ledger audit.old) tags digests))
-            (B.device board.old) (B.device board.new)
-            (ended_with result (chip_of self.new (A.ledger audit.new) tags digests) (B.device board.new).regs) }
+        ensures ok { OnOk result (CommitsBegin B.Board A.Audit self.old board.old audit.old
+            self.new board.new audit.new page register.now block.now path.now) }
+        ensures cut { OnErr result (CutsBegin B.Board A.Audit self.old board.old audit.old
+            self.new board.new audit.new page register.now block.now path.now) }
+        ensures plan { FollowsBeginGroup B.Board A.Audit self.old board.old audit.old
+            self.new board.new audit.new page register.now block.now path.now result }
         ensures capacity { A.capacity audit.new ≡ A.capacity audit.old }
     {
         let mut regs = Regs::empty();

@@ -7,17 +7,12 @@ ghost use Rattle.seal_ledger.specs.Notes.{HasRoom};
 ghost use Rattle.split_counters.specs.Blocks.{next_block};
 ghost use Rattle.page_reencrypt.specs.Registers.{register_of};
 ghost use Rattle.meta_path.specs.Blocks.{IsPathCached};
-ghost use Rattle.pmem_engine.specs.Parts.{parts_at, setup_at};
-ghost use Rattle.call_plan.specs.Plans.{ended};
-ghost use Rattle.call_plan.specs.Following.{Follows};
-ghost use Rattle.pmem_engine.specs.Plans.{chip_at, ended_with};
-ghost use Rattle.pmem_engine.specs.SealPlans.{begin_for_plan};
-ghost use Rattle.pmem_engine.specs.WritePlans.{plain_plan, finish_page_plan, finish_for_plan, write_posted_plan};
-ghost use Rattle.pmem_engine.specs.CallFacts.{IsUsable, IsPathNamedInMirror};
+ghost use Rattle.pmem_engine.specs.CallFacts.{IsUsableWith, IsPathNamedInMirror};
 ghost use Rattle.pmem_engine.specs.Inner.{cached_block};
-ghost use Rattle.pmem_engine.specs.Writing.{overflow_of, HasMadePlain, register_to_finish, HasFinishedPage, HasFinishedFor, HasBegunFor, UpWriteOutcome};
+ghost use Rattle.pmem_engine.specs.Writing.{overflow_of, register_to_finish};
+ghost use Rattle.pmem_engine.specs.Promised.{IsLineWritten, FollowsWrite, MakesPlain, FollowsPlain, FinishesFor, FollowsFinishFor, FinishesPage, FollowsFinish, BeginsFor, FollowsBeginFor};
 
-use crate::engine::Engine;
+use crate::engine::OnChip;
 use crate::fault::{Fault, LineFault};
 use arrayvec::ArrayVec;
 use board::Board;
@@ -26,7 +21,7 @@ use pmem_base::{Ctr, Line, Posted, Progress};
 use seal_ledger::Audit;
 use suite::Suite;
 
-impl Engine {
+impl OnChip {
     // Writes a posted write: fetches its path, unseals its line where it is shorter than a line, makes
     // room for a page that has to be re-encrypted, names the path's blocks, begins the page, and seals.
     pub(crate) fn write_posted<B: Board, S: Suite, A: Audit>(
@@ -38,15 +33,12 @@ impl Engine {
     ) -> Result<Ctr, Fault>
         requires line { write.now.at < data_lines self.old.shape }
         requires posted { IsPosted write.now }
-        requires usable { IsUsable self.old.shape self.old (B.device board.old) (A.ledger audit.old) }
-        requires up { self.old.down ≡ false }
+        requires usable { IsUsableWith self.old.shape false (B.device board.old) (A.ledger audit.old) }
         requires room { HasRoom (A.ledger audit.old) (A.capacity audit.old) 66 }
-        ensures written { UpWriteOutcome (setup_at S.Suite self.old suite.old) write.now
-            (parts_at B.Board S.Suite A.Audit self.old board.old suite.old audit.old)
-            (parts_at B.Board S.Suite A.Audit self.new board.new suite.new audit.new) result }
-        ensures plan { Follows (write_posted_plan (setup_at S.Suite self.old suite.old) (B.device board.old).regs write.now
-            (chip_at S.Suite A.Audit self.old suite.old audit.old)) (B.device board.old) (B.device board.new)
-            (ended result (chip_at S.Suite A.Audit self.new suite.new audit.new)) }
+        ensures written { IsLineWritten B.Board S.Suite A.Audit self.old board.old suite.old audit.old
+            self.new board.new suite.new audit.new write.now result }
+        ensures plan { FollowsWrite B.Board S.Suite A.Audit self.old board.old suite.old audit.old
+            self.new board.new suite.new audit.new write.now result }
         ensures capacity { A.capacity audit.new ≡ A.capacity audit.old }
         ensures keys { S.keys suite.new ≡ S.keys suite.old }
     {
@@ -88,13 +80,11 @@ impl Engine {
     ) -> Result<Line, LineFault>
         requires line { write.now.at < data_lines self.now.shape }
         requires posted { IsPosted write.now }
-        requires usable { IsUsable self.now.shape self.now (B.device board.old) (A.ledger audit.old) }
-        ensures made { HasMadePlain (setup_at S.Suite self.now suite.old) write.now
-            (parts_at B.Board S.Suite A.Audit self.now board.old suite.old audit.old)
-            (parts_at B.Board S.Suite A.Audit self.now board.new suite.new audit.new) result }
-        ensures plan { Follows (plain_plan (setup_at S.Suite self.now suite.old) (B.device board.old).regs write.now
-            (chip_at S.Suite A.Audit self.now suite.old audit.old)) (B.device board.old) (B.device board.new)
-            (ended result (chip_at S.Suite A.Audit self.now suite.new audit.new)) }
+        requires usable { IsUsableWith self.now.shape false (B.device board.old) (A.ledger audit.old) }
+        ensures made { MakesPlain B.Board S.Suite A.Audit self.now board.old suite.old audit.old
+            self.now board.new suite.new audit.new write.now result }
+        ensures plan { FollowsPlain B.Board S.Suite A.Audit self.now board.old suite.old audit.old
+            self.now board.new suite.new audit.new write.now result }
         ensures capacity { A.capacity audit.new ≡ A.capacity audit.old }
         ensures keys { S.keys suite.new ≡ S.keys suite.old }
     {
@@ -115,17 +105,14 @@ impl Engine {
         page: u32,
         overflows: bool,
     ) -> Result<(), LineFault>
-        requires usable { IsUsable self.now.shape self.now (B.device board.old) (A.ledger audit.old) }
-        requires up { self.now.down ≡ false }
+        requires usable { IsUsableWith self.now.shape false (B.device board.old) (A.ledger audit.old) }
         requires room { HasRoom (A.ledger audit.old) (A.capacity audit.old) 64 }
-        ensures finished { HasFinishedFor overflows (setup_at S.Suite self.now suite.old) page
-            (parts_at B.Board S.Suite A.Audit self.now board.old suite.old audit.old)
-            (parts_at B.Board S.Suite A.Audit self.now board.new suite.new audit.new) result }
+        ensures finished { FinishesFor B.Board S.Suite A.Audit self.now board.old suite.old audit.old
+            self.now board.new suite.new audit.new overflows page result }
         ensures closed { OnOk result (overflows ≡ true → register_of (B.device board.new).regs.progress.items page ≡ None) }
         ensures not_full { OnOk result (overflows ≡ true → length (B.device board.new).regs.progress.items < 4) }
-        ensures plan { Follows (finish_for_plan (setup_at S.Suite self.now suite.old) page overflows (B.device board.old).regs
-            (chip_at S.Suite A.Audit self.now suite.old audit.old)) (B.device board.old) (B.device board.new)
-            (ended_with result (chip_at S.Suite A.Audit self.now suite.new audit.new) (B.device board.new).regs) }
+        ensures plan { FollowsFinishFor B.Board S.Suite A.Audit self.now board.old suite.old audit.old
+            self.now board.new suite.new audit.new overflows page result }
         ensures capacity { A.capacity audit.new ≡ A.capacity audit.old }
         ensures keys { S.keys suite.new ≡ S.keys suite.old }
     {
@@ -146,16 +133,13 @@ impl Engine {
         audit: &mut A,
         n: usize,
     ) -> Result<(), LineFault>
-        requires usable { IsUsable self.now.shape self.now (B.device board.old) (A.ledger audit.old) }
-        requires up { self.now.down ≡ false }
+        requires usable { IsUsableWith self.now.shape false (B.device board.old) (A.ledger audit.old) }
         requires room { HasRoom (A.ledger audit.old) (A.capacity audit.old) 64 }
         requires register { n < length (B.device board.old).regs.progress.items }
-        ensures finished { HasFinishedPage (setup_at S.Suite self.now suite.old) n
-            (parts_at B.Board S.Suite A.Audit self.now board.old suite.old audit.old)
-            (parts_at B.Board S.Suite A.Audit self.now board.new suite.new audit.new) result }
-        ensures plan { Follows (finish_page_plan (setup_at S.Suite self.now suite.old) n (B.device board.old).regs
-            (chip_at S.Suite A.Audit self.now suite.old audit.old)) (B.device board.old) (B.device board.new)
-            (ended_with result (chip_at S.Suite A.Audit self.now suite.new audit.new) (B.device board.new).regs) }
+        ensures finished { FinishesPage B.Board S.Suite A.Audit self.now board.old suite.old audit.old
+            self.now board.new suite.new audit.new n result }
+        ensures plan { FollowsFinish B.Board S.Suite A.Audit self.now board.old suite.old audit.old
+            self.now board.new suite.new audit.new n result }
         ensures capacity { A.capacity audit.new ≡ A.capacity audit.old }
         ensures keys { S.keys suite.new ≡ S.keys suite.old }
     {
@@ -176,21 +160,18 @@ impl Engine {
         overflows: bool,
     ) -> Result<(), Fault>
         requires page { page < pages self.old.shape }
-        requires usable { IsUsable self.old.shape self.old (B.device board.old) (A.ledger audit.old) }
-        requires up { self.old.down ≡ false }
+        requires usable { IsUsableWith self.old.shape false (B.device board.old) (A.ledger audit.old) }
         requires room { HasRoom (A.ledger audit.old) (A.capacity audit.old) 1 }
         requires cached { IsPathCached self.old.shape self.old.cache page }
         requires named { IsPathNamedInMirror self.old.shape self.old page }
         requires closed { overflows ≡ true → register_of (B.device board.old).regs.progress.items page ≡ None }
         requires not_full { overflows ≡ true → length (B.device board.old).regs.progress.items < 4 }
         requires major { overflows ≡ true → (cached_block self.old.shape self.old page).major < 2 ^ 64 - 1 }
-        ensures begun { HasBegunFor overflows (setup_at S.Suite self.old suite.old) page
-            (parts_at B.Board S.Suite A.Audit self.old board.old suite.old audit.old)
-            (parts_at B.Board S.Suite A.Audit self.new board.new suite.new audit.new) result }
+        ensures begun { BeginsFor B.Board S.Suite A.Audit self.old board.old suite.old audit.old
+            self.new board.new suite.new audit.new overflows page result }
         ensures rolled { OnOk result (overflows ≡ true → cached_block self.old.shape self.new page ≡ next_block (cached_block self.old.shape self.old page)) }
-        ensures plan { Follows (begin_for_plan (setup_at S.Suite self.old suite.old) page overflows (B.device board.old).regs
-            (chip_at S.Suite A.Audit self.old suite.old audit.old)) (B.device board.old) (B.device board.new)
-            (ended_with result (chip_at S.Suite A.Audit self.new suite.new audit.new) (B.device board.new).regs) }
+        ensures plan { FollowsBeginFor B.Board S.Suite A.Audit self.old board.old suite.old audit.old
+            self.new board.new suite.new audit.new overflows page result }
         ensures capacity { A.capacity audit.new ≡ A.capacity audit.old }
         ensures keys { S.keys suite.new ≡ S.keys suite.old }
     {

@@ -15,6 +15,7 @@ use Rattle.seal_ledger.specs.Ledger.{LedgerState}
 use Rattle.meta_cache.specs.Banks.{set_of}
 use Rattle.meta_cache.specs.State.{empty_banks}
 use Rattle.meta_path.proofs.PathFacts.{set_of-empty_banks}
+use Rattle.pmem_engine.specs.Engine.{on_chip}
 use Rattle.pmem_engine.specs.Invariants.{IsAnchored, IsTrusted, IsTrueSlot, IsMendable}
 use Rattle.pmem_engine.specs.Mendable.{IsLineMendable, IsShadowZero, new_engine}
 use Rattle.pmem_engine.specs.Steps.{IsEmptied}
@@ -64,23 +65,21 @@ IsEmptied-without old new e = search rules
 
 -- ---- a new engine
 
-pub IsTrusted-fresh : (setup : Setup) (regs : Regs) (ledger : LedgerState) → IsAnchored setup regs ledger → regs.group.items ≡ [] → IsTrusted setup (new_engine setup.shape) regs ledger
+pub IsTrusted-fresh : (setup : Setup) (regs : Regs) (ledger : LedgerState) → IsAnchored setup regs ledger → regs.group.items ≡ [] → IsTrusted setup (on_chip (new_engine setup.shape)) regs ledger
 IsTrusted-fresh setup regs ledger anchored none =
     record {
       its_shape = refl;
       anchored = anchored;
       no_group = none;
-      not_down = refl;
       cached_true = λ bank set. All-same (IsTrueSlot setup.shape ledger.truth bank set) (set_of (empty_banks setup.shape) bank set) [] (set_of-empty_banks setup.shape bank set) (All-nil (IsTrueSlot setup.shape ledger.truth bank set));
     }
 
-pub IsNewEngine-fresh : (setup : Setup) (lines : List Line) → AreLinesOf (layout.device_lines setup.shape) lines → IsShadowZero setup lines → IsNewEngine setup (new_engine setup.shape) lines
+pub IsNewEngine-fresh : (setup : Setup) (lines : List Line) → AreLinesOf (layout.device_lines setup.shape) lines → IsShadowZero setup lines → IsNewEngine setup (on_chip (new_engine setup.shape)) lines
 IsNewEngine-fresh setup lines whole zero =
     record {
       its_shape = refl;
       empty_cache = λ bank set. set_of-empty_banks setup.shape bank set;
       its_mirror = sym (shadow_of-zero setup lines whole zero);
-      not_down = refl;
     }
 
 -- ---- lines that are told

@@ -28,7 +28,7 @@ use Rattle.bonsai_tree.specs.Nodes.{IsHashTree}
 use Rattle.bonsai_tree.proofs.Levels.{counter_position-lt}
 use Rattle.seal_ledger.specs.Ledger.{LedgerState}
 use Rattle.plain_model.specs.View.{plain_of_seal}
-use Rattle.pmem_engine.specs.Engine.{EngineState}
+use Rattle.pmem_engine.specs.Engine.{EngineState, on_chip}
 use Rattle.pmem_engine.specs.Truth.{true_block}
 use Rattle.pmem_engine.specs.Mendable.{IsShadowZero, new_engine}
 use Rattle.pmem_engine.specs.Formatted.{first_seal, first_block, IsFormatted}
@@ -191,12 +191,12 @@ HasFormatted-of setup truth l0 l1 l2 d0 d1 d2 d3 d4 engine shape in_range its ma
     record {
       engine_new = its;
       anchored = anchored;
-      trusted = subst (λ e. IsTrusted setup e d4.regs l2) (sym its) (IsTrusted-fresh setup d4.regs l2 anchored none);
+      trusted = subst (λ (e : EngineState). IsTrusted setup (on_chip e) d4.regs l2) (sym its) (IsTrusted-fresh setup d4.regs l2 anchored none);
       sound = λ now told.
           let p = put_lines setup truth d0 d1 d2 d3 d4 now d told in
           let whole : AreLinesOf (layout.device_lines setup.shape) now = record { count = p.count; each = p.each } in
-          subst (λ e. IsSound setup e now d4.regs l2) (sym its)
-          (IsSound-new_engine setup (new_engine setup.shape) now d4.regs l2 (IsNewEngine-fresh setup now whole p.tables) whole
+          subst (λ (e : EngineState). IsSound setup (on_chip e) now d4.regs l2) (sym its)
+          (IsSound-new_engine setup (on_chip (new_engine setup.shape)) now d4.regs l2 (IsNewEngine-fresh setup now whole p.tables) whole
           (put_mendable setup truth now l0 l1 l2 d4.regs anchored made l p)
           (record { true_lines = λ x inside. p.meta x inside ∙ ap (λ t. line_at t x) (sym same) }) none);
       marks = noted_marks setup truth l0 l1 l2 l;

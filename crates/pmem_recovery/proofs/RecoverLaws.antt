@@ -12,6 +12,7 @@ use Rattle.pmem_engine.proofs.CallEnds.ToldLines.{whole_lines, told_redone}
 use Rattle.commit_regs.specs.Groups.{redone, finishing_latches, RisesAtMost, HasFinished, IsInterrupted}
 use Rattle.suite.specs.Setup.{Setup}
 use Rattle.seal_ledger.specs.Ledger.{LedgerState}
+use Rattle.pmem_engine.specs.Engine.{on_chip}
 use Rattle.pmem_engine.specs.Invariants.{IsAnchored, IsSealStored, IsMendable, IsDurable}
 use Rattle.pmem_engine.specs.Mendable.{IsShadowZero, new_engine}
 use Rattle.pmem_engine.specs.Steps.{IsEmptied}
@@ -319,7 +320,7 @@ module _ (setup : Setup) (ledger : LedgerState) (old mid new : Device) (run : Is
             let zero = zero_recovered setup before old.regs now r.0 in
             record {
               from_durable = λ d.
-                  IsSound-new_engine setup (new_engine setup.shape) now new.regs ledger (IsNewEngine-fresh setup now m.whole zero) m.whole (its_mendable lines now m d)
+                  IsSound-new_engine setup (on_chip (new_engine setup.shape)) now new.regs ledger (IsNewEngine-fresh setup now m.whole zero) m.whole (its_mendable lines now m d)
                   (true_recovered setup before old.regs now r.0 ledger run.shape d.mendable) emptied.no_group;
               data_same = its_data lines now m;
               seals_kept = its_seals lines now m;

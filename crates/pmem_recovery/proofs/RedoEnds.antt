@@ -1,5 +1,5 @@
 -- What is known of a board that followed the plan of redoing its armed group.
-use Rattle.std.proofs.Common.{ℕ, ◌≡◌, ◌≤◌, ◌+◌, List, [], ◌∷◌, ◌++◌, length, Option, Some, None, Ok, Err, refl, sym, ap, subst, ◌∙◌, arith}
+use Rattle.std.proofs.Common.{ℕ, ◌≡◌, ◌≤◌, List, [], ◌∷◌, ◌++◌, length, Option, Some, None, Ok, Err, refl, sym, ap, subst, ◌∙◌, arith}
 use Rattle.std.proofs.lemmas.List.{append-nil, append_assoc, length-append, get_or_append_left}
 use Rattle.pmem_base.specs.declared.faults.Cut.{Cut}
 use Rattle.pmem_base.specs.declared.lines.Line.{Line}

@@ -22,7 +22,7 @@ use Rattle.suite.specs.Formulas.{cipher_of}
 use Rattle.suite.specs.Setup.{Setup}
 use Rattle.seal_ledger.specs.Ledger.{LedgerState}
 use Rattle.plain_model.specs.View.{plain_line}
-use Rattle.pmem_engine.specs.Engine.{EngineState}
+use Rattle.pmem_engine.specs.Engine.{EngineState, on_chip}
 use Rattle.pmem_engine.specs.Invariants.{IsAnchored, IsTrusted, IsSound, stored_meta}
 use Rattle.pmem_engine.specs.Mendable.{new_engine}
 use Rattle.pmem_engine.specs.Formatted.{first_seal, first_block}
@@ -183,8 +183,8 @@ pub record HasFormatted (setup : Setup) (ledger : LedgerState) (old new : Device
     Type 0 where
   pub engine_new : engine ≡ new_engine setup.shape
   pub anchored : IsAnchored setup new.regs ledger
-  pub trusted : IsTrusted setup engine new.regs ledger
-  pub sound : IfLinesTold new.lines (λ now. IsSound setup engine now new.regs ledger)
+  pub trusted : IsTrusted setup (on_chip engine) new.regs ledger
+  pub sound : IfLinesTold new.lines (λ now. IsSound setup (on_chip engine) now new.regs ledger)
   pub marks : ledger.marks ≡ map (first_seal setup) (range_with_len 0 (layout.data_lines setup.shape))
   pub seals : length ledger.marks ≡ layout.data_lines setup.shape
   pub last_counters :

@@ -17,7 +17,7 @@ use Rattle.suite.specs.Formulas.{Formulas}
 use Rattle.suite.specs.Setup.{Setup}
 use Rattle.seal_ledger.specs.Ledger.{LedgerState}
 use Rattle.collision_witness.specs.Exhibits.{IsExhibit}
-use Rattle.pmem_engine.specs.Engine.{EngineState}
+use Rattle.pmem_engine.specs.Engine.{EngineState, on_chip}
 use Rattle.pmem_engine.specs.Invariants.{IsAnchored, IsTrusted, IsSealStored, IsDurable, IsSound, stored_meta}
 use Rattle.pmem_engine.specs.Outcomes.{TakesAtMost, TakesFewer}
 use Rattle.pmem_engine.specs.Mendable.{IsLineMendable, IsShadowZero, new_engine}
@@ -136,7 +136,7 @@ IsNoCounterUnmendable setup lines regs ledger answer = ⊤
 
 -- what recovery makes of a durable device
 abbrev pub IsMendedAs : Setup → Regs → Regs → LedgerState → List Line → Answer → Type 0
-IsMendedAs setup old new ledger now (Ok done) = IsSound setup done.0 now new ledger
+IsMendedAs setup old new ledger now (Ok done) = IsSound setup (on_chip done.0) now new ledger
 IsMendedAs setup old new ledger now (Err Memory) = IsDurable setup now new ledger
 IsMendedAs setup old new ledger now (Err Cut) = IsDurable setup now new ledger
 IsMendedAs setup old new ledger now (Err (NoCounter at)) = ⊥
@@ -223,7 +223,7 @@ pub record HasRecovered (setup : Setup) (ledger : LedgerState) (old new : Device
   pub anchored : IsAnchored setup old.regs ledger → IsAnchored setup new.regs ledger
   pub engine : IfOk answer (λ done. done.0 ≡ new_engine setup.shape)
   pub trusted :
-      IsAnchored setup old.regs ledger → IfOk answer (λ done. IsTrusted setup done.0 new.regs ledger)
+      IsAnchored setup old.regs ledger → IfOk answer (λ done. IsTrusted setup (on_chip done.0) new.regs ledger)
   pub twin : IfErr answer (IsTwinValid setup.formulas)
   pub lines : IfBothLinesTold old new (λ lines now. HasMended setup ledger old new lines now answer)
   pub plan : PlanAfter setup answer old new suite_old suite_new

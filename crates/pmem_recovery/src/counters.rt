@@ -5,13 +5,11 @@ ghost use Rattle.pmem_base.specs.Shape.{is_loss};
 ghost use Rattle.pmem_base.specs.Layout.{data_lines, meta_lines, pages, slots, device_lines, tag_line, shadow_lines};
 ghost use Rattle.bonsai_tree.specs.Positions.{counter_position};
 ghost use Rattle.split_counters.specs.Blocks.{IsBlock};
-ghost use Rattle.stop_loss.specs.Trials.{matching_minors};
 ghost use Rattle.stop_loss.specs.Windows.{minors_within};
-ghost use Rattle.pmem_recovery.specs.Parts.{SuiteWork, decided_of, IsDecided, setup_with, suite_at};
-ghost use Rattle.stop_loss.specs.Trials.{found_among};
-ghost use Rattle.call_plan.specs.Plans.{ended};
+ghost use Rattle.pmem_recovery.specs.Parts.{SuiteWork, decided_of, suite_at};
 ghost use Rattle.call_plan.specs.Following.{Follows};
-ghost use Rattle.pmem_recovery.specs.Plans.{recovery_parts, counts_at, sealed_plan, trial_plan, minors_plan, fixed_block_plan, blocks_plan};
+ghost use Rattle.pmem_recovery.specs.Plans.{sealed_plan};
+ghost use Rattle.pmem_recovery.specs.Promised.{FollowsBlocks, FollowsBlock, FollowsMinors, FollowsTrial, DecidesMinor, IsMinorFound};
 
 use crate::RecFault;
 use crate::entries::{MadeEntry, is_other};
@@ -42,8 +40,8 @@ pub(crate) fn fix_counters<B: Board, S: Suite>(
     ensures capacity { vec_capacity made.new ≡ vec_capacity made.old }
     ensures keys { S.keys suite.new ≡ S.keys suite.old }
     ensures pads { S.pads suite.new ≡ S.pads suite.old }
-    ensures plan { Follows (blocks_plan (setup_with S.Suite geo.now suite.old) regs.now shadow.now (recovery_parts made.old.items (counts_at S.Suite suite.old)))
-        (B.device board.old) (B.device board.new) (ended result (recovery_parts made.new.items (counts_at S.Suite suite.new))) }
+    ensures plan { FollowsBlocks B.Board S.Suite geo.now board.old suite.old board.new suite.new
+        regs.now shadow.now made.old.items made.new.items result }
 {
     let mut from = (geo.pages() - 1) / 3;
     let mut trials = 0;
@@ -73,8 +71,8 @@ fn fix_counter<B: Board, S: Suite>(
     ensures capacity { vec_capacity made.new ≡ vec_capacity made.old }
     ensures keys { S.keys suite.new ≡ S.keys suite.old }
     ensures pads { S.pads suite.new ≡ S.pads suite.old }
-    ensures plan { Follows (fixed_block_plan (setup_with S.Suite geo.now suite.old) regs.now x (recovery_parts made.old.items (counts_at S.Suite suite.old)))
-        (B.device board.old) (B.device board.new) (ended result (recovery_parts made.new.items (counts_at S.Suite suite.new))) }
+    ensures plan { FollowsBlock B.Board S.Suite geo.now board.old suite.old board.new suite.new
+        regs.now x made.old.items made.new.items result }
 {
     let read = board.read_line(geo.meta_line(x))?;
     read.is_whole();
@@ -106,8 +104,8 @@ fn fix_minors<B: Board, S: Suite>(
     ensures small { IfOk result (λ fixed. All (λ m. m ≤ 127) fixed.0.minors) }
     ensures keys { S.keys suite.new ≡ S.keys suite.old }
     ensures pads { S.pads suite.new ≡ S.pads suite.old }
-    ensures plan { Follows (minors_plan (setup_with S.Suite geo.now suite.old) regs.now page stored.now (counts_at S.Suite suite.old))
-        (B.device board.old) (B.device board.new) (ended result (counts_at S.Suite suite.new)) }
+    ensures plan { FollowsMinors B.Board S.Suite geo.now board.old suite.old board.new suite.new
+        regs.now page stored.now result }
 {
     let mut fixed = *stored;
     let mut trials = 0;
@@ -138,8 +136,8 @@ fn try_line<B: Board, S: Suite>(
     ensures small { IfOk result (λ tried. tried.0 ≤ 127) }
     ensures keys { S.keys suite.new ≡ S.keys suite.old }
     ensures pads { S.pads suite.new ≡ S.pads suite.old }
-    ensures plan { Follows (trial_plan (setup_with S.Suite geo.now suite.old) regs.now stored.now at (counts_at S.Suite suite.old))
-        (B.device board.old) (B.device board.new) (ended result (counts_at S.Suite suite.new)) }
+    ensures plan { FollowsTrial B.Board S.Suite geo.now board.old suite.old board.new suite.new
+        regs.now stored.now at result }
 {
     let minor = stored.minors[(at % 64) as usize];
     if is_left(&regs.progress, at) {
@@ -177,10 +175,8 @@ fn try_window<S: Suite>(
     requires { ends.1 ≤ 127 }
     ensures worked { SuiteWork (length (minors_within ends.0 ends.1)) 0 (suite_at S.Suite suite.old)
         (suite_at S.Suite suite.new) }
-    ensures decided { IsDecided (S.formulas_of (S.keys suite.old)) at major cipher.now tag.now
-        (matching_minors (S.formulas_of (S.keys suite.old)) at major cipher.now tag.now (minors_within ends.0 ends.1)) result }
-    ensures found { result ≡ decided_of (found_among (matching_minors (S.formulas_of (S.keys suite.old)) at major cipher.now tag.now
-        (minors_within ends.0 ends.1))) at major cipher.now tag.now }
+    ensures decided { DecidesMinor S.Suite suite.old at major cipher.now tag.now ends result }
+    ensures found { IsMinorFound S.Suite suite.old at major cipher.now tag.now ends result }
 {
     let found = find(suite, at, major, ends, cipher, tag);
     decided(found, at, major, cipher, tag)

@@ -12,6 +12,7 @@ ghost use Rattle.bonsai_tree.specs.Nodes.{node_over, IsHashTree};
 ghost use Rattle.pmem_engine.specs.Formatted.{first_block};
 ghost use Rattle.pmem_engine.specs.Mendable.{new_engine};
 ghost use Rattle.pmem_recovery.specs.Parts.{SuiteRise, setup_with, suite_at};
+ghost use Rattle.pmem_recovery.specs.Promised.{CountsFormat};
 ghost use Rattle.pmem_recovery.specs.Formatting.{first_cipher, first_tag, HasSealedFrom, StaysSteady, HasSealedGroup, HasSealedAll, HasToldMeta, HasWrittenMeta, HasClearedTables, first_regs, HasFormatted};
 ghost use Rattle.std.specs.Prelude.{Ok};
 ghost use Rattle.call_plan.specs.Following.{Follows};
@@ -48,8 +49,7 @@ pub fn format<B: Board, S: Suite, A: Audit>(
     requires no_exhibit { IsNone (A.ledger audit.old).exhibit }
     ensures formatted { IfOk result (λ engine. HasFormatted (setup_with S.Suite geo.now suite.old) (A.ledger audit.new) (B.device board.old) (B.device board.new) engine) }
     ensures keys { S.keys suite.new ≡ S.keys suite.old }
-    ensures counts { OnOk result (SuiteRise (data_lines (shape_of geo.now)) (data_lines (shape_of geo.now)) (meta_lines (shape_of geo.now)) (suite_at S.Suite suite.old)
-        (suite_at S.Suite suite.new)) }
+    ensures counts { OnOk result (CountsFormat S.Suite geo.now suite.old suite.new) }
     ensures capacity { A.capacity audit.old ≤ A.capacity audit.new }
     ensures err { OnErr result (A.ledger audit.new ≡ A.ledger audit.old) }
     ensures err_capacity { OnErr result (A.capacity audit.new ≡ A.capacity audit.old) }
@@ -87,8 +87,7 @@ fn fill_device<B: Board, S: Suite, A: Audit>(
     ensures formatted { HasFormatted (setup_with S.Suite geo.now suite.old) (A.ledger audit.new) (B.device board.old) (B.device board.new) (new_engine (shape_of geo.now)) }
     ensures capacity { A.capacity audit.new ≡ A.capacity audit.old }
     ensures keys { S.keys suite.new ≡ S.keys suite.old }
-    ensures counts { SuiteRise (data_lines (shape_of geo.now)) (data_lines (shape_of geo.now)) (meta_lines (shape_of geo.now)) (suite_at S.Suite suite.old)
-        (suite_at S.Suite suite.new) }
+    ensures counts { CountsFormat S.Suite geo.now suite.old suite.new }
 {
     seal_lines(board, suite, audit, geo);
     fill_blocks(geo, truth);

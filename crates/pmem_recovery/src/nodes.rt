@@ -3,10 +3,10 @@ ghost use Rattle.std.specs.Prelude.{suc, ◌≡◌, ◌+◌, ◌*◌, ◌<◌, �
 ghost use Rattle.pmem_base.specs.Geo.{shape_of};
 ghost use Rattle.pmem_base.specs.Layout.{meta_lines, device_lines, shadow_lines, level_start};
 ghost use Rattle.pmem_recovery.specs.Named.{count_named};
-ghost use Rattle.pmem_recovery.specs.Parts.{IsCompared, setup_with};
-ghost use Rattle.call_plan.specs.Plans.{ended};
+ghost use Rattle.pmem_recovery.specs.Parts.{IsCompared};
 ghost use Rattle.call_plan.specs.Following.{Follows};
-ghost use Rattle.pmem_recovery.specs.Plans.{recovery_parts, counts_at, made_plan, children_plan, fixed_node_plan, fixed_level_plan, nodes_plan, root_plan};
+ghost use Rattle.pmem_recovery.specs.Plans.{made_plan};
+ghost use Rattle.pmem_recovery.specs.Promised.{FollowsNodes, FollowsLevel, FollowsNode, FollowsChildren, FollowsRoot};
 
 use crate::RecFault;
 use crate::entries::{MadeEntry, is_other, line_made};
@@ -31,8 +31,8 @@ pub(crate) fn fix_nodes<B: Board, S: Suite>(
     ensures digests { IfOk result (λ digests. digests ≡ 4 * count_named (shape_of geo.now) shadow.now 0 (level_start (shape_of geo.now).levels)) }
     ensures keys { S.keys suite.new ≡ S.keys suite.old }
     ensures pads { S.pads suite.new ≡ S.pads suite.old }
-    ensures plan { Follows (nodes_plan (setup_with S.Suite geo.now suite.old) shadow.now (recovery_parts made.old.items (counts_at S.Suite suite.old)))
-        (B.device board.old) (B.device board.new) (ended result (recovery_parts made.new.items (counts_at S.Suite suite.new))) }
+    ensures plan { FollowsNodes B.Board S.Suite geo.now board.old suite.old board.new suite.new
+        shadow.now made.old.items made.new.items result }
 {
     let mut digests = 0;
     'upward: for above in 0..geo.levels() {
@@ -61,8 +61,8 @@ fn fix_level<B: Board, S: Suite>(
     ensures capacity { vec_capacity made.new ≡ vec_capacity made.old }
     ensures keys { S.keys suite.new ≡ S.keys suite.old }
     ensures pads { S.pads suite.new ≡ S.pads suite.old }
-    ensures plan { Follows (fixed_level_plan (setup_with S.Suite geo.now suite.old) shadow.now level (recovery_parts made.old.items (counts_at S.Suite suite.old)))
-        (B.device board.old) (B.device board.new) (ended result (recovery_parts made.new.items (counts_at S.Suite suite.new))) }
+    ensures plan { FollowsLevel B.Board S.Suite geo.now board.old suite.old board.new suite.new
+        shadow.now level made.old.items made.new.items result }
 {
     let start = first_of_level(level);
     let end = first_of_level(level + 1);
@@ -100,8 +100,8 @@ fn fix_node<B: Board, S: Suite>(
     ensures capacity { vec_capacity made.new ≡ vec_capacity made.old }
     ensures keys { S.keys suite.new ≡ S.keys suite.old }
     ensures pads { S.pads suite.new ≡ S.pads suite.old }
-    ensures plan { Follows (fixed_node_plan (setup_with S.Suite geo.now suite.old) x (recovery_parts made.old.items (counts_at S.Suite suite.old)))
-        (B.device board.old) (B.device board.new) (ended result (recovery_parts made.new.items (counts_at S.Suite suite.new))) }
+    ensures plan { FollowsNode B.Board S.Suite geo.now board.old suite.old board.new suite.new
+        x made.old.items made.new.items result }
 {
     let read = board.read_line(geo.meta_line(x))?;
     read.is_whole();
@@ -126,8 +126,8 @@ fn node_line<B: Board, S: Suite>(
     requires node { x < level_start (shape_of geo.now).levels }
     ensures keys { S.keys suite.new ≡ S.keys suite.old }
     ensures pads { S.pads suite.new ≡ S.pads suite.old }
-    ensures plan { Follows (children_plan (setup_with S.Suite geo.now suite.old) made.now x (counts_at S.Suite suite.old))
-        (B.device board.old) (B.device board.new) (ended result (counts_at S.Suite suite.new)) }
+    ensures plan { FollowsChildren B.Board S.Suite geo.now board.old suite.old board.new suite.new
+        made.now x result }
 {
     let mut digests = [[0; 16]; 4];
     'children: for i in 0..4_u8 {
@@ -165,8 +165,8 @@ pub(crate) fn check_root<B: Board, S: Suite>(
     requires size { (B.device board.old).size ≡ device_lines (shape_of geo.now) }
     ensures keys { S.keys suite.new ≡ S.keys suite.old }
     ensures pads { S.pads suite.new ≡ S.pads suite.old }
-    ensures plan { Follows (root_plan (setup_with S.Suite geo.now suite.old) regs.now.root made.now (counts_at S.Suite suite.old))
-        (B.device board.old) (B.device board.new) (ended result (counts_at S.Suite suite.new)) }
+    ensures plan { FollowsRoot B.Board S.Suite geo.now board.old suite.old board.new suite.new
+        regs.now.root made.now result }
 {
     let top = made_or_read(board, geo, 0, made)?;
     let found = suite.digest(0, &top);

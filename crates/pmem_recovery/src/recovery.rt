@@ -4,11 +4,10 @@ ghost use Rattle.pmem_base.specs.Geo.{shape_of};
 ghost use Rattle.pmem_base.specs.Shape.{is_loss};
 ghost use Rattle.pmem_base.specs.Layout.{slots, shadow_lines, device_lines};
 ghost use Rattle.pmem_base.specs.Registers.{IsValidRegs};
-ghost use Rattle.pmem_recovery.specs.Parts.{setup_with, suite_at};
-ghost use Rattle.pmem_recovery.specs.Recovered.{HasRecovered};
 ghost use Rattle.call_plan.specs.Plans.{ended};
 ghost use Rattle.call_plan.specs.Following.{Follows};
-ghost use Rattle.pmem_recovery.specs.Plans.{counts_at, shadow_plan, making_plan, made_end, mend_plan};
+ghost use Rattle.pmem_recovery.specs.Plans.{shadow_plan};
+ghost use Rattle.pmem_recovery.specs.Promised.{FollowsMending, FollowsMaking, Recovers};
 
 use crate::counters::fix_counters;
 use crate::entries::MadeEntry;
@@ -42,9 +41,7 @@ pub fn recover<B: Board, S: Suite, A: Audit>(
 ) -> Result<(Engine, Work), RecFault>
     requires size { (B.device board.old).size ≡ device_lines (shape_of geo.now) }
     requires regs { IsValidRegs (shape_of geo.now) (B.device board.old).regs }
-    ensures { HasRecovered (setup_with S.Suite geo.now suite.old) (A.ledger audit.now) (B.device board.old) (B.device board.new)
-        (suite_at S.Suite suite.old)
-        (suite_at S.Suite suite.new) result }
+    ensures { Recovers B.Board S.Suite geo.now board.old suite.old board.new suite.new (A.ledger audit.now) result }
 {
     let _audit = audit;
     let cache = Cache::new(alloc, geo)?;
@@ -92,8 +89,7 @@ fn mend<B: Board, S: Suite>(
     requires made_room { ((shape_of geo.now).levels + 1) * slots (shape_of geo.now) ≤ vec_capacity room.old.made }
     ensures keys { S.keys suite.new ≡ S.keys suite.old }
     ensures pads { S.pads suite.new ≡ S.pads suite.old }
-    ensures plan { Follows (mend_plan (setup_with S.Suite geo.now suite.old) (B.device board.old).regs (counts_at S.Suite suite.old))
-        (B.device board.old) (B.device board.new) (ended result (counts_at S.Suite suite.new)) }
+    ensures plan { FollowsMending B.Board S.Suite geo.now board.old suite.old board.new suite.new result }
 {
     let regs = board.regs().same();
     let work = make_lines(board, suite, geo, &regs, room)?;
@@ -118,8 +114,8 @@ fn make_lines<B: Board, S: Suite>(
     requires made_room { ((shape_of geo.now).levels + 1) * slots (shape_of geo.now) ≤ vec_capacity room.old.made }
     ensures keys { S.keys suite.new ≡ S.keys suite.old }
     ensures pads { S.pads suite.new ≡ S.pads suite.old }
-    ensures plan { Follows (making_plan (setup_with S.Suite geo.now suite.old) regs.now (counts_at S.Suite suite.old))
-        (B.device board.old) (B.device board.new) (made_end result room.new.shadow.items room.new.made.items (counts_at S.Suite suite.new)) }
+    ensures plan { FollowsMaking B.Board S.Suite geo.now board.old suite.old board.new suite.new
+        regs.now room.new.shadow.items room.new.made.items result }
 {
     read_shadow(board, geo, &mut room.shadow)?;
     let trials = fix_counters(board, suite, geo, regs, &room.shadow, &mut room.made)?;

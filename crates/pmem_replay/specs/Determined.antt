@@ -1,11 +1,13 @@
--- That a step leaves nothing open: of two replies and worlds after it, that its clause allows from one world for one
--- command, both are the same. And so are two new worlds.
-use Rattle.std.specs.Prelude.{◌≡◌, false}
+-- That a step leaves nothing open: of two replies, worlds after it and logs, that its clauses allow from one world for
+-- one command, both are the same. And so are two new worlds.
+use Rattle.std.specs.Prelude.{◌≡◌, false, List, [], Some}
 use Rattle.pmem_base.specs.declared.commands.Command.{Command}
+use Rattle.board.specs.declared.access.Access.{Access}
 use Rattle.suite.specs.Setup.{Setup}
 use Rattle.plain_model.specs.State.{Reply}
 use Rattle.pmem_replay.specs.World.{WorldState, IsWorld}
 use Rattle.pmem_replay.specs.Stepped.{HasStepped, IsNewWorld}
+use Rattle.pmem_replay.specs.Logged.{IsLogged}
 
 -- the world's own parts
 pub record AreSameParts (a b : WorldState) : Type 0 where
@@ -33,6 +35,14 @@ abbrev pub StepIsDetermined : Type 0
 StepIsDetermined =
     (setup : Setup) (old a b : WorldState) (command : Command) (reply other : Reply) → IsWorld setup old
     → HasStepped setup old command reply a → HasStepped setup old command other b → (reply ≡ other) × AreSameWorlds a b
+
+-- two logs of one command from one world have the same accesses, in the same order
+abbrev pub LoggedStepIsDetermined : Type 0
+LoggedStepIsDetermined =
+    (setup : Setup) (old a b : WorldState) (command : Command) (reply other : Reply) (accesses others : List Access)
+    → IsWorld setup old → HasStepped setup old command reply a → HasStepped setup old command other b
+    → IsLogged command (Some []) old.board (Some accesses) a.board
+    → IsLogged command (Some []) old.board (Some others) b.board → accesses ≡ others
 
 -- two new worlds of one geometry, whose suites have the same keys and counts
 abbrev pub NewWorldIsDetermined : Type 0

@@ -1,5 +1,5 @@
 -- One call of the engine: what every call owes the world, and the world after it.
-use Rattle.std.specs.Prelude.{ℕ, ⊤, ◌≡◌, ◌≢◌, ◌≤◌, ◌<◌, ◌-◌, ◌^◌, ◌↔◌, ◌∷◌, Bool, true, false, List, Option, Some, None, option_map, length, All, IsTrue, IsSome, IfSome, Result, Err, slice_set}
+use Rattle.std.specs.Prelude.{ℕ, ⊤, ◌≡◌, ◌≢◌, ◌≤◌, ◌<◌, ◌-◌, ◌^◌, ◌↔◌, ◌∷◌, Bool, true, false, List, Option, Some, None, option_map, length, All, IsTrue, IsSome, IfSome, Result, Err, slice_set, not}
 use Rattle.pmem_base.specs.declared.lines.Line.{Line}
 use Rattle.pmem_base.specs.declared.commands.Posted.{Posted}
 use Rattle.pmem_base.specs.declared.answers.Mark.{Mark}
@@ -25,13 +25,14 @@ use Rattle.pmem_engine.specs.declared.fault.Fault.{Fault}
 use Rattle.pmem_engine.specs.declared.fault.Fault.TheVariants as Fail
 use Rattle.pmem_engine.specs.Engine.{EngineState}
 use Rattle.pmem_engine.specs.Parts.{Parts, AreTrusted, HoldsSeal, HoldsCounters, HoldsMeta}
-use Rattle.pmem_engine.specs.Outcomes.{Outcome, cut_short, shown, outcome_of, is_sealed_by, CallEffect, TakesFewer}
-use Rattle.pmem_engine.specs.Calls.{IsDownAnswer, IsMemory, memory_after}
+use Rattle.pmem_engine.specs.Outcomes.{Outcome, cut_short, shown, outcome_of, is_sealed_by, CallEffect, TakesFewer, is_going}
+use Rattle.pmem_engine.specs.Calls.{IsMemory, memory_after}
 use Rattle.watched_board.specs.declared.taken.Taken.{Taken}
 use Rattle.watched_board.specs.Watching.{AreInCount, FollowsOn, none_taken, steps_in, step_limit}
 use Rattle.pmem_replay.specs.During.{parts_in}
 use Rattle.pmem_replay.specs.Flagged.{healed_flags}
 use Rattle.pmem_replay.specs.World.{WorldState, IsWorld}
+use Rattle.pmem_engine.specs.CallFacts.{IsDownAnswer}
 
 -- ---- the write of a call, if it is one
 
@@ -141,6 +142,9 @@ pub record HasCalledEngine {T : Type 0} (setup : Setup) (relation : Setup → Pa
   pub capacity : new.capacity ≡ old.capacity
   pub related : relation setup (parts_in old engine none_taken) (parts_in new after taken) answer
   pub lawful : IsLawful setup write old.state.memory (parts_in old engine none_taken) (parts_in new after taken) answer
+  -- the engine was up, and is so unless the call was cut or shown
+  pub up : engine.down ≡ false
+  pub down : after.down ≡ not (is_going (outcome_of answer))
   pub kept : new.engine ≡ engine_left (outcome_of answer) after
   pub shown : new.shown ≡ is_outcome_shown (outcome_of answer)
   pub state :

@@ -1,5 +1,5 @@
 -- One waiting write given to the engine, and what became of it.
-use Rattle.std.specs.Prelude.{ℕ, ⊤, ◌≡◌, ◌≤◌, ◌-◌, ◌++◌, Bool, true, false, List, ◌∷◌, Some, None, Result, Ok, Err, option_map, slice_set, All, if◌then◌else◌}
+use Rattle.std.specs.Prelude.{ℕ, ⊤, ◌≡◌, ◌≤◌, ◌-◌, ◌++◌, Bool, true, false, List, ◌∷◌, Some, None, Result, Ok, Err, option_map, slice_set, All, if◌then◌else◌, not}
 use Rattle.pmem_base.specs.declared.lines.Ctr.{Ctr}
 use Rattle.pmem_base.specs.declared.commands.Posted.{Posted}
 use Rattle.pmem_base.specs.declared.answers.Answer.{Answer}
@@ -13,7 +13,7 @@ use Rattle.plain_model.specs.After.{after_marks, steps_with}
 use Rattle.pmem_engine.specs.declared.fault.Fault.{Fault}
 use Rattle.pmem_engine.specs.declared.fault.Fault.TheVariants as Fail
 use Rattle.pmem_engine.specs.Engine.{EngineState}
-use Rattle.pmem_engine.specs.Outcomes.{is_sealed_by}
+use Rattle.pmem_engine.specs.Outcomes.{is_sealed_by, outcome_of, is_going}
 use Rattle.pmem_engine.specs.Calls.{HasWrittenLine}
 use Rattle.pmem_engine.specs.Plans.{chip_of}
 use Rattle.call_plan.specs.Runs.{IsOutcome}
@@ -61,7 +61,9 @@ pub record WasWriteGiven (setup : Setup) (old : WorldState) (port : ℕ) (answer
   pub waits : queue_of old.state.queues port ≡ write ∷ later
   pub engine : EngineState
   pub was_on : old.engine ≡ Some engine
+  pub up : engine.down ≡ false
   pub after : EngineState
+  pub down : after.down ≡ not (is_going (outcome_of answer))
   pub taken : Taken
   pub follows : FollowsOn old.board new.board taken
   pub in_count : AreInCount old.board

@@ -2,6 +2,7 @@ pub mod World
 pub mod During
 pub mod Planned
 pub mod EngineCalls
+pub mod Promised
 pub mod Flagged
 pub mod Given
 pub mod Replies

@@ -8,7 +8,7 @@ use Rattle.pmem_base.specs.WaitingWrites.{queue_of}
 use Rattle.board.specs.Memory.{BoardMemory}
 use Rattle.plain_model.specs.State.{PlainState}
 use Rattle.plain_model.specs.Answers.{is_covered}
-use Rattle.access_log.specs.declared.access.Access.{Access}
+use Rattle.board.specs.declared.access.Access.{Access}
 use Rattle.access_log.specs.Traced.{GoesOn}
 
 -- The log goes on from the board before the command to the board after it. Only what the engine or recovery serves

@@ -9,7 +9,7 @@ use Rattle.call_plan.specs.Following.{Follows}
 use Rattle.suite.specs.Setup.{Setup}
 use Rattle.pmem_engine.specs.declared.fault.Fault.{Fault}
 use Rattle.pmem_engine.specs.Parts.{Parts, regs_of}
-use Rattle.pmem_engine.specs.Plans.{Chip, chip_of, with_engine, read_plan, turn_plan, flush_plan, set_loss_plan}
+use Rattle.pmem_engine.specs.Plans.{Chip, chip_with, with_engine, read_plan, turn_plan, flush_plan, set_loss_plan}
 use Rattle.pmem_engine.specs.WritePlans.{write_plan}
 use Rattle.pmem_engine.specs.Calls.{HasReadLine, HasWrittenLine, HasTurned, HasFlushed, HasSetLoss}
 
@@ -37,7 +37,7 @@ plan_of_loss n regs chip = lifted (with_engine chip) (λ fault. fault) (set_loss
 
 -- the chip of a call's parts
 abbrev pub chip_in : Parts → Chip
-chip_in parts = chip_of parts.engine parts.ledger parts.tags parts.digests
+chip_in parts = chip_with parts.engine parts.ledger parts.tags parts.digests
 
 -- the call followed its plan, and its relation holds
 pub record IsMadeBy {T : Type 0} (plan : CallPlan T) (relation : Parts → Parts → Result T Fault → Type 0) (old new : Parts) (answer : Result T Fault) :

@@ -31,7 +31,7 @@ use Rattle.plain_model.specs.Shown.{IsLegal}
 use Rattle.plain_model.specs.Fits.{Fits}
 use Rattle.pmem_engine.specs.declared.fault.Fault.{Fault}
 use Rattle.pmem_engine.specs.Engine.{EngineState}
-use Rattle.pmem_engine.specs.Outcomes.{is_sealed_by}
+use Rattle.pmem_engine.specs.Outcomes.{is_sealed_by, outcome_of, is_going}
 use Rattle.pmem_engine.specs.Parts.{Parts}
 use Rattle.pmem_engine.specs.Plans.{chip_of}
 use Rattle.pmem_engine.specs.Invariants.{IsSealStored}
@@ -84,17 +84,19 @@ pub record IsByTable (old : WorldState) (command : Command) (answer : Answer) (n
 -- ---- calls of the engine
 
 -- The world's parts before and after a call, for which room for marks may have been made before: the board followed
--- the call's plan, and whatever is answered took no step past the fuse. The engine is kept unless power was cut, which
--- the answer tells. Line writes and latches are counted from the call on, and are the steps of the answer unless that
--- is an exhibit.
+-- the call's plan, and whatever is answered took no step past the fuse. The engine was up, and is so unless the call was
+-- cut or shown; it is kept unless power was cut, which the answer tells. Line writes and latches are counted from the
+-- call on, and are the steps of the answer unless that is an exhibit.
 pub record HasCalled {T : Type 0} (plan : CallPlan T) (relation : Parts → Parts → Result T Fault → Type 0)
     (says : LedgerState → LedgerState → ℕ → Result T Fault → Answer → Type 0) (old new : WorldState) (answer : Answer) : Type 0 where
   pub engine : EngineState
   pub was_on : old.engine ≡ Some engine
+  pub up : engine.down ≡ false
   pub after : EngineState
   pub kept : new.engine ≡ (if is_cut answer then None else Some after)
   pub taken : Taken
   pub result : Result T Fault
+  pub down : after.down ≡ not (is_going (outcome_of result))
   pub outcome :
       IsOutcome (plan old.board.regs (chip_of engine old.ledger old.tags old.digests)) old.board new.board taken result
       (chip_of after new.ledger new.tags new.digests)
@@ -219,16 +221,14 @@ pub record HasPoweredOn (setup : Setup) (old new : WorldState) (answer : Answer)
   pub cut : is_cut answer ≡ true → HasRisen old.board.cuts new.board.cuts
   pub uncut : is_cut answer ≡ false → new.board.cuts ≡ old.board.cuts
 
+-- the counts of a board, beside those of tags and digests
+abbrev pub counts_with : BoardMemory → ℕ → ℕ → Stat
+counts_with board tags digests =
+    record { reads = board.reads; writes = board.writes; latches = board.latches; tags = tags; digests = digests }
+
 -- the counts of the board and the suite
 abbrev pub counts_in : WorldState → Stat
-counts_in world =
-    record {
-      reads = world.board.reads;
-      writes = world.board.writes;
-      latches = world.board.latches;
-      tags = world.tags;
-      digests = world.digests;
-    }
+counts_in world = counts_with world.board world.tags world.digests
 
 -- The counts as `stat` answers them. A count of line writes or latches that stands at its end tells
 -- nothing any more; then all steps are answered as line writes.

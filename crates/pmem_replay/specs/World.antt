@@ -22,7 +22,7 @@ use Rattle.plain_model.specs.State.{PlainState, is_flagged, has_flags}
 use Rattle.plain_model.specs.View.{DeviceView, IsMemoryOf, view_of, plain_memory}
 use Rattle.plain_model.specs.Bounds.{can_be_dirty}
 use Rattle.pmem_replay.specs.Flagged.{Tampering, Dirtying}
-use Rattle.pmem_engine.specs.Engine.{EngineState}
+use Rattle.pmem_engine.specs.Engine.{EngineState, on_chip}
 use Rattle.pmem_engine.specs.Recached.{IsTrueOrDirty}
 use Rattle.pmem_engine.specs.Invariants.{IsAnchored, IsTrusted, IsDurable, IsSound, IsSealStored, IsCounterStored}
 
@@ -129,15 +129,16 @@ pub record AreKept (setup : Setup) (state : PlainState) (lines : List Line) (los
       → is_flagged state.named (layout.meta_line setup.shape (counter_position setup.shape page)) ≡ false
       → IsCounterStored setup lines loss ledger.truth page
 
--- with power on the chip is trusted, and all is sound where no line was tampered with; while nothing is
--- loose a metadata line that isn't named is true on the device or cached dirty; and only a block of a
--- touched page that wasn't flushed is dirty
+-- with power on the engine is up and the chip is trusted, and all is sound where no line was tampered with; while nothing
+-- is loose a metadata line that isn't named is true on the device or cached dirty; and only a block of a touched page that
+-- wasn't flushed is dirty
 pub record IsOn (setup : Setup) (world : WorldState) (engine : EngineState) : Type 0 where
   pub powered : world.state.power ≡ true
-  pub trusted : IsTrusted setup engine world.board.regs world.ledger
+  pub up : engine.down ≡ false
+  pub trusted : IsTrusted setup (on_chip engine) world.board.regs world.ledger
   pub sound :
       has_flags world.state.named ≡ false
-      → IsSound setup engine world.board.lines world.board.regs world.ledger
+      → IsSound setup (on_chip engine) world.board.lines world.board.regs world.ledger
   pub whole_cache : IsBanksOf setup.shape engine.cache
   pub metadata :
       world.state.loose ≡ false → (x : ℕ) → x < layout.meta_lines setup.shape

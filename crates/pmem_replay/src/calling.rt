@@ -13,13 +13,14 @@ ghost use Rattle.pmem_replay.specs.Given.{HasMarkRoom};
 ghost use Rattle.pmem_replay.specs.World.{IsWorld, setup_of_world};
 
 use crate::World;
-use crate::calls::{self, Call, CallEnd};
+use crate::calls::{self, Call};
 use crate::tampered::Tampered;
 use access_log::AccessLog;
 use pmem_base::{Answer, Exhibit, Mark, MemFault, Place};
 use pmem_engine::{Engine, Fault};
 use seal_ledger::{Audit, Ledger};
 use suite::Counted;
+use watched_call::CallEnd;
 use write_ports::Ports;
 
 impl<S: Counted + Drop> World<S> {

@@ -1,13 +1,12 @@
 //! Calls of the engine and of recovery, over a board whose fuse and snapshot are watched.
-ghost use Rattle.std.specs.Prelude.{◌≡◌, ◌<◌, ◌≤◌, ℕ, true, false, [], ◌∷◌, None, Some, length, drop, Option, option_map, Result, IsTrue, IsNone, IsSome, IfOk, IfSome, IsOk, OnOk, All, ⊤, if◌then◌else◌};
+ghost use Rattle.std.specs.Prelude.{◌≡◌, ◌<◌, ◌≤◌, ℕ, true, false, [], ◌∷◌, None, Some, length, Option, option_map, Result, IsTrue, IsNone, IsSome, IfOk, IfSome, IsOk, OnOk, All, ⊤, if◌then◌else◌, not};
 ghost use Rattle.pmem_base.specs.declared.commands.Posted.{Posted};
 ghost use Rattle.pmem_base.specs.Lines.{IsLine};
 ghost use Rattle.pmem_base.specs.Geo.{shape_of};
 ghost use Rattle.pmem_base.specs.Ranges.{IsPosted};
 ghost use Rattle.pmem_base.specs.Shape.{Shape, is_loss};
-ghost use Rattle.pmem_base.specs.Layout.{data_lines, device_lines, meta_lines};
+ghost use Rattle.pmem_base.specs.Layout.{data_lines, device_lines};
 ghost use Rattle.pmem_base.specs.Registers.{IsValidRegs};
-ghost use Rattle.pmem_base.specs.WaitingWrites.{no_writes};
 ghost use Rattle.board.specs.Memory.{device_of};
 ghost use Rattle.board.specs.MemBoard.{memory_of};
 ghost use Rattle.suite.specs.Setup.{Setup};
@@ -15,17 +14,17 @@ ghost use Rattle.seal_ledger.specs.Ledger.{IsOfShape, LedgerState};
 ghost use Rattle.seal_ledger.specs.Notes.{HasRoom};
 ghost use Rattle.seal_ledger.specs.View.{capacity_of, ledger_of};
 ghost use Rattle.pmem_engine.specs.declared.fault.Fault.{Fault};
-ghost use Rattle.pmem_engine.specs.Parts.{Parts, parts_of, setup_at};
-ghost use Rattle.pmem_engine.specs.Outcomes.{outcome_of, is_sealed_by};
+ghost use Rattle.pmem_engine.specs.Parts.{Parts};
+ghost use Rattle.pmem_engine.specs.Outcomes.{outcome_of, is_going};
 ghost use Rattle.pmem_engine.specs.Calls.{IsUsable};
-ghost use Rattle.pmem_recovery.specs.Parts.{SuiteRise, suite_at, suite_state};
 ghost use Rattle.watched_board.specs.Watching.{IsWatched, device_during, none_taken};
 ghost use Rattle.access_log.specs.Traced.{GoesOn};
-ghost use Rattle.pmem_replay.specs.During.{WasFormatted, IsTakenApart, WasRecovered};
+ghost use Rattle.pmem_replay.specs.During.{IsTakenApart};
 ghost use Rattle.pmem_replay.specs.Planned.{ReadsLine, WritesLine, TurnsPage, FlushesBlock, SetsLoss};
-ghost use Rattle.pmem_replay.specs.EngineCalls.{IsLawfulCall, is_outcome_shown, is_outcome_cut};
+ghost use Rattle.pmem_replay.specs.EngineCalls.{is_outcome_shown, is_outcome_cut};
+ghost use Rattle.pmem_replay.specs.Promised.{IsMade, IsCalled, IsFormatted, HasFormatCounts, IsRecovered, IsRecoveredOver};
 
-use access_log::{AccessLog, Entry, Logged};
+use access_log::AccessLog;
 use board::{Board, MemBoard};
 use pmem_base::{Ctr, Geo, Line, MemFault, Posted};
 use pmem_engine::{Engine, Fault};
@@ -34,14 +33,8 @@ use seal_ledger::Ledger;
 use std::alloc::Global;
 use std::marker::Brand;
 use suite::Suite;
-use watched_board::{Kept, Left, Made, Start, Taken};
-
-/// A call's answer, and the steps that it took.
-#[derive(Drop)]
-pub(crate) struct CallEnd<T> {
-    pub(crate) taken: Taken,
-    pub(crate) answer: T,
-}
+use watched_board::{Kept, Made, Start};
+use watched_call::{BoardCall, CallEnd, make_call};
 
 /// A call of the engine: what it needs of the geometry and of the room for marks, what it does, by its plan and its
 /// relation, and the write that it puts, if it is one.
@@ -65,9 +58,10 @@ pub(crate) trait Call {
     ) -> Result<Self::Value, Fault>
         requires can { can self.now engine.old.shape (ledger_of ledger.old) (capacity_of ledger.old) }
         requires usable { IsUsable engine.old.shape engine.old (B.device board.old) (ledger_of ledger.old) }
-        ensures made { IsLawfulCall (relation self.now) (write self.now) (setup_at S.Suite engine.old suite.old)
-            (parts_of engine.old (B.device board.old) (ledger_of ledger.old) (S.tags suite.old) (S.digests suite.old))
-            (parts_of engine.new (B.device board.new) (ledger_of ledger.new) (S.tags suite.new) (S.digests suite.new)) result }
+        requires up { engine.old.down ≡ false }
+        ensures made { IsMade S.Suite relation write self.now engine.old (B.device board.old) suite.old ledger.old
+            engine.new (B.device board.new) suite.new ledger.new result }
+        ensures down { engine.new.down ≡ not (is_going (outcome_of result)) }
         ensures capacity { capacity_of ledger.new ≡ capacity_of ledger.old }
         ensures keys { S.keys suite.new ≡ S.keys suite.old };
 
@@ -222,6 +216,36 @@ impl Call for SetLoss {
     }
 }
 
+/// A call of the engine, as one over a watched board.
+#[derive(Drop)]
+struct OfEngine<'a, C> {
+    call: &'a C,
+}
+
+impl<'a, C: Call> BoardCall<Ledger> for OfEngine<'a, C> {
+    type Engine = Engine;
+
+    type Answer = Result<C::Value, Fault>;
+
+    ghost can = { λ made engine device ledger. C.can made.call.now engine.shape (ledger_of ledger) (capacity_of ledger)
+        × IsUsable engine.shape engine device (ledger_of ledger) × (engine.down ≡ false) };
+
+    ghost relation = { λ made S suite engine device s ledger later_engine later_device later_s later_ledger answer.
+        IsMade suite C.relation C.write made.call.now engine device s ledger later_engine later_device later_s later_ledger answer
+        × (later_engine.down ≡ not (is_going (outcome_of answer)))
+        × (capacity_of later_ledger ≡ capacity_of ledger) × (suite.keys later_s ≡ suite.keys s) };
+
+    fn make<B: Board, S: Suite>(
+        &self,
+        engine: &mut Engine,
+        board: &mut B,
+        suite: &mut S,
+        notes: &mut Ledger,
+    ) -> Result<C::Value, Fault> {
+        self.call.make(engine, board, suite, notes)
+    }
+}
+
 /// Makes a call over the watched board, whose accesses are logged.
 pub(crate) fn make<C: Call, S: Suite>(
     call: &C,
@@ -234,55 +258,16 @@ pub(crate) fn make<C: Call, S: Suite>(
     requires can { C.can call.now engine.old.shape (ledger_of ledger.old) (capacity_of ledger.old) }
     requires on { (memory_of board.old).powered ≡ true }
     requires usable { IsUsable engine.old.shape engine.old (device_during (memory_of board.old) none_taken) (ledger_of ledger.old) }
-    ensures made { IsLawfulCall (C.relation call.now) (C.write call.now) (setup_at S.Suite engine.old suite.old)
-        (parts_of engine.old (device_during (memory_of board.old) none_taken) (ledger_of ledger.old) (S.tags suite.old) (S.digests suite.old))
-        (parts_of engine.new (device_during (memory_of board.new) result.taken) (ledger_of ledger.new) (S.tags suite.new) (S.digests suite.new)) result.answer }
+    requires up { engine.old.down ≡ false }
+    ensures made { IsCalled S.Suite C.relation C.write call.now engine.old board.old suite.old ledger.old
+        engine.new board.new result.taken suite.new ledger.new result.answer }
+    ensures down { engine.new.down ≡ not (is_going (outcome_of result.answer)) }
     ensures watched { IsWatched (memory_of board.old) (memory_of board.new) result.taken }
     ensures capacity { capacity_of ledger.new ≡ capacity_of ledger.old }
     ensures logged { GoesOn log.old (memory_of board.old) log.new (memory_of board.new) }
     ensures keys { S.keys suite.new ≡ S.keys suite.old }
 {
-    let mut outcome = None;
-    let left = make_logged::<Brand, C, S>(call, engine, board, suite, ledger, log, &mut outcome);
-    let Left {
-        board: _,
-        taken,
-        ..
-    } = left;
-    match outcome {
-        Some(answer) => CallEnd { taken, answer },
-        None => unreachable!(),
-    }
-}
-
-fn make_logged<'a, K: Start + Entry, C: Call, S: Suite>(
-    call: &C,
-    engine: &mut Engine,
-    board: &'a mut MemBoard,
-    suite: &mut S,
-    ledger: &mut Ledger,
-    log: &mut AccessLog,
-    outcome: &mut Option<Result<C::Value, Fault>>,
-) -> Left<'a, ()>
-    requires can { C.can call.now engine.old.shape (ledger_of ledger.old) (capacity_of ledger.old) }
-    requires start { memory_of board.old ≡ K.start }
-    requires name { board.ghost_name ≡ K.name }
-    requires log { log.old ≡ K.log }
-    requires on { (memory_of board.old).powered ≡ true }
-    requires usable { IsUsable engine.old.shape engine.old (device_during (memory_of board.old) none_taken) (ledger_of ledger.old) }
-    ensures name { result.board.ghost_name ≡ K.name }
-    ensures made { IfSome outcome.new (λ answer. IsLawfulCall (C.relation call.now) (C.write call.now) (setup_at S.Suite engine.old suite.old)
-        (parts_of engine.old (device_during (memory_of board.old) none_taken) (ledger_of ledger.old) (S.tags suite.old) (S.digests suite.old))
-        (parts_of engine.new (device_during (memory_of result.board.now) result.taken) (ledger_of ledger.new) (S.tags suite.new) (S.digests suite.new)) answer) }
-    ensures some { IsSome outcome.new }
-    ensures watched { IsWatched K.start (memory_of result.board.now) result.taken }
-    ensures capacity { capacity_of ledger.new ≡ capacity_of ledger.old }
-    ensures logged { GoesOn K.log K.start log.new (memory_of result.board.now) }
-    ensures keys { S.keys suite.new ≡ S.keys suite.old }
-{
-    let mut logged = Logged::<K>::new(board, log.take());
-    *outcome = Some(call.make(engine, &mut logged, suite, ledger));
-    logged.left((), log)
+    make_call(&OfEngine { call }, engine, board, suite, ledger, log)
 }
 
 /// Whether an exhibit ended the call.
@@ -321,13 +306,11 @@ pub(crate) fn format<S: Suite>(
     requires no_marks { (ledger_of ledger.old).marks ≡ [] }
     requires no_exhibit { IsNone (ledger_of ledger.old).exhibit }
     requires engine { engine.old ≡ None }
-    ensures formatted { IfOk result (λ _. WasFormatted (record { shape = shape_of geo.now; formulas = S.formulas_of (S.keys suite.old) }) (ledger_of ledger.new)
-        (device_of (memory_of board.old)) (device_of (memory_of board.new)) engine.new) }
+    ensures formatted { IfOk result (λ _. IsFormatted S.Suite geo.now board.old suite.old board.new ledger.new engine.new) }
     ensures none { (memory_of board.new).snapshot ≡ None }
     ensures each_line { All IsLine (memory_of board.new).lines }
     ensures keys { S.keys suite.new ≡ S.keys suite.old }
-    ensures work { OnOk result (SuiteRise (data_lines (shape_of geo.now)) (data_lines (shape_of geo.now)) (meta_lines (shape_of geo.now)) (suite_at S.Suite suite.old)
-        (suite_at S.Suite suite.new)) }
+    ensures work { OnOk result (HasFormatCounts S.Suite geo.now suite.old suite.new) }
 {
     let made = format_kept::<Brand, S>(alloc, geo, board, suite, ledger, engine);
     let Made { board: _, answer } = made;
@@ -351,13 +334,11 @@ fn format_kept<'a, K: Start, S: Suite>(
     requires no_exhibit { IsNone (ledger_of ledger.old).exhibit }
     requires engine { engine.old ≡ None }
     ensures name { result.board.ghost_name ≡ K.name }
-    ensures formatted { IfOk result.answer (λ _. WasFormatted (record { shape = shape_of geo.now; formulas = S.formulas_of (S.keys suite.old) }) (ledger_of ledger.new)
-        (device_of (memory_of board.old)) (device_of (memory_of result.board.now)) engine.new) }
+    ensures formatted { IfOk result.answer (λ _. IsFormatted S.Suite geo.now board.old suite.old result.board.now ledger.new engine.new) }
     ensures none { (memory_of result.board.now).snapshot ≡ None }
     ensures each_line { All IsLine (memory_of result.board.now).lines }
     ensures keys { S.keys suite.new ≡ S.keys suite.old }
-    ensures work { OnOk result.answer (SuiteRise (data_lines (shape_of geo.now)) (data_lines (shape_of geo.now)) (meta_lines (shape_of geo.now)) (suite_at S.Suite suite.old)
-        (suite_at S.Suite suite.new)) }
+    ensures work { OnOk result.answer (HasFormatCounts S.Suite geo.now suite.old suite.new) }
 {
     let mut kept = Kept::<K>::new(board);
     let answer = pmem_recovery::format(alloc, geo, &mut kept, suite, ledger);
@@ -379,6 +360,38 @@ fn put(answer: Result<Engine, MemFault>, engine: &mut Option<Engine>) -> Result<
     }
 }
 
+/// The device is recovered, as the ledger knows it.
+#[derive(Drop)]
+struct Recovery<'a> {
+    alloc: Global,
+    geo: &'a Geo,
+    ledger: &'a Ledger,
+}
+
+impl<'a> BoardCall<()> for Recovery<'a> {
+    type Engine = Option<Engine>;
+
+    type Answer = Result<Work, RecFault>;
+
+    ghost can = { λ recovery engine device _. (device.size ≡ device_lines (shape_of recovery.geo.now))
+        × IsValidRegs (shape_of recovery.geo.now) device.regs
+        × IsOfShape (shape_of recovery.geo.now) (ledger_of recovery.ledger.now) × (engine ≡ None) };
+
+    ghost relation = { λ recovery S suite _ device s _ later_engine later_device later_s _ answer.
+        IsRecoveredOver suite recovery.geo.now recovery.ledger.now device s later_device later_s later_engine answer };
+
+    fn make<B: Board, S: Suite>(
+        &self,
+        engine: &mut Option<Engine>,
+        board: &mut B,
+        suite: &mut S,
+        notes: &mut (),
+    ) -> Result<Work, RecFault> {
+        let answer = pmem_recovery::recover(self.alloc, self.geo, board, suite, self.ledger);
+        taken_apart(answer, engine)
+    }
+}
+
 /// Recovers the device. Where it is done the engine is there.
 pub(crate) fn recover<S: Suite>(
     alloc: Global,
@@ -394,51 +407,19 @@ pub(crate) fn recover<S: Suite>(
     requires regs { IsValidRegs (shape_of geo.now) (memory_of board.old).regs }
     requires ledger { IsOfShape (shape_of geo.now) (ledger_of ledger.now) }
     requires engine { engine.old ≡ None }
-    ensures recovered { WasRecovered (record { shape = shape_of geo.now; formulas = S.formulas_of (S.keys suite.old) }) (ledger_of ledger.now)
-        (device_during (memory_of board.old) none_taken) (device_during (memory_of board.new) result.taken)
-        (suite_state (S.keys suite.old) (S.pads suite.old) (S.tags suite.old) (S.digests suite.old))
-        (suite_state (S.keys suite.new) (S.pads suite.new) (S.tags suite.new) (S.digests suite.new)) engine.new result.answer }
+    ensures recovered { IsRecovered S.Suite geo.now ledger.now board.old suite.old
+        board.new result.taken suite.new engine.new result.answer }
     ensures watched { IsWatched (memory_of board.old) (memory_of board.new) result.taken }
     ensures logged { GoesOn log.old (memory_of board.old) log.new (memory_of board.new) }
 {
-    let left = recover_logged::<Brand, S>(alloc, geo, board, suite, ledger, engine, log);
-    let Left {
-        board: _,
-        taken,
-        answer,
-    } = left;
-    CallEnd { taken, answer }
-}
-
-fn recover_logged<'a, K: Start + Entry, S: Suite>(
-    alloc: Global,
-    geo: &Geo,
-    board: &'a mut MemBoard,
-    suite: &mut S,
-    ledger: &Ledger,
-    engine: &mut Option<Engine>,
-    log: &mut AccessLog,
-) -> Left<'a, Result<Work, RecFault>>
-    requires size { length (memory_of board.old).lines ≡ device_lines (shape_of geo.now) }
-    requires start { memory_of board.old ≡ K.start }
-    requires name { board.ghost_name ≡ K.name }
-    requires log { log.old ≡ K.log }
-    requires on { (memory_of board.old).powered ≡ true }
-    requires regs { IsValidRegs (shape_of geo.now) (memory_of board.old).regs }
-    requires ledger { IsOfShape (shape_of geo.now) (ledger_of ledger.now) }
-    requires engine { engine.old ≡ None }
-    ensures name { result.board.ghost_name ≡ K.name }
-    ensures recovered { WasRecovered (record { shape = shape_of geo.now; formulas = S.formulas_of (S.keys suite.old) }) (ledger_of ledger.now)
-        (device_during (memory_of board.old) none_taken) (device_during (memory_of result.board.now) result.taken)
-        (suite_state (S.keys suite.old) (S.pads suite.old) (S.tags suite.old) (S.digests suite.old))
-        (suite_state (S.keys suite.new) (S.pads suite.new) (S.tags suite.new) (S.digests suite.new)) engine.new result.answer }
-    ensures watched { IsWatched K.start (memory_of result.board.now) result.taken }
-    ensures logged { GoesOn K.log K.start log.new (memory_of result.board.now) }
-{
-    let mut logged = Logged::<K>::new(board, log.take());
-    let answer = pmem_recovery::recover(alloc, geo, &mut logged, suite, ledger);
-    let outcome = taken_apart(answer, engine);
-    logged.left(outcome, log)
+    make_call(
+        &Recovery { alloc, geo, ledger },
+        engine,
+        board,
+        suite,
+        &mut (),
+        log,
+    )
 }
 
 /// Puts a recovery's engine in its place.

@@ -15,6 +15,6 @@ mod tampered;
 mod tampering;
 mod world;
 
-pub use determined::{new_world_is_determined, step_is_determined};
+pub use determined::{logged_step_is_determined, new_world_is_determined, step_is_determined};
 pub use flags::Flags;
 pub use world::{Reply, World};

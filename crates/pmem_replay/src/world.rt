@@ -7,7 +7,7 @@ ghost use Rattle.board.specs.Memory.{new_memory};
 ghost use Rattle.seal_ledger.specs.Ledger.{IsOfShape, new_ledger};
 ghost use Rattle.seal_ledger.specs.View.{ledger_of};
 ghost use Rattle.pmem_replay.specs.Flagged.{no_tampering, no_dirtying};
-ghost use Rattle.pmem_replay.specs.Stepped.{HasFormatWork, IsNewWorld};
+ghost use Rattle.pmem_replay.specs.Stepped.{HasFormatWork, IsNewWorld, counts_with};
 
 use crate::calls;
 use crate::dirtied::Dirtied;
@@ -171,13 +171,7 @@ impl<S: Counted + Drop> World<S> {
 
 /// The counts of a board and a suite.
 pub(crate) fn counts_of<S: Counted>(board: &MemBoard, suite: &S) -> Stat
-    ensures { result ≡ record {
-      reads = (memory_of board.now).reads;
-      writes = (memory_of board.now).writes;
-      latches = (memory_of board.now).latches;
-      tags = S.tags suite.now;
-      digests = S.digests suite.now;
-    } }
+    ensures { result ≡ counts_with (memory_of board.now) (S.tags suite.now) (S.digests suite.now) }
 {
     let (reads, writes, latches) = board.counts();
     let (_, tags, digests) = suite.counts();

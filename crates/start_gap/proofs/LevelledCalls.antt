@@ -1,5 +1,5 @@
 -- The calls of a write, put together.
-use Rattle.std.proofs.Common.{ℕ, List, true, ◌≡◌, ◌<◌, ◌≤◌, ◌+◌, Result, Ok, Err, refl, sym, subst, ◌∙◌}
+use Rattle.std.proofs.Common.{ℕ, List, true, ◌≡◌, ◌<◌, ◌≤◌, ◌+◌, Result, Ok, Err, refl, sym, subst, ◌∙◌, false}
 use Rattle.std.specs.Prelude.{MatchBool}
 use Rattle.std.proofs.lemmas.Bool.{lt-ltb, le-ltb}
 use Rattle.pmem_base.specs.declared.lines.Line.{Line}
@@ -10,6 +10,7 @@ use Rattle.suite.specs.Setup.{Setup}
 use Rattle.pmem_engine.specs.declared.fault.Fault.{Fault}
 use Rattle.pmem_engine.specs.declared.fault.Fault.TheVariants as Fail
 use Rattle.pmem_engine.specs.Parts.{Parts}
+use Rattle.pmem_engine.specs.Outcomes.{outcome_of, is_going}
 use Rattle.pmem_engine.specs.Calls.{whole_write, HasWrittenLine}
 use Rattle.engine_lines.specs.Edits.{AreEdited}
 use Rattle.engine_lines.proofs.EngineLines.{setup_under}
@@ -21,7 +22,7 @@ use Rattle.start_gap.specs.declared.gapped.Moved.TheVariants as Move
 use Rattle.start_gap.specs.declared.gapped.WriteFault.{WriteFault}
 use Rattle.start_gap.specs.Wear.{place_of}
 use Rattle.start_gap.specs.Logical.{move_edits}
-use Rattle.start_gap.specs.Gapped.{HasLevelledWrite, HasCounted, HasTriedMove, HasWear, wear_by, write_answer_by}
+use Rattle.start_gap.specs.Gapped.{HasLevelledWrite, HasCounted, HasTriedMove, HasWear, wear_by, write_answer_by, write_outcome_by}
 
 -- a write at a place
 pub write_at : (setup : Setup) (at at' : ℕ) (plain : Line) (old new : Parts) (made : Result Ctr Fault) → at ≡ at'
@@ -51,7 +52,25 @@ pub fault_of_move : (fault : Fault) → ((page : ℕ) → fault ≡ Fail.Spent p
 fault_of_move (Fail.Spent page) unspent = absurd (unspent page refl)
 fault_of_move fault unspent = refl
 
+-- a move and its write go on, or are cut or shown, alike
+pub move_outcome : (tried : Result (Unit {0}) Fault) → is_going (write_outcome_by (write_answer_by tried)) ≡ is_going (outcome_of tried)
+move_outcome (Ok done) = refl
+move_outcome (Err (Fail.Spent page)) = refl
+move_outcome (Err fault) = refl
+
 module _ (setup : Setup) (a : ℕ) (plain : Line) (old new : Gapped) where
+  -- the line wasn't written
+  pub refused : (from to : Parts) (fault : Fault)
+      → HasWrittenLine setup (whole_write (place_of old.lines old.wear a) plain) from to (Err fault) → HasWear old.wear old.count old new
+      → HasLevelledWrite setup a plain old new from to (Err (record { fault = fault; written = false }))
+  refused from to fault it wear =
+      record {
+        made = Err fault;
+        between = to;
+        was_written = it;
+        then = record { its_answer = refl; its_wear = wear; nothing_else = refl };
+      }
+
   pub counted : (from to : Parts) (made : Result Ctr Fault) → ((fault : Fault) → made ≡ Err fault → ⊥) → old.count + 1 < old.every
       → HasWrittenLine setup (whole_write (place_of old.lines old.wear a) plain) from to made
       → HasWear old.wear (old.count + 1) old new

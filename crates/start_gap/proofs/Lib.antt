@@ -5,3 +5,4 @@ pub mod LevelledCalls
 pub mod LevelledWrites
 pub mod LevelledEnds
 pub mod LevelledPlans
+pub mod LevelledReads

@@ -3,4 +3,5 @@ pub mod Record
 pub mod Logical
 pub mod Gapped
 pub mod Plans
+pub mod Promised
 pub mod Determined

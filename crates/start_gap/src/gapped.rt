@@ -1,20 +1,11 @@
 //! Levelled lines over an engine: reads and writes of logical lines, and a gap move at each so many writes.
-ghost use Rattle.std.specs.Prelude.{◌≡◌, ◌≤◌, ◌<◌, ◌+◌, ◌^◌, List, IfOk};
-ghost use Rattle.pmem_base.specs.declared.lines.Line.{Line};
+ghost use Rattle.std.specs.Prelude.{◌≡◌, ◌≤◌, ◌<◌, ◌+◌, ◌^◌, false, not, IfOk};
 ghost use Rattle.pmem_base.specs.Layout.{data_lines};
-ghost use Rattle.pmem_base.specs.Lines.{line_at};
 ghost use Rattle.pmem_engine.specs.Engine.{EngineState};
-ghost use Rattle.pmem_engine.specs.Parts.{AreTrusted, AreSound, setup_at, parts_at};
-ghost use Rattle.pmem_engine.specs.Outcomes.{LeavesTrusted, LeavesSound};
-ghost use Rattle.pmem_engine.specs.Calls.{IsUsable, HasReadLine};
-ghost use Rattle.pmem_engine.specs.Plans.{chip_at, ended_with};
-ghost use Rattle.call_plan.specs.Following.{Follows};
-ghost use Rattle.engine_lines.specs.Lines.{HasLines};
-ghost use Rattle.engine_lines.specs.Edits.{AreEdited};
-ghost use Rattle.engine_lines.specs.Plans.{edits_plan};
-ghost use Rattle.start_gap.specs.declared.wear.Wear.{Wear};
-ghost use Rattle.start_gap.specs.Wear.{IsWear, place_of};
-ghost use Rattle.start_gap.specs.Logical.{IsLevelled, move_edits};
+ghost use Rattle.pmem_engine.specs.Outcomes.{outcome_of, is_going};
+ghost use Rattle.pmem_engine.specs.Calls.{IsUsable};
+ghost use Rattle.start_gap.specs.Wear.{IsWear};
+ghost use Rattle.start_gap.specs.Logical.{move_edits};
 ghost use Rattle.seal_ledger.specs.Notes.{HasRoom};
 
 use crate::record::{read_wear, wear_line};
@@ -69,10 +60,11 @@ pub struct Gapped {
 }
 
 impl Gapped {
-    ghost use Rattle.start_gap.specs.Plans.{FollowsOpening, FollowsWrite};
-    ghost use Rattle.start_gap.specs.Gapped.{HasGappedOpened, HasWearOf, HasLevelledWrite, IsLeftLevelled, IsSoundWriteAnswer, IsSpentUnwritten, HasWear, logical_lines, write_answer_by, write_outcome_by, wear_by};
+    ghost use Rattle.start_gap.specs.Promised.{OpensLevelled, ReadsRecord, FollowsRecord, ReadsLevelled, WritesLevelled, WritesAndMoves, FollowsWriting, MovesGap, FollowsMove};
+    ghost use Rattle.start_gap.specs.Gapped.{IsSpentUnwritten, HasWear, write_answer_by, write_outcome_by, wear_by};
 
-    /// Reads the record of the wear. `BadWear` comes exactly where its line is no record.
+    /// Reads the record of the wear. `BadWear` comes exactly where its line is no record. An engine that is down reads
+    /// nothing, and answers `Down`.
     pub fn open<B: Board, S: Suite, A: Audit>(
         engine: Engine,
         board: &mut B,
@@ -82,22 +74,40 @@ impl Gapped {
     ) -> Result<Gapped, GapFault>
         requires every { 1 ≤ every }
         requires usable { IsUsable engine.shape engine (B.device board.old) (A.ledger audit.old) }
-        ensures opened { HasGappedOpened (setup_at S.Suite engine suite.old) every
-            (parts_at B.Board S.Suite A.Audit engine board.old suite.old audit.old)
-            (λ now. parts_at B.Board S.Suite A.Audit now board.new suite.new audit.new) result }
-        ensures plan { FollowsOpening (setup_at S.Suite engine suite.old) (B.device board.old).regs
-            (chip_at S.Suite A.Audit engine suite.old audit.old) (B.device board.old) (B.device board.new)
-            (λ now. chip_at S.Suite A.Audit now suite.new audit.new) result }
-        ensures levelled { AreTrusted (setup_at S.Suite engine suite.old)
-            (parts_at B.Board S.Suite A.Audit engine board.old suite.old audit.old)
-            → (lines memory : List Line) (wear : Wear)
-            → HasLines (setup_at S.Suite engine suite.old) lines
-            (parts_at B.Board S.Suite A.Audit engine board.old suite.old audit.old)
-            → IsLevelled (logical_lines engine.shape) lines wear memory → HasWearOf wear result }
+        ensures opened { OpensLevelled B.Board S.Suite A.Audit engine board.old suite.old audit.old
+            board.new suite.new audit.new every result }
         ensures capacity { A.capacity audit.new ≡ A.capacity audit.old }
         ensures keys { S.keys suite.new ≡ S.keys suite.old }
         ensures usable { IfOk result (λ gapped. IsUsable engine.shape gapped.engine (B.device board.new) (A.ledger audit.new)) }
         ensures shape { IfOk result (λ gapped. gapped.engine.shape ≡ engine.shape) }
+        ensures left { (last : EngineState) × IsUsable engine.shape last (B.device board.new) (A.ledger audit.new) }
+    {
+        if engine.is_down() {
+            return Err(GapFault::Engine(Fault::Down));
+        }
+        Gapped::open_up(engine, board, suite, audit, every)
+    }
+
+    // The same by an engine that is up: the read of which the rest follows.
+    fn open_up<B: Board, S: Suite, A: Audit>(
+        engine: Engine,
+        board: &mut B,
+        suite: &mut S,
+        audit: &mut A,
+        every: u32,
+    ) -> Result<Gapped, GapFault>
+        requires every { 1 ≤ every }
+        requires usable { IsUsable engine.shape engine (B.device board.old) (A.ledger audit.old) }
+        requires up { engine.down ≡ false }
+        ensures opened { ReadsRecord B.Board S.Suite A.Audit engine board.old suite.old audit.old
+            board.new suite.new audit.new every result }
+        ensures plan { FollowsRecord B.Board S.Suite A.Audit engine board.old suite.old audit.old
+            board.new suite.new audit.new result }
+        ensures capacity { A.capacity audit.new ≡ A.capacity audit.old }
+        ensures keys { S.keys suite.new ≡ S.keys suite.old }
+        ensures usable { IfOk result (λ gapped. IsUsable engine.shape gapped.engine (B.device board.new) (A.ledger audit.new)) }
+        ensures shape { IfOk result (λ gapped. gapped.engine.shape ≡ engine.shape) }
+        ensures up { IfOk result (λ gapped. gapped.engine.down ≡ false) }
         ensures left { (last : EngineState) × IsUsable engine.shape last (B.device board.new) (A.ledger audit.new) }
     {
         let mut engine = engine;
@@ -143,17 +153,8 @@ impl Gapped {
     ) -> Result<Line, Fault>
         requires line { line < self.old.lines }
         requires usable { IsUsable self.old.engine.shape self.old.engine (B.device board.old) (A.ledger audit.old) }
-        ensures read { HasReadLine (setup_at S.Suite self.old.engine suite.old)
-            (place_of self.old.lines self.old.wear line)
-            (parts_at B.Board S.Suite A.Audit self.old.engine board.old suite.old audit.old)
-            (parts_at B.Board S.Suite A.Audit self.new.engine board.new suite.new audit.new) result }
-        ensures levelled { AreTrusted (setup_at S.Suite self.old.engine suite.old)
-            (parts_at B.Board S.Suite A.Audit self.old.engine board.old suite.old audit.old)
-            → (lines memory : List Line)
-            → HasLines (setup_at S.Suite self.old.engine suite.old) lines
-            (parts_at B.Board S.Suite A.Audit self.old.engine board.old suite.old audit.old)
-            → IsLevelled self.old.lines lines self.old.wear memory
-            → IfOk result (λ read. read ≡ line_at memory line) }
+        ensures read { ReadsLevelled B.Board S.Suite A.Audit self.old board.old suite.old audit.old
+            self.new board.new suite.new audit.new line result }
         ensures wear { HasWear self.old.wear self.old.count self.old self.new }
         ensures capacity { A.capacity audit.new ≡ A.capacity audit.old }
         ensures keys { S.keys suite.new ≡ S.keys suite.old }
@@ -165,7 +166,7 @@ impl Gapped {
     }
 
     /// Writes a logical line to its place, and moves the gap where that is due. Wherever the write ends, the
-    /// line is there whole or as it was, and so is every other.
+    /// line is there whole or as it was, and so is every other. Where the engine is down nothing is done.
     pub fn write<B: Board, S: Suite, A: Audit>(
         &mut self,
         board: &mut B,
@@ -177,31 +178,8 @@ impl Gapped {
         requires line { line < self.old.lines }
         requires room { HasRoom (A.ledger audit.old) (A.capacity audit.old) 198 }
         requires usable { IsUsable self.old.engine.shape self.old.engine (B.device board.old) (A.ledger audit.old) }
-        ensures written { HasLevelledWrite (setup_at S.Suite self.old.engine suite.old)
-            line plain.now self.old self.new
-            (parts_at B.Board S.Suite A.Audit self.old.engine board.old suite.old audit.old)
-            (parts_at B.Board S.Suite A.Audit self.new.engine board.new suite.new audit.new) result }
-        ensures plan { FollowsWrite (setup_at S.Suite self.old.engine suite.old)
-            line plain.now self.old self.new (B.device board.old).regs
-            (chip_at S.Suite A.Audit self.old.engine suite.old audit.old)
-            (chip_at S.Suite A.Audit self.new.engine suite.new audit.new) (B.device board.old) (B.device board.new) result }
-        ensures levelled { AreTrusted (setup_at S.Suite self.old.engine suite.old)
-            (parts_at B.Board S.Suite A.Audit self.old.engine board.old suite.old audit.old)
-            → (lines : List Line)
-            → HasLines (setup_at S.Suite self.old.engine suite.old) lines
-            (parts_at B.Board S.Suite A.Audit self.old.engine board.old suite.old audit.old)
-            → IsLeftLevelled (setup_at S.Suite self.old.engine suite.old)
-            line plain.now self.old lines
-            (parts_at B.Board S.Suite A.Audit self.new.engine board.new suite.new audit.new) result }
-        ensures trusted { AreTrusted (setup_at S.Suite self.old.engine suite.old)
-            (parts_at B.Board S.Suite A.Audit self.old.engine board.old suite.old audit.old)
-            → LeavesTrusted (setup_at S.Suite self.old.engine suite.old) (write_outcome_by result)
-            (parts_at B.Board S.Suite A.Audit self.new.engine board.new suite.new audit.new) }
-        ensures sound { AreSound (setup_at S.Suite self.old.engine suite.old)
-            (parts_at B.Board S.Suite A.Audit self.old.engine board.old suite.old audit.old)
-            → LeavesSound (setup_at S.Suite self.old.engine suite.old) (write_outcome_by result)
-            (parts_at B.Board S.Suite A.Audit self.new.engine board.new suite.new audit.new)
-            × IsSoundWriteAnswer result }
+        ensures written { WritesLevelled B.Board S.Suite A.Audit self.old board.old suite.old audit.old
+            self.new board.new suite.new audit.new line plain.now result }
         ensures spent { IsSpentUnwritten result }
         ensures capacity { A.capacity audit.new ≡ A.capacity audit.old }
         ensures keys { S.keys suite.new ≡ S.keys suite.old }
@@ -209,6 +187,12 @@ impl Gapped {
         ensures shape { self.new.engine.shape ≡ self.old.engine.shape }
     {
         plain.is_whole();
+        if self.engine.is_down() {
+            return Err(WriteFault {
+                fault: Fault::Down,
+                written: false,
+            });
+        }
         self.write_and_move(board, suite, audit, line, plain)
     }
 
@@ -224,14 +208,12 @@ impl Gapped {
         requires line { line < self.old.lines }
         requires room { HasRoom (A.ledger audit.old) (A.capacity audit.old) 198 }
         requires usable { IsUsable self.old.engine.shape self.old.engine (B.device board.old) (A.ledger audit.old) }
-        ensures written { HasLevelledWrite (setup_at S.Suite self.old.engine suite.old)
-            line plain.now self.old self.new
-            (parts_at B.Board S.Suite A.Audit self.old.engine board.old suite.old audit.old)
-            (parts_at B.Board S.Suite A.Audit self.new.engine board.new suite.new audit.new) result }
-        ensures plan { FollowsWrite (setup_at S.Suite self.old.engine suite.old)
-            line plain.now self.old self.new (B.device board.old).regs
-            (chip_at S.Suite A.Audit self.old.engine suite.old audit.old)
-            (chip_at S.Suite A.Audit self.new.engine suite.new audit.new) (B.device board.old) (B.device board.new) result }
+        requires up { self.old.engine.down ≡ false }
+        ensures written { WritesAndMoves B.Board S.Suite A.Audit self.old board.old suite.old audit.old
+            self.new board.new suite.new audit.new line plain.now result }
+        ensures plan { FollowsWriting B.Board S.Suite A.Audit self.old board.old suite.old audit.old
+            self.new board.new suite.new audit.new line plain.now result }
+        ensures down { self.new.engine.down ≡ not (is_going (write_outcome_by result)) }
         ensures capacity { A.capacity audit.new ≡ A.capacity audit.old }
         ensures keys { S.keys suite.new ≡ S.keys suite.old }
         ensures usable { IsUsable self.old.engine.shape self.new.engine (B.device board.new) (A.ledger audit.new) }
@@ -262,15 +244,12 @@ impl Gapped {
     ) -> Result<(), Fault>
         requires room { HasRoom (A.ledger audit.old) (A.capacity audit.old) 132 }
         requires usable { IsUsable self.old.engine.shape self.old.engine (B.device board.old) (A.ledger audit.old) }
-        ensures moved { AreEdited (setup_at S.Suite self.old.engine suite.old)
-            (move_edits self.old.lines self.old.wear)
-            (parts_at B.Board S.Suite A.Audit self.old.engine board.old suite.old audit.old)
-            (parts_at B.Board S.Suite A.Audit self.new.engine board.new suite.new audit.new) result }
-        ensures plan { Follows (edits_plan (setup_at S.Suite self.old.engine suite.old)
-            (move_edits self.old.lines self.old.wear)
-            (chip_at S.Suite A.Audit self.old.engine suite.old audit.old, (B.device board.old).regs))
-            (B.device board.old) (B.device board.new)
-            (ended_with result (chip_at S.Suite A.Audit self.new.engine suite.new audit.new) (B.device board.new).regs) }
+        requires up { self.old.engine.down ≡ false }
+        ensures moved { MovesGap B.Board S.Suite A.Audit self.old board.old suite.old audit.old
+            self.new board.new suite.new audit.new result }
+        ensures plan { FollowsMove B.Board S.Suite A.Audit self.old board.old suite.old audit.old
+            self.new board.new suite.new audit.new result }
+        ensures down { self.new.engine.down ≡ not (is_going (outcome_of result)) }
         ensures wear { HasWear (wear_by result self.old.lines self.old.wear) self.old.count self.old self.new }
         ensures capacity { A.capacity audit.new ≡ A.capacity audit.old }
         ensures keys { S.keys suite.new ≡ S.keys suite.old }

@@ -9,17 +9,17 @@ use Rattle.suite.specs.Formulas.{Formulas}
 use Rattle.board.specs.declared.memory.MemBoard.{MemBoard}
 use Rattle.board.specs.MemBoard.{memory_of}
 use Rattle.pmem_base.specs.Shape.{Shape}
-use Rattle.pmem_engine.specs.Engine.{EngineState}
+use Rattle.pmem_engine.specs.Engine.{ChipState}
 use Rattle.pmem_engine.specs.Invariants.{IsDurable, IsSound}
 use Rattle.pmem_engine.specs.Outcomes.{Outcome, going, cut_short, shown, LeavesSound}
 use Rattle.board.specs.Device.{Device}
-use Rattle.pmem_engine.specs.Parts.{parts_of}
+use Rattle.pmem_engine.specs.Parts.{parts_with}
 use Rattle.pmem_recovery.specs.declared.faults.RecFault.TheVariants.{Memory, Cut, NoCounter, Root, Twin}
 use Rattle.pmem_recovery.specs.Recovered.{Answer, IsMendedAs}
 use Rattle.tests_hostile.specs.Ends.{IsUnrefusedRecovery}
 
 -- the ledger by another name
-pub sound_by : (setup : Setup) (engine : EngineState) (lines : List Line) (regs : Regs) (old new : LedgerState) → new ≡ old
+pub sound_by : (setup : Setup) (engine : ChipState) (lines : List Line) (regs : Regs) (old new : LedgerState) → new ≡ old
     → IsSound setup engine lines regs old → IsSound setup engine lines regs new
 sound_by setup engine lines regs old new same sound = subst (IsSound setup engine lines regs) (sym same) sound
 
@@ -27,7 +27,7 @@ abbrev pub setup_with : Shape → Formulas → Setup
 setup_with shape formulas = record { shape = shape; formulas = formulas }
 
 -- shape, formulas and board by other names
-pub sound_named : (s t : Shape) (f h : Formulas) (engine : EngineState) (b d : MemBoard) (ledger : LedgerState)
+pub sound_named : (s t : Shape) (f h : Formulas) (engine : ChipState) (b d : MemBoard) (ledger : LedgerState)
     → s ≡ t → f ≡ h → b ≡ d
     → IsSound (setup_with s f) engine (memory_of b).lines (memory_of b).regs ledger
     → IsSound (setup_with t h) engine (memory_of d).lines (memory_of d).regs ledger
@@ -46,8 +46,8 @@ durable_named s t f h b d ledger shape formulas board durable =
     (subst (λ (t : Shape). IsDurable (setup_with t f) (memory_of b).lines (memory_of b).regs ledger) shape durable))
 
 -- a call over a sound device leaves it durable, whatever its end
-pub durable_left : (setup : Setup) (outcome : Outcome) (engine : EngineState) (device : Device) (ledger : LedgerState) (tags digests : ℕ) (lines : List Line)
-    → device.lines ≡ Some lines → LeavesSound setup outcome (parts_of engine device ledger tags digests) → IsDurable setup lines device.regs ledger
+pub durable_left : (setup : Setup) (outcome : Outcome) (engine : ChipState) (device : Device) (ledger : LedgerState) (tags digests : ℕ) (lines : List Line)
+    → device.lines ≡ Some lines → LeavesSound setup outcome (parts_with engine device ledger tags digests) → IsDurable setup lines device.regs ledger
 durable_left setup going engine device ledger tags digests lines told left =
     (subst (λ told. MatchOption told ⊥ (λ kept. IsSound setup engine kept device.regs ledger)) told left).durable
 durable_left setup cut_short engine device ledger tags digests lines told left =

@@ -1,7 +1,7 @@
 //! What a session is asked, and what it answers.
 ghost use Rattle.std.specs.Prelude.{◌≡◌, ℕ, List, Option};
 ghost use Rattle.pmem_base.specs.declared.answers.Exhibit.{Exhibit};
-ghost use Rattle.access_log.specs.declared.access.Access.{Access};
+ghost use Rattle.board.specs.declared.access.Access.{Access};
 ghost use Rattle.collision_witness.specs.Exhibits.{AreSmallMinors};
 ghost use Rattle.trace_text.specs.Talks.{Sort, IsOfSort, IfText, IfShown, IfMemory, IfNothing};
 

@@ -1,25 +1,7 @@
 -- Answers as contracts write them: the suite's keys stay.
 use Rattle.std.proofs.Common.{ℕ, ◌≡◌, List, Option, Some, None, inl, refl, sym, ap, subst, ◌∙◌}
-use Rattle.std.specs.Prelude.{Result, IsSome, option_map}
-use Rattle.std.proofs.lemmas.Option.{same_Some}
-use Rattle.pmem_base.specs.declared.answers.Exhibit.{Exhibit}
-use Rattle.pmem_base.specs.Shape.{Shape}
-use Rattle.suite.specs.Formulas.{Formulas}
-use Rattle.suite.specs.Setup.{Setup}
-use Rattle.board.specs.Memory.{BoardMemory}
-use Rattle.counter_tree.specs.Watch.{WatchState}
-use Rattle.watched_board.specs.declared.taken.Taken.{Taken}
-use Rattle.watched_board.specs.Watching.{steps_in, IsWatched}
-use Rattle.asit_shadow.specs.declared.fault.TreeFault.{TreeFault}
-use Rattle.asit_shadow.specs.State.{TreeState}
-use Rattle.collision_witness.specs.Exhibits.{AreSmallMinors}
-use Rattle.trace_text.specs.declared.talk.Halt.{Halt}
+use Rattle.tree_session.proofs.Common.{Result, IsSome, option_map, same_Some, Exhibit, Shape, Formulas, Setup, BoardMemory, WatchState, Taken, steps_in, IsWatched, TreeFault, TreeState, AreSmallMinors, Halt, TreeCommand, TreeAnswer, SessionState, tree_setup_in, TreeParts, state_of, IsTreeWorld, IsTreeAnswered, IsTreeHalt, IsEngineShown}
 use Rattle.trace_text.specs.declared.talk.Halt.TheVariants as Stop
-use Rattle.tree_session.specs.declared.commands.TreeCommand.{TreeCommand}
-use Rattle.tree_session.specs.declared.answers.TreeAnswer.{TreeAnswer}
-use Rattle.tree_session.specs.State.{SessionState, tree_setup_in}
-use Rattle.tree_session.specs.World.{TreeParts, state_of, IsTreeWorld}
-use Rattle.tree_session.specs.Answered.{IsTreeAnswered, IsTreeHalt, IsEngineShown}
 use Rattle.tree_session.proofs.Worlds.{TreeEngineCall, on}
 
 -- the geometry, and the formulas under keys

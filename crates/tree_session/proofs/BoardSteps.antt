@@ -1,15 +1,9 @@
 -- The steps of a call on a watched board, as an answer tells them.
 use Rattle.std.proofs.Common.{ℕ, ◌≡◌, ◌<◌, ◌≤◌, ◌+◌, ◌-◌, true, false, Bool, refl, ap, ◌∙◌, arith}
-use Rattle.std.specs.Prelude.{min, option_map}
-use Rattle.std.proofs.lemmas.Option.{same_Some}
+use Rattle.tree_session.proofs.Common.{min, option_map, same_Some, Device, BoardMemory, Taken, counted, steps_in, step_limit, device_during, none_taken, IsWatched, TakesTreeSteps, IsTreeCutAt}
 use Rattle.pmem_base.specs.Counts.{last_count}
 use Rattle.board.specs.Counts.{RisesBy}
-use Rattle.board.specs.Device.{Device}
-use Rattle.board.specs.Memory.{BoardMemory}
-use Rattle.watched_board.specs.declared.taken.Taken.{Taken}
-use Rattle.watched_board.specs.Watching.{counted, steps_in, step_limit, device_during, none_taken, IsWatched}
 use Rattle.watched_board.proofs.StepLaws.{unburnt, rose}
-use Rattle.tree_session.specs.Answered.{TakesTreeSteps, IsTreeCutAt}
 
 -- ---- counts
 
@@ -24,20 +18,8 @@ unrisen-one : (last l nl : ℕ) → nl ≡ min (l + 0) last → l ≤ last → n
 unrisen-one last l nl latches in_l = omega arith
 
 same_board : (p q : BoardMemory) → p.lines ≡ q.lines → p.regs ≡ q.regs → p.powered ≡ q.powered → p.fuse ≡ q.fuse → p.snapshot ≡ q.snapshot → p.reads ≡ q.reads → p.writes ≡ q.writes
-    → p.latches ≡ q.latches → p.cuts ≡ q.cuts → p ≡ q
-same_board p q lines regs powered fuse snapshot reads writes latches cuts =
-    λ i.
-    record {
-      lines = lines i;
-      regs = regs i;
-      powered = powered i;
-      fuse = fuse i;
-      snapshot = snapshot i;
-      reads = reads i;
-      writes = writes i;
-      latches = latches i;
-      cuts = cuts i;
-    }
+    → p.latches ≡ q.latches → p.cuts ≡ q.cuts → p.accesses ≡ q.accesses → p ≡ q
+same_board p q lines regs powered fuse snapshot reads writes latches cuts accesses = grind arith
 
 -- ---- a call
 
@@ -97,6 +79,7 @@ module _ (old new : BoardMemory) (taken : Taken) (watched : IsWatched old new ta
       let reads : new.reads ≡ old.reads = ap (λ (d : Device). d.reads) device in
       let fuse : new.fuse ≡ old.fuse = watched.follows.burnt live ∙ (ap (λ n. option_map (λ m. m - n) old.fuse) none ∙ unburnt old.fuse) in
       same_board new old lines regs same fuse watched.follows.snapshot reads (unwritten writes) (unlatched latches) (watched.follows.uncut live)
+      (same_Some _ _ (ap (λ (d : Device). d.accesses) device))
 
 -- a count from 0 that rose by so many, and is far from its end
 pub taken-exact : (n count : ℕ) → RisesBy n 0 count → count ≤ step_limit → count ≡ n

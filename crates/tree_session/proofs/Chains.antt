@@ -1,28 +1,10 @@
 -- Chains of answers from a new session on.
 use Rattle.std.proofs.Common.{ℕ, ◌≡◌, ◌<◌, true, false, Bool, inl, inr, List, [], ◌∷◌, length, Some, None, refl, sym, ap, subst, ◌∙◌}
-use Rattle.std.specs.Prelude.{slice_set, slice_index, slice_index_or, is_some, not, nat_lt, if◌then◌else◌, All}
-use Rattle.std.proofs.lemmas.Bool.{cases_lt, le-ltb, false≢true}
-use Rattle.std.proofs.lemmas.List.{length-replicate, set-get_or}
 use Rattle.std.proofs.lemmas.List.Elements.{All-nil, All-cons, All-head, All-tail}
-use Rattle.std.proofs.lemmas.Option.{none-some}
-use Rattle.pmem_base.specs.declared.lines.Line.{Line}
-use Rattle.pmem_base.specs.declared.answers.Exhibit.{Exhibit}
-use Rattle.pmem_base.specs.declared.answers.Exhibit.TheVariants.{Forged}
-use Rattle.pmem_base.specs.Lines.{line_at, tag_slot}
-use Rattle.pmem_base.specs.Shape.{Shape}
-use Rattle.suite.specs.Setup.{Setup}
-use Rattle.counter_tree.specs.Layout.{tree_lines, tree_size, line_of_node, line_of_slot}
-use Rattle.counter_tree.specs.Nodes.{node_place, version_counter, without_tag}
-use Rattle.asit_shadow.specs.Plain.{PlainTree, true_node, true_version, hurt_with}
-use Rattle.asit_shadow.proofs.FormatLaws.{replicate-default}
-use Rattle.tree_session.specs.declared.commands.TreeCommand.{TreeCommand}
+use Rattle.tree_session.proofs.Common.{slice_set, slice_index, slice_index_or, is_some, not, nat_lt, if◌then◌else◌, All, cases_lt, le-ltb, false≢true, length-replicate, set-get_or, none-some, Line, Exhibit, Forged, line_at, tag_slot, Shape, Setup, tree_lines, tree_size, line_of_node, line_of_slot, node_place, version_counter, without_tag, PlainTree, true_version, hurt_with, replicate-default, TreeCommand, TreeAnswer, SessionState, IsNewTree, is_made, tree_decided, device_node, device_tag, IsPathTampered, IsSlotTampered, IsTreeAnswered, IsPlainKept, IsNodeExhibit, IsDataExhibit, IsShadowExhibit, ShowsEngine, TreeReply, AreTreeAnswered, IsTreeSession, History, first_history, history_with, history_after, is_answered_ok, IsAllowed, AreAllowed, MayShow, version_by, ShowsNode, ShowsLine, ShowsClash, IsTreeKept, IsTreeShown, IsTreeUntouched, IsNoTampering, IsTreeAnswerUnrefused}
+use Rattle.asit_shadow.specs.Plain.{true_node}
 use Rattle.tree_session.specs.declared.commands.TreeCommand.TheVariants as Do
-use Rattle.tree_session.specs.declared.answers.TreeAnswer.{TreeAnswer}
 use Rattle.tree_session.specs.declared.answers.TreeAnswer.TheVariants as Say
-use Rattle.tree_session.specs.State.{SessionState, IsNewTree}
-use Rattle.tree_session.specs.Called.{is_made}
-use Rattle.tree_session.specs.Answered.{tree_decided, device_node, device_tag, IsPathTampered, IsSlotTampered, IsTreeAnswered, IsPlainKept, IsNodeExhibit, IsDataExhibit, IsShadowExhibit, ShowsEngine}
-use Rattle.tree_session.specs.Guarantees.{TreeReply, AreTreeAnswered, IsTreeSession, History, first_history, history_with, history_after, is_answered_ok, IsAllowed, AreAllowed, MayShow, version_by, ShowsNode, ShowsLine, ShowsClash, IsTreeKept, IsTreeShown, IsTreeUntouched, IsNoTampering, IsTreeAnswerUnrefused}
 use Rattle.tree_session.proofs.Histories.{history_of, history-equal, TreeFollows, follows, path-kept, slot-kept, hurt-kept}
 
 -- ---- the beginning
@@ -138,11 +120,7 @@ may-show setup before after (Do.Read a) exhibit undecided plain it =
       ],
     )
 may-show setup before after Do.On exhibit undecided plain it = (dark-from before.board.powered Say.Already undecided, shows-clash setup before after exhibit plain it)
-may-show setup before after Do.Off exhibit undecided plain it = absurd it
-may-show setup before after (Do.Cut n) exhibit undecided plain it = absurd it
-may-show setup before after (Do.Poke d line) exhibit undecided plain it = absurd it
-may-show setup before after Do.Snap exhibit undecided plain it = absurd it
-may-show setup before after (Do.Back d) exhibit undecided plain it = absurd it
+may-show setup before after command exhibit undecided plain it = absurd it
 
 -- the law
 pub shown : (setup : Setup) → IsTreeShown setup
@@ -194,13 +172,9 @@ clear-change g history d command answer none clear tampered hurt =
 
 clear-next : (g : Shape) (history : History) (command : TreeCommand) (answer : TreeAnswer) → IsNoTampering command answer → IsClear history → IsClear (history_with g history command answer)
 clear-next g history (Do.Write a line) answer none clear = clear-write g history a line answer clear
-clear-next g history (Do.Read a) answer none clear = clear-from history (history_with g history (Do.Read a) answer) clear refl refl
-clear-next g history Do.On answer none clear = clear-from history (history_with g history Do.On answer) clear refl refl
-clear-next g history Do.Off answer none clear = clear-from history (history_with g history Do.Off answer) clear refl refl
-clear-next g history (Do.Cut n) answer none clear = clear-from history (history_with g history (Do.Cut n) answer) clear refl refl
 clear-next g history (Do.Poke d line) answer none clear = clear-change g history d (Do.Poke d line) answer none clear refl refl
-clear-next g history Do.Snap answer none clear = clear-from history (history_with g history Do.Snap answer) clear refl refl
 clear-next g history (Do.Back d) answer none clear = clear-change g history d (Do.Back d) answer none clear refl refl
+clear-next g history command answer none clear = clear-from history (history_with g history command answer) clear refl refl
 
 untampered : (g : Shape) (history : History) (a x : ℕ) → IsClear history → IsPathTampered g history.tampered a x → ⊥
 untampered g history a x clear it = false≢true (sym (clear.tampered (line_of_node g x)) ∙ it.its_line)
@@ -211,49 +185,27 @@ untampered-slot g history clear it = false≢true (sym (clear.tampered (line_of_
 no_node : (g : Shape) (history : History) (command : TreeCommand) (x s : ℕ) → IsClear history → IsAllowed g history command (Say.RefusedNode x s) → ⊥
 no_node g history (Do.Write a line) x s clear it = untampered g history a x clear it.2
 no_node g history (Do.Read a) x s clear it = untampered g history a x clear it.1
-no_node g history Do.On x s clear it = it
-no_node g history Do.Off x s clear it = it
 no_node g history (Do.Cut n) x s clear it = cc
-no_node g history (Do.Poke d line) x s clear it = it
 no_node g history Do.Snap x s clear it = cc
-no_node g history (Do.Back d) x s clear it = it
+no_node g history command x s clear it = it
 
 no_data : (g : Shape) (history : History) (command : TreeCommand) (b s : ℕ) → IsClear history → IsAllowed g history command (Say.RefusedData b s) → ⊥
-no_data g history (Do.Write a line) b s clear it = it
 no_data g history (Do.Read a) b s clear it = false≢true (sym (clear.hurt a) ∙ it.2)
-no_data g history Do.On b s clear it = it
-no_data g history Do.Off b s clear it = it
 no_data g history (Do.Cut n) b s clear it = cc
-no_data g history (Do.Poke d line) b s clear it = it
 no_data g history Do.Snap b s clear it = cc
-no_data g history (Do.Back d) b s clear it = it
+no_data g history command b s clear it = it
 
 no_shadow : (g : Shape) (history : History) (command : TreeCommand) (first found : List ℕ) (s : ℕ) → IsClear history → IsAllowed g history command (Say.RefusedShadow first found s) → ⊥
-no_shadow g history (Do.Write a line) first found s clear it = it
-no_shadow g history (Do.Read a) first found s clear it = it
 no_shadow g history Do.On first found s clear it = untampered-slot g history clear it.1
-no_shadow g history Do.Off first found s clear it = it
 no_shadow g history (Do.Cut n) first found s clear it = cc
-no_shadow g history (Do.Poke d line) first found s clear it = it
 no_shadow g history Do.Snap first found s clear it = cc
-no_shadow g history (Do.Back d) first found s clear it = it
+no_shadow g history command first found s clear it = it
 
 unrefused : (g : Shape) (history : History) (command : TreeCommand) (answer : TreeAnswer) → IsClear history → IsAllowed g history command answer → IsTreeAnswerUnrefused answer
 unrefused g history command (Say.RefusedNode x s) clear it = no_node g history command x s clear it
 unrefused g history command (Say.RefusedData b s) clear it = no_data g history command b s clear it
 unrefused g history command (Say.RefusedShadow first found s) clear it = no_shadow g history command first found s clear it
-unrefused g history command Say.Ok clear it = tt
-unrefused g history command Say.Off clear it = tt
-unrefused g history command Say.Already clear it = tt
-unrefused g history command Say.Range clear it = tt
-unrefused g history command Say.NoSnap clear it = tt
-unrefused g history command (Say.Written s) clear it = tt
-unrefused g history command (Say.Got got s) clear it = tt
-unrefused g history command (Say.Recovered digests s) clear it = tt
-unrefused g history command (Say.Spent s) clear it = tt
-unrefused g history command (Say.CutKept s) clear it = tt
-unrefused g history command (Say.CutLost s) clear it = tt
-unrefused g history command (Say.Cut s) clear it = tt
+unrefused g history command answer clear it = tt
 
 unrefused-chain : (g : Shape) (history : History) (replies : List TreeReply) → IsClear history → All (λ (reply : TreeReply). IsNoTampering reply.command reply.answer) replies → AreAllowed g history replies
     → All (λ (reply : TreeReply). IsTreeAnswerUnrefused reply.answer) replies
@@ -275,11 +227,7 @@ unshown g history (Do.Read a) exhibit clear it =
       | inr line ↦ false≢true (sym (clear.hurt a) ∙ line.hurt)
     ]
 unshown g history Do.On exhibit clear it = untampered-slot g history clear it.1.place
-unshown g history Do.Off exhibit clear it = it
-unshown g history (Do.Cut n) exhibit clear it = it
-unshown g history (Do.Poke d line) exhibit clear it = it
-unshown g history Do.Snap exhibit clear it = it
-unshown g history (Do.Back d) exhibit clear it = it
+unshown g history command exhibit clear it = it
 
 -- the law
 pub untouched : (setup : Setup) → IsTreeUntouched setup

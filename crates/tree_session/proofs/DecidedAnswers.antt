@@ -1,28 +1,10 @@
 -- Answers that the state decides.
 use Rattle.std.proofs.Common.{ℕ, ◌≡◌, ◌<◌, ◌≤◌, true, false, Bool, List, Option, Some, None, Ok, Err, refl, sym, ap, subst, ◌∙◌}
-use Rattle.std.specs.Prelude.{Result, IsErr, OnErr, nat_lt, not, is_none, is_some, if◌then◌else◌, slice_set, All}
-use Rattle.std.proofs.lemmas.Bool.{lt-ltb, le-ltb, true≢false, false≢true}
-use Rattle.pmem_base.specs.declared.lines.Line.{Line}
-use Rattle.pmem_base.specs.Lines.{IsLine, line_at}
-use Rattle.pmem_base.specs.Geo.{shape_of}
-use Rattle.pmem_base.specs.Shape.{Shape}
-use Rattle.suite.specs.Formulas.{Formulas}
-use Rattle.suite.specs.Setup.{Setup}
+use Rattle.tree_session.proofs.Common.{Result, IsErr, OnErr, nat_lt, not, is_none, is_some, if◌then◌else◌, slice_set, All, lt-ltb, le-ltb, true≢false, false≢true, Line, IsLine, line_at, shape_of, Shape, Formulas, Setup, BoardMemory, with_line_at, with_lines, restored_lines, tree_lines, tree_size, hurt_with, TreeState, TreeCommand, TreeAnswer, SessionState, tree_setup_in, IsChipStill, IsTreeCalled, engine_left, parts_in, setup_in, TreeParts, plain_of_parts, state_of, IsTreeWorld, IsTreeAnswered, IsTreeMemoryWanted, AnswersWith, tree_decided, tree_after_decided}
 use Rattle.suite.specs.declared.Suite.{Ghosts as SuiteOf}
-use Rattle.board.specs.Memory.{BoardMemory, with_line_at, with_lines, restored_lines}
-use Rattle.counter_tree.specs.Layout.{tree_lines, tree_size}
-use Rattle.asit_shadow.specs.Plain.{hurt_with}
-use Rattle.asit_shadow.specs.State.{TreeState}
-use Rattle.tree_session.specs.declared.commands.TreeCommand.{TreeCommand}
 use Rattle.tree_session.specs.declared.commands.TreeCommand.TheVariants as Do
-use Rattle.tree_session.specs.declared.answers.TreeAnswer.{TreeAnswer}
 use Rattle.tree_session.specs.declared.answers.TreeAnswer.TheVariants as Say
-use Rattle.tree_session.specs.State.{SessionState, tree_setup_in}
 use Rattle.tree_session.specs.declared.world.TreeWorld.TheInside.{Inside}
-use Rattle.tree_session.specs.Called.{IsChipStill, IsTreeCalled, engine_left}
-use Rattle.tree_session.specs.Fields.{parts_in, setup_in}
-use Rattle.tree_session.specs.World.{TreeParts, plain_of_parts, state_of, IsTreeWorld}
-use Rattle.tree_session.specs.Answered.{IsTreeAnswered, IsTreeMemoryWanted, AnswersWith, tree_decided, tree_after_decided}
 use Rattle.tree_session.proofs.Worlds.{rooted_open, powered_by, unpowered_by}
 use Rattle.tree_session.proofs.Powers.{other_held, dark_held}
 use Rattle.tree_session.proofs.TamperLaws.{changed_held}

@@ -1,29 +1,10 @@
--- Two replies to one command in one state are the same, and leave the same state.
-use Rattle.std.proofs.Common.{ℕ, ◌≡◌, Bool, true, false, List, Option, Some, None, Result, Ok, Err, inl, inr, refl, sym, ap, subst, ◌∙◌, arith}
-use Rattle.std.specs.Prelude.{not, nat_lt, ⊤, if◌then◌else◌}
-use Rattle.std.proofs.lemmas.Option.{same_Some}
-use Rattle.pmem_base.specs.declared.answers.Exhibit.{Exhibit}
-use Rattle.board.specs.Memory.{BoardMemory}
-use Rattle.suite.specs.Setup.{Setup}
-use Rattle.call_plan.specs.Plans.{Plan}
-use Rattle.call_plan.specs.Runs.{IsOutcome}
+-- Two replies to one command in one state are the same, and leave the same state and the same log.
+use Rattle.std.proofs.Common.{◌≡◌, Bool, true, false, List, [], Option, Some, None, Result, Ok, Err, inl, inr, refl, sym, ap, subst, ◌∙◌, arith}
+use Rattle.tree_session.proofs.Common.{not, nat_lt, ⊤, if◌then◌else◌, same_Some, Exhibit, Access, BoardMemory, Setup, Plan, IsOutcome, tree_lines, Taken, same_logged, TreeFault, PlainTree, with_board, TreeChip, read_plan, write_plan, RecoverParts, TreeCommand, TreeAnswer, SessionState, HasTreeCalled, HasTreeStarted, IsTreeCallOf, IsTreeCalled, chip_in, plain_said, on_said, read_said, write_said, board_left, engine_kept, board_resting, engine_made, AnswersWith, tree_decided, IsTreeAnswered, IsEngineShown, IsTreeShownBy, IsTreeLogged}
 use Rattle.call_plan.proofs.DeterminedCalls.{call_is_determined}
-use Rattle.counter_tree.specs.Layout.{tree_lines}
-use Rattle.watched_board.specs.declared.taken.Taken.{Taken}
-use Rattle.asit_shadow.specs.declared.fault.TreeFault.{TreeFault}
-use Rattle.asit_shadow.specs.State.{TreeState}
-use Rattle.asit_shadow.specs.Plain.{PlainTree, with_board}
-use Rattle.asit_shadow.specs.Plans.{TreeChip, read_plan}
-use Rattle.asit_shadow.specs.WritePlans.{write_plan}
-use Rattle.asit_shadow.specs.RecoverPlans.{RecoverParts}
-use Rattle.tree_session.specs.declared.commands.TreeCommand.{TreeCommand}
 use Rattle.tree_session.specs.declared.commands.TreeCommand.TheVariants as Do
-use Rattle.tree_session.specs.declared.answers.TreeAnswer.{TreeAnswer}
 use Rattle.tree_session.specs.declared.answers.TreeAnswer.TheVariants as Say
-use Rattle.tree_session.specs.State.{SessionState}
-use Rattle.tree_session.specs.Called.{HasTreeCalled, HasTreeStarted, IsTreeCallOf, IsTreeCalled, chip_in, plain_said, on_said, read_said, write_said, board_left, engine_kept, board_resting, engine_made}
-use Rattle.tree_session.specs.Answered.{AnswersWith, tree_decided, IsTreeAnswered, IsEngineShown, IsTreeShownBy}
-use Rattle.tree_session.specs.Determined.{TreeRepliesAreDetermined, IsTreeReplied}
+use Rattle.tree_session.specs.Determined.{TreeRepliesAreDetermined, TreeLogsAreDetermined}
 
 -- a state is its fields
 same_state : (a b : SessionState) → a.shape ≡ b.shape → a.keys ≡ b.keys → a.plain ≡ b.plain → a.shown ≡ b.shown → a.engine ≡ b.engine → a.seals ≡ b.seals
@@ -119,12 +100,7 @@ module _ (setup : Setup) (old one other : SessionState) where
   lit_for : (command : TreeCommand) → tree_decided setup.shape old.plain command ≡ None → IsLitFor command
   lit_for (Do.Write a line) none = lit_of old.plain.board.powered (nat_lt a (tree_lines setup.shape)) none
   lit_for (Do.Read a) none = lit_of old.plain.board.powered (nat_lt a (tree_lines setup.shape)) none
-  lit_for Do.On none = tt
-  lit_for Do.Off none = tt
-  lit_for (Do.Cut n) none = tt
-  lit_for (Do.Poke d line) none = tt
-  lit_for Do.Snap none = tt
-  lit_for (Do.Back d) none = tt
+  lit_for command none = tt
 
   -- where the state doesn't decide
   by_call : (command : TreeCommand) (first second : Option TreeAnswer) → IsLitFor command → IsTreeCallOf setup old command one first
@@ -134,11 +110,7 @@ module _ (setup : Setup) (old one other : SessionState) where
       called_alike (write_plan setup old.plain.board.regs a line) write_said (Do.Write a line) first second on it its plain plain_other
   by_call (Do.Read a) first second on it its plain plain_other = called_alike (read_plan setup a) read_said (Do.Read a) first second on it its plain plain_other
   by_call Do.On first second on it its plain plain_other = started_alike first second it its plain plain_other
-  by_call Do.Off first second on it its plain plain_other = absurd it
-  by_call (Do.Cut n) first second on it its plain plain_other = absurd it
-  by_call (Do.Poke d line) first second on it its plain plain_other = absurd it
-  by_call Do.Snap first second on it its plain plain_other = absurd it
-  by_call (Do.Back d) first second on it its plain plain_other = absurd it
+  by_call command first second on it its plain plain_other = absurd it
 
   answers_alike : (decided : Option TreeAnswer) (command : TreeCommand) (first second : TreeAnswer) → (decided ≡ None → IsLitFor command) → one.shown ≡ other.shown
       → AnswersWith setup old.plain command one.plain first decided → AnswersWith setup old.plain command other.plain second decided
@@ -216,3 +188,20 @@ replies_are_determined setup command (Err first) (Ok second) old one other it it
     absurd (not_shown_by setup command old other one second first its it)
 replies_are_determined setup command (Err first) (Err second) old one other it its =
     let same = shown_twice setup command old one other first second it its in (ap Err same.0, same.1)
+
+-- ---- logs
+
+same_log_of : (command : TreeCommand) (old new : SessionState) (accesses others : List Access) → IsTreeLogged command (Some []) old (Some accesses) new
+    → IsTreeLogged command (Some []) old (Some others) new → accesses ≡ others
+same_log_of (Do.Write a line) old new accesses others it its =
+    same_logged (tree_decided old.shape old.plain (Do.Write a line)) old.plain.board new.plain.board accesses others it its
+same_log_of (Do.Read a) old new accesses others it its =
+    same_logged (tree_decided old.shape old.plain (Do.Read a)) old.plain.board new.plain.board accesses others it its
+same_log_of Do.On old new accesses others it its = same_logged (tree_decided old.shape old.plain Do.On) old.plain.board new.plain.board accesses others it its
+same_log_of command old new accesses others it its = same_Some accesses others (it ∙ sym its)
+
+pub logs_are_determined : TreeLogsAreDetermined
+logs_are_determined setup command first second old one other accesses others it its log its_log =
+    let same = (replies_are_determined setup command first second old one other it its).1 in
+    same_log_of command old one accesses others log
+    (subst (λ (s : SessionState). IsTreeLogged command (Some []) old (Some others) s) (sym same) its_log)

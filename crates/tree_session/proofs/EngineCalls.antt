@@ -1,28 +1,7 @@
 -- What a call of the engine answers: the parts that are one for reads and writes.
-use Rattle.std.proofs.Common.{ℕ, ◌≡◌, ◌<◌, ◌≤◌, true, false, Bool, List, Option, Some, None, refl, sym, ap, subst, ◌∙◌, arith}
-use Rattle.std.specs.Prelude.{slice_index_or}
-use Rattle.std.proofs.lemmas.Bool.{lt-ltb}
-use Rattle.std.proofs.lemmas.Option.{same_Some}
-use Rattle.std.specs.Prelude.{nat_lt, not, if◌then◌else◌}
-use Rattle.pmem_base.specs.declared.lines.Line.{Line}
-use Rattle.pmem_base.specs.declared.answers.Exhibit.{Exhibit}
-use Rattle.pmem_base.specs.declared.answers.Exhibit.TheVariants.{Forged}
-use Rattle.pmem_base.specs.Lines.{line_at}
-use Rattle.pmem_base.specs.Layout.{meta_lines}
-use Rattle.board.specs.Memory.{BoardMemory}
-use Rattle.collision_witness.specs.Exhibits.{AreSmallMinors}
-use Rattle.commit_regs.specs.Groups.{redone}
-use Rattle.pmem_engine.specs.Outcomes.{Outcome, cut_short}
-use Rattle.counter_tree.specs.Layout.{tree_lines, line_of_node}
-use Rattle.watched_board.specs.declared.taken.Taken.{Taken}
-use Rattle.watched_board.specs.Watching.{steps_in, device_during, none_taken, IsWatched}
-use Rattle.asit_shadow.specs.Parts.{HoldsNode}
+use Rattle.std.proofs.Common.{ℕ, ◌≡◌, ◌<◌, true, false, Bool, List, Option, Some, None, refl, sym, ap, subst, ◌∙◌}
+use Rattle.tree_session.proofs.Common.{slice_index_or, lt-ltb, same_Some, nat_lt, not, if◌then◌else◌, Line, Exhibit, Forged, line_at, meta_lines, BoardMemory, AreSmallMinors, redone, Outcome, tree_lines, line_of_node, HoldsNode, KeepsWatch, with_board, on_path-inside, TreeParts, plain_of_parts, IsRooted, IsNodeRefusal, IsNodeExhibit, IsPlainKept}
 use Rattle.asit_shadow.specs.Calls as told
-use Rattle.asit_shadow.specs.Calls.{KeepsWatch}
-use Rattle.asit_shadow.specs.Plain.{with_board}
-use Rattle.asit_shadow.proofs.SlotPlaces.{on_path-inside}
-use Rattle.tree_session.specs.World.{TreeParts, plain_of_parts}
-use Rattle.tree_session.specs.Answered.{IsRooted, IsNodeRefusal, IsNodeExhibit, IsPlainKept}
 use Rattle.tree_session.proofs.PlainStates.{plain-kept}
 use Rattle.tree_session.proofs.Worlds.{TreeEngineCall, on, from, to, trusted_from, rooted_open}
 use Rattle.tree_session.proofs.Refusals.{rooted_with, node-refused, node-shown}

@@ -1,20 +1,9 @@
 -- What the commands and answers so far say is what the plain state has, so the next answer is one that they allow.
-use Rattle.std.proofs.Common.{ℕ, ◌≡◌, ◌<◌, ◌≤◌, ◌+◌, true, false, Bool, inl, inr, List, length, Option, Some, None, refl, sym, ap, subst, ◌∙◌}
-use Rattle.std.specs.Prelude.{slice_set, is_some, is_none, not, nat_lt, if◌then◌else◌}
-use Rattle.std.proofs.lemmas.Bool.{cases_Bool, cases_lt, lt-ltb, le-ltb}
-use Rattle.std.proofs.lemmas.List.{length-set}
-use Rattle.pmem_base.specs.declared.lines.Line.{Line}
-use Rattle.pmem_base.specs.Shape.{Shape}
-use Rattle.suite.specs.Setup.{Setup}
-use Rattle.counter_tree.specs.Layout.{tree_lines, tree_size}
-use Rattle.asit_shadow.specs.Plain.{PlainTree, true_count}
+use Rattle.std.proofs.Common.{ℕ, ◌≡◌, ◌<◌, ◌≤◌, ◌+◌, true, false, Bool, inl, inr, List, length, Option, Some, None, refl, sym, ap, subst, ◌∙◌, arith}
+use Rattle.tree_session.proofs.Common.{slice_set, is_some, is_none, not, nat_lt, if◌then◌else◌, cases_Bool, cases_lt, lt-ltb, le-ltb, length-set, Line, Shape, Setup, tree_lines, tree_size, PlainTree, true_count, TreeCommand, TreeAnswer, tree_decided, tree_after_decided, TakesTreeSteps, IsTreeCutAt, IsPlainKept, IsPlainWritten, SaysOfWrite, SaysOfRead, SaysOfOn, AnswersWith, IsPathTampered, IsSlotTampered, IsHurt, History, history_with, IsAllowed}
 use Rattle.trace_text.specs.Sessions.{burnt}
-use Rattle.tree_session.specs.declared.commands.TreeCommand.{TreeCommand}
 use Rattle.tree_session.specs.declared.commands.TreeCommand.TheVariants as Do
-use Rattle.tree_session.specs.declared.answers.TreeAnswer.{TreeAnswer}
 use Rattle.tree_session.specs.declared.answers.TreeAnswer.TheVariants as Say
-use Rattle.tree_session.specs.Answered.{tree_decided, tree_after_decided, TakesTreeSteps, IsTreeCutAt, IsPlainKept, IsPlainWritten, SaysOfWrite, SaysOfRead, SaysOfOn, AnswersWith, IsPathTampered, IsSlotTampered, IsHurt}
-use Rattle.tree_session.specs.Guarantees.{History, history_with, IsAllowed}
 
 -- what a plain state has of it
 abbrev pub history_of : PlainTree → History
@@ -30,14 +19,7 @@ history_of plain =
     }
 
 pub history-equal : (p q : History) → p.memory ≡ q.memory → p.counts ≡ q.counts → p.tampered ≡ q.tampered → p.hurt ≡ q.hurt → p.power ≡ q.power → p.fuse ≡ q.fuse → p.snapped ≡ q.snapped → p ≡ q
-history-equal p q memory counts tampered hurt power fuse snapped =
-    ap (λ v. let r : History = record { memory = v; counts = p.counts; tampered = p.tampered; hurt = p.hurt; power = p.power; fuse = p.fuse; snapped = p.snapped } in r) memory
-    ∙ (ap (λ v. let r : History = record { memory = q.memory; counts = v; tampered = p.tampered; hurt = p.hurt; power = p.power; fuse = p.fuse; snapped = p.snapped } in r) counts
-    ∙ (ap (λ v. let r : History = record { memory = q.memory; counts = q.counts; tampered = v; hurt = p.hurt; power = p.power; fuse = p.fuse; snapped = p.snapped } in r) tampered
-    ∙ (ap (λ v. let r : History = record { memory = q.memory; counts = q.counts; tampered = q.tampered; hurt = v; power = p.power; fuse = p.fuse; snapped = p.snapped } in r) hurt
-    ∙ (ap (λ v. let r : History = record { memory = q.memory; counts = q.counts; tampered = q.tampered; hurt = q.hurt; power = v; fuse = p.fuse; snapped = p.snapped } in r) power
-    ∙ (ap (λ v. let r : History = record { memory = q.memory; counts = q.counts; tampered = q.tampered; hurt = q.hurt; power = q.power; fuse = v; snapped = p.snapped } in r) fuse
-    ∙ (ap (λ v. let r : History = record { memory = q.memory; counts = q.counts; tampered = q.tampered; hurt = q.hurt; power = q.power; fuse = q.fuse; snapped = v } in r) snapped))))))
+history-equal p q memory counts tampered hurt power fuse snapped = grind arith
 
 -- ---- steps
 
@@ -152,16 +134,7 @@ by_write setup before after a line (Say.RefusedNode x s) on low count it =
       history = stepped s true before.board.powered before after (sym on) it.2 it.4;
       count = counts-kept before after it.4;
     }
-by_write setup before after a line Say.Ok on low count it = absurd it
-by_write setup before after a line Say.Off on low count it = absurd it
-by_write setup before after a line Say.Already on low count it = absurd it
-by_write setup before after a line Say.Range on low count it = absurd it
-by_write setup before after a line Say.NoSnap on low count it = absurd it
-by_write setup before after a line (Say.Got got s) on low count it = absurd it
-by_write setup before after a line (Say.Recovered digests s) on low count it = absurd it
-by_write setup before after a line (Say.RefusedData b s) on low count it = absurd it
-by_write setup before after a line (Say.RefusedShadow kept found s) on low count it = absurd it
-by_write setup before after a line (Say.Cut s) on low count it = absurd it
+by_write setup before after a line answer on low count it = absurd it
 
 -- ---- reads
 
@@ -191,17 +164,7 @@ by_read setup before after a (Say.RefusedNode x s) on low it =
       history = stepped s true before.board.powered before after (sym on) it.1 it.3;
       count = counts-kept before after it.3;
     }
-by_read setup before after a Say.Ok on low it = absurd it
-by_read setup before after a Say.Off on low it = absurd it
-by_read setup before after a Say.Already on low it = absurd it
-by_read setup before after a Say.Range on low it = absurd it
-by_read setup before after a Say.NoSnap on low it = absurd it
-by_read setup before after a (Say.Written s) on low it = absurd it
-by_read setup before after a (Say.Recovered digests s) on low it = absurd it
-by_read setup before after a (Say.RefusedShadow kept found s) on low it = absurd it
-by_read setup before after a (Say.Spent s) on low it = absurd it
-by_read setup before after a (Say.CutKept s) on low it = absurd it
-by_read setup before after a (Say.CutLost s) on low it = absurd it
+by_read setup before after a answer on low it = absurd it
 
 -- ---- recoveries
 
@@ -224,18 +187,7 @@ by_on setup before after (Say.RefusedShadow kept found s) off it =
       history = stepped s false before.board.powered before after (sym off) it.1 it.5;
       count = counts-kept before after it.5;
     }
-by_on setup before after Say.Ok off it = absurd it
-by_on setup before after Say.Off off it = absurd it
-by_on setup before after Say.Already off it = absurd it
-by_on setup before after Say.Range off it = absurd it
-by_on setup before after Say.NoSnap off it = absurd it
-by_on setup before after (Say.Written s) off it = absurd it
-by_on setup before after (Say.Got got s) off it = absurd it
-by_on setup before after (Say.RefusedNode x s) off it = absurd it
-by_on setup before after (Say.RefusedData b s) off it = absurd it
-by_on setup before after (Say.Spent s) off it = absurd it
-by_on setup before after (Say.CutKept s) off it = absurd it
-by_on setup before after (Say.CutLost s) off it = absurd it
+by_on setup before after answer off it = absurd it
 
 -- ---- any command
 

@@ -1,3 +1,4 @@
+pub mod Common
 pub mod PlainStates
 pub mod BoardSteps
 pub mod Worlds
@@ -20,3 +21,4 @@ pub mod OnCalls
 pub mod DecidedAnswers
 pub mod NewCalls
 pub mod DeterminedReplies
+pub mod LogLemmas

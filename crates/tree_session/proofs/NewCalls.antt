@@ -1,19 +1,6 @@
 -- A new session, as its fields have it.
 use Rattle.std.proofs.Common.{ℕ, ◌≡◌, false, Bool, List, Some, None, ap, subst, sym, ◌∙◌}
-use Rattle.std.specs.Prelude.{All, replicate}
-use Rattle.pmem_base.specs.Lines.{IsLine}
-use Rattle.pmem_base.specs.Shape.{Shape, IsShape}
-use Rattle.suite.specs.Formulas.{Formulas, AreInRange}
-use Rattle.suite.specs.Setup.{Setup}
-use Rattle.board.specs.Memory.{BoardMemory, device_of, new_memory}
-use Rattle.counter_tree.specs.Book.{new_watch}
-use Rattle.counter_tree.specs.Layout.{tree_lines, tree_size}
-use Rattle.counter_tree.specs.Watch.{WatchState}
-use Rattle.asit_shadow.specs.State.{TreeState}
-use Rattle.asit_shadow.specs.Formatting.{HasTreeFormatted}
-use Rattle.asit_shadow.specs.Recovering.{rest_of}
-use Rattle.tree_session.specs.State.{IsNewTree}
-use Rattle.tree_session.specs.World.{TreeParts, state_of, IsTreeWorld}
+use Rattle.tree_session.proofs.Common.{All, replicate, IsLine, Shape, IsShape, Formulas, AreInRange, Setup, BoardMemory, device_of, new_memory, new_watch, tree_lines, tree_size, WatchState, TreeState, HasTreeFormatted, rest_of, IsNewTree, TreeParts, state_of, IsTreeWorld}
 use Rattle.tree_session.proofs.NewWorlds.{new_held, new_is}
 use Rattle.tree_session.proofs.AnswerClauses.{setup_under}
 

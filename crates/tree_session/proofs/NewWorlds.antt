@@ -1,40 +1,9 @@
 -- A formatted device begins a session.
 use Rattle.std.proofs.Common.{ℕ, zero, suc, ◌≡◌, ◌<◌, true, false, List, ◌∷◌, length, Some, None, refl, sym, ap, subst, ◌∙◌, arith, zero-add, lit<}
-use Rattle.std.specs.Prelude.{All, is_none, is_some, map, replicate, slice_set}
-use Rattle.std.specs.List.{range_with_len}
-use Rattle.std.proofs.lemmas.List.{ext_get_or, length-replicate, map-set}
-use Rattle.std.proofs.lemmas.List.FromFn.{length-map-range_with_len, get_or-map-range_with_len}
-use Rattle.std.proofs.lemmas.Bool.{and_parts, not-true}
-use Rattle.pmem_base.specs.Lines.{IsLine, zero_line}
-use Rattle.pmem_base.specs.Shape.{IsShape}
-use Rattle.pmem_base.specs.Layout.{meta_lines}
-use Rattle.suite.specs.Formulas.{AreInRange}
-use Rattle.suite.specs.Setup.{Setup}
-use Rattle.board.specs.Memory.{BoardMemory, device_of, new_memory}
-use Rattle.counter_tree.specs.Book.{new_watch}
-use Rattle.counter_tree.specs.Layout.{tree_lines, tree_slots, tree_size}
-use Rattle.counter_tree.specs.declared.nodes.Node.{Node}
-use Rattle.counter_tree.specs.Nodes.{zero_node, IsNode, counter, version_counter}
-use Rattle.counter_tree.specs.Slots.{slot_line}
-use Rattle.counter_tree.specs.Trees.{node_at, line_counter, line_position}
-use Rattle.counter_tree.proofs.TreeLaws.{tree-IsNode}
+use Rattle.tree_session.proofs.Common.{All, is_none, is_some, map, replicate, slice_set, range_with_len, ext_get_or, length-replicate, map-set, length-map-range_with_len, get_or-map-range_with_len, and_parts, not-true, IsLine, zero_line, IsShape, meta_lines, AreInRange, Setup, BoardMemory, device_of, new_memory, new_watch, tree_lines, tree_slots, tree_size, Node, zero_node, IsNode, counter, version_counter, slot_line, node_at, line_counter, line_position, tree-IsNode, redone, cipher_of-back, WatchState, TreeState, HasTreeFormatted, IsTreeSound, AreTreeTrusted, tree_parts_of, IsNodeHeldBy, tree_plain_of, tree_plain_line, rest_of, replicate-default, lines-equal, IsNewTree, TreeParts, named_by, state_of, IsTreeWorld}
 use Rattle.bonsai_tree.specs.Positions.{parent, child_slot}
-use Rattle.commit_regs.specs.Groups.{redone}
-use Rattle.suite.proofs.CipherLemmas.{cipher_of-back}
 use Rattle.pmem_base.proofs.LineLemmas.{IsLine-zero_line}
-use Rattle.counter_tree.specs.Watch.{WatchState}
-use Rattle.asit_shadow.specs.State.{TreeState}
-use Rattle.asit_shadow.specs.Formatting.{HasTreeFormatted}
-use Rattle.asit_shadow.specs.Invariants.{IsTreeSound}
-use Rattle.asit_shadow.specs.Parts.{AreTreeTrusted, tree_parts_of}
-use Rattle.asit_shadow.specs.Places.{IsNodeHeldBy}
-use Rattle.asit_shadow.specs.Steps.{tree_plain_of, tree_plain_line}
-use Rattle.asit_shadow.specs.Recovering.{rest_of}
-use Rattle.asit_shadow.proofs.FormatLaws.{replicate-default}
 use Rattle.asit_shadow.proofs.FormatPlans.{first_engine-is}
-use Rattle.asit_shadow.proofs.RecoverLaws.{lines-equal}
-use Rattle.tree_session.specs.State.{IsNewTree}
-use Rattle.tree_session.specs.World.{TreeParts, named_by, state_of, IsTreeWorld}
 use Rattle.tree_session.proofs.PlainStates.{named-zero, named-line, top_inside}
 use Rattle.tree_session.proofs.Worlds.{opened, none_is, usable_on}
 

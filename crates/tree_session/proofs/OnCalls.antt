@@ -1,31 +1,11 @@
 -- A recovery, as the fields of a session have it.
-use Rattle.std.proofs.Common.{ℕ, ◌≡◌, ◌≢◌, true, false, List, Option, Some, None, Ok, Err, refl, ap, subst, sym, ◌∙◌}
-use Rattle.std.specs.Prelude.{Result, option_map}
-use Rattle.pmem_base.specs.declared.answers.Exhibit.{Exhibit}
-use Rattle.pmem_base.specs.Shape.{Shape}
-use Rattle.suite.specs.Formulas.{Formulas}
-use Rattle.suite.specs.Setup.{Setup}
-use Rattle.board.specs.Memory.{BoardMemory}
-use Rattle.call_plan.specs.Plans.{ended}
-use Rattle.call_plan.specs.Following.{Follows}
-use Rattle.pmem_recovery.specs.declared.faults.Work.{Work}
-use Rattle.counter_tree.specs.Watch.{WatchState, first_shown}
-use Rattle.watched_board.specs.declared.taken.Taken.{Taken}
-use Rattle.watched_board.specs.Watching.{steps_in, device_during, none_taken, IsWatched}
-use Rattle.asit_shadow.specs.declared.recovery.TreeRec.{TreeRec}
+use Rattle.std.proofs.Common.{ℕ, ◌≡◌, ◌≢◌, Bool, true, false, List, Option, Some, None, Ok, Err, refl, ap, subst, sym, ◌∙◌}
+use Rattle.tree_session.proofs.Common.{Result, option_map, if◌then◌else◌, Exhibit, Shape, Formulas, Setup, BoardMemory, ended, Follows, Work, WatchState, first_shown, Taken, steps_in, device_during, none_taken, IsWatched, TreeRec, TreeState, rest_of, HasTreeRecovered, recover_parts, tree_recover_plan, Halt, TreeAnswer, SessionState, tree_setup_in, TreeParts, state_of, IsTreeWorld, tree_decided, IsTreeAnswered, IsTreeMemoryWanted, IsTreeHalt}
 use Rattle.asit_shadow.specs.declared.recovery.TreeRec.TheVariants as Fail
-use Rattle.asit_shadow.specs.State.{TreeState}
-use Rattle.asit_shadow.specs.Recovering.{rest_of, HasTreeRecovered}
-use Rattle.asit_shadow.specs.RecoverPlans.{recover_parts, tree_recover_plan}
-use Rattle.trace_text.specs.declared.talk.Halt.{Halt}
 use Rattle.trace_text.specs.declared.talk.Halt.TheVariants as Stop
 use Rattle.tree_session.specs.declared.commands.TreeCommand.TheVariants as Do
-use Rattle.tree_session.specs.declared.answers.TreeAnswer.{TreeAnswer}
 use Rattle.tree_session.specs.declared.answers.TreeAnswer.TheVariants as Say
-use Rattle.tree_session.specs.State.{SessionState, tree_setup_in}
-use Rattle.tree_session.specs.World.{TreeParts, state_of, IsTreeWorld}
-use Rattle.tree_session.specs.Answered.{IsTreeAnswered, IsTreeMemoryWanted, IsTreeHalt}
-use Rattle.tree_session.proofs.Recoveries.{TreeRecoveryCall, RecoversBy, rest_from, rest_to, left_with, resting, recovered_held, recovered_done, cut_held, cut_done, refused_held, refused_done, memory_held, memory_wanted}
+use Rattle.tree_session.proofs.Recoveries.{dark, TreeRecoveryCall, RecoversBy, rest_from, rest_to, left_with, resting, recovered_held, recovered_done, cut_held, cut_done, refused_held, refused_done, memory_held, memory_wanted}
 use Rattle.tree_session.proofs.RecoveryClashes.{clash_held, clash_done, clash_minors}
 use Rattle.tree_session.proofs.AnswerClauses.{setup_under, seen_from, held_under, halts}
 
@@ -85,6 +65,12 @@ module _ (o : OnTreeCall) where
         same_before = o.same_before;
         later = o.later;
       }
+
+  -- the state doesn't decide the answer
+  pub undecided_now : tree_decided o.now.shape o.now.plain Do.On ≡ None
+  undecided_now =
+      subst (λ (w : SessionState). tree_decided w.shape w.plain Do.On ≡ None) o.is
+      (ap (λ (b : Bool). if b then Some Say.Already else None) (dark call))
 
   was : (known : Result (TreeState × Work) TreeRec) → o.answer ≡ known → HasTreeRecovered (setup_under o.formulas_of o.geometry o.parts.keys) (rest_from call) (rest_to call) o.before o.later known
   was known is =

@@ -1,37 +1,12 @@
 -- The plain state that a session's parts make: it is that of the plain machine, and there is one of a watch.
 use Rattle.std.proofs.Common.{ℕ, ◌≡◌, ◌<◌, List, false, length, Option, Some, None, refl, sym, ap, subst, inl, inr, ◌∙◌, arith, zero-add}
-use Rattle.std.specs.Prelude.{map, option_map, slice_set}
-use Rattle.std.specs.List.{range_with_len}
-use Rattle.std.proofs.lemmas.Bool.{cases_lt}
-use Rattle.std.proofs.lemmas.List.{ext_get_or, length-map, get_or-map, get_or_past}
-use Rattle.std.proofs.lemmas.List.FromFn.{length-map-range_with_len, get_or-map-range_with_len}
-use Rattle.std.proofs.lemmas.Option.{same_Some, none-some}
-use Rattle.pmem_base.specs.declared.lines.Line.{Line}
-use Rattle.pmem_base.specs.declared.registers.Regs.{Regs}
-use Rattle.pmem_base.specs.Lines.{IsLine, line_at, zero_line}
-use Rattle.pmem_base.specs.Shape.{Shape, IsShape}
-use Rattle.pmem_base.specs.Layout.{meta_lines}
-use Rattle.suite.specs.Formulas.{AreInRange, cipher_of}
-use Rattle.suite.specs.Setup.{Setup}
+use Rattle.tree_session.proofs.Common.{map, option_map, slice_set, range_with_len, cases_lt, ext_get_or, length-map, get_or-map, get_or_past, length-map-range_with_len, get_or-map-range_with_len, same_Some, none-some, Line, Regs, IsLine, line_at, zero_line, Shape, IsShape, meta_lines, AreInRange, cipher_of, Setup, Node, LineSeal, IsNode, total, version_counter, tree_lines, tree_slots, node_at, line_counter, NamedNode, slot_of, slot_line, shadow_root, WatchState, tree-IsNode, IsTreeAnchored, NamesTrueNode, IsTreeArmed, tree_plain_of, tree_plain_line, PlainTree, IsPlainOf, true_count, true_slots, writes_made, named_at, slot_naming, after_tree_write, with_board, lines-equal, TreeParts, named_by, plain_of_parts}
 use Rattle.bonsai_tree.proofs.Levels.{meta_lines-level, level_start-suc}
-use Rattle.counter_tree.specs.declared.nodes.Node.{Node}
-use Rattle.counter_tree.specs.declared.watch.LineSeal.{LineSeal}
-use Rattle.counter_tree.specs.Nodes.{IsNode, total, version_counter}
-use Rattle.counter_tree.specs.Layout.{tree_lines, tree_slots}
-use Rattle.counter_tree.specs.Trees.{node_at, line_counter}
-use Rattle.counter_tree.specs.Slots.{NamedNode, slot_of, slot_line}
-use Rattle.counter_tree.specs.Shadow.{shadow_root}
-use Rattle.counter_tree.specs.Watch.{WatchState}
 use Rattle.counter_tree.proofs.SlotLaws.{slot_read-slot_line, slot_read-zero}
-use Rattle.counter_tree.proofs.TreeLaws.{tree-IsNode}
 use Rattle.counter_tree.proofs.Positions.{meta_lines-most}
-use Rattle.asit_shadow.specs.Invariants.{IsTreeAnchored, NamesTrueNode}
-use Rattle.asit_shadow.specs.Steps.{IsTreeArmed, tree_plain_of, tree_plain_line}
-use Rattle.asit_shadow.specs.Plain.{PlainTree, IsPlainOf, true_node, true_count, true_slots, writes_made, named_at, slot_naming, after_tree_write, with_board}
+use Rattle.asit_shadow.specs.Plain.{true_node}
 use Rattle.asit_shadow.proofs.PlainLaws.{true_node-is, IsPlainOf-armed}
 use Rattle.asit_shadow.proofs.SpentLaws.{true_version-top}
-use Rattle.asit_shadow.proofs.RecoverLaws.{lines-equal}
-use Rattle.tree_session.specs.World.{TreeParts, named_by, plain_of_parts}
 
 -- ---- what a slot line names
 
@@ -147,13 +122,7 @@ module _ (setup : Setup) (watch : WatchState) (regs : Regs) (shape : IsShape set
 -- ---- after a call
 
 plain-equal : (p q : PlainTree) → p.memory ≡ q.memory → p.counts ≡ q.counts → p.named ≡ q.named → p.tampered ≡ q.tampered → p.hurt ≡ q.hurt → p.board ≡ q.board → p ≡ q
-plain-equal p q memory counts named tampered hurt board =
-    ap (λ v. let r : PlainTree = record { memory = v; counts = p.counts; named = p.named; tampered = p.tampered; hurt = p.hurt; board = p.board } in r) memory
-    ∙ (ap (λ v. let r : PlainTree = record { memory = q.memory; counts = v; named = p.named; tampered = p.tampered; hurt = p.hurt; board = p.board } in r) counts
-    ∙ (ap (λ v. let r : PlainTree = record { memory = q.memory; counts = q.counts; named = v; tampered = p.tampered; hurt = p.hurt; board = p.board } in r) named
-    ∙ (ap (λ v. let r : PlainTree = record { memory = q.memory; counts = q.counts; named = q.named; tampered = v; hurt = p.hurt; board = p.board } in r) tampered
-    ∙ (ap (λ v. let r : PlainTree = record { memory = q.memory; counts = q.counts; named = q.named; tampered = q.tampered; hurt = v; board = p.board } in r) hurt
-    ∙ (ap (λ v. let r : PlainTree = record { memory = q.memory; counts = q.counts; named = q.named; tampered = q.tampered; hurt = q.hurt; board = v } in r) board)))))
+plain-equal p q memory counts named tampered hurt board = grind arith
 
 -- a watch that knows what it knew makes the same
 pub plain-kept : (setup : Setup) (p : TreeParts) (q : TreeParts) → q.watch.seals ≡ p.watch.seals → q.watch.nodes ≡ p.watch.nodes → q.watch.slots ≡ p.watch.slots

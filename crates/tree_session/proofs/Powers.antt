@@ -1,12 +1,6 @@
 -- A fuse is set, a snapshot is taken, or power goes off: what is held of the device stays.
 use Rattle.std.proofs.Common.{ℕ, ◌≡◌, false, List, length, Option, Some, None, refl, ap, arith}
-use Rattle.pmem_base.specs.declared.lines.Line.{Line}
-use Rattle.suite.specs.Setup.{Setup}
-use Rattle.board.specs.Memory.{device_of}
-use Rattle.commit_regs.specs.Groups.{redone}
-use Rattle.asit_shadow.specs.State.{TreeState}
-use Rattle.asit_shadow.proofs.PlaceLaws.{powered_off-place}
-use Rattle.tree_session.specs.World.{TreeParts, IsTreeBy, IsTreeWorld}
+use Rattle.tree_session.proofs.Common.{Line, Setup, device_of, redone, TreeState, powered_off-place, TreeParts, IsTreeBy, IsTreeWorld}
 use Rattle.tree_session.proofs.Worlds.{opened, open_in, on_in, off_in, usable_on, usable_off}
 
 module _ (setup : Setup) (p : TreeParts) (world : IsTreeWorld setup p) (none : p.watch.exhibit ≡ None) where

@@ -1,24 +1,14 @@
 -- A read, as the fields of a session have it.
 use Rattle.std.proofs.Common.{ℕ, ◌≡◌, ◌<◌, false, Option, Some, None, Ok, Err, refl, subst, sym}
-use Rattle.std.specs.Prelude.{Result, option_map}
-use Rattle.pmem_base.specs.declared.lines.Line.{Line}
-use Rattle.pmem_base.specs.declared.answers.Exhibit.{Exhibit}
-use Rattle.board.specs.Memory.{BoardMemory}
-use Rattle.counter_tree.specs.Layout.{tree_lines}
-use Rattle.asit_shadow.specs.declared.fault.TreeFault.{TreeFault}
+use Rattle.tree_session.proofs.Common.{Result, option_map, Line, Exhibit, BoardMemory, tree_lines, TreeFault, HasReadTreeLine, read_plan, Halt, SessionState, tree_setup_in, TreeParts, state_of, IsTreeWorld, tree_decided, IsTreeAnswered, IsTreeHalt}
 use Rattle.asit_shadow.specs.declared.fault.TreeFault.TheVariants as Fail
-use Rattle.asit_shadow.specs.Calls.{HasReadTreeLine}
-use Rattle.asit_shadow.specs.Plans.{read_plan}
-use Rattle.trace_text.specs.declared.talk.Halt.{Halt}
 use Rattle.trace_text.specs.declared.talk.Halt.TheVariants as Stop
 use Rattle.tree_session.specs.declared.commands.TreeCommand.TheVariants as Do
 use Rattle.tree_session.specs.declared.answers.TreeAnswer.TheVariants as Say
-use Rattle.tree_session.specs.State.{tree_setup_in}
-use Rattle.tree_session.specs.World.{TreeParts, state_of, IsTreeWorld}
-use Rattle.tree_session.specs.Answered.{IsTreeAnswered, IsTreeHalt}
-use Rattle.tree_session.proofs.Worlds.{EndsBy, left, left_resting, from, ended_to, still_up, trusted_from, held_still, cut_still}
+use Rattle.tree_session.proofs.EngineCalls.{undecided_line}
+use Rattle.tree_session.proofs.Worlds.{powered_from, EndsBy, left, left_resting, from, ended_to, still_up, trusted_from, held_still, cut_still}
 use Rattle.tree_session.proofs.ReadLaws.{WasRead, read_done, cut_done, node_done, tag_done, shown_held, shown_done, shown_minors}
-use Rattle.tree_session.proofs.AnswerClauses.{WorldCall, call, setup_of, setup_under, as_known, seen, held, halts, some_of}
+use Rattle.tree_session.proofs.AnswerClauses.{WorldCall, call, setup_under, as_known, seen, held, halts, some_of}
 
 pub record ReadTreeCall : Type 0 where
   pub world : WorldCall
@@ -38,6 +28,12 @@ module _ (r : ReadTreeCall) where
 
   abbrev pub setup_then : Rattle.suite.specs.Setup.Setup
   setup_then = setup_under r.world.formulas_of r.world.geometry r.world.keys
+
+  -- the state doesn't decide the answer
+  pub undecided_now : tree_decided r.world.now.shape r.world.now.plain (Do.Read r.at) ≡ None
+  undecided_now =
+      subst (λ (w : SessionState). tree_decided w.shape w.plain (Do.Read r.at) ≡ None) r.world.is
+      (undecided_line r.world.parts.board.powered r.at (tree_lines r.world.geometry) Say.Off Say.Range (powered_from (call r.world)) r.within)
 
   was : (known : Result Line TreeFault) → r.answer ≡ known → WasRead (call r.world) r.at known
   was known is =

@@ -1,37 +1,10 @@
 -- A read: what is left of the session, and what is answered.
 use Rattle.std.proofs.Common.{ℕ, ◌≡◌, ◌≢◌, ◌<◌, ◌≤◌, ◌⊎◌, false, inl, inr, List, Option, Some, None, Ok, Err, refl, sym, ap, subst, ◌∙◌, arith}
-use Rattle.std.specs.Prelude.{Result, IfSome, slice_index_or}
-use Rattle.pmem_base.specs.declared.lines.Line.{Line}
-use Rattle.pmem_base.specs.declared.registers.Regs.{Regs}
-use Rattle.pmem_base.specs.declared.answers.Exhibit.{Exhibit}
-use Rattle.std.proofs.lemmas.Option.{same_Some}
-use Rattle.counter_tree.specs.declared.watch.LineSeal.{LineSeal}
-use Rattle.pmem_base.specs.Lines.{line_at, tag_slot}
-use Rattle.collision_witness.specs.Exhibits.{IsExhibit, AreSmallMinors}
-use Rattle.commit_regs.specs.Groups.{redone}
-use Rattle.pmem_engine.specs.Outcomes.{going, cut_short, shown}
-use Rattle.counter_tree.specs.Layout.{tree_lines, line_of_tag}
-use Rattle.counter_tree.specs.Nodes.{version_counter}
-use Rattle.counter_tree.specs.Trees.{line_counter}
-use Rattle.counter_tree.specs.Watch.{last_seal_of}
-use Rattle.watched_board.specs.Watching.{steps_in, step_limit}
-use Rattle.asit_shadow.specs.declared.fault.TreeFault.{TreeFault}
+use Rattle.tree_session.proofs.Common.{Result, IfSome, slice_index_or, Line, Regs, Exhibit, same_Some, LineSeal, line_at, tag_slot, IsExhibit, AreSmallMinors, redone, going, cut_short, shown, tree_lines, line_of_tag, version_counter, line_counter, last_seal_of, steps_in, step_limit, TreeFault, TreeState, with_board, read_plan, IsTreeSealStored, HoldsTreeSeal, HasReadTreeLine, IsLineRead, line-place, going-unshown, cut-unshown, TreeAnswer, IsTreeCalled, read_said, plain_of_parts, state_of, IsTreeWorld, IsTreeAnswered, IsRooted, IsEngineShown, IsBoardSpilled, SaysOfRead, AnswersWith, IsDataAccepted, IsDataRefusal, IsDataExhibit, IsNodeExhibit, IsNodeRefusal}
 use Rattle.asit_shadow.specs.declared.fault.TreeFault.TheVariants as Fail
-use Rattle.asit_shadow.specs.State.{TreeState}
-use Rattle.asit_shadow.specs.Plain.{with_board}
-use Rattle.asit_shadow.specs.Plans.{read_plan}
-use Rattle.asit_shadow.specs.Invariants.{IsTreeSealStored}
-use Rattle.asit_shadow.specs.Parts.{HoldsTreeSeal}
 use Rattle.asit_shadow.specs.Calls as told
-use Rattle.asit_shadow.specs.Calls.{HasReadTreeLine, IsLineRead}
-use Rattle.asit_shadow.proofs.PlaceLaws.{line-place}
-use Rattle.asit_shadow.proofs.Chains.{going-unshown, cut-unshown}
 use Rattle.tree_session.specs.declared.commands.TreeCommand.TheVariants as Do
-use Rattle.tree_session.specs.declared.answers.TreeAnswer.{TreeAnswer}
 use Rattle.tree_session.specs.declared.answers.TreeAnswer.TheVariants as Say
-use Rattle.tree_session.specs.Called.{IsTreeCalled, read_said}
-use Rattle.tree_session.specs.World.{plain_of_parts, state_of, IsTreeWorld}
-use Rattle.tree_session.specs.Answered.{IsTreeAnswered, IsRooted, IsEngineShown, IsBoardSpilled, SaysOfRead, AnswersWith, IsDataAccepted, IsDataRefusal, IsDataExhibit, IsNodeExhibit, IsNodeRefusal}
 use Rattle.tree_session.proofs.BoardSteps.{goes_on, cut_off, then_rests}
 use Rattle.tree_session.proofs.PlainStates.{plain_is}
 use Rattle.tree_session.proofs.Worlds.{TreeEngineCall, EndsBy, IsEngineLeft, lit_left, dark_left, called, called_shown, from, to, ended_to, left, left_resting, trusted_from, powered_from, seals_kept, rooted_still, cut_rooted_still, ended_after}

@@ -1,49 +1,14 @@
 -- A recovery: what is left of the session, and what is answered.
 use Rattle.std.proofs.Common.{ℕ, zero, suc, ◌≡◌, ◌≢◌, ◌<◌, ◌≤◌, ◌+◌, true, false, Bool, inl, inr, ◌⊎◌, List, [], ◌∷◌, length, Option, Some, None, Ok, Err, refl, sym, ap, subst, ◌∙◌, arith}
-use Rattle.std.specs.Prelude.{Result, IfSome, All, slice_index_or, map}
-use Rattle.std.proofs.lemmas.Bool.{cases_Bool, cases_eq, true≢false}
-use Rattle.std.proofs.lemmas.Option.{same_Some}
-use Rattle.pmem_base.specs.declared.lines.Line.{Line}
-use Rattle.pmem_base.specs.declared.registers.Regs.{Regs}
-use Rattle.pmem_base.specs.declared.answers.Exhibit.{Exhibit}
-use Rattle.pmem_base.specs.declared.answers.Exhibit.TheVariants.{Clash}
-use Rattle.pmem_base.specs.Lines.{IsLine}
-use Rattle.suite.specs.Setup.{Setup}
-use Rattle.board.specs.Device.{AreLinesOf}
-use Rattle.board.specs.Memory.{BoardMemory, device_of}
-use Rattle.collision_witness.specs.Exhibits.{IsExhibit, AreSmallMinors}
-use Rattle.commit_regs.specs.Groups.{redone, finishing_latches}
+use Rattle.tree_session.proofs.Common.{Result, IfSome, All, slice_index_or, cases_Bool, cases_eq, true≢false, same_Some, Line, Regs, IsLine, Setup, AreLinesOf, BoardMemory, device_of, redone, finishing_latches, Follows, Work, tree_slots, tree_size, line_of_slot, shadow_root, WatchState, Taken, steps_in, step_limit, device_during, none_taken, IsWatched, TreeRec, TreeState, IsTreeAnchored, IsTreeTrusted, IsSlotStored, slots_read, Rest, rest_of, rest_redone, HasTreeRecovered, IsGroupFinished, IsGroupBegun, AreSlotsRead, KeepsRestPlaces, KeepsRestNode, recover_parts, tree_recover_plan, IsNodeHeld, with_board, slots-place, lines-equal, length-slots_read, line_at-slots_read, TreeAnswer, HasTreeStarted, IsTreeCalled, on_said, board_resting, engine_made, watch_in, TreeParts, plain_of_parts, state_of, IsTreeWorld, IsTreeOff, IsTreeOpen, IsTreeAnswered, IsRooted, IsTreeMemoryWanted, SaysOfOn, HasTrueSlots, AnswersWith, IsSlotTampered, IsShadowRefusal, IsGroupDone, group_steps, board_redone, tree_recovery_bound}
 use Rattle.call_plan.specs.Plans as plans
-use Rattle.call_plan.specs.Following.{Follows}
-use Rattle.pmem_recovery.specs.declared.faults.Work.{Work}
 use Rattle.pmem_recovery.proofs.LatchLaws.{one_latch}
-use Rattle.counter_tree.specs.Layout.{tree_slots, tree_size, line_of_slot}
-use Rattle.counter_tree.specs.Shadow.{shadow_root, shadow_tree_line, shadow_height, IsShadowDifference}
-use Rattle.counter_tree.specs.Watch.{WatchState, IsSlotClash, HasShown, first_shown}
-use Rattle.watched_board.specs.declared.taken.Taken.{Taken}
-use Rattle.watched_board.specs.Watching.{steps_in, step_limit, device_during, none_taken, IsWatched}
-use Rattle.asit_shadow.specs.declared.recovery.TreeRec.{TreeRec}
 use Rattle.asit_shadow.specs.declared.recovery.TreeRec.TheVariants as Fail
-use Rattle.asit_shadow.specs.State.{TreeState}
-use Rattle.asit_shadow.specs.Invariants.{IsTreeAnchored, IsTreeTrusted, IsSlotStored}
-use Rattle.asit_shadow.specs.Steps.{slots_read}
-use Rattle.asit_shadow.specs.Recovering.{Rest, rest_of, rest_redone, HasTreeRecovered, IsGroupFinished, IsGroupBegun, AreSlotsRead, KeepsRestPlaces, KeepsRestNode}
-use Rattle.asit_shadow.specs.RecoverPlans.{recover_parts, tree_recover_plan}
-use Rattle.asit_shadow.specs.Places.{IsNodeHeld}
-use Rattle.asit_shadow.specs.Plain.{with_board, true_slots}
-use Rattle.tree_session.proofs.Refusals.{slots-free, rooted_with}
-use Rattle.asit_shadow.proofs.PlaceLaws.{slots-place}
-use Rattle.asit_shadow.proofs.RecoverLaws.{lines-equal, length-slots_read, line_at-slots_read}
 use Rattle.tree_session.specs.declared.commands.TreeCommand.TheVariants as Do
-use Rattle.tree_session.specs.declared.answers.TreeAnswer.{TreeAnswer}
 use Rattle.tree_session.specs.declared.answers.TreeAnswer.TheVariants as Say
-use Rattle.tree_session.specs.Called.{HasTreeStarted, IsTreeCalled, on_said, board_resting, engine_made}
-use Rattle.tree_session.specs.State.{watch_in}
-use Rattle.tree_session.specs.World.{TreeParts, plain_of_parts, state_of, IsTreeWorld, IsTreeOff, IsTreeOpen}
-use Rattle.tree_session.specs.Answered.{IsTreeAnswered, IsRooted, IsEngineShown, IsTreeMemoryWanted, SaysOfOn, HasTrueSlots, AnswersWith, IsSlotTampered, IsShadowRefusal, IsShadowExhibit, IsGroupDone, group_steps, board_redone, tree_recovery_bound}
 use Rattle.tree_session.proofs.BoardSteps.{goes_on, cut_off, from_dark, cut_from_dark, then_rests, taken-exact, untouched}
 use Rattle.tree_session.proofs.PlainStates.{plain_is, plain-kept, true_slots-is}
-use Rattle.tree_session.proofs.Worlds.{IsFrame, opened, open_in, off_in, usable_on, usable_off, rooted_on, rooted_off, rooted_open}
+use Rattle.tree_session.proofs.Worlds.{IsFrame, opened, open_in, off_in, usable_on, usable_off, rooted_on, rooted_off}
 
 -- a flag that is set below n, or none
 some_flag : (flag : ℕ → Bool) (n : ℕ) → ((i : ℕ) → i < n → flag i ≡ false) ⊎ ((i : ℕ) × (i < n) × (flag i ≡ true))

@@ -1,25 +1,10 @@
 -- A recovery that ends with a clash.
 use Rattle.std.proofs.Common.{◌≡◌, true, false, Bool, List, [], Some, None, Err, refl, sym, ap, subst, ◌∙◌}
-use Rattle.std.specs.Prelude.{IfSome}
-use Rattle.std.proofs.lemmas.Option.{same_Some}
-use Rattle.pmem_base.specs.declared.lines.Line.{Line}
-use Rattle.pmem_base.specs.declared.registers.Regs.{Regs}
-use Rattle.pmem_base.specs.declared.answers.Exhibit.{Exhibit}
-use Rattle.pmem_base.specs.declared.answers.Exhibit.TheVariants.{Clash}
-use Rattle.suite.specs.Setup.{Setup}
-use Rattle.collision_witness.specs.Exhibits.{IsExhibit, AreSmallMinors}
-use Rattle.counter_tree.specs.Shadow.{shadow_root, shadow_tree_line, shadow_height, IsShadowDifference}
-use Rattle.counter_tree.specs.Watch.{IsSlotClash, HasShown, first_shown}
-use Rattle.watched_board.specs.Watching.{steps_in}
+use Rattle.tree_session.proofs.Common.{IfSome, same_Some, Line, Regs, Exhibit, Clash, Setup, IsExhibit, AreSmallMinors, shadow_root, shadow_tree_line, shadow_height, IsShadowDifference, IsSlotClash, HasShown, first_shown, steps_in, slots_read, HasTreeRecovered, with_board, true_slots, plain_of_parts, state_of, IsTreeWorld, IsRooted, IsEngineShown, IsShadowExhibit}
 use Rattle.asit_shadow.specs.declared.recovery.TreeRec.TheVariants as Fail
-use Rattle.asit_shadow.specs.Steps.{slots_read}
-use Rattle.asit_shadow.specs.Recovering.{HasTreeRecovered}
-use Rattle.asit_shadow.specs.Plain.{with_board, true_slots}
 use Rattle.tree_session.proofs.Refusals.{slots-free, rooted_with}
 use Rattle.tree_session.specs.declared.commands.TreeCommand.TheVariants as Do
 use Rattle.tree_session.specs.declared.answers.TreeAnswer.TheVariants as Say
-use Rattle.tree_session.specs.World.{plain_of_parts, state_of, IsTreeWorld}
-use Rattle.tree_session.specs.Answered.{IsRooted, IsEngineShown, IsShadowExhibit}
 use Rattle.tree_session.proofs.BoardSteps.{goes_on, from_dark, then_rests}
 use Rattle.tree_session.proofs.PlainStates.{plain_is, plain-kept, true_slots-is}
 use Rattle.tree_session.proofs.Worlds.{ended, rooted_open}

@@ -1,32 +1,7 @@
 -- Refusals and exhibits as the plain state tells them: each comes of a place that was tampered with.
 use Rattle.std.proofs.Common.{ℕ, ◌≡◌, ◌≢◌, ◌<◌, ◌≤◌, ◌^◌, true, false, inl, inr, List, [], ◌∷◌, Option, Some, None, refl, sym, ap, subst, ◌∙◌, arith, mod-eq_of_lt}
-use Rattle.std.specs.Prelude.{IfSome, map, slice_index_or}
-use Rattle.std.proofs.lemmas.Bool.{cases_Bool, false≢true}
-use Rattle.pmem_base.specs.declared.lines.Line.{Line}
-use Rattle.pmem_base.specs.declared.registers.Regs.{Regs}
-use Rattle.pmem_base.specs.declared.answers.Exhibit.{Exhibit}
-use Rattle.pmem_base.specs.declared.answers.Exhibit.TheVariants.{Forged}
-use Rattle.pmem_base.specs.Lines.{line_at, tag_slot}
-use Rattle.pmem_base.specs.Shape.{Shape, IsShape}
-use Rattle.pmem_base.specs.Layout.{meta_lines}
-use Rattle.suite.specs.Formulas.{AreInRange, cipher_of}
-use Rattle.suite.proofs.CipherLemmas.{cipher_of-back}
-use Rattle.suite.specs.Setup.{Setup}
-use Rattle.board.specs.Memory.{BoardMemory}
-use Rattle.counter_tree.specs.declared.nodes.Node.{Node}
-use Rattle.counter_tree.specs.Nodes.{total, wrapped_version, node_place, version_counter, without_tag, node_read}
-use Rattle.counter_tree.specs.Layout.{tree_lines, line_of_tag, line_of_node}
-use Rattle.counter_tree.specs.Shadow.{shadow_root}
-use Rattle.counter_tree.specs.Slots.{slot_line}
-use Rattle.counter_tree.specs.Trees.{node_at, line_counter, is_on_line_path}
-use Rattle.counter_tree.specs.Watch.{last_seal_of, forged_node}
-use Rattle.counter_tree.proofs.TreeLaws.{tree-version}
-use Rattle.asit_shadow.specs.Invariants.{IsTreeAnchored}
-use Rattle.asit_shadow.specs.Steps.{tree_plain_of}
-use Rattle.asit_shadow.specs.Plain.{PlainTree, true_node, true_version, true_count, true_cipher, slot_naming, with_board}
-use Rattle.asit_shadow.proofs.SlotPlaces.{on_path-inside}
-use Rattle.tree_session.specs.World.{TreeParts, plain_of_parts}
-use Rattle.tree_session.specs.Answered.{IsRooted, IsPathTampered, IsNodeRefusal, IsNodeExhibit, IsDataAccepted, IsDataRefusal, IsDataExhibit, device_tag}
+use Rattle.tree_session.proofs.Common.{IfSome, map, slice_index_or, cases_Bool, false≢true, Line, Regs, Exhibit, Forged, line_at, tag_slot, Shape, IsShape, meta_lines, AreInRange, cipher_of, cipher_of-back, Setup, BoardMemory, Node, total, wrapped_version, node_place, version_counter, without_tag, node_read, tree_lines, line_of_tag, line_of_node, shadow_root, slot_line, node_at, line_counter, is_on_line_path, last_seal_of, forged_node, tree-version, IsTreeAnchored, tree_plain_of, PlainTree, true_version, true_count, true_cipher, slot_naming, with_board, on_path-inside, TreeParts, plain_of_parts, IsRooted, IsPathTampered, IsNodeRefusal, IsNodeExhibit, IsDataAccepted, IsDataRefusal, IsDataExhibit, device_tag}
+use Rattle.asit_shadow.specs.Plain.{true_node}
 use Rattle.tree_session.proofs.PlainStates.{plain_is, node-is}
 
 -- the true nodes don't depend on the board

@@ -1,36 +1,11 @@
 -- What a call of the engine leaves of the device's lines: true nodes are written back, and a write puts its group.
 use Rattle.std.proofs.Common.{ℕ, zero, suc, ◌≡◌, ◌<◌, ◌≤◌, ◌==◌, ◌⊎◌, ◌++◌, true, false, Bool, inl, inr, List, [], ◌∷◌, length, Option, Some, None, refl, sym, ap, subst, ◌∙◌, arith}
-use Rattle.std.specs.Prelude.{slice_set, map, if◌then◌else◌, ⊤}
-use Rattle.std.specs.List.{list_any}
-use Rattle.std.proofs.lemmas.Bool.{cases_eq, cases_lt, or_left, or_right, eq-eqb}
-use Rattle.std.proofs.lemmas.List.{set_past}
-use Rattle.std.proofs.lemmas.Option.{same_Some}
-use Rattle.pmem_base.specs.declared.lines.Line.{Line}
-use Rattle.pmem_base.specs.Lines.{line_at}
-use Rattle.pmem_base.specs.Layout.{meta_lines}
+use Rattle.tree_session.proofs.Common.{slice_set, map, if◌then◌else◌, ⊤, list_any, cases_eq, cases_lt, or_left, or_right, eq-eqb, set_past, same_Some, Line, line_at, meta_lines, Setup, BoardMemory, redone, Node, LineSeal, node_line, version_counter, tree_lines, line_of_tag, line_of_node, line_of_slot, node_at, slot_of, slot_line, WatchState, last_seal_of, TreeState, cache_at, IsTreeAnchored, IsTreeTrusted, line_path, path_node, tag_only, KeepsOtherRegisters, spilled_nodes, node_level_write, write_back, is_node_cached, HasFetchedNodes, HasArmedPath, PlainTree, true_count, true_cipher, on_path-inside, steps_in, TreeParts, plain_of_parts, AreLinesSpilled, IsBoardSpilled, IsBoardWritten, put_by_write, board_redone}
 use Rattle.pmem_base.proofs.LineSets.{line_at-set_same, line_at-set_other}
-use Rattle.suite.specs.Setup.{Setup}
-use Rattle.board.specs.Memory.{BoardMemory}
-use Rattle.commit_regs.specs.Groups.{redone}
-use Rattle.counter_tree.specs.declared.nodes.Node.{Node}
-use Rattle.counter_tree.specs.declared.watch.LineSeal.{LineSeal}
-use Rattle.counter_tree.specs.Nodes.{node_line, version_counter}
-use Rattle.counter_tree.specs.Layout.{tree_lines, line_of_tag, line_of_node, line_of_slot}
-use Rattle.counter_tree.specs.Trees.{node_at}
-use Rattle.counter_tree.specs.Slots.{slot_of, slot_line}
-use Rattle.counter_tree.specs.Watch.{WatchState, last_seal_of}
 use Rattle.asit_shadow.specs.declared.cache.CachedNode.{CachedNode}
-use Rattle.asit_shadow.specs.State.{TreeState, cache_at}
-use Rattle.asit_shadow.specs.Invariants.{IsTreeAnchored, IsTreeTrusted}
-use Rattle.asit_shadow.specs.Paths.{line_path, path_node, tag_only, write_group}
-use Rattle.asit_shadow.specs.Steps.{KeepsOtherRegisters}
-use Rattle.asit_shadow.specs.Work.{spilled_nodes, node_level_write, write_back, is_node_cached, HasFetchedNodes, HasArmedPath}
-use Rattle.asit_shadow.specs.Plain.{PlainTree, true_node, true_count, true_cipher}
-use Rattle.asit_shadow.proofs.SlotPlaces.{on_path-inside}
+use Rattle.asit_shadow.specs.Paths.{write_group}
+use Rattle.asit_shadow.specs.Plain.{true_node}
 use Rattle.asit_shadow.proofs.LevelWork.{spilled-few, absent-few}
-use Rattle.watched_board.specs.Watching.{steps_in}
-use Rattle.tree_session.specs.World.{TreeParts, plain_of_parts}
-use Rattle.tree_session.specs.Answered.{AreLinesSpilled, IsBoardSpilled, IsBoardWritten, put_by_write, board_redone}
 use Rattle.tree_session.proofs.BoardSteps.{taken-exact}
 use Rattle.tree_session.proofs.PlainStates.{plain_is, node-is}
 use Rattle.tree_session.proofs.Worlds.{TreeEngineCall, from, to, trusted_from}

@@ -1,20 +1,6 @@
 -- A device line is changed past the controller: what is still held of the other places.
 use Rattle.std.proofs.Common.{ℕ, ◌≡◌, ◌≢◌, ◌<◌, ◌≤◌, ◌+◌, ◌-◌, true, false, Bool, inl, inr, List, length, Option, Some, None, refl, sym, ap, subst, ◌∙◌, arith}
-use Rattle.std.specs.Prelude.{slice_index_or, slice_set, All, nat_lt, if◌then◌else◌}
-use Rattle.std.proofs.lemmas.Bool.{cases_eq, cases_lt, lt-ltb, le-ltb, false≢true}
-use Rattle.std.proofs.lemmas.List.{length-set, get_or-set_same, get_or-set_other}
-use Rattle.pmem_base.specs.declared.lines.Line.{Line}
-use Rattle.pmem_base.specs.Lines.{IsLine, line_at, tag_slot}
-use Rattle.pmem_base.specs.Shape.{Shape}
-use Rattle.suite.specs.Setup.{Setup}
-use Rattle.board.specs.Memory.{BoardMemory, device_of, with_line_at}
-use Rattle.commit_regs.specs.Groups.{redone}
-use Rattle.counter_tree.specs.Layout.{tree_lines, tree_size, line_of_tag, line_of_node, line_of_slot}
-use Rattle.asit_shadow.specs.State.{TreeState}
-use Rattle.asit_shadow.specs.Invariants.{IsTreeSealStored}
-use Rattle.asit_shadow.specs.Plain.{hurt_with}
-use Rattle.asit_shadow.proofs.PlaceLaws.{poked-elsewhere}
-use Rattle.tree_session.specs.World.{TreeParts, plain_of_parts, rest_in, AreTreePlacesKept, IsTreeBy, IsTreeWorld}
+use Rattle.tree_session.proofs.Common.{slice_index_or, slice_set, All, nat_lt, if◌then◌else◌, cases_eq, cases_lt, lt-ltb, le-ltb, false≢true, length-set, get_or-set_same, get_or-set_other, Line, IsLine, line_at, tag_slot, Shape, Setup, BoardMemory, device_of, with_line_at, redone, tree_lines, tree_size, line_of_tag, line_of_node, line_of_slot, TreeState, IsTreeSealStored, hurt_with, poked-elsewhere, TreeParts, plain_of_parts, rest_in, AreTreePlacesKept, IsTreeBy, IsTreeWorld}
 use Rattle.tree_session.proofs.Worlds.{opened, open_in, on_in, off_in, usable_on, usable_off}
 
 -- ---- flags

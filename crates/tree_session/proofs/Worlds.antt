@@ -1,37 +1,7 @@
 -- What a session holds, and what a call that goes on, is cut or shows leaves of it.
 use Rattle.std.proofs.Common.{ℕ, ◌≡◌, ◌<◌, ◌≤◌, ◌+◌, true, false, Bool, List, [], length, Option, Some, None, refl, sym, ap, subst, ◌∙◌, arith}
-use Rattle.std.specs.Prelude.{Result, IsSome, IsNone, IfSome, MatchOption, All, slice_index_or, not, ◌||◌, if◌then◌else◌}
-use Rattle.std.proofs.lemmas.Bool.{true≢false}
-use Rattle.pmem_base.specs.declared.registers.Regs.{Regs}
-use Rattle.pmem_base.specs.declared.answers.Exhibit.{Exhibit}
-use Rattle.pmem_base.specs.Lines.{IsLine}
-use Rattle.pmem_base.specs.Shape.{IsShape}
-use Rattle.suite.specs.Formulas.{AreInRange}
-use Rattle.suite.specs.Setup.{Setup}
-use Rattle.board.specs.Device.{Device, AreLinesOf}
-use Rattle.board.specs.Memory.{BoardMemory, device_of}
-use Rattle.collision_witness.specs.Exhibits.{IsExhibit, AreSmallMinors}
-use Rattle.call_plan.specs.Plans.{Plan}
+use Rattle.tree_session.proofs.Common.{Result, IsSome, IsNone, IfSome, MatchOption, All, slice_index_or, not, ◌||◌, if◌then◌else◌, true≢false, Regs, Exhibit, IsLine, IsShape, AreInRange, Setup, Device, AreLinesOf, BoardMemory, device_of, IsExhibit, AreSmallMinors, Plan, Follows, IsOutcome, Outcome, going, cut_short, shown, is_going, tree_lines, tree_slots, tree_size, line_of_slot, WatchState, last_seal_of, IsWatchOf, Taken, device_during, none_taken, steps_in, step_limit, IsWatched, TreeFault, TreeChip, tree_chip_of, TreeState, IsTreeAnchored, TreeEngineParts, tree_parts_of, AreTreeTrusted, HoldsTreeSeal, HoldsSlot, IsTreeUsable, IsWatchReady, TreeCallEffect, KeepsWatch, AnswersTreeDown, before_end, tree_outcome_of, rest_of, IsRestUsable, IsRooted, TreeAnswer, HasTreeCalled, chip_in, watch_in, TreeParts, plain_of_parts, state_of, IsTreeOn, IsTreeOff, IsTreeBy, IsTreeOpen, IsTreeEnded, IsTreeWorld}
 use Rattle.call_plan.specs.Plans as plans
-use Rattle.call_plan.specs.Following.{Follows}
-use Rattle.call_plan.specs.Runs.{IsOutcome}
-use Rattle.pmem_engine.specs.Outcomes.{Outcome, going, cut_short, shown, is_going}
-use Rattle.counter_tree.specs.Layout.{tree_lines, tree_slots, tree_size, line_of_slot}
-use Rattle.counter_tree.specs.Watch.{WatchState, last_seal_of, IsWatchOf}
-use Rattle.watched_board.specs.declared.taken.Taken.{Taken}
-use Rattle.watched_board.specs.Watching.{device_during, none_taken, steps_in, step_limit, IsWatched}
-use Rattle.asit_shadow.specs.declared.fault.TreeFault.{TreeFault}
-use Rattle.asit_shadow.specs.Plans.{TreeChip, tree_chip_of}
-use Rattle.asit_shadow.specs.State.{TreeState}
-use Rattle.asit_shadow.specs.Invariants.{IsTreeAnchored}
-use Rattle.asit_shadow.specs.Parts.{TreeEngineParts, tree_parts_of, AreTreeTrusted, HoldsTreeSeal, HoldsSlot, IsTreeUsable, IsWatchReady}
-use Rattle.asit_shadow.specs.Calls.{TreeCallEffect, KeepsWatch, AnswersTreeDown, before_end, tree_outcome_of}
-use Rattle.asit_shadow.specs.Recovering.{rest_of, IsRestUsable}
-use Rattle.tree_session.specs.Answered.{IsRooted}
-use Rattle.tree_session.specs.declared.answers.TreeAnswer.{TreeAnswer}
-use Rattle.tree_session.specs.Called.{HasTreeCalled, chip_in}
-use Rattle.tree_session.specs.State.{watch_in}
-use Rattle.tree_session.specs.World.{TreeParts, plain_of_parts, state_of, IsTreeOn, IsTreeOff, IsTreeBy, IsTreeOpen, IsTreeEnded, IsTreeWorld}
 use Rattle.tree_session.proofs.PlainStates.{plain_is, root-is}
 
 -- ---- options

@@ -1,27 +1,14 @@
 -- A write, as the fields of a session have it.
 use Rattle.std.proofs.Common.{ℕ, ◌≡◌, ◌<◌, ◌≤◌, false, Option, Some, None, Ok, Err, refl, subst, sym}
-use Rattle.std.specs.Prelude.{Result, option_map, slice_set}
-use Rattle.pmem_base.specs.declared.lines.Line.{Line}
-use Rattle.pmem_base.specs.declared.answers.Exhibit.{Exhibit}
-use Rattle.pmem_base.specs.Lines.{IsLine}
-use Rattle.suite.specs.Setup.{Setup}
-use Rattle.board.specs.Memory.{BoardMemory}
-use Rattle.counter_tree.specs.Layout.{tree_lines}
-use Rattle.asit_shadow.specs.declared.fault.TreeFault.{TreeFault}
+use Rattle.tree_session.proofs.Common.{Result, option_map, slice_set, Line, Exhibit, IsLine, Setup, BoardMemory, tree_lines, TreeFault, TreeState, HasWrittenTreeLine, write_plan, Halt, SessionState, tree_setup_in, TreeParts, state_of, IsTreeWorld, tree_decided, IsTreeAnswered, IsTreeHalt}
 use Rattle.asit_shadow.specs.declared.fault.TreeFault.TheVariants as Fail
-use Rattle.asit_shadow.specs.State.{TreeState}
-use Rattle.asit_shadow.specs.Calls.{HasWrittenTreeLine}
-use Rattle.asit_shadow.specs.WritePlans.{write_plan}
-use Rattle.trace_text.specs.declared.talk.Halt.{Halt}
 use Rattle.trace_text.specs.declared.talk.Halt.TheVariants as Stop
 use Rattle.tree_session.specs.declared.commands.TreeCommand.TheVariants as Do
 use Rattle.tree_session.specs.declared.answers.TreeAnswer.TheVariants as Say
-use Rattle.tree_session.specs.State.{tree_setup_in}
-use Rattle.tree_session.specs.World.{TreeParts, state_of, IsTreeWorld}
-use Rattle.tree_session.specs.Answered.{IsTreeAnswered, IsTreeHalt}
-use Rattle.tree_session.proofs.Worlds.{EndsBy, left, left_resting, from, ended_to, still_up, trusted_from, held_still, cut_still}
+use Rattle.tree_session.proofs.EngineCalls.{undecided_line}
+use Rattle.tree_session.proofs.Worlds.{powered_from, EndsBy, left, left_resting, from, ended_to, still_up, trusted_from, held_still, cut_still}
 use Rattle.tree_session.proofs.WriteLaws.{WasWritten, written_held, written_done, is_lost, lost_done, kept_held, kept_done, unwritten_done, spent_done, unwritten_shown_held, unwritten_shown_done, unwritten_shown_minors}
-use Rattle.tree_session.proofs.AnswerClauses.{WorldCall, call, setup_of, setup_under, as_known, seen, held, halts, some_of}
+use Rattle.tree_session.proofs.AnswerClauses.{WorldCall, call, setup_under, as_known, seen, held, halts, some_of}
 
 pub record WriteTreeCall : Type 0 where
   pub world : WorldCall
@@ -46,6 +33,12 @@ module _ (r : WriteTreeCall) where
 
   abbrev pub setup_then : Setup
   setup_then = setup_under r.world.formulas_of r.world.geometry r.world.keys
+
+  -- the state doesn't decide the answer
+  pub undecided_now : tree_decided r.world.now.shape r.world.now.plain (Do.Write r.at r.line) ≡ None
+  undecided_now =
+      subst (λ (w : SessionState). tree_decided w.shape w.plain (Do.Write r.at r.line) ≡ None) r.world.is
+      (undecided_line r.world.parts.board.powered r.at (tree_lines r.world.geometry) Say.Off Say.Range (powered_from (call r.world)) r.within)
 
   was : (known : Result ℕ TreeFault) → r.answer ≡ known → WasWritten (call r.world) r.at r.line known
   was known is =

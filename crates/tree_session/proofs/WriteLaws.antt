@@ -1,42 +1,12 @@
 -- A write: what is left of the session, and what is answered.
 use Rattle.std.proofs.Common.{ℕ, ◌≡◌, ◌<◌, ◌≤◌, ◌+◌, ◌/◌, ◌⊎◌, false, Bool, inl, inr, List, length, Some, None, Ok, Err, refl, sym, ap, subst, ◌∙◌, arith}
-use Rattle.std.specs.Prelude.{Option, Result, IfSome, slice_index_or, slice_set, if◌then◌else◌}
-use Rattle.std.proofs.lemmas.Bool.{cases_eq, le-ltb, lt-ltb}
-use Rattle.std.proofs.lemmas.List.{length-set, length-map, get_or-set_other}
-use Rattle.pmem_base.specs.declared.lines.Line.{Line}
-use Rattle.pmem_base.specs.declared.registers.Regs.{Regs}
-use Rattle.pmem_base.specs.declared.answers.Exhibit.{Exhibit}
-use Rattle.pmem_base.specs.Lines.{IsLine}
-use Rattle.pmem_base.specs.Shape.{Shape}
-use Rattle.board.specs.Device.{Device}
+use Rattle.tree_session.proofs.Common.{Option, Result, IfSome, slice_index_or, slice_set, if◌then◌else◌, cases_eq, le-ltb, lt-ltb, length-set, length-map, get_or-set_other, Line, Regs, Exhibit, IsLine, Shape, Device, IsExhibit, AreSmallMinors, Outcome, going, cut_short, shown, Node, LineSeal, tree_lines, line_of_slot, slot_of, slot_line, node_at, WatchState, steps_in, step_limit, device_during, none_taken, TreeFault, TreeState, write_plan, IsTreeAnchored, line_path, TreeEngineParts, HoldsTreeSeal, TreeCallEffect, HasWrittenTreeLine, IsLineWritten, spilled_nodes, IsCutInNodeFetch, IsCutInGroup, HasFetchedPath, writes_made, with_board, going-unshown, TreeAnswer, IsTreeCalled, plain_said, write_said, plain_of_parts, state_of, IsTreeWorld, IsTreeAnswered, IsRooted, IsEngineShown, SaysOfWrite, AnswersWith, IsNodeExhibit, IsNodeRefusal, AllAreMade, tree_write_bound, IsBoardSpilled}
 use Rattle.bonsai_tree.proofs.PathPositions.{length-path_of}
-use Rattle.collision_witness.specs.Exhibits.{IsExhibit, AreSmallMinors}
-use Rattle.pmem_engine.specs.Outcomes.{Outcome, going, cut_short, shown}
-use Rattle.counter_tree.specs.declared.nodes.Node.{Node}
-use Rattle.counter_tree.specs.declared.watch.LineSeal.{LineSeal}
-use Rattle.counter_tree.specs.Layout.{tree_lines, line_of_slot}
-use Rattle.counter_tree.specs.Slots.{slot_of, slot_line}
-use Rattle.counter_tree.specs.Trees.{node_at}
-use Rattle.counter_tree.specs.Watch.{WatchState}
-use Rattle.watched_board.specs.Watching.{steps_in, step_limit, device_during, none_taken}
-use Rattle.asit_shadow.specs.declared.fault.TreeFault.{TreeFault}
 use Rattle.asit_shadow.specs.declared.fault.TreeFault.TheVariants as Fail
-use Rattle.asit_shadow.specs.State.{TreeState}
-use Rattle.asit_shadow.specs.WritePlans.{write_plan}
-use Rattle.asit_shadow.specs.Invariants.{IsTreeAnchored}
-use Rattle.asit_shadow.specs.Paths.{line_path, write_group}
-use Rattle.asit_shadow.specs.Parts.{TreeEngineParts, HoldsTreeSeal}
+use Rattle.asit_shadow.specs.Paths.{write_group}
 use Rattle.asit_shadow.specs.Calls as told
-use Rattle.asit_shadow.specs.Calls.{TreeCallEffect, HasWrittenTreeLine, IsLineWritten}
-use Rattle.asit_shadow.specs.Work.{spilled_nodes, IsCutInNodeFetch, IsCutInGroup, HasFetchedPath}
-use Rattle.asit_shadow.specs.Plain.{writes_made, with_board}
-use Rattle.asit_shadow.proofs.Chains.{going-unshown}
 use Rattle.tree_session.specs.declared.commands.TreeCommand.TheVariants as Do
-use Rattle.tree_session.specs.declared.answers.TreeAnswer.{TreeAnswer}
 use Rattle.tree_session.specs.declared.answers.TreeAnswer.TheVariants as Say
-use Rattle.tree_session.specs.Called.{IsTreeCalled, plain_said, write_said}
-use Rattle.tree_session.specs.World.{plain_of_parts, state_of, IsTreeWorld}
-use Rattle.tree_session.specs.Answered.{IsTreeAnswered, IsRooted, IsEngineShown, SaysOfWrite, AnswersWith, IsNodeExhibit, IsNodeRefusal, AllAreMade, tree_write_bound, IsBoardSpilled}
 use Rattle.tree_session.proofs.BoardSteps.{goes_on, cut_off, latched, unlatched, untouched, then_rests, taken-exact}
 use Rattle.tree_session.proofs.PlainStates.{plain_is, plain-kept, plain-written, writes-are}
 use Rattle.tree_session.proofs.Worlds.{TreeEngineCall, EndsBy, IsEngineLeft, lit_left, dark_left, called, called_shown, from, to, ended_to, still_up, left, left_resting, trusted_from, powered_from, seals_kept, on_after, rooted_after, off_after, rooted_cut, rooted_still, cut_rooted_still, ended_after, none_is}

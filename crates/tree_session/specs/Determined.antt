@@ -1,11 +1,14 @@
--- That the contract of a session's reply leaves nothing open: of two replies to one command, both are the same.
-use Rattle.std.specs.Prelude.{◌≡◌, Result, Ok, Err}
+-- That the contract of a session's reply leaves nothing open: of two replies to one command, both are the same, and so
+-- are two logs.
+use Rattle.std.specs.Prelude.{◌≡◌, List, [], Some, Result, Ok, Err}
 use Rattle.pmem_base.specs.declared.answers.Exhibit.{Exhibit}
+use Rattle.board.specs.declared.access.Access.{Access}
 use Rattle.suite.specs.Setup.{Setup}
 use Rattle.tree_session.specs.declared.commands.TreeCommand.{TreeCommand}
 use Rattle.tree_session.specs.declared.answers.TreeAnswer.{TreeAnswer}
 use Rattle.tree_session.specs.State.{SessionState}
 use Rattle.tree_session.specs.Answered.{IsTreeAnswered, IsTreeShownBy}
+use Rattle.tree_session.specs.Logged.{IsTreeLogged}
 
 -- the reply to a command: an answer, or an exhibit in its place
 abbrev pub IsTreeReplied : Setup → SessionState → TreeCommand → Result TreeAnswer Exhibit → SessionState → Type 0
@@ -16,3 +19,11 @@ abbrev pub TreeRepliesAreDetermined : Type 0
 TreeRepliesAreDetermined =
     (setup : Setup) (command : TreeCommand) (first second : Result TreeAnswer Exhibit) (old one other : SessionState)
     → IsTreeReplied setup old command first one → IsTreeReplied setup old command second other → (first ≡ second) × (one ≡ other)
+
+-- two logs of one command from one state are the same, where none was lost for want of memory
+abbrev pub TreeLogsAreDetermined : Type 0
+TreeLogsAreDetermined =
+    (setup : Setup) (command : TreeCommand) (first second : Result TreeAnswer Exhibit) (old one other : SessionState) (accesses others : List Access)
+    → IsTreeReplied setup old command first one → IsTreeReplied setup old command second other
+    → IsTreeLogged command (Some []) old (Some accesses) one → IsTreeLogged command (Some []) old (Some others) other
+    → accesses ≡ others

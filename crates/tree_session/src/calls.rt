@@ -9,27 +9,51 @@ ghost use Rattle.board.specs.MemBoard.{memory_of};
 ghost use Rattle.watched_board.specs.Watching.{IsWatched, device_during, none_taken};
 ghost use Rattle.access_log.specs.Traced.{GoesOn};
 ghost use Rattle.counter_tree.specs.Layout.{tree_lines, tree_slots, tree_size};
-ghost use Rattle.asit_shadow.specs.Parts.{IsTreeUsable};
-ghost use Rattle.asit_shadow.specs.Recovering.{IsRestUsable};
+ghost use Rattle.asit_shadow.specs.Parts.{IsTreeUsable, tree_parts_of};
+ghost use Rattle.asit_shadow.specs.Recovering.{IsRestUsable, rest_of};
 ghost use Rattle.tree_session.specs.During.{parts_during, rest_during};
-ghost use Rattle.tree_session.specs.Promised.{ReadsLine, FollowsRead, WritesLine, FollowsWrite, Recovers, FollowsRecovery, Formats};
+ghost use Rattle.tree_session.specs.Promised.{ReadsLineOver, FollowsReadOver, ReadsLine, FollowsRead, WritesLineOver, FollowsWriteOver, WritesLine, FollowsWrite, StaysUsable, RecoversOver, FollowsRecoveryOver, Recovers, FollowsRecovery, StaysRecoverable, Formats};
 
-use access_log::{AccessLog, Entry, Logged};
+use access_log::AccessLog;
 use asit_shadow::{TreeEngine, TreeFault, TreeRec, tree_format, tree_recover};
-use board::MemBoard;
+use board::{Board, MemBoard};
 use counter_tree::Watch;
 use pmem_base::{Geo, Line, MemFault};
 use pmem_recovery::Work;
 use std::alloc::Global;
 use std::marker::Brand;
 use suite::Suite;
-use watched_board::{Kept, Left, Made, Start, Taken};
+use watched_board::{Kept, Made, Start};
+use watched_call::{BoardCall, CallEnd, make_call};
 
-/// A call's answer, and the steps that it took.
+/// Data line `at` is read.
 #[derive(Drop)]
-pub(crate) struct CallEnd<T> {
-    pub(crate) taken: Taken,
-    pub(crate) answer: T,
+struct ReadLine {
+    at: u32,
+}
+
+impl<W: Watch> BoardCall<W> for ReadLine {
+    type Engine = TreeEngine;
+
+    type Answer = Result<Line, TreeFault>;
+
+    ghost can = { λ call engine device watch. (call.at < tree_lines engine.shape)
+        × IsTreeUsable engine.shape (tree_parts_of engine device (W.watched watch)) };
+
+    ghost relation = { λ call S suite engine device s w later_engine later_device later_s later_w answer.
+        ReadsLineOver suite W.Watch engine device s w later_engine later_device later_s later_w call.at answer
+        × FollowsReadOver suite W.Watch engine device s w later_engine later_device later_s later_w call.at answer
+        × StaysUsable suite W.Watch engine device s w later_engine later_device later_s later_w };
+
+    fn make<B: Board, S: Suite>(
+        &self,
+        engine: &mut TreeEngine,
+        board: &mut B,
+        suite: &mut S,
+        notes: &mut W,
+    ) -> Result<Line, TreeFault> {
+        engine.read(board, suite, notes, self.at)
+    }
 }
 
 /// Reads a data line.
@@ -54,43 +78,38 @@ pub(crate) fn read<S: Suite, W: Watch>(
     ensures keys { S.keys suite.new ≡ S.keys suite.old }
     ensures shape { engine.new.shape ≡ engine.old.shape }
 {
-    let left = read_logged::<Brand, S, W>(engine, board, suite, watch, at, log);
-    let Left {
-        board: _,
-        taken,
-        answer,
-    } = left;
-    CallEnd { taken, answer }
+    make_call(&ReadLine { at }, engine, board, suite, watch, log)
 }
 
-fn read_logged<'a, K: Start + Entry, S: Suite, W: Watch>(
-    engine: &mut TreeEngine,
-    board: &'a mut MemBoard,
-    suite: &mut S,
-    watch: &mut W,
+/// A data line is written.
+#[derive(Drop)]
+struct WriteLine<'a> {
     at: u32,
-    log: &mut AccessLog,
-) -> Left<'a, Result<Line, TreeFault>>
-    requires line { at < tree_lines engine.old.shape }
-    requires start { memory_of board.old ≡ K.start }
-    requires name { board.ghost_name ≡ K.name }
-    requires log { log.old ≡ K.log }
-    requires on { (memory_of board.old).powered ≡ true }
-    requires usable { IsTreeUsable engine.old.shape (parts_during W.Watch engine.old board.old none_taken watch.old) }
-    ensures name { result.board.ghost_name ≡ K.name }
-    ensures read { ReadsLine S.Suite W.Watch engine.old board.old suite.old watch.old
-        engine.new result.board.now result.taken suite.new watch.new at result.answer }
-    ensures plan { FollowsRead S.Suite W.Watch engine.old board.old suite.old watch.old
-        engine.new result.board.now result.taken suite.new watch.new at result.answer }
-    ensures watched { IsWatched K.start (memory_of result.board.now) result.taken }
-    ensures logged { GoesOn K.log K.start log.new (memory_of result.board.now) }
-    ensures usable { IsTreeUsable engine.old.shape (parts_during W.Watch engine.new result.board.now result.taken watch.new) }
-    ensures keys { S.keys suite.new ≡ S.keys suite.old }
-    ensures shape { engine.new.shape ≡ engine.old.shape }
-{
-    let mut logged = Logged::<K>::new(board, log.take());
-    let answer = engine.read(&mut logged, suite, watch, at);
-    logged.left(answer, log)
+    line: &'a Line,
+}
+
+impl<'a, W: Watch> BoardCall<W> for WriteLine<'a> {
+    type Engine = TreeEngine;
+
+    type Answer = Result<u64, TreeFault>;
+
+    ghost can = { λ call engine device watch. (call.at < tree_lines engine.shape)
+        × IsTreeUsable engine.shape (tree_parts_of engine device (W.watched watch)) };
+
+    ghost relation = { λ call S suite engine device s w later_engine later_device later_s later_w answer.
+        WritesLineOver suite W.Watch engine device s w later_engine later_device later_s later_w call.at call.line.now answer
+        × FollowsWriteOver suite W.Watch engine device s w later_engine later_device later_s later_w call.at call.line.now answer
+        × StaysUsable suite W.Watch engine device s w later_engine later_device later_s later_w };
+
+    fn make<B: Board, S: Suite>(
+        &self,
+        engine: &mut TreeEngine,
+        board: &mut B,
+        suite: &mut S,
+        notes: &mut W,
+    ) -> Result<u64, TreeFault> {
+        engine.write(board, suite, notes, self.at, self.line)
+    }
 }
 
 /// Writes a data line.
@@ -116,44 +135,37 @@ pub(crate) fn write<S: Suite, W: Watch>(
     ensures keys { S.keys suite.new ≡ S.keys suite.old }
     ensures shape { engine.new.shape ≡ engine.old.shape }
 {
-    let left = write_logged::<Brand, S, W>(engine, board, suite, watch, at, line, log);
-    let Left {
-        board: _,
-        taken,
-        answer,
-    } = left;
-    CallEnd { taken, answer }
+    make_call(&WriteLine { at, line }, engine, board, suite, watch, log)
 }
 
-fn write_logged<'a, K: Start + Entry, S: Suite, W: Watch>(
-    engine: &mut TreeEngine,
-    board: &'a mut MemBoard,
-    suite: &mut S,
-    watch: &mut W,
-    at: u32,
-    line: &Line,
-    log: &mut AccessLog,
-) -> Left<'a, Result<u64, TreeFault>>
-    requires line { at < tree_lines engine.old.shape }
-    requires start { memory_of board.old ≡ K.start }
-    requires name { board.ghost_name ≡ K.name }
-    requires log { log.old ≡ K.log }
-    requires on { (memory_of board.old).powered ≡ true }
-    requires usable { IsTreeUsable engine.old.shape (parts_during W.Watch engine.old board.old none_taken watch.old) }
-    ensures name { result.board.ghost_name ≡ K.name }
-    ensures written { WritesLine S.Suite W.Watch engine.old board.old suite.old watch.old
-        engine.new result.board.now result.taken suite.new watch.new at line.now result.answer }
-    ensures plan { FollowsWrite S.Suite W.Watch engine.old board.old suite.old watch.old
-        engine.new result.board.now result.taken suite.new watch.new at line.now result.answer }
-    ensures watched { IsWatched K.start (memory_of result.board.now) result.taken }
-    ensures logged { GoesOn K.log K.start log.new (memory_of result.board.now) }
-    ensures usable { IsTreeUsable engine.old.shape (parts_during W.Watch engine.new result.board.now result.taken watch.new) }
-    ensures keys { S.keys suite.new ≡ S.keys suite.old }
-    ensures shape { engine.new.shape ≡ engine.old.shape }
-{
-    let mut logged = Logged::<K>::new(board, log.take());
-    let answer = engine.write(&mut logged, suite, watch, at, line);
-    logged.left(answer, log)
+/// Power comes on: an engine is recovered.
+#[derive(Drop)]
+struct Recovery<'a> {
+    alloc: Global,
+    geo: &'a Geo,
+}
+
+impl<'a, W: Watch> BoardCall<W> for Recovery<'a> {
+    type Engine = ();
+
+    type Answer = Result<(TreeEngine, Work), TreeRec>;
+
+    ghost can = { λ call engine device watch. IsRestUsable (shape_of call.geo.now) (rest_of device (W.watched watch)) };
+
+    ghost relation = { λ call S suite engine device s w later_engine later_device later_s later_w answer.
+        RecoversOver suite W.Watch call.geo.now device s w later_device later_s later_w answer
+        × FollowsRecoveryOver suite W.Watch call.geo.now device s w later_device later_s later_w answer
+        × StaysRecoverable suite W.Watch call.geo.now device s w later_device later_s later_w answer };
+
+    fn make<B: Board, S: Suite>(
+        &self,
+        engine: &mut (),
+        board: &mut B,
+        suite: &mut S,
+        notes: &mut W,
+    ) -> Result<(TreeEngine, Work), TreeRec> {
+        tree_recover(self.alloc, self.geo, board, suite, notes)
+    }
 }
 
 /// Recovers an engine.
@@ -179,44 +191,7 @@ pub(crate) fn recover<S: Suite, W: Watch>(
     ensures pads { S.pads suite.new ≡ S.pads suite.old }
     ensures tags { S.tags suite.new ≡ S.tags suite.old }
 {
-    let left = recover_logged::<Brand, S, W>(alloc, geo, board, suite, watch, log);
-    let Left {
-        board: _found,
-        taken,
-        answer,
-    } = left;
-    CallEnd { taken, answer }
-}
-
-fn recover_logged<'a, K: Start + Entry, S: Suite, W: Watch>(
-    alloc: Global,
-    geo: &Geo,
-    board: &'a mut MemBoard,
-    suite: &mut S,
-    watch: &mut W,
-    log: &mut AccessLog,
-) -> Left<'a, Result<(TreeEngine, Work), TreeRec>>
-    requires start { memory_of board.old ≡ K.start }
-    requires name { board.ghost_name ≡ K.name }
-    requires log { log.old ≡ K.log }
-    requires on { (memory_of board.old).powered ≡ true }
-    requires usable { IsRestUsable (shape_of geo.now) (rest_during W.Watch board.old none_taken watch.old) }
-    ensures name { result.board.ghost_name ≡ K.name }
-    ensures recovered { Recovers S.Suite W.Watch geo.now board.old suite.old watch.old
-        result.board.now result.taken suite.new watch.new result.answer }
-    ensures plan { FollowsRecovery S.Suite W.Watch geo.now board.old suite.old watch.old
-        result.board.now result.taken suite.new watch.new result.answer }
-    ensures watched { IsWatched K.start (memory_of result.board.now) result.taken }
-    ensures logged { GoesOn K.log K.start log.new (memory_of result.board.now) }
-    ensures usable { IsRestUsable (shape_of geo.now) (rest_during W.Watch result.board.now result.taken watch.new) }
-    ensures shape { IfOk result.answer (λ made. made.0.shape ≡ shape_of geo.now) }
-    ensures keys { S.keys suite.new ≡ S.keys suite.old }
-    ensures pads { S.pads suite.new ≡ S.pads suite.old }
-    ensures tags { S.tags suite.new ≡ S.tags suite.old }
-{
-    let mut logged = Logged::<K>::new(board, log.take());
-    let answer = tree_recover(alloc, geo, &mut logged, suite, watch);
-    logged.left(answer, log)
+    make_call(&Recovery { alloc, geo }, &mut (), board, suite, watch, log)
 }
 
 /// Makes the device new.

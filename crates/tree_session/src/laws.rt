@@ -1,15 +1,17 @@
 //! Laws of whole sessions.
 ghost use Rattle.pmem_base.specs.Geo.{shape_of};
-ghost use Rattle.tree_session.specs.Determined.{TreeRepliesAreDetermined};
+ghost use Rattle.tree_session.specs.Determined.{TreeLogsAreDetermined, TreeRepliesAreDetermined};
 ghost use Rattle.tree_session.specs.Guarantees.{IsTreeKept, IsTreeShown, IsTreeUntouched};
 
 use pmem_base::Geo;
 use suite::Suite;
 
 /// A law: two replies to one command in one state, answers or exhibits, are the same, with the same state after them:
-/// so a session's relation leaves nothing open but where memory is wanting.
+/// so a session's relation leaves nothing open but where memory is wanting. A log that isn't lost has the same accesses
+/// of the device, in the same order.
 pub fn tree_replies_are_determined()
-    ensures { TreeRepliesAreDetermined }
+    ensures replies { TreeRepliesAreDetermined }
+    ensures logs { TreeLogsAreDetermined }
 {}
 
 /// A law: in each session, whatever is asked and changed and wherever power is cut, reads show what was written last,

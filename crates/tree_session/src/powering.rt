@@ -1,18 +1,19 @@
 //! Power, and recovery.
 ghost use Rattle.std.specs.Prelude.{◌≡◌, IfOk, IfErr, None};
-ghost use Rattle.access_log.specs.Traced.{GoesOn};
 ghost use Rattle.tree_session.specs.declared.commands.TreeCommand.TheVariants as Do;
 ghost use Rattle.tree_session.specs.State.{tree_setup_in};
 ghost use Rattle.tree_session.specs.Answered.{IsTreeAnswered, IsTreeHalt};
+ghost use Rattle.tree_session.specs.Logged.{IsTreeLogged};
 
 use crate::answers::TreeAnswer;
-use crate::calls::{self, CallEnd};
+use crate::calls;
 use crate::world::TreeWorld;
 use access_log::AccessLog;
 use asit_shadow::TreeRec;
 use std::alloc::Global;
 use suite::Suite;
 use trace_text::Halt;
+use watched_call::CallEnd;
 
 impl<S: Suite + Drop> TreeWorld<S> {
     /// Power is to be cut after `n` more persist steps.
@@ -42,7 +43,7 @@ impl<S: Suite + Drop> TreeWorld<S> {
         requires { self.old.shown ≡ None }
         ensures answered { IfOk result (λ answer. IsTreeAnswered (tree_setup_in S.formulas_of self.old) self.old Do.On answer self.new) }
         ensures halted { IfErr result (λ halt. IsTreeHalt (tree_setup_in S.formulas_of self.old) self.old Do.On halt self.new) }
-        ensures logged { GoesOn log.old self.old.plain.board log.new self.new.plain.board }
+        ensures logged { IsTreeLogged Do.On log.old self.old log.new self.new }
     {
         if self.engine.is_some() {
             return Ok(TreeAnswer::Already);

@@ -1,11 +1,11 @@
 //! Commands on data lines.
 ghost use Rattle.std.specs.Prelude.{◌≡◌, IfOk, IfErr, IsSome, Some, None};
 ghost use Rattle.std.specs.Option.{option_map};
-ghost use Rattle.access_log.specs.Traced.{GoesOn};
 ghost use Rattle.tree_session.specs.declared.commands.TreeCommand.TheVariants as Do;
 ghost use Rattle.trace_text.specs.declared.talk.Halt.TheVariants as Stop;
 ghost use Rattle.tree_session.specs.State.{tree_setup_in};
 ghost use Rattle.tree_session.specs.Answered.{IsTreeAnswered, IsTreeHalt};
+ghost use Rattle.tree_session.specs.Logged.{IsTreeLogged};
 
 use crate::answers::TreeAnswer;
 use crate::calls;
@@ -28,7 +28,7 @@ impl<S: Suite + Drop> TreeWorld<S> {
         requires { self.old.shown ≡ None }
         ensures answered { IfOk result (λ answer. IsTreeAnswered (tree_setup_in S.formulas_of self.old) self.old (Do.Write at line.now) answer self.new) }
         ensures halted { IfErr result (λ halt. IsTreeHalt (tree_setup_in S.formulas_of self.old) self.old (Do.Write at line.now) halt self.new) }
-        ensures logged { GoesOn log.old self.old.plain.board log.new self.new.plain.board }
+        ensures logged { IsTreeLogged (Do.Write at line.now) log.old self.old log.new self.new }
     {
         let Some(engine) = &mut self.engine else {
             return Ok(TreeAnswer::Off);
@@ -79,7 +79,7 @@ impl<S: Suite + Drop> TreeWorld<S> {
         requires { self.old.shown ≡ None }
         ensures answered { IfOk result (λ answer. IsTreeAnswered (tree_setup_in S.formulas_of self.old) self.old (Do.Read at) answer self.new) }
         ensures halted { IfErr result (λ halt. IsTreeHalt (tree_setup_in S.formulas_of self.old) self.old (Do.Read at) halt self.new) }
-        ensures logged { GoesOn log.old self.old.plain.board log.new self.new.plain.board }
+        ensures logged { IsTreeLogged (Do.Read at) log.old self.old log.new self.new }
     {
         let Some(engine) = &mut self.engine else {
             return Ok(TreeAnswer::Off);

@@ -113,7 +113,7 @@ module _ (c : CommitCall) where
       let few : k ≤ 2 * count + 2 = omega arith in
       let log : c.after.logged.items ≡ cond (nat_lt count k) (cond (k == 2 * count + 2) [] (targets_of c.entries)) [] =
       its.its_targets ∙ (state.no_log c) ∙ sym targets_all in (
-        held_as (Some c.after) (state.going_world c k gone.made few lines most (take k queue) gone.done log),
+        held_as (Some c.after) (state.going_world c k gone.made few lines most (take k queue) gone.done (state.running_by c (Ok Make.Applied) is refl) log),
         seen_as (Some c.after) (record { done = k; made = gone.made }) Say.Applied
             (sym (state.long c), (omega (arith, ap (λ (m : ℕ). m) (state.long c)), gone.done.asked))
             (state.goes c k gone.made few lines most (take k queue) gone.done (stuck_still its.its_page))
@@ -144,7 +144,7 @@ module _ (c : CommitCall) where
       ∙ sym
       (ap (λ b. cond b (cond (k == 2 * count + 2) [] (targets_of c.entries)) []) (lt-ltb count k past)
       ∙ ap (λ b. cond b [] (targets_of c.entries)) (ne_eqb k (2 * count + 2) (λ e. omega (arith, e, high)))) in (
-        held_as (Some c.after) (state.going_world c k spent.made few lines most (take k queue) spent.done log),
+        held_as (Some c.after) (state.going_world c k spent.made few lines most (take k queue) spent.done (state.running_by c (Ok (Make.Stuck page)) is refl) log),
         seen_as (Some c.after) (record { done = k; made = spent.made }) (λ steps. Say.Stuck page steps) (past, spent.next)
             (state.goes_stuck c k spent.made few lines most (take k queue) spent.done page its.its_page)
             (lit_call (λ steps. Say.Stuck page steps) spent.done.live (sym (ap (λ r. done_said (state.own c) (steps_in c.taken) r) is))
@@ -164,7 +164,8 @@ module _ (c : CommitCall) where
       let log : c.after.logged.items ≡ cond (nat_lt count k) (cond (k == 2 * count + 2) [] (targets_of c.entries)) [] =
       its.its_targets ∙ (state.no_log c)
       ∙ sym (ap (λ b. cond b (cond (k == 2 * count + 2) [] (targets_of c.entries)) []) (le-ltb count k before)) in (
-        held_as (Some c.after) (state.going_world c k spent.made few lines most (take k queue) spent.done log),
+        held_as (Some c.after) (state.going_world c k spent.made few lines most (take k queue) spent.done
+            (state.running_by c (Err (record { fault = Fail.Spent page; committed = committed })) is refl) log),
         seen_as (Some c.after) (record { done = k; made = spent.made }) (λ steps. Say.Spent page steps) (before, spent.next)
             (state.goes c k spent.made few lines most (take k queue) spent.done (stuck_still its.its_page))
             (lit_call (λ steps. Say.Spent page steps) spent.done.live (sym (ap (λ r. done_said (state.own c) (steps_in c.taken) r) is))

@@ -7,6 +7,10 @@ use Rattle.txn_session.proofs.Worlds.{targets_held, memory_held, logged_is, IsOp
 use Rattle.txn_session.proofs.WriteLists.{posted_commit, length-commit_writes}
 use Rattle.txn_session.proofs.Stages.{commit_edits, IsAtStage, at_stage}
 use Rattle.txn_session.proofs.CommitEnds.{commit_queue, CommitEndsAt, CommitServes, commit_serves, commit_ends_at}
+use Rattle.pmem_engine.specs.Engine.{on_chip}
+use Rattle.pmem_engine.specs.Outcomes.{is_going}
+use Rattle.line_txn.specs.Store.{commit_outcome_by}
+use Rattle.std.specs.Prelude.{◌||◌, not, Bool}
 
 -- the state that so many leave, field by field
 by_done : (b last : Bool) (state : TxnState) (memory : Memory) (targets : List ℕ)
@@ -67,6 +71,7 @@ pub record CommitCall : Type 0 where
       HasStoreCommitted (setup_under formulas_of store.engine.shape before.keys) entries store after
       (parts_of store.engine (device_during before.board none_taken) ledger_before before.tags before.digests)
       (parts_of after.engine (device_during board taken) ledger tags_new digests_new) answer
+  pub down : after.engine.down ≡ (store.engine.down || not (is_going (commit_outcome_by answer)))
   pub plan :
       FollowsCommit (setup_under formulas_of store.engine.shape before.keys) entries store after before.board.regs
       (chip_of store.engine ledger_before before.tags before.digests) (chip_of after.engine ledger tags_new digests_new)
@@ -212,8 +217,8 @@ module _ (c : CommitCall) where
 
     -- power is on
     module _ (limit : ℕ) (writes : List Posted) (done : AreDone setup from writes made limit to) where
-      pub going_world : c.after.logged.items ≡ cond (nat_lt count k) (cond (k == 2 * count + 2) [] (targets_of c.entries)) [] → IsTxnWorld setup (left (Some c.after))
-      going_world its_log = on_after setup p c.tags_new c.digests_new c.board c.ledger world logged c.after None done.live done.sound (its_log ∙ sym targets_now) tt
+      pub going_world : c.after.engine.down ≡ false → c.after.logged.items ≡ cond (nat_lt count k) (cond (k == 2 * count + 2) [] (targets_of c.entries)) [] → IsTxnWorld setup (left (Some c.after))
+      going_world up its_log = on_after setup p c.tags_new c.digests_new c.board c.ledger world logged c.after None done.live up done.sound (its_log ∙ sym targets_now) tt
 
       -- the store is stuck at this page, or isn't
       at_page : (page : Option ℕ) → c.after.stuck ≡ page
@@ -274,6 +279,12 @@ module _ (c : CommitCall) where
         fewer c.taken limit c.watched.follows.few cut.takes.sum,
       )
 
+  -- the engine is up after a commit that goes on
+  pub running_by : (answer : Result Committed CommitFault) → c.answer ≡ answer → is_going (commit_outcome_by answer) ≡ true → c.after.engine.down ≡ false
+  running_by answer is goes =
+      c.down ∙ ap (λ (b : Bool). b || not (is_going (commit_outcome_by c.answer))) on.running
+      ∙ ap (λ (r : Result Committed CommitFault). not (is_going (commit_outcome_by r))) is ∙ ap not goes
+
   -- ---- the call of the session
 
   abbrev chip : Chip
@@ -302,8 +313,8 @@ module _ (c : CommitCall) where
       steps = steps_in c.taken;
       end = plan_as.end;
       called =
-          has_called (commit_call setup old) plan_as.end old.session (txn_of setup (left store)).session c.store.engine c.after.engine
-          c.taken on.powered (ap (option_map (λ (s : Store). s.engine)) c.there) (kept_of (λ (s : Store). s.engine) store c.after c.board.powered kept) refl refl
+          has_called (commit_call setup old) plan_as.end old.session (txn_of setup (left store)).session (on_chip c.store.engine) (on_chip c.after.engine)
+          c.taken on.powered (ap (option_map (λ (s : Store). on_chip s.engine)) c.there) (kept_of (λ (s : Store). on_chip s.engine) store c.after c.board.powered kept) refl refl
           c.watched within
           (subst (λ q. Follows q (device_during c.before.board none_taken) (device_during c.board c.taken)
           (ended plan_as.end (chip_of c.after.engine c.ledger c.tags_new c.digests_new))) plan_is plan_as.follows);

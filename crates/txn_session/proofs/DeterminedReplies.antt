@@ -1,9 +1,13 @@
--- Two answers of one command from one state are the same, and leave the same state.
-use Rattle.std.proofs.Common.{◌≡◌, Option, Some, None, sym, ap, ap₂, ◌∙◌}
+-- Two answers of one command from one state are the same, and leave the same state and the same log.
+use Rattle.std.proofs.Common.{◌≡◌, List, [], Option, Some, None, sym, ap, ap₂, subst, ◌∙◌}
 use Rattle.txn_session.proofs.Common.{Setup, LineSession, TxnCommand, TxnAnswer, TxnState, txn_left, IsTxnCalled, Said, read_call, read_said, commit_call, commit_said, open_call, open_said, IsTxnAnsweredAs, txn_decided}
 use Rattle.line_session.proofs.Outcomes.{called_answer, started_answer, refusal_determined, twin_in}
 use Rattle.txn_session.specs.declared.commands.TxnCommand.TheVariants as Do
-use Rattle.txn_session.specs.Determined.{TxnRepliesAreDetermined, TxnExhibitsAreDetermined}
+use Rattle.txn_session.specs.Logged.{IsTxnLogged}
+use Rattle.txn_session.specs.Determined.{TxnRepliesAreDetermined, TxnExhibitsAreDetermined, TxnLogsAreDetermined}
+use Rattle.std.proofs.lemmas.Option.{same_Some}
+use Rattle.board.specs.declared.access.Access.{Access}
+use Rattle.trace_text.proofs.LogLemmas.{same_logged}
 use Rattle.pmem_base.specs.declared.answers.Exhibit.TheVariants.{Twin}
 use Rattle.pmem_recovery.specs.declared.faults.RecFault.TheVariants as Rec
 
@@ -56,3 +60,19 @@ exhibits_are_determined setup old Do.On (Twin at major low high cipher tag) (Twi
     it.4 its.4)
 exhibits_are_determined setup old Do.On (Twin at major low high cipher tag) second it its = absurd its
 exhibits_are_determined setup old command first second it its = absurd it
+
+-- ---- logs
+
+same_accesses : (command : TxnCommand) (old new : TxnState) (accesses others : List Access) → IsTxnLogged command (Some []) old (Some accesses) new
+    → IsTxnLogged command (Some []) old (Some others) new → accesses ≡ others
+same_accesses Do.Commit old new accesses others it its =
+    same_logged (txn_decided old Do.Commit) old.session.board new.session.board accesses others it its
+same_accesses (Do.Read a) old new accesses others it its =
+    same_logged (txn_decided old (Do.Read a)) old.session.board new.session.board accesses others it its
+same_accesses Do.On old new accesses others it its = same_logged (txn_decided old Do.On) old.session.board new.session.board accesses others it its
+same_accesses command old new accesses others it its = same_Some accesses others (it ∙ sym its)
+
+pub logs_are_determined : (setup : Setup) → TxnLogsAreDetermined setup
+logs_are_determined setup old one other command first second accesses others it its log its_log =
+    let same = (replies_are_determined setup old one other command first second it its).1 in
+    same_accesses command old one accesses others log (subst (λ (s : TxnState). IsTxnLogged command (Some []) old (Some others) s) (sym same) its_log)

@@ -7,6 +7,8 @@ use Rattle.line_session.specs.State.{IsNewSession}
 use Rattle.pmem_engine.specs.declared.fault.Fault.TheVariants as Fail
 use Rattle.line_txn.specs.declared.store.TxnFault.TheVariants as Txn
 use Rattle.txn_session.proofs.Worlds.{few_lines, targets_held, memory_held, logged_is, on_of}
+use Rattle.pmem_engine.specs.Engine.{on_chip}
+use Rattle.std.specs.Prelude.{IfOk, false}
 
 -- what formatting and the opening leave
 pub record NewTxnCall : Type 0 where
@@ -36,6 +38,7 @@ pub record NewTxnCall : Type 0 where
   pub opened :
       HasStoreOpened setup (parts_of engine (device_of middle) ledger_before tags digests)
       (λ now. parts_of now (device_of board) ledger tags_new digests_new) answer
+  pub up : IfOk answer (λ opened. opened.0.engine.down ≡ false)
 
 module _ (c : NewTxnCall) where
   abbrev g : Shape
@@ -50,9 +53,9 @@ module _ (c : NewTxnCall) where
   abbrev to : EngineState → Parts
   to now = parts_of now (device_of c.board) c.ledger c.tags_new c.digests_new
 
-  sound : IsSound c.setup c.engine c.middle.lines c.middle.regs c.ledger_before
+  sound : IsSound c.setup (on_chip c.engine) c.middle.lines c.middle.regs c.ledger_before
   sound =
-      subst (IsSound c.setup c.engine c.middle.lines c.middle.regs) (sym c.same_ledger) (c.formatted.sound c.middle.lines refl)
+      subst (IsSound c.setup (on_chip c.engine) c.middle.lines c.middle.regs) (sym c.same_ledger) (c.formatted.sound c.middle.lines refl)
 
   places : plain_memory c.setup c.ledger_before.marks ≡ replicate (layout.data_lines g) zero_line
   places =
@@ -71,7 +74,7 @@ module _ (c : NewTxnCall) where
   -- the header that is read has no targets
   header_read : (new : Parts) (line : Line) → HasReadLine c.setup n from new (Ok line) → IsHeader n line []
   header_read new line it =
-      let plain = (it.answered sound.trusted.not_down sound.trusted).0 in
+      let plain = (it.answered sound.trusted).0 in
       let zero = ap (λ ledger. plain_line c.setup.formulas ledger.marks n) c.same_ledger ∙ c.formatted.plain n header_inside in
       let same : line ≡ zero_line = let both : Some line ≡ Some zero_line = sym plain ∙ zero in search (rules, both) in
       let here : line_at (plain_memory c.setup c.ledger_before.marks) n ≡ zero_line =
@@ -108,7 +111,7 @@ module _ (c : NewTxnCall) where
   held store = record { keys = c.keys; tags = c.tags_new; digests = c.digests_new; board = c.board; ledger = c.ledger; store = Some store; txn = None }
 
   module _ (store : Store) (line : Line) (was : HasReadLine c.setup n from (to store.engine) (Ok line)) (log : store.logged.items ≡ [])
-      (unstuck : store.stuck ≡ None) where
+      (unstuck : store.stuck ≡ None) (up : store.engine.down ≡ false) where
     marks : c.ledger.marks ≡ c.ledger_before.marks
     marks =
         marks_stay c.setup c.start c.middle c.ledger_middle c.engine c.formatted c.board c.ledger_before c.ledger c.same_ledger store.engine c.tags
@@ -129,7 +132,7 @@ module _ (c : NewTxnCall) where
     new_world =
         on_of c.setup (held store) store refl c.whole_shape c.in_range
         (logged_is c.setup c.whole_shape (plain_memory c.setup c.ledger.marks) (replicate n zero_line) [] logged)
-        new.power
+        new.power up
         (sound_after c.setup c.start c.middle c.ledger_middle c.engine c.formatted c.board c.ledger_before c.ledger c.same_ledger store.engine c.tags
         c.digests c.tags_new c.digests_new n line was)
         (log ∙ sym none_in_force) tt
@@ -149,13 +152,13 @@ module _ (c : NewTxnCall) where
   IsStored (Ok both) = IsTxnWorld c.setup (held both.0) × IsNewTxn c.setup (txn_of c.setup (held both.0))
   IsStored (Err fault) = ⊥
 
-  stored : (store : Store) (opened : Opened) → HasStoreStarted c.setup from (to store.engine) store opened → IsStored (Ok (store, opened))
-  stored store opened it =
+  stored : (store : Store) (opened : Opened) → HasStoreStarted c.setup from (to store.engine) store opened → store.engine.down ≡ false → IsStored (Ok (store, opened))
+  stored store opened it up =
       let read = read_alone it.targets (to store.engine) it.redone it.was_redone in
       let by : IsOpenedBy (Ok tt) store.lines it.targets store opened =
       subst (λ r. IsOpenedBy r store.lines it.targets store opened) read.done it.its_end in (
-        new_world store read.line read.was_read by.0 by.1,
-        new_state store read.line read.was_read by.0 by.1,
+        new_world store read.line read.was_read by.0 by.1 up,
+        new_state store read.line read.was_read by.0 by.1 up,
       )
 
   fault_none : (fault : Fault) → (let done : Result (Unit {0}) Fault = Ok tt in Err fault ≡ done) → ⊥
@@ -166,18 +169,19 @@ module _ (c : NewTxnCall) where
       IsFault (Err fault) = ⊤
 
   pub new_outcome : (answer : Result (Store × Opened) TxnFault) → c.answer ≡ answer → IsStored answer
-  new_outcome answer is = subst IsStored is (go c.answer c.opened)
+  new_outcome answer is = subst IsStored is (go c.answer c.opened c.up)
     where
       unread : (fault : Fault) (new : Parts) → HasReadLine c.setup n from new (Err fault) → ⊥
-      unread Fail.Cut new it = true≢false (sym c.formatted.steady ∙ (it.done sound.trusted.not_down).gone.power.0)
-      unread (Fail.Spent page) new it = it.possible
-      unread fault new it = it.unrefused sound.trusted.not_down sound
+      unread Fail.Cut _ it = true≢false (sym c.formatted.steady ∙ it.done.gone.power.0)
+      unread (Fail.Spent page) _ it = it.possible
+      unread fault _ it = it.unrefused sound
 
-      go : (answer : Result (Store × Opened) TxnFault) → HasStoreOpened c.setup from to answer → IsStored answer
-      go (Ok both) it = stored both.0 both.1 it
-      go (Err (Txn.Engine fault)) it =
+      go : (answer : Result (Store × Opened) TxnFault) → HasStoreOpened c.setup from to answer
+          → IfOk answer (λ (both : Store × Opened). both.0.engine.down ≡ false) → IsStored answer
+      go (Ok both) it up = stored both.0 both.1 it up
+      go (Err (Txn.Engine fault)) it up =
           elim it.1 [
             | inl read ↦ absurd (unread fault (to it.0) read)
             | inr redo ↦ absurd (fault_none fault (read_alone redo.targets (to it.0) (Err fault) redo.was_redone).done)
           ]
-      go (Err (Txn.Header line)) it = absurd (it.1.none [] (header_read (to it.0) line it.1.was_read))
+      go (Err (Txn.Header line)) it up = absurd (it.1.none [] (header_read (to it.0) line it.1.was_read))

@@ -1,6 +1,6 @@
 -- Power comes on, as the session's fields have it: what is held after recovery, the opening and its redo, and what is answered.
 use Rattle.std.proofs.Common.{ℕ, ◌≡◌, ◌<◌, ◌≤◌, ◌+◌, ◌⊎◌, inl, inr, true, false, cond, List, [], length, take, Option, Some, None, Result, Ok, Err, refl, sym, ap, ap₂, subst, ◌∙◌, arith}
-use Rattle.txn_session.proofs.Common.{option_map, open_call, counts_of, MatchOption, le-ltb, true≢false, append-nil, Line, Twin, Posted, Device, BoardMemory, LedgerState, Setup, Memory, recovery_bound, Fault, EngineState, Parts, parts_of, HasReadLine, sound_trusted, Work, RecFault, SuiteState, HasRecovered, most_recovery_steps, Store, Opened, TxnFault, IsHeader, redoing_edits, HasStoreStarted, HasFailedRedo, IsOpenedBy, steps_in, Writing, read_steps, setup_under, few_recovery, sound_recovered, cut_left, wanted_left, untouched, twin_left, twin_of_last, twin_within, rests, fewer_within, memory_done, read_line, read_cut, StartFault, TxnAnswer, Regs, new_engine, Chip, chip_of, OpeningStop, opened_of, FollowsOpening, IsOpenedAs, LineSession, HasOpenedAfter, started_as, HasOpened, IsTxnCalled, Said, open_said, opened_said, serving_said, TxnState, txn_setup_in, TxnParts, IsTxnWorld, stuck_in, txn_of, IsTxnAnswered, IsTxnShownBy, IsTxnMemoryWanted, GoesToTxnState, HasTxnOpened, after_redo, IsCutAt, EndsAt, refused_from}
+use Rattle.txn_session.proofs.Common.{option_map, open_call, counts_of, MatchOption, le-ltb, true≢false, append-nil, Line, Twin, Posted, Device, BoardMemory, LedgerState, Setup, Memory, recovery_bound, Fault, EngineState, Parts, parts_of, HasReadLine, Work, RecFault, SuiteState, HasRecovered, most_recovery_steps, Store, Opened, TxnFault, IsHeader, redoing_edits, HasStoreStarted, HasFailedRedo, IsOpenedBy, steps_in, Writing, read_steps, setup_under, few_recovery, sound_recovered, cut_left, wanted_left, untouched, twin_left, twin_of_last, twin_within, rests, fewer_within, memory_done, read_line, read_cut, StartFault, TxnAnswer, Regs, new_engine, Chip, chip_of, OpeningStop, opened_of, FollowsOpening, IsOpenedAs, LineSession, HasOpenedAfter, started_as, HasOpenedStore, IsTxnCalled, Said, open_said, opened_said, serving_said, TxnState, txn_setup_in, TxnParts, IsTxnWorld, stuck_in, txn_of, IsTxnAnswered, IsTxnShownBy, IsTxnMemoryWanted, GoesToTxnState, HasTxnOpened, after_redo, IsCutAt, EndsAt, refused_from}
 use Rattle.pmem_engine.specs.declared.fault.Fault.TheVariants as Fail
 use Rattle.pmem_recovery.specs.declared.faults.RecFault.TheVariants as Rec
 use Rattle.line_txn.specs.declared.store.TxnFault.TheVariants as Txn
@@ -13,6 +13,8 @@ use Rattle.txn_session.proofs.RedoLists.{none_redone, few_redone}
 use Rattle.txn_session.proofs.Starts.{OnTxnCall}
 use Rattle.txn_session.proofs.RedoStates as state
 use Rattle.line_session.proofs.StartPlans.{start_stopped}
+use Rattle.pmem_engine.specs.Engine.{on_chip}
+use Rattle.std.specs.Prelude.{IfOk}
 
 -- parts of one session that are equal one by one
 same_parts : (a b : TxnParts) → a.tags ≡ b.tags → a.digests ≡ b.digests → a.board ≡ b.board → a.ledger ≡ b.ledger → a.store ≡ b.store → a.txn ≡ b.txn
@@ -141,7 +143,7 @@ module _ (c : OnTxnCall) where
     lit_call : (store : Store) (opened : Opened) (said : TxnAnswer) → Along store opened → c.board.powered ≡ true
         → said ≡ opened_said opened.redone (steps_in c.taken) store.stuck → IsTxnCalled setup old Do.On said (txn_of setup (left c.board (Some store)))
     lit_call store opened said along lit is =
-        state.called c (Some store) said store.engine (started_as along.opening.end) (sym (ap (λ b. cond b (Some store.engine) None) lit))
+        state.called c (Some store) said store.engine (started_as along.opening.end) (sym (ap (λ b. cond b (Some (on_chip store.engine)) None) lit))
         (λ dark. absurd (true≢false (sym lit ∙ dark)))
         (state.opened_along c between suite_between engine work it along.opening.end store.engine along.opening.follows)
         (ap₂ (λ (a : TxnAnswer) (s : Option ℕ). (let last : Said = (a, (s, None)) in last)) is (sym (ap (λ b. cond b store.stuck None) lit))
@@ -157,8 +159,8 @@ module _ (c : OnTxnCall) where
         ∙ sym (open_is (txn_of setup (left c.board None)).session (steps_in c.taken) along.1.end))
 
     opened_exit : (store : Store) (opened : Opened) → HasStoreStarted setup middle (parts_to store.engine) store opened → Along store opened
-        → OpenOutcome (Ok (store, opened))
-    opened_exit store opened its along =
+        → store.engine.down ≡ false → OpenOutcome (Ok (store, opened))
+    opened_exit store opened its along up =
         go its.redone its.its_end (state.redo_ends c between suite_between engine work it its.targets (parts_to store.engine) its.redone its.was_redone)
       where
         same : its.targets ≡ targets
@@ -174,7 +176,7 @@ module _ (c : OnTxnCall) where
             subst (λ o. MatchOption o (OpenExit c.board (Some store) (Say.Opened opened.redone (steps_in c.taken)))
             (λ page. OpenExit c.board (Some store) (Say.Stuck page (steps_in c.taken)))) (sym by.2)
             (exit_of c.board (Some store) (Say.Opened opened.redone (steps_in c.taken))
-            (state.lit_world c writing come store gone.done.live gone.done.sound (by.0 ∙ sym (none_redone n targets)))
+            (state.lit_world c writing come store gone.done.live up gone.done.sound (by.0 ∙ sym (none_redone n targets)))
             (let said : HasTxnOpened setup old (Say.Opened opened.redone (steps_in c.taken)) (txn_of setup (left c.board (Some store))) =
             record {
               writing = writing;
@@ -196,7 +198,7 @@ module _ (c : OnTxnCall) where
             subst (λ o. MatchOption o (OpenExit c.board (Some store) (Say.Opened opened.redone (steps_in c.taken)))
             (λ page. OpenExit c.board (Some store) (Say.Stuck page (steps_in c.taken)))) (sym by.2)
             (exit_of c.board (Some store) (Say.Stuck page (steps_in c.taken))
-            (state.lit_world c writing come store spent.done.live spent.done.sound
+            (state.lit_world c writing come store spent.done.live up spent.done.sound
             (by.0 ∙ same ∙ sym (ap (λ b. cond b [] targets) (le-ltb (length targets) spent.count before))))
             (let said : HasTxnOpened setup old (Say.Stuck page (steps_in c.taken)) (txn_of setup (left c.board (Some store))) =
             record {
@@ -234,28 +236,29 @@ module _ (c : OnTxnCall) where
         exit_of c.board None (Say.Cut (steps_in c.taken)) (state.dark_world c writing come c.board cut.dark cut.durable cut.small_group) seen
         (cut_call along cut.dark seen.ends.1)
 
-    by_opened : (opened : Result (Store × Opened) TxnFault) → HasOpened setup middle parts_to opened → OpenOutcome (started_as opened)
-    by_opened (Ok both) its = opened_exit both.0 both.1 its.was_opened its.plan
-    by_opened (Err (Txn.Engine Fail.Cut)) its =
-        elim its.was_opened.1 [
-          | inl read ↦ read_cut_exit its.was_opened.0 read its.plan
-          | inr redo ↦ redo_cut_exit its.was_opened.0 redo its.plan
+    by_opened : (opened : Result (Store × Opened) TxnFault) → HasOpenedStore setup middle parts_to opened
+        → IfOk opened (λ (both : Store × Opened). both.0.engine.down ≡ false) → OpenOutcome (started_as opened)
+    by_opened (Ok both) its up = opened_exit both.0 both.1 its.opened its.plan up
+    by_opened (Err (Txn.Engine Fail.Cut)) its up =
+        elim its.opened.1 [
+          | inl read ↦ read_cut_exit its.opened.0 read its.plan
+          | inr redo ↦ redo_cut_exit its.opened.0 redo its.plan
         ]
-    by_opened (Err (Txn.Engine (Fail.Spent page))) its =
-        elim its.was_opened.1 [ inl read ↦ absurd read.possible | inr redo ↦ absurd redo.unspent ]
-    by_opened (Err (Txn.Engine fault)) its =
+    by_opened (Err (Txn.Engine (Fail.Spent page))) its up =
+        elim its.opened.1 [ inl read ↦ absurd read.possible | inr redo ↦ absurd redo.unspent ]
+    by_opened (Err (Txn.Engine fault)) its up =
         let sound = sound_recovered setup p.ledger lit between (state.suite_old c) suite_between engine work it (state.off c).durable in
-        elim its.was_opened.1 [
-          | inl read ↦ absurd (read.unrefused (sound_trusted setup middle sound).not_down sound)
-          | inr redo ↦ absurd (state.redo_ends c between suite_between engine work it redo.targets (parts_to its.was_opened.0) (Err fault) redo.was_redone)
+        elim its.opened.1 [
+          | inl read ↦ absurd (read.unrefused sound)
+          | inr redo ↦ absurd (state.redo_ends c between suite_between engine work it redo.targets (parts_to its.opened.0) (Err fault) redo.was_redone)
         ]
-    by_opened (Err (Txn.Header line)) its =
+    by_opened (Err (Txn.Header line)) its up =
         absurd
-        (its.was_opened.1.none targets
+        (its.opened.1.none targets
         (subst (λ l. IsHeader n l targets)
         (sym
-        (read_line setup first middle [] [] bound (state.recovered_to c between suite_between engine work it) n (parts_to its.was_opened.0) line
-        (state.header_inside c between suite_between engine work it) its.was_opened.1.was_read)) (state.world c).logged.header))
+        (read_line setup first middle [] [] bound (state.recovered_to c between suite_between engine work it) n (parts_to its.opened.0) line
+        (state.header_inside c between suite_between engine work it) its.opened.1.was_read)) (state.world c).logged.header))
 
   -- ---- recovery wasn't done
 
@@ -307,7 +310,7 @@ module _ (c : OnTxnCall) where
               (state.world c).whole_formulas (state.off c).durable.mendable.anchored (state.world c).places within
               (twin_of_last setup p.ledger c.ledger lit c.board c.taken (state.suite_old c) suite_between ledger (state.off c).durable (state.world c).few_armed at major low high cipher tag it),
           refused_from setup (open_call setup) old.session c.board c.ledger suite_between c.suite_new c.taken (Rec.Twin at major low high cipher tag)
-              (ap (option_map (λ (s : Store). s.engine)) c.there) (state.watched c) (it.power.live refl) it.plan ledger suite,
+              (ap (option_map (λ (s : Store). on_chip s.engine)) c.there) (state.watched c) (it.power.live refl) it.plan ledger suite,
         ),
       )
 
@@ -324,7 +327,8 @@ module _ (c : OnTxnCall) where
           → HasOpenedAfter recovery (state.opens c) (state.started c).between to p.ledger c.ledger (state.started c).suite_between c.suite_new c.answer
           → OpenOutcome c.answer
       go (Ok done) it later =
-          subst OpenOutcome (sym later.2) (by_opened (state.started c).between (state.started c).suite_between done.0 done.1 it later.0 later.1)
+          subst OpenOutcome (sym later.2) (by_opened (state.started c).between (state.started c).suite_between done.0 done.1 it later.0
+          (later.1.did (ap (λ (e : EngineState). e.down) it.engine)) later.1.up)
       go (Err Rec.Cut) it later =
           subst OpenOutcome (sym later.0) (recovery_cut (state.started c).suite_between (refused Rec.Cut it later.1) later.2 later.3)
       go (Err Rec.Memory) it later =

@@ -7,6 +7,9 @@ use Rattle.txn_session.specs.declared.commands.TxnCommand.TheVariants as Do
 use Rattle.txn_session.specs.declared.answers.TxnAnswer.TheVariants as Say
 use Rattle.txn_session.proofs.Worlds.{IsOpenTxn, on_in, lines_are, on_after, off_after}
 use Rattle.txn_session.proofs.AnswerClauses.{read_undecided, served, seen_from, held_under}
+use Rattle.pmem_engine.specs.Engine.{on_chip}
+use Rattle.pmem_engine.specs.Outcomes.{outcome_of, is_going}
+use Rattle.std.specs.Prelude.{◌||◌, not, Bool}
 
 -- the session's parts as the read finds them, what it leaves and answers
 pub record ReadTxnCall : Type 0 where
@@ -39,6 +42,7 @@ pub record ReadTxnCall : Type 0 where
       HasReadLine (setup_under formulas_of store.engine.shape parts.keys) (served_from store.lines store.logged.items at)
       (parts_of store.engine (device_during parts.board none_taken) parts.ledger parts.tags parts.digests)
       (parts_of after.engine (device_during board taken) ledger tags_new digests_new) answer
+  pub down : after.engine.down ≡ (store.engine.down || not (is_going (outcome_of answer)))
   pub read_logged :
       AreTrusted (setup_under formulas_of store.engine.shape parts.keys)
       (parts_of store.engine (device_during parts.board none_taken) parts.ledger parts.tags parts.digests)
@@ -118,6 +122,11 @@ module _ (c : ReadTxnCall) where
   pub undecided_now : txn_decided c.now (Do.Read c.at) ≡ None
   undecided_now = subst (λ (w : TxnState). txn_decided w (Do.Read c.at) ≡ None) c.is undecided
 
+  running_by : (answer : Result Line Fault) → c.answer ≡ answer → is_going (outcome_of answer) ≡ true → c.after.engine.down ≡ false
+  running_by answer is goes =
+      c.down ∙ ap (λ (b : Bool). b || not (is_going (outcome_of c.answer))) on.running
+      ∙ ap (λ (r : Result Line Fault). not (is_going (outcome_of r))) is ∙ ap not goes
+
   -- ---- the call of the session
 
   abbrev FollowsFrom : Setup → ℕ → Type 0
@@ -140,8 +149,8 @@ module _ (c : ReadTxnCall) where
       steps = steps_in c.taken;
       end = c.answer;
       called =
-          has_called (read_call setup old c.at) c.answer old.session (txn_of setup (left store txn)).session c.store.engine c.after.engine
-          c.taken on.powered (ap (option_map (λ (s : Store). s.engine)) c.there) (kept_of (λ (s : Store). s.engine) store c.after c.board.powered kept) refl refl
+          has_called (read_call setup old c.at) c.answer old.session (txn_of setup (left store txn)).session (on_chip c.store.engine) (on_chip c.after.engine)
+          c.taken on.powered (ap (option_map (λ (s : Store). on_chip s.engine)) c.there) (kept_of (λ (s : Store). on_chip s.engine) store c.after c.board.powered kept) refl refl
           c.watched within follows;
       is_said = is;
     },
@@ -170,7 +179,7 @@ module _ (c : ReadTxnCall) where
     it = read_as (Ok line) is
 
     done : OneLossEffect setup going [] from to
-    done = it.done on.running
+    done = it.done
 
     marks_on : c.ledger.marks ≡ p.ledger.marks
     marks_on = done.gone.marks ∙ append-nil p.ledger.marks
@@ -180,7 +189,7 @@ module _ (c : ReadTxnCall) where
 
     on_world : IsTxnWorld setup (left (Some c.after) p.txn)
     on_world =
-        on_after setup p c.tags_new c.digests_new c.board c.ledger c.world (logged marks_on) c.after p.txn powered (done.gone.sound on.sound)
+        on_after setup p c.tags_new c.digests_new c.board c.ledger c.world (logged marks_on) c.after p.txn powered (running_by (Ok line) is refl) (done.gone.sound on.sound)
         (c.served_as.its_targets ∙ on.its_log ∙ sym (same_targets marks_on))
         (subst (λ s. IsOpenTxn setup s p.txn) (sym c.served_as.its_page) on.its_txn)
 
@@ -206,7 +215,7 @@ module _ (c : ReadTxnCall) where
               loss = done.loss;
               marks = marks_on;
             },
-            at_most c.taken (path_length c.geometry) c.watched.follows.few (it.steps_of_path on.running).0.sum,
+            at_most c.taken (path_length c.geometry) c.watched.follows.few it.steps_of_path.0.sum,
           ),
         )
         (called (Some c.after) p.txn (Say.Got line (steps_in c.taken)) (sym (ap (λ b. cond b (Some c.after) None) powered))
@@ -222,7 +231,7 @@ module _ (c : ReadTxnCall) where
     cut = read_as (Err Fail.Cut) is
 
     cut_done : OneLossEffect setup cut_short [] from to
-    cut_done = cut.done on.running
+    cut_done = cut.done
 
     marks_off : c.ledger.marks ≡ p.ledger.marks
     marks_off = cut_done.gone.marks ∙ append-nil p.ledger.marks
@@ -243,7 +252,7 @@ module _ (c : ReadTxnCall) where
     cut_seen =
         let levels = c.world.whole_shape.at_most_six_levels in
         let below : steps_in c.taken < path_length c.geometry =
-        fewer c.taken (path_length c.geometry) c.watched.follows.few ((cut.steps_of_path on.running).1 on.powered).sum in
+        fewer c.taken (path_length c.geometry) c.watched.follows.few (cut.steps_of_path.1 on.powered).sum in
         subst (λ (k : ℕ). IsTxnAnswered (txn_setup_in c.formulas_of c.now) c.now (Do.Read c.at) (Say.Cut k)
         (txn_of (setup_under c.formulas_of c.geometry c.keys) (left_under None None))) (sym c.counted)
         (seen_from c.formulas_of c.geometry p (left None None) c.now c.keys (Do.Read c.at) (Say.Cut (steps_in c.taken)) c.is c.same_keys refl

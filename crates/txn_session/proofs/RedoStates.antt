@@ -1,6 +1,6 @@
 -- Power comes on, as the session's fields have it: the state once so many writes of the redo are done.
 use Rattle.std.proofs.Common.{ℕ, ◌≡◌, ◌<◌, ◌≤◌, ◌+◌, ◌^◌, ◌++◌, true, false, cond, List, [], length, take, Option, Some, None, Result, Ok, refl, sym, ap, subst, ◌∙◌, arith}
-use Rattle.txn_session.proofs.Common.{option_map, nat_lt, le-ltb, append-nil, Line, Mark, Posted, Device, BoardMemory, Setup, Memory, plain_memory, Moment, moment_after_writes, recovery_bound, Fault, EngineState, Parts, parts_of, IsDurable, IsSound, TakesAtMost, TakesFewer, HasReadLine, Work, suite_state, SuiteState, HasRecovered, Store, Opened, TxnFault, AreTargets, IsHeader, IsLogged, lines_opened, targets_opened, AreEdited, redoing_edits, HasTargetsRedone, logged_lines, one_header, kept_by_opening, logged_size, redoing_fit, steps_in, step_limit, device_during, none_taken, IsWatched, at_most, fewer, Writing, IsCutAmong, read_steps, setup_under, recovered, whole_places, memory_now, AreDone, memory_done, read_line, read_done, Regs, ended, Follows, Chip, chip_of, suite_counts, counts_of, OpeningStop, open_plan, StartFault, has_started, TxnAnswer, IsTxnCalled, Said, open_call, open_said, OpeningRelation, HasStartedBy, started_as, HasOpened, TxnState, moment_in, redo_writes, targets_in_force, redone_memory, TxnParts, IsTxnWorld, IsStoreOff, IsStoredBy, stuck_in, txn_of, GoesToTxnState, HasTxnOpened, after_redo, txn_most_of_on, few_data, all_posted, cost, EndsAt, edits_go, edits_memory}
+use Rattle.txn_session.proofs.Common.{option_map, nat_lt, le-ltb, append-nil, Line, Mark, Posted, Device, BoardMemory, Setup, Memory, plain_memory, Moment, moment_after_writes, recovery_bound, Fault, EngineState, Parts, parts_of, IsDurable, IsSound, TakesAtMost, TakesFewer, HasReadLine, Work, suite_state, SuiteState, HasRecovered, Store, Opened, TxnFault, AreTargets, IsHeader, IsLogged, lines_opened, targets_opened, AreEdited, redoing_edits, HasTargetsRedone, logged_lines, one_header, kept_by_opening, logged_size, redoing_fit, steps_in, step_limit, device_during, none_taken, IsWatched, at_most, fewer, Writing, IsCutAmong, read_steps, setup_under, recovered, whole_places, memory_now, AreDone, memory_done, read_line, read_done, Regs, ended, Follows, Chip, chip_of, suite_counts, counts_of, OpeningStop, open_plan, StartFault, has_started, TxnAnswer, IsTxnCalled, Said, open_call, open_said, OpeningRelation, HasStartedBy, started_as, IsStoreOpening, TxnState, moment_in, redo_writes, targets_in_force, redone_memory, TxnParts, IsTxnWorld, IsStoreOff, IsStoredBy, stuck_in, txn_of, GoesToTxnState, HasTxnOpened, after_redo, txn_most_of_on, few_data, all_posted, cost, EndsAt, edits_go, edits_memory}
 use Rattle.pmem_base.specs.Layout as layout
 use Rattle.line_session.specs.Started.{start_plan}
 use Rattle.line_session.proofs.StartPlans.{start_follows}
@@ -11,6 +11,7 @@ use Rattle.txn_session.proofs.WriteLists.{posted_redo}
 use Rattle.txn_session.proofs.Stages.{IsRedoneTo, redone_at}
 use Rattle.txn_session.proofs.RedoLists.{cost_redo, length-redo}
 use Rattle.txn_session.proofs.Starts.{OnTxnCall, few_of_on}
+use Rattle.pmem_engine.specs.Engine.{on_chip}
 
 module _ (c : OnTxnCall) where
   abbrev pub setup : Setup
@@ -71,7 +72,7 @@ module _ (c : OnTxnCall) where
   watched = subst (λ b. IsWatched b c.board c.taken) c.lit_is c.watched
 
   abbrev pub opens : OpeningRelation (Store × Opened) TxnFault
-  opens = λ start now. HasOpened setup start now
+  opens = λ engine start now. IsStoreOpening setup engine start now
 
   pub started : HasStartedBy setup opens from to p.ledger c.ledger suite_old c.suite_new c.answer
   started = subst (λ b. HasStartedBy setup opens (device_during b none_taken) to p.ledger c.ledger suite_old c.suite_new c.answer) c.lit_is c.started
@@ -87,7 +88,7 @@ module _ (c : OnTxnCall) where
       Follows (start_plan setup p.ledger (open_call setup) lit.regs (suite_counts p.tags p.digests)) from to (ended end (chip now))
 
   pub called : (store : Option Store) (said : TxnAnswer) (now : EngineState) (end : Result (List ℕ × Regs) (StartFault OpeningStop))
-      → (txn_of setup (left c.board store)).session.engine ≡ cond c.board.powered (Some now) None → (c.board.powered ≡ false → steps_in c.taken < step_limit)
+      → (txn_of setup (left c.board store)).session.engine ≡ cond c.board.powered (Some (on_chip now)) None → (c.board.powered ≡ false → steps_in c.taken < step_limit)
       → IsStartedBy end now
       → (let last : Said = (said, (stuck_in store, None)) in last ≡ open_said (txn_of setup (left c.board store)).session (steps_in c.taken) end)
       → IsTxnCalled setup old Do.On said (txn_of setup (left c.board store))
@@ -96,8 +97,8 @@ module _ (c : OnTxnCall) where
       steps = steps_in c.taken;
       end = end;
       called =
-          has_started setup (open_call setup) end old.session (txn_of setup (left c.board store)).session now c.taken
-          (ap (option_map (λ (s : Store). s.engine)) c.there) kept refl refl watched within along;
+          has_started setup (open_call setup) end old.session (txn_of setup (left c.board store)).session (on_chip now) c.taken
+          (ap (option_map (λ (s : Store). on_chip s.engine)) c.there) kept refl refl watched within along;
       is_said = is;
     },
     refl,
@@ -110,7 +111,7 @@ module _ (c : OnTxnCall) where
       → IsTxnCalled setup old Do.On (Say.Cut (steps_in c.taken)) (txn_of setup (left c.board None))
   dark_call now end dark below along is =
       let small = few_of_on c.geometry world.whole_shape (length targets) world.logged.header.its_targets.few in
-      called None (Say.Cut (steps_in c.taken)) now end (sym (ap (λ b. cond b (Some now) None) dark)) (λ off. omega (arith, small, below)) along is
+      called None (Say.Cut (steps_in c.taken)) now end (sym (ap (λ b. cond b (Some (on_chip now)) None) dark)) (λ off. omega (arith, small, below)) along is
 
   its_targets : AreTargets n targets
   its_targets = world.logged.header.its_targets
@@ -222,9 +223,9 @@ module _ (c : OnTxnCall) where
       at_most c.taken most watched.follows.few takes.sum,
     )
 
-    pub lit_world : (store : Store) → c.board.powered ≡ true → IsSound setup store.engine c.board.lines c.board.regs c.ledger
+    pub lit_world : (store : Store) → c.board.powered ≡ true → store.engine.down ≡ false → IsSound setup (on_chip store.engine) c.board.lines c.board.regs c.ledger
         → store.logged.items ≡ cond (nat_lt (length targets) writing.done) [] targets → IsTxnWorld setup (left c.board (Some store))
-    lit_world store powered sound log = on_after setup p c.suite_new.tags c.suite_new.digests c.board c.ledger world come.logged store None powered sound (log ∙ sym come.in_force) tt
+    lit_world store powered up sound log = on_after setup p c.suite_new.tags c.suite_new.digests c.board c.ledger world come.logged store None powered up sound (log ∙ sym come.in_force) tt
 
   -- ---- recovery is done
 

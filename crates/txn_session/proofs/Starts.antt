@@ -1,6 +1,6 @@
 -- Recovery, and then the opening of the store: the steps of both, and what is known of them.
 use Rattle.std.proofs.Common.{ℕ, ◌≡◌, ◌≤◌, ◌+◌, ◌*◌, Bool, true, false, List, None, Result, mul-le-mul_right, arith}
-use Rattle.txn_session.proofs.Common.{◌==◌, if◌then◌else◌, Shape, IsShape, BoardMemory, LedgerState, Formulas, recovery_bound, SuiteState, suite_state, Store, Opened, TxnFault, Taken, steps_in, step_limit, device_during, none_taken, IsWatched, read_steps, write_steps, setup_under, StartFault, HasStartedBy, TxnState, TxnParts, IsTxnWorld, txn_of, HasOpened, most_of_redo}
+use Rattle.txn_session.proofs.Common.{◌==◌, if◌then◌else◌, Shape, IsShape, BoardMemory, LedgerState, Formulas, recovery_bound, SuiteState, suite_state, Store, Opened, TxnFault, Taken, steps_in, step_limit, device_during, none_taken, IsWatched, read_steps, write_steps, setup_under, StartFault, HasStartedBy, TxnState, TxnParts, IsTxnWorld, txn_of, IsStoreOpening, most_of_redo}
 use Rattle.line_session.proofs.NewDevices.{few_of_start}
 
 pub few_of_on : (g : Shape) → IsShape g → (count : ℕ) → count ≤ 15 → recovery_bound g + read_steps g + most_of_redo g count ≤ step_limit
@@ -44,5 +44,5 @@ pub record OnTxnCall : Type 0 where
   pub answer : Result (Store × Opened) (StartFault TxnFault)
   pub started :
       HasStartedBy (setup_under formulas_of geometry before.keys)
-      (λ old now. HasOpened (setup_under formulas_of geometry before.keys) old now) (device_during lit none_taken) (device_during board taken)
+      (λ engine old now. IsStoreOpening (setup_under formulas_of geometry before.keys) engine old now) (device_during lit none_taken) (device_during board taken)
       ledger_before ledger (suite_state before.keys pads_old before.tags before.digests) suite_new answer

@@ -2,6 +2,7 @@
 use Rattle.std.proofs.Common.{rules, ℕ, ◌≡◌, ◌<◌, ◌≤◌, ◌^◌, true, false, List, length, Option, Some, None, refl, sym, ap, subst, subst₂, ◌∙◌, arith}
 use Rattle.txn_session.proofs.Common.{IfSome, line_at, Shape, IsShape, BoardMemory, LedgerState, AreInRange, Setup, Memory, plain_memory, IsDurable, IsSound, Store, AreTargets, IsLogged, memory_in, targets_of, logged_lines, targets_of_header, logged_size, sealed_in, places_of, few_data, Entries, targets_in_force, redone_memory, TxnParts, IsTxnWorld, IsStoreOn, IsStoredBy}
 use Rattle.pmem_base.specs.Layout as layout
+use Rattle.pmem_engine.specs.Engine.{on_chip}
 
 -- ---- the log
 
@@ -33,16 +34,16 @@ IsOpenTxn setup stuck txn =
 pub on_of : (setup : Setup) (parts : TxnParts) (store : Store) → parts.store ≡ Some store → IsShape setup.shape → AreInRange setup.formulas
     → IsLogged (logged_lines setup.shape) (plain_memory setup parts.ledger.marks) (targets_in_force setup (plain_memory setup parts.ledger.marks))
     (redone_memory setup (plain_memory setup parts.ledger.marks))
-    → parts.board.powered ≡ true → IsSound setup store.engine parts.board.lines parts.board.regs parts.ledger
+    → parts.board.powered ≡ true → store.engine.down ≡ false → IsSound setup (on_chip store.engine) parts.board.lines parts.board.regs parts.ledger
     → store.logged.items ≡ targets_in_force setup (plain_memory setup parts.ledger.marks) → IsOpenTxn setup store.stuck parts.txn
     → IsTxnWorld setup parts
-on_of setup parts store there shape formulas logged powered sound log txn =
+on_of setup parts store there shape formulas logged powered running sound log txn =
     let sealed = sealed_in setup parts.board.regs parts.ledger sound.trusted.anchored in
     let chip : IsStoreOn setup parts store =
     record {
       powered = powered;
       sound = sound;
-      running = sound.trusted.not_down;
+      running = running;
       its_shape = sound.trusted.its_shape;
       usable =
           record {
@@ -50,7 +51,7 @@ on_of setup parts store there shape formulas logged powered sound log txn =
                 record {
                   its_size = sound.durable.device_whole.count;
                   valid_regs = sound.trusted.anchored.valid_regs;
-                  no_group = λ running. sound.trusted.no_group;
+                  no_group = λ up. sound.trusted.no_group;
                 };
             true_lines = sound.trusted.anchored.of_shape.truth_count;
             line_count = sound.trusted.anchored.of_shape.line_count;
@@ -77,12 +78,12 @@ module _ (setup : Setup) (p : TxnParts) (tags digests : ℕ) (board : BoardMemor
     IsLogged (logged_lines setup.shape) (plain_memory setup ledger.marks) (targets_in_force setup (plain_memory setup ledger.marks))
     (redone_memory setup (plain_memory setup ledger.marks))) where
   -- after a call with power on
-  pub on_after : (after : Store) (txn : Option Entries) → board.powered ≡ true → IsSound setup after.engine board.lines board.regs ledger
+  pub on_after : (after : Store) (txn : Option Entries) → board.powered ≡ true → after.engine.down ≡ false → IsSound setup (on_chip after.engine) board.lines board.regs ledger
       → after.logged.items ≡ targets_in_force setup (plain_memory setup ledger.marks) → IsOpenTxn setup after.stuck txn
       → IsTxnWorld setup (record { keys = p.keys; tags = tags; digests = digests; board = board; ledger = ledger; store = Some after; txn = txn })
-  on_after after txn powered sound log its_txn =
+  on_after after txn powered running sound log its_txn =
       on_of setup (record { keys = p.keys; tags = tags; digests = digests; board = board; ledger = ledger; store = Some after; txn = txn }) after refl world.whole_shape
-      world.whole_formulas logged powered sound log its_txn
+      world.whole_formulas logged powered running sound log its_txn
 
   -- with power off, where the device is durable
   pub off_after : board.powered ≡ false → IsDurable setup board.lines board.regs ledger → length board.regs.group.items ≤ 3

@@ -16,6 +16,7 @@ use Rattle.line_txn.specs.Header.{AreTargets}
 use Rattle.line_txn.specs.Logged.{IsLogged, targets_of}
 use Rattle.line_txn.specs.Store.{logged_lines}
 use Rattle.txn_session.specs.State.{TxnState, txn_left, Entries, targets_in_force, redone_memory}
+use Rattle.pmem_engine.specs.Engine.{on_chip}
 
 -- ---- a state of its parts
 
@@ -41,7 +42,7 @@ txn_of setup parts =
       shape = setup.shape;
       keys = parts.keys;
       board = parts.board;
-      engine = option_map (λ store. store.engine) parts.store;
+      engine = option_map (λ store. on_chip store.engine) parts.store;
       ledger = parts.ledger;
       tags = parts.tags;
       digests = parts.digests;
@@ -53,7 +54,7 @@ txn_of setup parts =
 -- with power on all is sound, and the store's log has the targets that are in force
 pub record IsStoreOn (setup : Setup) (parts : TxnParts) (store : Store) : Type 0 where
   pub powered : parts.board.powered ≡ true
-  pub sound : IsSound setup store.engine parts.board.lines parts.board.regs parts.ledger
+  pub sound : IsSound setup (on_chip store.engine) parts.board.lines parts.board.regs parts.ledger
   pub running : store.engine.down ≡ false
   pub its_shape : store.engine.shape ≡ setup.shape
   pub usable : IsUsable setup.shape store.engine (device_of parts.board) parts.ledger

@@ -3,7 +3,8 @@ ghost use Rattle.std.specs.Prelude.{◌≡◌, ◌<◌, None};
 ghost use Rattle.seal_ledger.specs.Notes.{HasRoom};
 ghost use Rattle.line_txn.specs.Header.{AreDistinctBelow};
 ghost use Rattle.line_txn.specs.Logged.{targets_of};
-ghost use Rattle.txn_session.specs.StoreCalls.{HasReadAt, HasCommitted, HasOpened};
+ghost use Rattle.line_txn.specs.Promised.{IsStoreOpening};
+ghost use Rattle.txn_session.specs.StoreCalls.{HasReadAt, HasCommitted};
 
 use arrayvec::ArrayVec;
 use board::Board;
@@ -87,7 +88,7 @@ impl StoreOpening for OpenStore {
 
     ghost can = { λ opening ledger capacity. HasRoom ledger capacity 1056 };
 
-    ghost relation = { λ opening setup old now answer. HasOpened setup old now answer };
+    ghost relation = { λ opening setup engine old now answer. IsStoreOpening setup engine old now answer };
 
     fn open<B: Board, S: Suite>(
         &self,

@@ -11,9 +11,9 @@ use Rattle.board.specs.Memory.{BoardMemory, IsSpent, burnt_fuse, after_read, aft
 use Rattle.watched_board.specs.Watching.{taken_of, step_limit, cuts_after, FollowsOn}
 
 -- a read
-follows-read : (start board : BoardMemory) (writes latches cuts : ℕ) → board.reads ≤ (after_read board).reads
-    → FollowsOn start board (taken_of writes latches cuts) → FollowsOn start (after_read board) (taken_of writes latches cuts)
-follows-read start board writes latches cuts rises f = search (rules, arith)
+follows-read : (start board : BoardMemory) (at writes latches cuts : ℕ) → board.reads ≤ (after_read board at).reads
+    → FollowsOn start board (taken_of writes latches cuts) → FollowsOn start (after_read board at) (taken_of writes latches cuts)
+follows-read start board at writes latches cuts rises f = search (rules, arith)
 
 -- a step at a fuse that isn't spent leaves one less
 one_less : (fuse start : Option ℕ) (steps : ℕ) → fuse ≡ option_map (λ n. n - steps) start → IfSome start (λ n. steps ≤ n) → (fuse ≡ Some 0 → ⊥)
@@ -110,11 +110,11 @@ follows-limit start board new writes latches cuts now many is more f =
 
 -- ---- by what the board answered
 
-pub read-ok : (start board new : BoardMemory) (writes latches cuts : ℕ) → new ≡ after_read board → board.reads ≤ new.reads
+pub read-ok : (start board new : BoardMemory) (at writes latches cuts : ℕ) → new ≡ after_read board at → board.reads ≤ new.reads
     → FollowsOn start board (taken_of writes latches cuts) → FollowsOn start new (taken_of writes latches cuts)
-read-ok start board new writes latches cuts is rises f =
+read-ok start board new at writes latches cuts is rises f =
     subst (λ m. FollowsOn start m (taken_of writes latches cuts)) (sym is)
-    (follows-read start board writes latches cuts (subst (λ (m : BoardMemory). board.reads ≤ m.reads) is rises) f)
+    (follows-read start board at writes latches cuts (subst (λ (m : BoardMemory). board.reads ≤ m.reads) is rises) f)
 
 pub cut-over : (start board new : BoardMemory) (writes latches cuts now : ℕ) → new ≡ after_cut board → IsSpent board → now ≡ risen cuts
     → FollowsOn start board (taken_of writes latches cuts) → FollowsOn start new (taken_of writes latches now)

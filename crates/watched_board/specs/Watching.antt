@@ -17,7 +17,7 @@ abbrev pub steps_in : Taken → ℕ
 steps_in taken = taken.writes + taken.latches
 
 -- The board as a call sees it: line writes, latches and cuts are counted from the call on. It may
--- always be cut.
+-- always be cut. The accesses are all of the board's, those before the call too.
 abbrev pub device_during : BoardMemory → Taken → Device
 device_during board taken =
     record {
@@ -30,6 +30,7 @@ device_during board taken =
       writes = taken.writes;
       latches = taken.latches;
       cuts = taken.cuts;
+      accesses = Some board.accesses;
     }
 
 -- more steps than a call ever takes: a board that is asked for more is cut

@@ -1,9 +1,13 @@
--- Two answers of one command from one state are the same, and leave the same state.
-use Rattle.std.proofs.Common.{ℕ, ◌≡◌, Option, Some, None, sym, ap, ap₂, ◌∙◌}
+-- Two answers of one command from one state are the same, and leave the same state and the same log.
+use Rattle.std.proofs.Common.{ℕ, ◌≡◌, List, [], Option, Some, None, sym, ap, ap₂, subst, ◌∙◌}
 use Rattle.wear_session.proofs.Common.{Setup, LineSession, WearCommand, WearAnswer, WearState, wear_left, IsWearCalled, read_call, read_said, write_call, write_said, open_call, open_said, IsWearAnsweredAs, wear_decided}
 use Rattle.line_session.proofs.Outcomes.{called_answer, started_answer, refusal_determined, twin_in}
 use Rattle.wear_session.specs.declared.commands.WearCommand.TheVariants as Do
-use Rattle.wear_session.specs.Determined.{WearRepliesAreDetermined, WearExhibitsAreDetermined}
+use Rattle.wear_session.specs.Logged.{IsWearLogged}
+use Rattle.wear_session.specs.Determined.{WearRepliesAreDetermined, WearExhibitsAreDetermined, WearLogsAreDetermined}
+use Rattle.std.proofs.lemmas.Option.{same_Some}
+use Rattle.board.specs.declared.access.Access.{Access}
+use Rattle.trace_text.proofs.LogLemmas.{same_logged}
 use Rattle.pmem_base.specs.declared.answers.Exhibit.TheVariants.{Twin}
 use Rattle.pmem_recovery.specs.declared.faults.RecFault.TheVariants as Rec
 
@@ -56,3 +60,19 @@ exhibits_are_determined setup old Do.On (Twin at major low high cipher tag) (Twi
     it.4 its.4)
 exhibits_are_determined setup old Do.On (Twin at major low high cipher tag) second it its = absurd its
 exhibits_are_determined setup old command first second it its = absurd it
+
+-- ---- logs
+
+same_accesses : (command : WearCommand) (old new : WearState) (accesses others : List Access) → IsWearLogged command (Some []) old (Some accesses) new
+    → IsWearLogged command (Some []) old (Some others) new → accesses ≡ others
+same_accesses (Do.Write a plain) old new accesses others it its =
+    same_logged (wear_decided old (Do.Write a plain)) old.session.board new.session.board accesses others it its
+same_accesses (Do.Read a) old new accesses others it its =
+    same_logged (wear_decided old (Do.Read a)) old.session.board new.session.board accesses others it its
+same_accesses Do.On old new accesses others it its = same_logged (wear_decided old Do.On) old.session.board new.session.board accesses others it its
+same_accesses command old new accesses others it its = same_Some accesses others (it ∙ sym its)
+
+pub logs_are_determined : (setup : Setup) → WearLogsAreDetermined setup
+logs_are_determined setup old one other command first second accesses others it its log its_log =
+    let same = (replies_are_determined setup old one other command first second it its).1 in
+    same_accesses command old one accesses others log (subst (λ (s : WearState). IsWearLogged command (Some []) old (Some others) s) (sym same) its_log)

@@ -9,6 +9,8 @@ use Rattle.line_session.proofs.NewDevices.{few_data}
 use Rattle.line_session.proofs.NewSessions.{zero_places, marks_stay, sound_after, new_session}
 use Rattle.wear_session.proofs.Levels.{wear_is, memory_held, levelled_is}
 use Rattle.wear_session.proofs.Worlds.{on_of}
+use Rattle.pmem_engine.specs.Engine.{on_chip}
+use Rattle.std.specs.Prelude.{IfOk, false}
 
 -- what formatting and the opening leave
 pub record NewWearCall : Type 0 where
@@ -37,6 +39,7 @@ pub record NewWearCall : Type 0 where
   pub opened :
       HasGappedOpened setup every (parts_of engine (device_of middle) ledger_middle tags digests)
       (λ now. parts_of now (device_of board) ledger tags_new digests_new) answer
+  pub up : IfOk answer (λ gapped. gapped.engine.down ≡ false)
 
 module _ (c : NewWearCall) where
   abbrev g : Shape
@@ -51,7 +54,7 @@ module _ (c : NewWearCall) where
   abbrev to : EngineState → Parts
   to now = parts_of now (device_of c.board) c.ledger c.tags_new c.digests_new
 
-  sound : IsSound c.setup c.engine c.middle.lines c.middle.regs c.ledger_middle
+  sound : IsSound c.setup (on_chip c.engine) c.middle.lines c.middle.regs c.ledger_middle
   sound = c.formatted.sound c.middle.lines refl
 
   places : plain_memory c.setup c.ledger_middle.marks ≡ replicate (layout.data_lines g) zero_line
@@ -72,7 +75,7 @@ module _ (c : NewWearCall) where
   -- the record that is read is the first wear's
   first_read : (new : Parts) (line : Line) → HasReadLine c.setup (n + 1) from new (Ok line) → recorded n line ≡ Some (first_wear n)
   first_read new line it =
-      let plain = (it.answered sound.trusted.not_down sound.trusted).0 in
+      let plain = (it.answered sound.trusted).0 in
       let zero = c.formatted.plain (n + 1) record_inside in
       let same : line ≡ zero_line = let both : Some line ≡ Some zero_line = sym plain ∙ zero in search (rules, both) in
       let here : line_at (plain_memory c.setup c.ledger_middle.marks) (n + 1) ≡ zero_line =
@@ -84,7 +87,8 @@ module _ (c : NewWearCall) where
   abbrev pub held : Gapped → WearParts
   held gapped = record { keys = c.keys; tags = c.tags_new; digests = c.digests_new; every = c.every; board = c.board; ledger = c.ledger; gapped = Some gapped }
 
-  module _ (gapped : Gapped) (line : Line) (read : HasReadRecord c.setup c.every line from (to gapped.engine) gapped) where
+  module _ (gapped : Gapped) (line : Line) (read : HasReadRecord c.setup c.every line from (to gapped.engine) gapped)
+      (up : gapped.engine.down ≡ false) where
     was : HasReadLine c.setup (n + 1) from (to gapped.engine) (Ok line)
     was = subst (λ k. HasReadLine c.setup (k + 1) from (to gapped.engine) (Ok line)) read.its_lines read.was_read
 
@@ -115,7 +119,7 @@ module _ (c : NewWearCall) where
     new_world =
         on_of c.setup (held gapped) gapped refl c.whole_shape c.in_range c.some_every
         (levelled_is c.setup (plain_memory c.setup c.ledger.marks) (replicate n zero_line) (first_wear n) levelled)
-        new.power
+        new.power up
         (sound_after c.setup c.start c.middle c.ledger_middle c.engine c.formatted c.board c.ledger_middle c.ledger refl gapped.engine c.tags c.digests
         c.tags_new c.digests_new (n + 1) line was)
         read.its_every (its_wear ∙ sym wear_first)
@@ -137,12 +141,13 @@ module _ (c : NewWearCall) where
   IsGapped (Err fault) = ⊥
 
   pub new_outcome : (answer : Result Gapped GapFault) → c.answer ≡ answer → IsGapped answer
-  new_outcome answer is = subst IsGapped is (go c.answer c.opened)
+  new_outcome answer is = subst IsGapped is (go c.answer c.opened c.up)
     where
-      go : (answer : Result Gapped GapFault) → HasGappedOpened c.setup c.every from to answer → IsGapped answer
-      go (Ok gapped) it = (new_world gapped it.0 it.1, new_state gapped it.0 it.1)
-      go (Err (Gap.Engine Fail.Cut)) it =
-          absurd (true≢false (sym c.formatted.steady ∙ (it.1.done sound.trusted.not_down).gone.power.0))
-      go (Err (Gap.Engine (Fail.Spent page))) it = absurd it.1.possible
-      go (Err (Gap.BadWear line)) it = absurd (none-some (first_wear n) (sym it.2 ∙ first_read (to it.0) line it.1))
-      go (Err (Gap.Engine fault)) it = absurd (it.1.unrefused sound.trusted.not_down sound)
+      go : (answer : Result Gapped GapFault) → HasGappedOpened c.setup c.every from to answer → IfOk answer (λ (gapped : Gapped). gapped.engine.down ≡ false)
+          → IsGapped answer
+      go (Ok gapped) it up = (new_world gapped it.0 it.1 up, new_state gapped it.0 it.1 up)
+      go (Err (Gap.Engine Fail.Cut)) it up =
+          absurd (true≢false (sym c.formatted.steady ∙ it.1.done.gone.power.0))
+      go (Err (Gap.Engine (Fail.Spent page))) it up = absurd it.1.possible
+      go (Err (Gap.BadWear line)) it up = absurd (none-some (first_wear n) (sym it.2 ∙ first_read (to it.0) line it.1))
+      go (Err (Gap.Engine fault)) it up = absurd (it.1.unrefused sound)

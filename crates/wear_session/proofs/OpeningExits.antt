@@ -1,6 +1,6 @@
 -- Power comes on, as the session's fields have it: what is held after recovery and the opening, and what is answered.
 use Rattle.std.proofs.Common.{ℕ, ◌≡◌, ◌<◌, ◌≤◌, ◌+◌, ◌++◌, ◌⊎◌, inl, inr, true, false, cond, List, [], length, Option, Some, None, Result, Ok, Err, refl, sym, ap, subst, ◌∙◌, arith}
-use Rattle.wear_session.proofs.Common.{unwrap_or, option_map, if◌then◌else◌, true≢false, none-some, same_Some, append-nil, Line, Mark, Twin, Device, BoardMemory, ended, Follows, LedgerState, Setup, plain_memory, recovery_bound, EngineState, Parts, parts_of, new_engine, Chip, chip_of, IsDurable, TakesAtMost, TakesFewer, HasReadLine, sound_trusted, Work, RecFault, suite_state, SuiteState, suite_counts, counts_of, HasRecovered, most_recovery_steps, Wear, Gapped, GapFault, recorded, IsLevelled, HasReadRecord, logical_lines, open_plan, steps_in, step_limit, device_during, none_taken, IsWatched, at_most, fewer, StartFault, WearAnswer, OpeningRelation, HasStartedBy, HasOpenedAfter, started_as, has_started, HasLinesOpened, IsWearCalled, open_call, open_said, WearState, wear_setup_in, wear_in, levelled_memory, WearParts, IsWearWorld, IsLevelledOff, IsLevelledBy, wear_of, IsWearAnswered, IsWearShownBy, IsWearMemoryWanted, HasWearOpened, wear_decided, read_steps, setup_under, fewer_within, AreDone, read_line, read_done, read_cut, refused_from}
+use Rattle.wear_session.proofs.Common.{unwrap_or, option_map, if◌then◌else◌, true≢false, none-some, same_Some, append-nil, Line, Mark, Twin, Device, BoardMemory, ended, Follows, LedgerState, Setup, plain_memory, recovery_bound, EngineState, Parts, parts_of, new_engine, Chip, chip_of, IsDurable, TakesAtMost, TakesFewer, HasReadLine, Work, RecFault, suite_state, SuiteState, suite_counts, counts_of, HasRecovered, most_recovery_steps, Wear, Gapped, GapFault, recorded, IsLevelled, HasReadRecord, logical_lines, open_plan, steps_in, step_limit, device_during, none_taken, IsWatched, at_most, fewer, StartFault, WearAnswer, OpeningRelation, HasStartedBy, HasOpenedAfter, started_as, has_started, HasOpenedLevelled, IsLevelledOpening, IsWearCalled, open_call, open_said, WearState, wear_setup_in, wear_in, levelled_memory, WearParts, IsWearWorld, IsLevelledOff, IsLevelledBy, wear_of, IsWearAnswered, IsWearShownBy, IsWearMemoryWanted, HasWearOpened, wear_decided, read_steps, setup_under, fewer_within, AreDone, read_line, read_done, read_cut, refused_from}
 use Rattle.pmem_base.specs.Layout as layout
 use Rattle.pmem_engine.specs.declared.fault.Fault.TheVariants as Fail
 use Rattle.pmem_recovery.specs.declared.faults.RecFault.TheVariants as Rec
@@ -15,6 +15,8 @@ use Rattle.wear_session.proofs.AnswerClauses.{served, seen_from, held_under}
 use Rattle.wear_session.proofs.Starts.{OnWearCall, few_of_on}
 use Rattle.line_session.proofs.Twins.{seal_twin}
 use Rattle.line_session.proofs.Recoveries.{few_recovery, recovered, sound_recovered, cut_left, wanted_left, untouched, rests, twin_left, twin_of_last, twin_within}
+use Rattle.pmem_engine.specs.Engine.{on_chip}
+use Rattle.std.specs.Prelude.{IfOk}
 
 -- parts of one session that are equal one by one
 same_parts : (a b : WearParts) → a.tags ≡ b.tags → a.digests ≡ b.digests → a.board ≡ b.board → a.ledger ≡ b.ledger → a.gapped ≡ b.gapped
@@ -59,7 +61,7 @@ module _ (c : OnWearCall) where
   watched = subst (λ b. IsWatched b c.board c.taken) c.lit_is c.watched
 
   abbrev opens : OpeningRelation Gapped GapFault
-  opens = λ start now. HasLinesOpened setup p.every start now
+  opens = λ engine start now. IsLevelledOpening setup p.every engine start now
 
   started : HasStartedBy setup opens from to p.ledger c.ledger suite_old c.suite_new c.answer
   started = subst (λ b. HasStartedBy setup opens (device_during b none_taken) to p.ledger c.ledger suite_old c.suite_new c.answer) c.lit_is c.started
@@ -85,7 +87,7 @@ module _ (c : OnWearCall) where
       Follows (start_plan setup p.ledger (open_call setup) lit.regs (suite_counts p.tags p.digests)) from to (ended end (chip now))
 
   called : (gapped : Option Gapped) (said : WearAnswer) (now : EngineState) (end : Result Wear (StartFault GapFault))
-      → (wear_of setup (left c.board gapped)).session.engine ≡ cond c.board.powered (Some now) None → (c.board.powered ≡ false → steps_in c.taken < step_limit)
+      → (wear_of setup (left c.board gapped)).session.engine ≡ cond c.board.powered (Some (on_chip now)) None → (c.board.powered ≡ false → steps_in c.taken < step_limit)
       → IsStartedBy end now
       → (let last : WearAnswer × ℕ = (said, (wear_of setup (left c.board gapped)).count) in
       last ≡ open_said (wear_of setup (left c.board gapped)).session (steps_in c.taken) end)
@@ -95,8 +97,8 @@ module _ (c : OnWearCall) where
       steps = steps_in c.taken;
       end = end;
       called =
-          has_started setup (open_call setup) end old.session (wear_of setup (left c.board gapped)).session now c.taken
-          (ap (option_map (λ (k : Gapped). k.engine)) c.there) kept refl refl watched within follows;
+          has_started setup (open_call setup) end old.session (wear_of setup (left c.board gapped)).session (on_chip now) c.taken
+          (ap (option_map (λ (k : Gapped). on_chip k.engine)) c.there) kept refl refl watched within follows;
       is_said = is;
     },
     refl,
@@ -110,7 +112,7 @@ module _ (c : OnWearCall) where
   dark_call now end cut follows is =
       let small = few_of_on c.geometry c.world.whole_shape in
       let below = cut.1 in
-      called None (Say.Cut (steps_in c.taken)) now end (sym (ap (λ b. cond b (Some now) None) cut.0.power)) (λ dark. omega (arith, small, below))
+      called None (Say.Cut (steps_in c.taken)) now end (sym (ap (λ b. cond b (Some (on_chip now)) None) cut.0.power)) (λ dark. omega (arith, small, below))
       follows is
 
   -- ---- where no mark is made
@@ -235,8 +237,8 @@ module _ (c : OnWearCall) where
 
     opened_exit : (gapped : Gapped) (line : Line)
         → HasReadRecord setup p.every line (parts_between between suite_between engine work it) (parts_to gapped.engine) gapped
-        → IsStartedBy (Ok gapped.wear) gapped.engine → WearOutcome (Ok gapped)
-    opened_exit gapped line read along =
+        → IsStartedBy (Ok gapped.wear) gapped.engine → gapped.engine.down ≡ false → WearOutcome (Ok gapped)
+    opened_exit gapped line read along up =
         let start = parts_from between suite_between engine work it in
         let middle = parts_between between suite_between engine work it in
         let was : HasReadLine setup (logical_lines c.geometry + 1) middle (parts_to gapped.engine) (Ok line) =
@@ -247,10 +249,10 @@ module _ (c : OnWearCall) where
         same_Some gapped.wear old.wear
         (sym read.its_wear ∙ ap (λ n. recorded n line) read.its_lines ∙ record_read between suite_between engine work it (parts_to gapped.engine) line was) in
         exit_of c.board (Some gapped) (Say.Opened gapped.wear.start gapped.wear.gap (steps_in c.taken))
-        (on_after setup p c.suite_new.tags c.suite_new.digests c.board c.ledger c.world (levelled marks) gapped done.live done.sound read.its_every (its_wear ∙ sym (same_wear marks)))
+        (on_after setup p c.suite_new.tags c.suite_new.digests c.board c.ledger c.world (levelled marks) gapped done.live up done.sound read.its_every (its_wear ∙ sym (same_wear marks)))
         (open_seen marks gapped done.live done.loss done.takes read.no_writes its_wear)
         (called (Some gapped) (Say.Opened gapped.wear.start gapped.wear.gap (steps_in c.taken)) gapped.engine (Ok gapped.wear)
-        (sym (ap (λ b. cond b (Some gapped.engine) None) done.live)) (λ dark. absurd (true≢false (sym done.live ∙ dark))) along
+        (sym (ap (λ b. cond b (Some (on_chip gapped.engine)) None) done.live)) (λ dark. absurd (true≢false (sym done.live ∙ dark))) along
         (ap (λ (k : ℕ). (let last : WearAnswer × ℕ = (Say.Opened gapped.wear.start gapped.wear.gap (steps_in c.taken), k) in last)) read.no_writes))
 
     read_cut_exit : (dropped : EngineState)
@@ -265,17 +267,17 @@ module _ (c : OnWearCall) where
         exit_of c.board None (Say.Cut (steps_in c.taken)) (dark_world marks c.board cut.dark cut.durable cut.small_group) seen
         (dark_call now (Err (Start.Opening (Gap.Engine Fail.Cut))) seen along refl)
 
-    by_opened : (opened : Result Gapped GapFault) → HasLinesOpened setup p.every (parts_between between suite_between engine work it) parts_to opened
-        → WearOutcome (started_as opened)
-    by_opened (Ok gapped) its = opened_exit gapped its.was_opened.0 its.was_opened.1 (started_along (Ok gapped.wear) gapped.engine its.plan)
-    by_opened (Err (Gap.Engine Fail.Cut)) its =
-        read_cut_exit its.was_opened.0 its.was_opened.1 its.plan.0 (started_along (Err (Gap.Engine Fail.Cut)) its.plan.0 its.plan.1)
-    by_opened (Err (Gap.Engine (Fail.Spent page))) its = absurd its.was_opened.1.possible
-    by_opened (Err (Gap.BadWear line)) its =
-        absurd (none-some old.wear (sym its.was_opened.2 ∙ record_read between suite_between engine work it (parts_to its.was_opened.0) line its.was_opened.1))
-    by_opened (Err (Gap.Engine fault)) its =
+    by_opened : (opened : Result Gapped GapFault) → HasOpenedLevelled setup p.every (parts_between between suite_between engine work it) parts_to opened
+        → IfOk opened (λ (gapped : Gapped). gapped.engine.down ≡ false) → WearOutcome (started_as opened)
+    by_opened (Ok gapped) its up = opened_exit gapped its.opened.0 its.opened.1 (started_along (Ok gapped.wear) gapped.engine its.plan) up
+    by_opened (Err (Gap.Engine Fail.Cut)) its up =
+        read_cut_exit its.opened.0 its.opened.1 its.plan.0 (started_along (Err (Gap.Engine Fail.Cut)) its.plan.0 its.plan.1)
+    by_opened (Err (Gap.Engine (Fail.Spent page))) its up = absurd its.opened.1.possible
+    by_opened (Err (Gap.BadWear line)) its up =
+        absurd (none-some old.wear (sym its.opened.2 ∙ record_read between suite_between engine work it (parts_to its.opened.0) line its.opened.1))
+    by_opened (Err (Gap.Engine fault)) its up =
         let sound = sound_recovered setup p.ledger lit between suite_old suite_between engine work it off.durable in
-        absurd (its.was_opened.1.unrefused (sound_trusted setup (parts_between between suite_between engine work it) sound).not_down sound)
+        absurd (its.opened.1.unrefused sound)
 
   -- ---- recovery wasn't done
 
@@ -323,7 +325,7 @@ module _ (c : OnWearCall) where
               c.world.whole_formulas off.durable.mendable.anchored c.world.places within
               (twin_of_last setup p.ledger c.ledger lit c.board c.taken suite_old suite_between ledger off.durable c.world.few_armed at major low high cipher tag it),
           refused_from setup (open_call setup) old.session c.board c.ledger suite_between c.suite_new c.taken (Rec.Twin at major low high cipher tag)
-              (ap (option_map (λ (k : Gapped). k.engine)) c.there) watched (it.power.live refl) it.plan ledger suite,
+              (ap (option_map (λ (k : Gapped). on_chip k.engine)) c.there) watched (it.power.live refl) it.plan ledger suite,
         ),
       )
 
@@ -340,7 +342,8 @@ module _ (c : OnWearCall) where
           → HasOpenedAfter recovery opens started.between to p.ledger c.ledger started.suite_between c.suite_new c.answer
           → WearOutcome c.answer
       go (Ok done) it later =
-          subst WearOutcome (sym later.2) (by_opened started.between started.suite_between done.0 done.1 it later.0 later.1)
+          subst WearOutcome (sym later.2) (by_opened started.between started.suite_between done.0 done.1 it later.0
+          (later.1.did (ap (λ (e : EngineState). e.down) it.engine)) later.1.up)
       go (Err Rec.Cut) it later =
           subst WearOutcome (sym later.0) (recovery_cut started.suite_between (refused Rec.Cut it later.1) later.2 later.3)
       go (Err Rec.Memory) it later =

@@ -7,6 +7,9 @@ use Rattle.pmem_base.specs.Layout as layout
 use Rattle.pmem_engine.specs.declared.fault.Fault.TheVariants as Fail
 use Rattle.wear_session.specs.declared.answers.WearAnswer.TheVariants as Say
 use Rattle.wear_session.specs.declared.commands.WearCommand.TheVariants as Do
+use Rattle.pmem_engine.specs.Engine.{on_chip}
+use Rattle.pmem_engine.specs.Outcomes.{outcome_of, is_going}
+use Rattle.std.specs.Prelude.{◌||◌, not, Bool}
 
 -- the session's parts as the read finds them, what it leaves and answers
 pub record ReadWearCall : Type 0 where
@@ -37,6 +40,7 @@ pub record ReadWearCall : Type 0 where
       HasReadLine (setup_under formulas_of gapped.engine.shape parts.keys) (place_of gapped.lines gapped.wear at)
       (parts_of gapped.engine (device_during parts.board none_taken) parts.ledger parts.tags parts.digests)
       (parts_of after.engine (device_during board taken) ledger tags_new digests_new) answer
+  pub down : after.engine.down ≡ (gapped.engine.down || not (is_going (outcome_of answer)))
   pub plan :
       Follows (read_plan (setup_under formulas_of gapped.engine.shape parts.keys) parts.board.regs (place_of gapped.lines gapped.wear at)
       (chip_of gapped.engine parts.ledger parts.tags parts.digests))
@@ -73,6 +77,11 @@ module _ (c : ReadWearCall) where
   n_is : c.gapped.lines ≡ logical_lines c.geometry
   n_is = lines_are setup p c.gapped on
 
+  running_by : (answer : Result Line Fault) → c.answer ≡ answer → is_going (outcome_of answer) ≡ true → c.after.engine.down ≡ false
+  running_by answer is goes =
+      c.down ∙ ap (λ (b : Bool). b || not (is_going (outcome_of c.answer))) on.running
+      ∙ ap (λ (r : Result Line Fault). not (is_going (outcome_of r))) is ∙ ap not goes
+
   read_as : (answer : Result Line Fault) → c.answer ≡ answer → HasReadLine setup place from to answer
   read_as answer is =
       subst (λ r. HasReadLine setup place from to r) is
@@ -107,9 +116,9 @@ module _ (c : ReadWearCall) where
       steps = steps_in c.taken;
       end = c.answer;
       called =
-          has_called (read_call setup old c.at) c.answer old.session (wear_of setup (left gapped)).session c.gapped.engine
-          c.after.engine c.taken on.powered (ap (option_map (λ (k : Gapped). k.engine)) c.there)
-          (kept_of (λ (k : Gapped). k.engine) gapped c.after c.board.powered kept) refl refl c.watched within
+          has_called (read_call setup old c.at) c.answer old.session (wear_of setup (left gapped)).session (on_chip c.gapped.engine)
+          (on_chip c.after.engine) c.taken on.powered (ap (option_map (λ (k : Gapped). on_chip k.engine)) c.there)
+          (kept_of (λ (k : Gapped). on_chip k.engine) gapped c.after c.board.powered kept) refl refl c.watched within
           (subst (λ n. FollowsFrom setup n) place_is (subst (λ s. FollowsFrom (setup_under c.formulas_of s p.keys) place) on.its_shape c.plan));
       is_said = is;
     },
@@ -152,7 +161,7 @@ module _ (c : ReadWearCall) where
     it = read_as (Ok line) is
 
     done : OneLossEffect setup going [] from to
-    done = it.done on.running
+    done = it.done
 
     powered : c.board.powered ≡ true
     powered = done.gone.power.1 on.powered
@@ -160,7 +169,7 @@ module _ (c : ReadWearCall) where
     pub got_held : IsWearWorld (setup_under c.formulas_of c.geometry c.keys) (left_under (Some c.after))
     got_held =
         held_under c.formulas_of c.geometry p (left (Some c.after)) c.keys c.same_keys
-        (on_after setup p c.tags_new c.digests_new c.board c.ledger c.world (levelled done.gone.marks) c.after powered (done.gone.sound on.sound)
+        (on_after setup p c.tags_new c.digests_new c.board c.ledger c.world (levelled done.gone.marks) c.after powered (running_by (Ok line) is refl) (done.gone.sound on.sound)
         (c.wear.its_every ∙ on.its_every) (c.wear.its_wear ∙ on.its_wear ∙ sym (same_wear done.gone.marks)))
 
     shown : line ≡ line_at old.memory c.at
@@ -172,7 +181,7 @@ module _ (c : ReadWearCall) where
         let same : layout.data_lines c.gapped.engine.shape ≡ layout.data_lines c.geometry = ap layout.data_lines on.its_shape in
         let size = c.gapped.its_lines in
         let place_within : place < layout.data_lines c.geometry = omega (arith, most, same, size) in
-        same_Some line _ (sym (it.answered on.running on.sound.trusted).0 ∙ c.world.places.each place place_within)
+        same_Some line _ (sym (it.answered on.sound.trusted).0 ∙ c.world.places.each place place_within)
         ∙ ap (line_at (plain_memory setup p.ledger.marks)) place_is ∙ c.world.levelled.holds.each c.at inside
 
     pub got_seen : IsWearAnswered (wear_setup_in c.formulas_of c.now) c.now (Do.Read c.at) (Say.Got line c.said)
@@ -189,7 +198,7 @@ module _ (c : ReadWearCall) where
               loss = done.loss;
               marks = marks done.gone.marks;
             },
-            at_most c.taken (path_length c.geometry) c.watched.follows.few (it.steps_of_path on.running).0.sum,
+            at_most c.taken (path_length c.geometry) c.watched.follows.few it.steps_of_path.0.sum,
           ),
         )
         (called (Some c.after) (Say.Got line (steps_in c.taken)) (sym (ap (λ b. cond b (Some c.after) None) powered))
@@ -205,7 +214,7 @@ module _ (c : ReadWearCall) where
     cut = read_as (Err Fail.Cut) is
 
     cut_done : OneLossEffect setup cut_short [] from to
-    cut_done = cut.done on.running
+    cut_done = cut.done
 
     off : c.board.powered ≡ false
     off = cut_done.gone.power.1
@@ -221,7 +230,7 @@ module _ (c : ReadWearCall) where
     cut_seen =
         let levels = c.world.whole_shape.at_most_six_levels in
         let below : steps_in c.taken < path_length c.geometry =
-        fewer c.taken (path_length c.geometry) c.watched.follows.few ((cut.steps_of_path on.running).1 on.powered).sum in
+        fewer c.taken (path_length c.geometry) c.watched.follows.few (cut.steps_of_path.1 on.powered).sum in
         seen_as None (λ k. Say.Cut k) (
           record {
             memory = same_memory cut_done.gone.marks;

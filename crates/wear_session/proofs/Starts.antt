@@ -1,6 +1,6 @@
 -- Recovery, and then the opening of the lines: the steps of both, and what is known of them.
 use Rattle.std.proofs.Common.{true, None, ℕ, ◌≡◌, ◌≤◌, ◌+◌, List, Result, arith}
-use Rattle.wear_session.proofs.Common.{Shape, IsShape, BoardMemory, LedgerState, Formulas, recovery_bound, SuiteState, suite_state, Gapped, GapFault, Taken, steps_in, step_limit, device_during, none_taken, IsWatched, StartFault, HasStartedBy, WearState, WearParts, IsWearWorld, wear_of, HasLinesOpened, read_steps, setup_under}
+use Rattle.wear_session.proofs.Common.{Shape, IsShape, BoardMemory, LedgerState, Formulas, recovery_bound, SuiteState, suite_state, Gapped, GapFault, Taken, steps_in, step_limit, device_during, none_taken, IsWatched, StartFault, HasStartedBy, WearState, WearParts, IsWearWorld, wear_of, IsLevelledOpening, read_steps, setup_under}
 use Rattle.line_session.proofs.NewDevices.{few_of_start}
 
 pub few_of_on : (g : Shape) → IsShape g → recovery_bound g + read_steps g ≤ step_limit
@@ -30,5 +30,5 @@ pub record OnWearCall : Type 0 where
   pub answer : Result Gapped (StartFault GapFault)
   pub started :
       HasStartedBy (setup_under formulas_of geometry parts.keys)
-      (λ old now. HasLinesOpened (setup_under formulas_of geometry parts.keys) parts.every old now) (device_during lit none_taken) (device_during board taken)
+      (λ engine old now. IsLevelledOpening (setup_under formulas_of geometry parts.keys) parts.every engine old now) (device_during lit none_taken) (device_during board taken)
       parts.ledger ledger (suite_state parts.keys pads_old parts.tags parts.digests) suite_new answer

@@ -2,6 +2,7 @@
 use Rattle.std.proofs.Common.{rules, ℕ, ◌≡◌, ◌≤◌, true, false, length, Some, None, refl, sym, ap, subst, arith}
 use Rattle.wear_session.proofs.Common.{IsShape, BoardMemory, LedgerState, AreInRange, Setup, plain_memory, IsDurable, IsSound, sealed_in, places_of, Gapped, IsLevelled, logical_lines, wear_in, levelled_memory, WearParts, IsWearWorld, IsLevelledOn, IsLevelledBy}
 use Rattle.pmem_base.specs.Layout as layout
+use Rattle.pmem_engine.specs.Engine.{on_chip}
 
 -- ---- what is held
 
@@ -21,15 +22,15 @@ pub on_of : (setup : Setup) (parts : WearParts) (gapped : Gapped) → parts.gapp
     → 1 ≤ parts.every
     → IsLevelled (logical_lines setup.shape) (plain_memory setup parts.ledger.marks) (wear_in setup (plain_memory setup parts.ledger.marks))
     (levelled_memory setup (plain_memory setup parts.ledger.marks))
-    → parts.board.powered ≡ true → IsSound setup gapped.engine parts.board.lines parts.board.regs parts.ledger → gapped.every ≡ parts.every
+    → parts.board.powered ≡ true → gapped.engine.down ≡ false → IsSound setup (on_chip gapped.engine) parts.board.lines parts.board.regs parts.ledger → gapped.every ≡ parts.every
     → gapped.wear ≡ wear_in setup (plain_memory setup parts.ledger.marks) → IsWearWorld setup parts
-on_of setup parts gapped there shape formulas some levelled powered sound every wear =
+on_of setup parts gapped there shape formulas some levelled powered running sound every wear =
     let sealed = sealed_in setup parts.board.regs parts.ledger sound.trusted.anchored in
     let chip : IsLevelledOn setup parts gapped =
     record {
       powered = powered;
       sound = sound;
-      running = sound.trusted.not_down;
+      running = running;
       its_shape = sound.trusted.its_shape;
       usable =
           record {
@@ -37,7 +38,7 @@ on_of setup parts gapped there shape formulas some levelled powered sound every 
                 record {
                   its_size = sound.durable.device_whole.count;
                   valid_regs = sound.trusted.anchored.valid_regs;
-                  no_group = λ running. sound.trusted.no_group;
+                  no_group = λ up. sound.trusted.no_group;
                 };
             true_lines = sound.trusted.anchored.of_shape.truth_count;
             line_count = sound.trusted.anchored.of_shape.line_count;
@@ -65,12 +66,12 @@ module _ (setup : Setup) (p : WearParts) (tags digests : ℕ) (board : BoardMemo
     IsLevelled (logical_lines setup.shape) (plain_memory setup ledger.marks) (wear_in setup (plain_memory setup ledger.marks))
     (levelled_memory setup (plain_memory setup ledger.marks))) where
   -- after a call with power on
-  pub on_after : (after : Gapped) → board.powered ≡ true → IsSound setup after.engine board.lines board.regs ledger → after.every ≡ p.every
+  pub on_after : (after : Gapped) → board.powered ≡ true → after.engine.down ≡ false → IsSound setup (on_chip after.engine) board.lines board.regs ledger → after.every ≡ p.every
       → after.wear ≡ wear_in setup (plain_memory setup ledger.marks)
       → IsWearWorld setup (record { keys = p.keys; tags = tags; digests = digests; every = p.every; board = board; ledger = ledger; gapped = Some after })
-  on_after after powered sound every wear =
+  on_after after powered running sound every wear =
       on_of setup (record { keys = p.keys; tags = tags; digests = digests; every = p.every; board = board; ledger = ledger; gapped = Some after }) after refl world.whole_shape
-      world.whole_formulas world.some_every levelled powered sound every wear
+      world.whole_formulas world.some_every levelled powered running sound every wear
 
   -- with power off, where the device is durable
   pub off_after : board.powered ≡ false → IsDurable setup board.lines board.regs ledger → length board.regs.group.items ≤ 3

@@ -1,6 +1,6 @@
 -- How far a write with its move came, by its answer: how many of its engine writes are done, and all their marks.
 use Rattle.std.proofs.Common.{ℕ, zero, suc, ◌≡◌, ◌<◌, ◌≤◌, ◌+◌, ◌*◌, ◌⊎◌, inl, inr, Bool, true, false, List, [], ◌∷◌, ◌++◌, length, take, drop, Some, Result, Ok, Err, refl, sym, ap, subst, arith}
-use Rattle.wear_session.proofs.Common.{All, nat_lt, not, MatchBool, if◌then◌else◌, list_any, true≢false, All-nil, Line, Ctr, Posted, Mark, Shape, data_lines, Formulas, Setup, Memory, memory_with, Moment, path_length, drained_marks, IsSpentNext, Fault, Parts, AreSound, whole_write, HasWrittenLine, sound_trusted, AreEdited, IsEditOf, Writing, is_own_seal, IsCutAmong, write_steps, read_steps, writes_none, writes_own, own_at_cut, memory_now, moment_now, within_done, within_cut, AreDone, none_done, memory_done, spent_path, all_posted, cost, AreGone, IsSpentAt, IsCutAt, IsStoppedAt, EndsAt, gone_within, ends_within, write_gone, write_spent_next, write_stopped, edits_go, Wear, Gapped, Moved, WriteFault, place_of, next_wear, move_edits, HasWriteGoneOn, HasLevelledWrite, HasCounted, HasTriedMove, HasWear, write_answer_by, wear_by, places, move_fits, moving_writes}
+use Rattle.wear_session.proofs.Common.{All, nat_lt, not, MatchBool, if◌then◌else◌, list_any, true≢false, All-nil, Line, Ctr, Posted, Mark, Shape, data_lines, Formulas, Setup, Memory, memory_with, Moment, path_length, drained_marks, IsSpentNext, Fault, Parts, AreSound, whole_write, HasWrittenLine, AreEdited, IsEditOf, Writing, is_own_seal, IsCutAmong, write_steps, read_steps, writes_none, writes_own, own_at_cut, memory_now, moment_now, within_done, within_cut, AreDone, none_done, memory_done, spent_path, all_posted, cost, AreGone, IsSpentAt, IsCutAt, IsStoppedAt, EndsAt, gone_within, ends_within, write_gone, write_spent_next, write_stopped, edits_go, Wear, Gapped, Moved, WriteFault, place_of, next_wear, move_edits, HasWriteGoneOn, HasLevelledWrite, HasCounted, HasTriedMove, HasWear, write_answer_by, wear_by, places, move_fits, moving_writes}
 use Rattle.pmem_engine.specs.declared.fault.Fault.TheVariants as Fail
 use Rattle.start_gap.specs.declared.gapped.Moved.TheVariants as Move
 
@@ -165,7 +165,7 @@ module _ (setup : Setup) (a : ℕ) (plain : Line) (old new : Gapped) (from to : 
       least : (due : Bool) → 0 + w ≤ most_of setup.shape due
       least true = omega arith
       least false = omega arith
-  refused_ends due fault parts written = absurd (written.unrefused (sound_trusted setup from sound).not_down sound)
+  refused_ends due fault parts written = absurd (written.unrefused sound)
 
   gone_on : (early : Bool) (ctr : Ctr) (between : Parts) (answer : Result Moved WriteFault) → HasWrittenLine setup own from between (Ok ctr)
       → MatchBool early (HasCounted old new between to answer) (HasTriedMove setup old new between to answer) → EndsWearWrite (not early) answer to

@@ -94,14 +94,14 @@ module _ (c : WriteWearCall) where
 
   -- all are done
   gone_exit : (k : ℕ) (gone : AreGone setup from queue k most to) → k ≡ length queue → c.after.wear ≡ wear_at (stage_of k) n wear
-      → c.after.count ≡ cond (k == 0) c.gapped.count (cond due 0 (c.gapped.count + 1)) → c.after.every ≡ c.gapped.every
+      → c.after.count ≡ cond (k == 0) c.gapped.count (cond due 0 (c.gapped.count + 1)) → c.after.every ≡ c.gapped.every → c.after.engine.down ≡ false
       → Say.Written (steps_in c.taken) ≡ move_said (state.own c) (steps_in c.taken) c.answer → Exit (Some c.after) Say.Written
-  gone_exit k gone all its_after count every said =
+  gone_exit k gone all its_after count every up said =
       let few : k ≤ length queue = omega (arith, all) in
       let is = state.lines_are_at c k few (memory_done setup from to (take k queue) gone.made most gone.done) in (
-        state.held_as c (Some c.after) (state.going_world c k gone.made few is most (take k queue) gone.done its_after count every),
+        state.held_as c (Some c.after) (state.going_world c k gone.made few is most (take k queue) gone.done its_after count every up),
         seen_as (Some c.after) (record { done = k; made = gone.made }) Say.Written (all, (few, gone.done.asked))
-            (state.goes c k gone.made few is most (take k queue) gone.done its_after count every) (lit_call Say.Written gone.done.live said),
+            (state.goes c k gone.made few is most (take k queue) gone.done its_after count every up) (lit_call Say.Written gone.done.live said),
       )
 
   pub made_exit : (c.answer ≡ Ok Move.Not) ⊎ (c.answer ≡ Ok Move.Made) → Exit (Some c.after) Say.Written
@@ -109,13 +109,13 @@ module _ (c : WriteWearCall) where
       let end = state.ends c (Ok Move.Not) is in
       let its = state.wears c (Ok Move.Not) is in
       gone_exit 1 end.1 (ap (λ d. length (writes_of places n wear d c.at c.plain)) (sym end.0)) its.its_wear
-      (its.its_count ∙ ap (λ d. cond d 0 (c.gapped.count + 1)) (sym end.0)) its.its_every
+      (its.its_count ∙ ap (λ d. cond d 0 (c.gapped.count + 1)) (sym end.0)) its.its_every (state.running_by c (Ok Move.Not) is refl)
       (sym (ap (λ r. move_said (state.own c) (steps_in c.taken) r) is))
   made_exit (inr is) =
       let end = state.ends c (Ok Move.Made) is in
       let its = state.wears c (Ok Move.Made) is in
       gone_exit 3 end.1 (ap (λ d. length (writes_of places n wear d c.at c.plain)) (sym end.0)) its.its_wear
-      (its.its_count ∙ ap (λ d. cond d 0 (c.gapped.count + 1)) (sym end.0)) its.its_every
+      (its.its_count ∙ ap (λ d. cond d 0 (c.gapped.count + 1)) (sym end.0)) its.its_every (state.running_by c (Ok Move.Made) is refl)
       (sym (ap (λ r. move_said (state.own c) (steps_in c.taken) r) is))
 
   -- the move is held
@@ -138,9 +138,9 @@ module _ (c : WriteWearCall) where
       let count : c.after.count ≡ cond (held.count == 0) c.gapped.count (cond due 0 (c.gapped.count + 1)) =
       its.its_count ∙ ap (λ d. cond d 0 (c.gapped.count + 1)) (sym end.0)
       ∙ sym (some_of held.count c.gapped.count (cond due 0 (c.gapped.count + 1)) held.low) in (
-        state.held_as c (Some c.after) (state.going_world c held.count held.made few lines most (take held.count queue) held.done its_after count its.its_every),
+        state.held_as c (Some c.after) (state.going_world c held.count held.made few lines most (take held.count queue) held.done its_after count its.its_every (state.running_by c (Ok (Move.Held page)) is refl)),
         seen_as (Some c.after) (record { done = held.count; made = held.made }) (λ steps. Say.Held page steps) (held.low, held.next)
-            (state.goes c held.count held.made few lines most (take held.count queue) held.done its_after count its.its_every)
+            (state.goes c held.count held.made few lines most (take held.count queue) held.done its_after count its.its_every (state.running_by c (Ok (Move.Held page)) is refl))
             (lit_call (λ steps. Say.Held page steps) held.done.live (sym (ap (λ r. move_said (state.own c) (steps_in c.taken) r) is))),
       )
 
@@ -153,9 +153,11 @@ module _ (c : WriteWearCall) where
       let spent = end.1 in
       let few : 0 ≤ length queue = omega arith in
       let lines = state.lines_are_at c 0 few (memory_done setup from to [] [] (path_length c.geometry) spent.done) in (
-        state.held_as c (Some c.after) (state.going_world c 0 [] few lines (path_length c.geometry) [] spent.done its.its_wear its.its_count its.its_every),
+        state.held_as c (Some c.after) (state.going_world c 0 [] few lines (path_length c.geometry) [] spent.done its.its_wear its.its_count its.its_every
+            (state.running_by c (Err (record { fault = Fail.Spent page; written = written })) is refl)),
         seen_as (Some c.after) (record { done = 0; made = [] }) (λ steps. Say.Spent page steps) (refl, spent.next)
-            (state.goes c 0 [] few lines (path_length c.geometry) [] spent.done its.its_wear its.its_count its.its_every)
+            (state.goes c 0 [] few lines (path_length c.geometry) [] spent.done its.its_wear its.its_count its.its_every
+            (state.running_by c (Err (record { fault = Fail.Spent page; written = written })) is refl))
             (lit_call (λ steps. Say.Spent page steps) spent.done.live (sym (ap (λ r. move_said (state.own c) (steps_in c.taken) r) is))),
       )
 

@@ -8,6 +8,10 @@ use Rattle.wear_session.proofs.Worlds.{on_after, off_after, on_in, lines_are}
 use Rattle.wear_session.proofs.AnswerClauses.{of_line_is, held_under}
 use Rattle.wear_session.proofs.WriteEnds.{writes_of, most_of, EndsWearAt, WearsAs, write_ends_at, wears_as}
 use Rattle.wear_session.proofs.WriteLaws.{stage_of, lines_done, levelled_done, memory_by, wear_by, wear_after, memory_after, levelled_after, with_writes_is}
+use Rattle.pmem_engine.specs.Engine.{on_chip}
+use Rattle.pmem_engine.specs.Outcomes.{is_going}
+use Rattle.start_gap.specs.Gapped.{write_outcome_by}
+use Rattle.std.specs.Prelude.{◌||◌}
 
 -- the session's parts as the write finds them, what it leaves and answers
 pub record WriteWearCall : Type 0 where
@@ -42,6 +46,7 @@ pub record WriteWearCall : Type 0 where
       HasLevelledWrite (setup_under formulas_of gapped.engine.shape before.keys) at plain gapped after
       (parts_of gapped.engine (device_during before.board none_taken) ledger_before before.tags before.digests)
       (parts_of after.engine (device_during board taken) ledger tags_new digests_new) answer
+  pub down : after.engine.down ≡ (gapped.engine.down || not (is_going (write_outcome_by answer)))
   pub plan :
       FollowsWrite (setup_under formulas_of gapped.engine.shape before.keys) at plain gapped after before.board.regs
       (chip_of gapped.engine ledger_before before.tags before.digests) (chip_of after.engine ledger tags_new digests_new)
@@ -92,6 +97,12 @@ module _ (c : WriteWearCall) where
 
   pub on : IsLevelledOn setup p c.gapped
   on = on_in setup p c.gapped world c.there
+
+  -- the engine is up after a write that goes on
+  pub running_by : (answer : Result Moved WriteFault) → c.answer ≡ answer → is_going (write_outcome_by answer) ≡ true → c.after.engine.down ≡ false
+  running_by answer is goes =
+      c.down ∙ ap (λ (b : Bool). b || not (is_going (write_outcome_by c.answer))) on.running
+      ∙ ap (λ (r : Result Moved WriteFault). not (is_going (write_outcome_by r))) is ∙ ap not goes
 
   pub n_is : n ≡ logical_lines c.geometry
   n_is = lines_are setup p c.gapped on
@@ -181,10 +192,11 @@ module _ (c : WriteWearCall) where
 
     -- power is on
     module _ (limit : ℕ) (writes : List Posted) (done : AreDone setup from writes made limit to) (its_after : c.after.wear ≡ wear_at (stage_of k) n wear)
-        (count : c.after.count ≡ cond (k == 0) c.gapped.count (cond due 0 (c.gapped.count + 1))) (every : c.after.every ≡ c.gapped.every) where
+        (count : c.after.count ≡ cond (k == 0) c.gapped.count (cond due 0 (c.gapped.count + 1))) (every : c.after.every ≡ c.gapped.every)
+        (up : c.after.engine.down ≡ false) where
       pub going_world : IsWearWorld setup (left (Some c.after))
       going_world =
-          on_after setup p c.tags_new c.digests_new c.board c.ledger world levelled c.after done.live done.sound (every ∙ on.its_every) (its_after ∙ sym its_wear)
+          on_after setup p c.tags_new c.digests_new c.board c.ledger world levelled c.after done.live up done.sound (every ∙ on.its_every) (its_after ∙ sym its_wear)
 
       pub goes : GoesToWearState (after_writing old c.at c.plain writing) (steps_in c.taken) limit (wear_of setup (left (Some c.after)))
       goes = (
@@ -287,9 +299,9 @@ module _ (c : WriteWearCall) where
       steps = steps_in c.taken;
       end = plan_as.end;
       called =
-          has_called (write_call setup old c.at c.plain) plan_as.end old.session (wear_of setup (left gapped)).session c.gapped.engine
-          c.after.engine c.taken on.powered (ap (option_map (λ (k : Gapped). k.engine)) c.there)
-          (kept_of (λ (k : Gapped). k.engine) gapped c.after c.board.powered kept) refl refl c.watched within
+          has_called (write_call setup old c.at c.plain) plan_as.end old.session (wear_of setup (left gapped)).session (on_chip c.gapped.engine)
+          (on_chip c.after.engine) c.taken on.powered (ap (option_map (λ (k : Gapped). on_chip k.engine)) c.there)
+          (kept_of (λ (k : Gapped). on_chip k.engine) gapped c.after c.board.powered kept) refl refl c.watched within
           (subst (λ q. Follows q (device_during c.before.board none_taken) (device_during c.board c.taken)
           (ended plan_as.end (chip_of c.after.engine c.ledger c.tags_new c.digests_new))) plan_is plan_as.follows);
       is_said =

@@ -1,8 +1,8 @@
 -- What a command leaves in a log of accesses of the board.
 use Rattle.std.specs.Prelude.{◌≡◌, List, Option, Some, Result, Ok}
 use Rattle.pmem_base.specs.declared.commands.Kind.{Kind}
-use Rattle.access_log.specs.declared.access.Access.{Access}
-use Rattle.line_session.specs.Logged.{IsLoggedBy}
+use Rattle.board.specs.declared.access.Access.{Access}
+use Rattle.trace_text.specs.Logged.{IsLoggedBy}
 use Rattle.wear_session.specs.declared.commands.WearCommand.{WearCommand}
 use Rattle.wear_session.specs.declared.commands.WearCommand.TheVariants as Do
 use Rattle.wear_session.specs.State.{WearState}

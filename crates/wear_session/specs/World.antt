@@ -15,6 +15,7 @@ use Rattle.start_gap.specs.declared.gapped.Gapped.{Gapped}
 use Rattle.start_gap.specs.Logical.{IsLevelled}
 use Rattle.start_gap.specs.Gapped.{logical_lines}
 use Rattle.wear_session.specs.State.{WearState, wear_left, wear_in, levelled_memory}
+use Rattle.pmem_engine.specs.Engine.{on_chip}
 
 -- ---- a state of its parts
 
@@ -35,7 +36,7 @@ wear_of setup parts =
       shape = setup.shape;
       keys = parts.keys;
       board = parts.board;
-      engine = option_map (λ gapped. gapped.engine) parts.gapped;
+      engine = option_map (λ gapped. on_chip gapped.engine) parts.gapped;
       ledger = parts.ledger;
       tags = parts.tags;
       digests = parts.digests;
@@ -47,7 +48,7 @@ wear_of setup parts =
 -- with power on all is sound, and the levelled lines are those that the marks say
 pub record IsLevelledOn (setup : Setup) (parts : WearParts) (gapped : Gapped) : Type 0 where
   pub powered : parts.board.powered ≡ true
-  pub sound : IsSound setup gapped.engine parts.board.lines parts.board.regs parts.ledger
+  pub sound : IsSound setup (on_chip gapped.engine) parts.board.lines parts.board.regs parts.ledger
   pub running : gapped.engine.down ≡ false
   pub its_shape : gapped.engine.shape ≡ setup.shape
   pub usable : IsUsable setup.shape gapped.engine (device_of parts.board) parts.ledger

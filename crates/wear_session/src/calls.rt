@@ -1,7 +1,8 @@
 //! The calls of levelled lines that a session makes, and their opening.
 ghost use Rattle.std.specs.Prelude.{◌≤◌, ◌<◌};
 ghost use Rattle.seal_ledger.specs.Notes.{HasRoom};
-ghost use Rattle.wear_session.specs.StoreCalls.{HasReadAt, HasWrittenAt, HasLinesOpened};
+ghost use Rattle.start_gap.specs.Promised.{IsLevelledWrite, IsLevelledOpening};
+ghost use Rattle.wear_session.specs.StoreCalls.{HasReadAt};
 
 use board::Board;
 use line_session::{StoreCall, StoreOpening};
@@ -59,7 +60,7 @@ impl<'a> StoreCall for WriteLine<'a> {
 
     ghost can = { λ call gapped ledger capacity. (call.at < gapped.lines) × HasRoom ledger capacity 198 };
 
-    ghost relation = { λ call setup old new from to answer. HasWrittenAt setup call.at call.line.now old new from to answer };
+    ghost relation = { λ call setup old new from to answer. IsLevelledWrite setup call.at call.line.now old new from to answer };
 
     fn make<B: Board, S: Suite>(
         &self,
@@ -87,7 +88,7 @@ impl StoreOpening for OpenLines {
 
     ghost can = { λ opening ledger capacity. 1 ≤ opening.every };
 
-    ghost relation = { λ opening setup old now answer. HasLinesOpened setup opening.every old now answer };
+    ghost relation = { λ opening setup engine old now answer. IsLevelledOpening setup opening.every engine old now answer };
 
     fn open<B: Board, S: Suite>(
         &self,

@@ -1,6 +1,6 @@
 //! Laws of whole sessions.
 ghost use Rattle.pmem_base.specs.Geo.{shape_of};
-ghost use Rattle.wear_session.specs.Determined.{WearExhibitsAreDetermined, WearRepliesAreDetermined};
+ghost use Rattle.wear_session.specs.Determined.{WearExhibitsAreDetermined, WearLogsAreDetermined, WearRepliesAreDetermined};
 ghost use Rattle.wear_session.specs.Guarantees.{IsWearKept, IsWearSpent};
 
 use pmem_base::Geo;
@@ -19,9 +19,11 @@ pub fn sessions_keep_lines<S: Suite>(geo: &Geo, suite: &S)
 
 /// A law: a command has one answer in each state, and leaves one state, wherever power is cut, want of memory and
 /// exhibits apart; and it shows one exhibit at most. So power is cut exactly where a step meets a fuse of 0, a cut keeps
-/// exactly what was written, and which of several twins is shown is settled.
+/// exactly what was written, and which of several twins is shown is settled. A log that isn't lost has the same accesses
+/// of the device, in the same order.
 pub fn wear_replies_are_determined<S: Suite>(geo: &Geo, suite: &S)
     ensures replies { WearRepliesAreDetermined (record { shape = shape_of geo.now; formulas = S.formulas_of (S.keys suite.now) }) }
+    ensures logs { WearLogsAreDetermined (record { shape = shape_of geo.now; formulas = S.formulas_of (S.keys suite.now) }) }
     ensures exhibits { WearExhibitsAreDetermined (record { shape = shape_of geo.now; formulas = S.formulas_of (S.keys suite.now) }) }
 {
     let _ = geo.lines();

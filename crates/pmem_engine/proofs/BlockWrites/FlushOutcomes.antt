@@ -1,6 +1,6 @@
 -- A flush: the oldest dirty block is written back, where one is dirty.
 use Rattle.std.proofs.lemmas.Grind.{common_steps}
-use Rattle.std.proofs.Common.{rules, ℕ, ◌≡◌, ◌<◌, ◌≤◌, true, false, [], Option, Some, None, Result, Ok, Err, refl, sym, ap, ap₂, subst, subst₂, ◌∙◌, arith}
+use Rattle.std.proofs.Common.{rules, ℕ, ◌≡◌, ◌<◌, ◌≤◌, true, [], Option, Some, None, Result, Ok, Err, refl, sym, ap, subst, subst₂, ◌∙◌, arith}
 use Rattle.std.specs.Prelude.{option_map, is_some, IfOk}
 use Rattle.std.proofs.lemmas.Bool.{true≢false}
 use Rattle.pmem_base.specs.declared.faults.Cut.{Cut}
@@ -19,27 +19,26 @@ use Rattle.meta_path.specs.Blocks.{AreInTheirBanks}
 use Rattle.meta_path.specs.Storing.{IsCleaned, IsOneWrittenBack}
 use Rattle.meta_path.proofs.PathFacts.{its_bank_of}
 use Rattle.meta_path.proofs.WriteLemmas.{dirty_at, dirty_on_tree}
-use Rattle.pmem_engine.specs.Engine.{EngineState}
-use Rattle.pmem_engine.specs.Parts.{Parts, parts_of}
-use Rattle.pmem_engine.specs.Outcomes.{of_cut, fault_of_cut, going, cut_short, outcome_of, OneLossEffect, TakesSteps}
+use Rattle.pmem_engine.specs.Engine.{ChipState}
+use Rattle.pmem_engine.specs.Parts.{Parts, parts_with}
+use Rattle.pmem_engine.specs.Outcomes.{of_cut, fault_of_cut, going, cut_short, outcome_of, OneLossEffect}
 use Rattle.pmem_engine.specs.CallFacts.{AnswersFlush, IsFlushWork}
-use Rattle.pmem_engine.specs.declared.fault.Fault.TheVariants as Fail
 use Rattle.pmem_engine.specs.Calls.{HasFlushed}
 use Rattle.call_plan.specs.Plans.{ended}
 use Rattle.call_plan.specs.Following.{Follows}
-use Rattle.pmem_engine.specs.Plans.{oldest_block_plan, flush_plan}
-use Rattle.pmem_engine.proofs.PlannedCalls.CalledEngines.{called_down, called_end}
+use Rattle.pmem_engine.specs.Plans.{oldest_block_plan}
+use Rattle.pmem_engine.proofs.PlannedCalls.CachePlans.{faulted_end}
 use Rattle.pmem_engine.specs.Flushed.{cache_of, HasWrittenBack, HasWrittenOldest}
 use Rattle.pmem_engine.proofs.CallEnds.ErrorAnswers.{ok_faulted, cut_not_down}
-use Rattle.pmem_engine.proofs.CheckedReads.ReadEnds.{ended_parts, ended_going, done_ended, answers_down}
+use Rattle.pmem_engine.proofs.CallEnds.StillParts.{nothing_done, no_steps_of}
 use Rattle.pmem_engine.proofs.BlockWrites.WrittenBlocks.{written_back, clean_after, cached_after}
 
-same_engine : (old new : EngineState) → cache_of new ≡ cache_of old → new.mirror ≡ old.mirror → new.down ≡ old.down → new ≡ old
-same_engine old new cache mirror down =
-    ap (λ (c : CacheState). record { shape = c.shape; cache = c.banks; mirror = new.mirror; down = new.down }) cache
-    ∙ ap₂ (λ m d. record { shape = old.shape; cache = old.cache; mirror = m; down = d }) mirror down
+same_engine : (old new : ChipState) → cache_of new ≡ cache_of old → new.mirror ≡ old.mirror → new ≡ old
+same_engine old new cache mirror =
+    ap (λ (c : CacheState). record { shape = c.shape; cache = c.banks; mirror = new.mirror }) cache
+    ∙ ap (λ m. record { shape = old.shape; cache = old.cache; mirror = m }) mirror
 
-module _ (old new : EngineState) (before after : Device) (mirror : new.mirror ≡ old.mirror) (down : new.down ≡ old.down)
+module _ (old new : ChipState) (before after : Device) (mirror : new.mirror ≡ old.mirror)
     (form : IsCacheOf old.shape old.cache) (its_banks : AreInTheirBanks old.shape old.cache) where
   -- a dirty block of a bank has its level
   pub dirty_level : (bank x : ℕ) → is_cached_dirty old.shape old.cache bank x ≡ true → level_of x ≡ bank
@@ -56,7 +55,7 @@ module _ (old new : EngineState) (before after : Device) (mirror : new.mirror �
       → IsOneWrittenBack old.shape found (cache_of old) (cache_of new) before after
       → HasWrittenOldest old new before after (Ok (option_map (λ f. f.1) found))
   oldest_written None none it =
-      (same_engine old new it.0 mirror down, it.1, λ bank x. cache_clean old.shape old.cache bank x none)
+      (same_engine old new it.0 mirror, it.1, λ bank x. cache_clean old.shape old.cache bank x none)
   oldest_written (Some found) is it =
       let dirty = oldest_cached old.shape old.cache found form is in
       let block : HasWrittenBack found.0 found.1 old new before after = written_block found.0 found.1 dirty.0 dirty.1 it.0 in
@@ -66,7 +65,7 @@ module _ (old new : EngineState) (before after : Device) (mirror : new.mirror �
       → WasCut before after → is_some found ≡ true → (cut : Cut) → HasWrittenOldest old new before after (Err cut)
   oldest_cut None is same was_cut some cut = absurd (true≢false (sym some))
   oldest_cut (Some found) is same was_cut some cut = (
-    same_engine old new same mirror down,
+    same_engine old new same mirror,
     was_cut,
     (found.0, found.1, (oldest_cached old.shape old.cache found form is).1),
   )
@@ -74,42 +73,27 @@ module _ (old new : EngineState) (before after : Device) (mirror : new.mirror �
 -- ---- the call
 
 -- a cut before a line write changes nothing
-pub cut_still : (setup : Setup) (engine : EngineState) (before after : Device) (ledger : LedgerState) (tags digests : ℕ)
-    → WasCut before after → OneLossEffect setup cut_short [] (parts_of engine before ledger tags digests) (parts_of engine after ledger tags digests)
+pub cut_still : (setup : Setup) (engine : ChipState) (before after : Device) (ledger : LedgerState) (tags digests : ℕ)
+    → WasCut before after → OneLossEffect setup cut_short [] (parts_with engine before ledger tags digests) (parts_with engine after ledger tags digests)
 cut_still setup engine before after ledger tags digests it = grind (arith, common_steps, HasRisen-once)
 
--- nothing is done
-pub nothing_done : (setup : Setup) (parts : Parts) → OneLossEffect setup going [] parts parts
-nothing_done setup parts = grind (arith, common_steps)
-
-pub no_steps_of : (before after : Device) → after.writes ≡ before.writes → after.latches ≡ before.latches → TakesSteps 0 before after
-no_steps_of before after writes latches =
-    record {
-      writes = omega (arith, writes);
-      latches = omega (arith, latches);
-      sum = λ one two. omega (arith, writes, latches);
-    }
-
-module _ (setup : Setup) (old new : EngineState) (before after : Device) (ledger : LedgerState) (tags digests : ℕ)
+module _ (setup : Setup) (old new : ChipState) (before after : Device) (ledger : LedgerState) (tags digests : ℕ)
     (its_shape : old.shape ≡ setup.shape) (its_size : before.size ≡ device_lines setup.shape) (whole : IsDevice before) where
   abbrev start : Parts
-  start = parts_of old before ledger tags digests
+  start = parts_with old before ledger tags digests
 
   abbrev finish : Parts
-  finish = parts_of new after ledger tags digests
+  finish = parts_with new after ledger tags digests
 
   flush_done : (answer : Result (Option ℕ) Cut) → HasWrittenOldest old new before after answer
       → OneLossEffect setup (outcome_of (of_cut answer)) [] start finish
   flush_done (Ok None) it =
-      subst₂ (λ e d. OneLossEffect setup going [] start (parts_of e d ledger tags digests)) (sym it.0) (sym it.1) (nothing_done setup start)
+      subst₂ (λ e d. OneLossEffect setup going [] start (parts_with e d ledger tags digests)) (sym it.0) (sym it.1) (nothing_done setup start)
   flush_done (Ok (Some x)) it =
       written_back setup (level_of x) x old new before after ledger tags digests its_shape its_size whole it
   flush_done (Err cut) it =
-      subst (λ e. OneLossEffect setup cut_short [] start (parts_of e after ledger tags digests)) (sym it.0)
+      subst (λ e. OneLossEffect setup cut_short [] start (parts_with e after ledger tags digests)) (sym it.0)
       (cut_still setup old before after ledger tags digests it.1)
-
-  flush_down : (answer : Result (Option ℕ) Cut) → HasWrittenOldest old new before after answer → new.down ≡ old.down
-  flush_down v0 it = grind (arith, common_steps)
 
   flush_cached : (answer : Result (Option ℕ) Cut) → HasWrittenOldest old new before after answer
       → (bank x : ℕ) → is_cached setup.shape new.cache bank x ≡ is_cached setup.shape old.cache bank x
@@ -120,10 +104,10 @@ module _ (setup : Setup) (old new : EngineState) (before after : Device) (ledger
   flush_cached (Err cut) it bank x = ap (λ e. is_cached setup.shape e.cache bank x) it.0
 
   flush_answer : (answer : Result (Option ℕ) Cut) → HasWrittenOldest old new before after answer
-      → AnswersFlush setup.shape start (ended_parts finish (outcome_of (of_cut answer))) (of_cut answer)
+      → AnswersFlush setup.shape start finish (of_cut answer)
   flush_answer (Ok None) it = (
     record {
-      engine = ended_going new ∙ it.0;
+      engine = it.0;
       device = it.1;
       ledger = refl;
       tags = refl;
@@ -153,8 +137,8 @@ module _ (setup : Setup) (old new : EngineState) (before after : Device) (ledger
   flush_regs (Err cut) it = it.1.regs
 
   flush_work : (answer : Result (Option ℕ) Cut) → HasWrittenOldest old new before after answer
-      → IfOk (of_cut answer) (λ found. IsFlushWork setup.shape found start (ended_parts finish (outcome_of (of_cut answer))))
-  flush_work (Ok None) it = ap (λ (e : EngineState). e.cache) it.0
+      → IfOk (of_cut answer) (λ found. IsFlushWork setup.shape found start finish)
+  flush_work (Ok None) it = ap (λ (e : ChipState). e.cache) it.0
   flush_work (Ok (Some x)) it =
       subst
       (λ (g : Shape). IsCleaned g (level_of x) x (record { shape = g; banks = old.cache }) (record { shape = g; banks = new.cache })
@@ -166,31 +150,23 @@ module _ (setup : Setup) (old new : EngineState) (before after : Device) (ledger
       it.cleaned.cache.shape it.cleaned)
   flush_work (Err fault) it = tt
 
-  pub flushed : (answer : Result (Option ℕ) Cut) → old.down ≡ false → after.reads ≡ before.reads → new.mirror ≡ old.mirror
+  pub flushed : (answer : Result (Option ℕ) Cut) → after.reads ≡ before.reads → new.mirror ≡ old.mirror
       → IfOk answer (λ found. found ≡ option_map (λ block. block.1) (oldest_dirty old.cache))
       → Follows (oldest_block_plan old) before after (ended answer new) → HasWrittenOldest old new before after answer
-      → HasFlushed setup start (ended_parts finish (outcome_of (of_cut answer))) (of_cut answer)
-  flushed answer was reads mirror oldest planned it =
+      → HasFlushed setup start finish (of_cut answer)
+  flushed answer reads mirror oldest planned it =
       record {
-        plan = called_end (λ (old : EngineState). old) (λ old new. new) fault_of_cut old (oldest_block_plan old) was (λ t. refl) answer new planned;
-        down = answers_down (of_cut answer) start finish was (flush_down answer it) (cut_not_down answer);
-        done = λ up. done_ended setup (outcome_of (of_cut answer)) [] start finish (flush_done answer it);
-        answered = λ up. flush_answer answer it;
-        oldest = λ up. ok_faulted fault_of_cut answer _ oldest;
+        plan = faulted_end fault_of_cut answer new planned;
+        not_down = cut_not_down answer;
+        done = flush_done answer it;
+        answered = flush_answer answer it;
+        oldest = ok_faulted fault_of_cut answer _ oldest;
         mirror = mirror;
         regs = flush_regs answer it;
-        work = λ up. flush_work answer it;
+        work = flush_work answer it;
         same_ledger = refl;
         same_reads = reads;
         tags = refl;
         digests = refl;
         cached = flush_cached answer it;
       }
-
--- ---- the engine is down
-
-down_plan : (engine : EngineState) (d : Device) → engine.down ≡ true → Follows (flush_plan engine) d d (Err (engine, Fail.Down))
-down_plan engine d down = called_down (λ (old : EngineState). old) (λ old new. new) fault_of_cut engine (oldest_block_plan engine) d down
-
-pub flush_down_still : (setup : Setup) (parts : Parts) → parts.engine.down ≡ true → HasFlushed setup parts parts (Err Fail.Down)
-flush_down_still setup parts down = search (rules, true≢false, down_plan)

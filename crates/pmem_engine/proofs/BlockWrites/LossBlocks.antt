@@ -10,13 +10,13 @@ use Rattle.meta_cache.specs.Sets.{with_mark}
 use Rattle.meta_cache.specs.State.{CacheState, ChangesSet, slots_of}
 use Rattle.meta_path.specs.Blocks.{line_in, bank_dirty_count}
 use Rattle.meta_path.specs.Storing.{IsCleaned}
-use Rattle.pmem_engine.specs.Engine.{EngineState}
-use Rattle.pmem_engine.specs.Parts.{parts_of}
+use Rattle.pmem_engine.specs.Engine.{ChipState}
+use Rattle.pmem_engine.specs.Parts.{parts_with}
 use Rattle.pmem_engine.specs.Outcomes.{going}
 use Rattle.pmem_engine.specs.Flushed.{HasWrittenBack, HasWrittenBlocks}
 use Rattle.pmem_engine.proofs.CheckedReads.FetchCalls.{of_states}
 use Rattle.pmem_engine.proofs.CallEnds.CallChains.{done_chained}
-use Rattle.pmem_engine.proofs.BlockWrites.FlushOutcomes.{nothing_done}
+use Rattle.pmem_engine.proofs.CallEnds.StillParts.{nothing_done}
 use Rattle.pmem_engine.proofs.BlockWrites.WrittenBlocks.{written_back, cached_after}
 
 -- ---- blocks
@@ -29,11 +29,11 @@ pub cleaned_block : (g : Shape) (old new : CacheState) (bank x : ℕ) (before af
 cleaned_block g old new bank x before after same changes board = search (rules, of_states)
 
 -- no block was written yet
-pub blocks_none : (engine : EngineState) (device : Device) → HasWrittenBlocks 0 engine engine device device
+pub blocks_none : (engine : ChipState) (device : Device) → HasWrittenBlocks 0 engine engine device device
 blocks_none engine device = search (rules, nothing_done)
 
 -- one block more
-pub blocks_more : (count x : ℕ) (old mid new : EngineState) (before middle after : Device)
+pub blocks_more : (count x : ℕ) (old mid new : ChipState) (before middle after : Device)
     → before.size ≡ device_lines old.shape → IsDevice middle → HasWrittenBlocks count old mid before middle
     → HasWrittenBack mid.shape.levels x mid new middle after
     → bank_dirty_count mid.shape new.cache mid.shape.levels + 1 ≡ bank_dirty_count mid.shape mid.cache mid.shape.levels
@@ -42,7 +42,6 @@ blocks_more count x old mid new before middle after its_size whole first it fewe
     record {
       shape = it.cleaned.cache.shape ∙ first.shape;
       mirror = it.mirror ∙ first.mirror;
-      down = it.down ∙ first.down;
       dirty =
           let less : bank_dirty_count old.shape new.cache old.shape.levels + 1 ≡ bank_dirty_count old.shape mid.cache old.shape.levels =
           subst (λ (g : Shape). bank_dirty_count g new.cache g.levels + 1 ≡ bank_dirty_count g mid.cache g.levels) first.shape fewer in
@@ -61,8 +60,8 @@ blocks_more count x old mid new before middle after its_size whole first it fewe
       none = λ zero. absurd (omega (arith, zero));
       done =
           λ setup ledger tags digests same.
-          done_chained setup going [] [] (parts_of old before ledger tags digests) (parts_of mid middle ledger tags digests)
-          (parts_of new after ledger tags digests) (first.done setup ledger tags digests same)
+          done_chained setup going [] [] (parts_with old before ledger tags digests) (parts_with mid middle ledger tags digests)
+          (parts_with new after ledger tags digests) (first.done setup ledger tags digests same)
           (written_back setup mid.shape.levels x mid new middle after ledger tags digests (first.shape ∙ sym same)
           (first.size ∙ its_size ∙ ap device_lines (sym same)) whole it);
     }

@@ -22,19 +22,18 @@ use Rattle.meta_cache.specs.Banks.{is_cached, is_cached_dirty}
 use Rattle.meta_path.specs.Blocks.{bank_dirty_count}
 use Rattle.stop_loss.proofs.Windows.{is_loss_cases}
 use Rattle.suite.specs.Setup.{Setup}
-use Rattle.pmem_engine.specs.declared.fault.Fault.TheVariants as Fail
-use Rattle.pmem_engine.specs.Engine.{EngineState}
+use Rattle.pmem_engine.specs.Engine.{ChipState}
 use Rattle.pmem_engine.specs.Invariants.{IsSound, IsCounterStored, stored_meta}
 use Rattle.pmem_engine.specs.Steps.{HasLossSet}
 use Rattle.pmem_engine.specs.Recached.{IsTrueOrDirty}
-use Rattle.pmem_engine.specs.Parts.{Parts, parts_of, AreTrusted, AreSound, HoldsCounters, HoldsMeta, lines_redone}
+use Rattle.pmem_engine.specs.Parts.{Parts, parts_with, AreTrusted, AreSound, HoldsCounters, HoldsMeta, lines_redone}
 use Rattle.pmem_engine.specs.Outcomes.{of_cut, going, cut_short, outcome_of, KeepsPlaces, KeepsMeta, CallEffect, TakesSteps, fault_of_cut}
 use Rattle.pmem_engine.specs.CallFacts.{AnswersLoss}
 use Rattle.pmem_engine.specs.Calls.{HasSetLoss}
 use Rattle.call_plan.specs.Plans.{ended}
 use Rattle.call_plan.specs.Following.{Follows}
-use Rattle.pmem_engine.specs.Plans.{latch_loss_plan, set_loss_plan}
-use Rattle.pmem_engine.proofs.PlannedCalls.CalledEngines.{called_down, called_end}
+use Rattle.pmem_engine.specs.Plans.{latch_loss_plan}
+use Rattle.pmem_engine.proofs.PlannedCalls.CachePlans.{faulted_end}
 use Rattle.pmem_engine.specs.Flushed.{HasWrittenBlocks, HasMadeWay, HasChangedLoss, with_loss, IsBankClean}
 use Rattle.pmem_engine.proofs.CallEnds.ErrorAnswers.{cut_not_down}
 use Rattle.pmem_engine.proofs.CallEnds.ToldLines.{told_surely}
@@ -43,8 +42,8 @@ use Rattle.pmem_engine.proofs.Laws.MendableLaws.{IsMendable-no_group}
 use Rattle.pmem_engine.proofs.Laws.CacheLaws.{IsTrueOrDirty-sound}
 use Rattle.pmem_engine.proofs.Laws.LossLaws.{IsTrusted-loss_set, IsSound-loss_set, IsCounterStored-loss_raised}
 use Rattle.pmem_engine.proofs.CallEnds.CallChains.{gone_chained}
-use Rattle.pmem_engine.proofs.CheckedReads.ReadEnds.{ended_parts, gone_ended, answers_down}
-use Rattle.pmem_engine.proofs.BlockWrites.FlushOutcomes.{nothing_done, cut_still, no_steps_of}
+use Rattle.pmem_engine.proofs.BlockWrites.FlushOutcomes.{cut_still}
+use Rattle.pmem_engine.proofs.CallEnds.StillParts.{nothing_done, no_steps_of}
 use Rattle.pmem_engine.proofs.BlockWrites.LossSteps.{same_steps, other_steps, latched_steps, cut_steps}
 
 -- ---- numbers
@@ -83,16 +82,16 @@ times_of a b known_a known_b less = go (is_loss_cases a known_a) (is_loss_cases 
 -- ---- the latch
 
 -- a number is latched under which each counter block that was true or dirty still serves
-module _ (setup : Setup) (n : ℕ) (engine : EngineState) (mid after : Device) (ledger : LedgerState) (tags digests : ℕ)
+module _ (setup : Setup) (n : ℕ) (engine : ChipState) (mid after : Device) (ledger : LedgerState) (tags digests : ℕ)
     (known : IsTrue (is_loss n)) (no_group : mid.regs.group.items ≡ []) (it : HasLatched mid (with_loss mid.regs n) after)
     (serves : (lines : List Line) (page : ℕ) → page < layout.pages setup.shape
     → IsTrueOrDirty setup.shape engine.cache lines ledger.truth (counter_position setup.shape page)
     → IsCounterStored setup lines mid.regs.loss ledger.truth page → IsCounterStored setup lines n ledger.truth page) where
   abbrev start : Parts
-  start = parts_of engine mid ledger tags digests
+  start = parts_with engine mid ledger tags digests
 
   abbrev finish : Parts
-  finish = parts_of engine after ledger tags digests
+  finish = parts_with engine after ledger tags digests
 
   its_loss : after.regs.loss ≡ n
   its_loss = ap (λ regs. regs.loss) it.regs
@@ -137,14 +136,14 @@ module _ (setup : Setup) (n : ℕ) (engine : EngineState) (mid after : Device) (
 
 -- ---- the call
 
-module _ (setup : Setup) (n : ℕ) (old new : EngineState) (before after : Device) (ledger : LedgerState) (tags digests : ℕ)
+module _ (setup : Setup) (n : ℕ) (old new : ChipState) (before after : Device) (ledger : LedgerState) (tags digests : ℕ)
     (its_shape : old.shape ≡ setup.shape) (few_levels : setup.shape.levels ≤ 6) (known : IsTrue (is_loss n))
     (known_before : IsTrue (is_loss before.regs.loss)) (no_group : before.regs.group.items ≡ []) where
   abbrev call_start : Parts
-  call_start = parts_of old before ledger tags digests
+  call_start = parts_with old before ledger tags digests
 
   abbrev call_finish : Parts
-  call_finish = parts_of new after ledger tags digests
+  call_finish = parts_with new after ledger tags digests
 
   -- what was written serves the new number
   way_serves : (count : ℕ) (mid : Device) → HasMadeWay n count old new before mid → n ≢ before.regs.loss
@@ -189,15 +188,15 @@ module _ (setup : Setup) (n : ℕ) (old new : EngineState) (before after : Devic
   loss_gone : (answer : Result ℕ Cut) → HasChangedLoss n old new before after answer
       → CallEffect setup (outcome_of (of_cut answer)) [] call_start call_finish
   loss_gone (Ok steps) (inl it) =
-      subst₂ (λ e d. CallEffect setup going [] call_start (parts_of e d ledger tags digests)) (sym it.2) (sym it.3)
+      subst₂ (λ e d. CallEffect setup going [] call_start (parts_with e d ledger tags digests)) (sym it.2) (sym it.3)
       (nothing_done setup call_start).gone
   loss_gone (Ok steps) (inr it) =
-      gone_chained setup going [] [] call_start (parts_of new it.1.mid ledger tags digests) call_finish
+      gone_chained setup going [] [] call_start (parts_with new it.1.mid ledger tags digests) call_finish
       (it.1.way.written.done setup ledger tags digests (sym its_shape)).gone
       (latch_gone setup n new it.1.mid after ledger tags digests known (group_kept it.1.count it.1.mid it.1.way.written) it.1.latched
       (way_serves it.1.count it.1.mid it.1.way it.0))
   loss_gone (Err cut) it =
-      gone_chained setup cut_short [] [] call_start (parts_of new it.1.mid ledger tags digests) call_finish
+      gone_chained setup cut_short [] [] call_start (parts_with new it.1.mid ledger tags digests) call_finish
       (it.1.written.done setup ledger tags digests (sym its_shape)).gone
       (cut_still setup new it.1.mid after ledger tags digests it.1.cut).gone
 
@@ -206,7 +205,7 @@ module _ (setup : Setup) (n : ℕ) (old new : EngineState) (before after : Devic
       → HoldsMeta setup.shape call_start (counter_position setup.shape page) → HoldsCounters setup call_start page
       → HoldsCounters setup call_finish page
   loss_counters (Ok steps) (inl it) trusted page within meta held =
-      subst₂ (λ e d. HoldsCounters setup (parts_of e d ledger tags digests) page) (sym it.2) (sym it.3) held
+      subst₂ (λ e d. HoldsCounters setup (parts_with e d ledger tags digests) page) (sym it.2) (sym it.3) held
   loss_counters (Ok steps) (inr it) trusted page within meta held =
       let first = it.1.way.written.done setup ledger tags digests (sym its_shape) in
       latch_counters setup n new it.1.mid after ledger tags digests known (group_kept it.1.count it.1.mid it.1.way.written) it.1.latched
@@ -224,7 +223,7 @@ module _ (setup : Setup) (n : ℕ) (old new : EngineState) (before after : Devic
   dirty = bank_dirty_count setup.shape old.cache setup.shape.levels
 
   loss_answer : (answer : Result ℕ Cut) → HasChangedLoss n old new before after answer
-      → AnswersLoss setup.shape n call_start (ended_parts call_finish (outcome_of (of_cut answer))) (of_cut answer)
+      → AnswersLoss setup.shape n call_start call_finish (of_cut answer)
   loss_answer (Ok steps) (inl it) = (
     same_steps dirty before.regs.loss n steps it.0 it.1,
     subst₂ (λ k d. TakesSteps k before d) (sym it.1) (sym it.3) (no_steps_of before before refl refl),
@@ -239,7 +238,7 @@ module _ (setup : Setup) (n : ℕ) (old new : EngineState) (before after : Devic
     ap (λ regs. regs.loss) it.1.latched.regs,
   )
   loss_answer (Err cut) it = (
-    cut_steps dirty before.regs.loss n it.1.count call_start (ended_parts call_finish cut_short) it.1.mid
+    cut_steps dirty before.regs.loss n it.1.count call_start call_finish it.1.mid
         it.0 it.1.greater (few it.1.count it.1.mid it.1.written) it.1.written.writes it.1.written.latches it.1.cut.latches
         it.1.cut.writes,
     ap (λ regs. regs.loss) (it.1.cut.regs ∙ it.1.written.regs),
@@ -251,9 +250,6 @@ module _ (setup : Setup) (n : ℕ) (old new : EngineState) (before after : Devic
           ap (λ (g : Shape). bank_dirty_count g old.cache g.levels) its_shape in
           let both = written.dirty in
           omega (arith, of_old, both)
-
-  loss_down : (answer : Result ℕ Cut) → HasChangedLoss n old new before after answer → new.down ≡ old.down
-  loss_down v0 v1 = grind (arith, common_steps)
 
   loss_reads : (answer : Result ℕ Cut) → HasChangedLoss n old new before after answer → after.reads ≡ before.reads
   loss_reads v0 v1 = grind (arith, common_steps)
@@ -274,7 +270,7 @@ module _ (setup : Setup) (n : ℕ) (old new : EngineState) (before after : Devic
   -- one that isn't smaller leaves the cache
   loss_greater : (answer : Result ℕ Cut) → HasChangedLoss n old new before after answer → before.regs.loss ≤ n
       → new.cache ≡ old.cache
-  loss_greater (Ok steps) (inl it) least = ap (λ (e : EngineState). e.cache) it.2
+  loss_greater (Ok steps) (inl it) least = ap (λ (e : ChipState). e.cache) it.2
   loss_greater (Ok steps) (inr it) least =
       it.1.way.written.none (it.1.way.greater (let other = it.0 in omega (arith, least, other)))
   loss_greater (Err cut) it least = it.1.written.none (it.1.greater (let other = it.0 in omega (arith, least, other)))
@@ -288,16 +284,16 @@ module _ (setup : Setup) (n : ℕ) (old new : EngineState) (before after : Devic
       ∙ ap (λ items. record before.regs { group = record { items = items }; loss = n }) (sym no_group)
   loss_regs (Err cut) it = ap (λ (regs : Regs). record regs { loss = n }) (it.1.cut.regs ∙ it.1.written.regs)
 
-  pub loss_set : (answer : Result ℕ Cut) → old.down ≡ false → Follows (latch_loss_plan n before.regs old) before after (ended answer new)
+  pub loss_set : (answer : Result ℕ Cut) → Follows (latch_loss_plan n before.regs old) before after (ended answer new)
       → HasChangedLoss n old new before after answer
-      → HasSetLoss setup n call_start (ended_parts call_finish (outcome_of (of_cut answer))) (of_cut answer)
-  loss_set answer was planned it =
+      → HasSetLoss setup n call_start call_finish (of_cut answer)
+  loss_set answer planned it =
       record {
-        plan = called_end (λ (old : EngineState). old) (λ old new. new) fault_of_cut old (latch_loss_plan n before.regs old) was (λ t. refl) answer new planned;
-        down = answers_down (of_cut answer) call_start call_finish was (loss_down answer it) (cut_not_down answer);
-        gone = λ up. gone_ended setup (outcome_of (of_cut answer)) [] call_start call_finish (loss_gone answer it);
-        answered = λ up. loss_answer answer it;
-        counters = λ up trusted page within meta held. loss_counters answer it trusted page within meta held;
+        plan = faulted_end fault_of_cut answer new planned;
+        not_down = cut_not_down answer;
+        gone = loss_gone answer it;
+        answered = loss_answer answer it;
+        counters = λ trusted page within meta held. loss_counters answer it trusted page within meta held;
         smaller = λ less ok. loss_smaller answer it less ok;
         greater = λ least. loss_greater answer it least;
         regs = loss_regs answer it;
@@ -307,11 +303,3 @@ module _ (setup : Setup) (n : ℕ) (old new : EngineState) (before after : Devic
         digests = refl;
         cached = loss_cached answer it;
       }
-
--- ---- the engine is down
-
-down_plan : (n : ℕ) (engine : EngineState) (d : Device) → engine.down ≡ true → Follows (set_loss_plan n d.regs engine) d d (Err (engine, Fail.Down))
-down_plan n engine d down = called_down (λ (old : EngineState). old) (λ old new. new) fault_of_cut engine (latch_loss_plan n d.regs engine) d down
-
-pub set_down : (setup : Setup) (n : ℕ) (parts : Parts) → parts.engine.down ≡ true → HasSetLoss setup n parts parts (Err Fail.Down)
-set_down setup n parts down = search (rules, true≢false, down_plan)

@@ -19,11 +19,11 @@ use Rattle.meta_path.proofs.KeepLaws.{line_in-true}
 use Rattle.meta_path.proofs.SetFacts.{holds-with_mark}
 use Rattle.meta_path.proofs.WriteLemmas.{dirty_is_cached}
 use Rattle.suite.specs.Setup.{Setup}
-use Rattle.pmem_engine.specs.Engine.{EngineState}
+use Rattle.pmem_engine.specs.Engine.{ChipState}
 use Rattle.pmem_engine.specs.Invariants.{IsTrusted, IsSound, IsCounterStored, stored_meta}
 use Rattle.pmem_engine.specs.Steps.{with_true_line}
 use Rattle.pmem_engine.specs.Recached.{IsRecached, IsTrueOrDirty, WasCleaned}
-use Rattle.pmem_engine.specs.Parts.{Parts, parts_of, AreTrusted, AreSound, HoldsCounters, HoldsMeta, meta_line_in, lines_redone}
+use Rattle.pmem_engine.specs.Parts.{Parts, parts_with, AreTrusted, AreSound, HoldsCounters, HoldsMeta, meta_line_in, lines_redone}
 use Rattle.pmem_engine.specs.Outcomes.{going, KeepsPlaces, KeepsMeta, OneLossEffect}
 use Rattle.pmem_engine.specs.Flushed.{HasWrittenBack}
 use Rattle.pmem_engine.proofs.CallEnds.ToldLines.{told_cases, told_surely, any_told, told_same, unarmed, whole_lines}
@@ -46,7 +46,7 @@ marked_clean (slot ∷ slots) x =
     by b e = search rules
 
 -- what the cache holds once a block was written back
-module _ (bank x : ℕ) (old new : EngineState) (before after : Device) (it : HasWrittenBack bank x old new before after) where
+module _ (bank x : ℕ) (old new : ChipState) (before after : Device) (it : HasWrittenBack bank x old new before after) where
   marked_set : set_of new.cache bank (set_index old.shape x) ≡ with_mark (set_of old.cache bank (set_index old.shape x)) x false
   marked_set = it.cleaned.cache.here
 
@@ -105,14 +105,14 @@ module _ (bank x : ℕ) (old new : EngineState) (before after : Device) (it : Ha
       by (inr other) which = apart (λ e. other e.0)
 
 -- a block written back, over the setup of the engine's shape
-module _ (setup : Setup) (bank x : ℕ) (old new : EngineState) (before after : Device) (ledger : LedgerState)
+module _ (setup : Setup) (bank x : ℕ) (old new : ChipState) (before after : Device) (ledger : LedgerState)
     (tags digests : ℕ) (its_shape : old.shape ≡ setup.shape) (its_size : before.size ≡ layout.device_lines setup.shape)
     (whole : IsDevice before) (it : HasWrittenBack bank x old new before after) where
   abbrev start : Parts
-  start = parts_of old before ledger tags digests
+  start = parts_with old before ledger tags digests
 
   abbrev finish : Parts
-  finish = parts_of new after ledger tags digests
+  finish = parts_with new after ledger tags digests
 
   shape : new.shape ≡ old.shape
   shape = it.cleaned.cache.shape
@@ -125,7 +125,6 @@ module _ (setup : Setup) (bank x : ℕ) (old new : EngineState) (before after : 
       record {
         shape = shape;
         mirror = it.mirror;
-        down = it.down;
         slots = λ b set slot stands. inl (from_before bank x old new before after it b set slot stands);
       }
 

@@ -1,5 +1,5 @@
 -- After a call the parts are usable again, whatever it answered.
-use Rattle.std.proofs.Common.{rules, ℕ, ◌≡◌, ◌++◌, ◌||◌, true, false, not, List, [], ◌∷◌, Option, None, Result, refl, sym}
+use Rattle.std.proofs.Common.{rules, ℕ, ◌≡◌, ◌++◌, Bool, true, false, not, List, [], ◌∷◌, Option, None, refl, sym, ap, subst, ◌∙◌}
 use Rattle.std.specs.Prelude.{is_some, IsSome}
 use Rattle.std.proofs.lemmas.Bool.{true≢false}
 use Rattle.pmem_base.specs.declared.answers.Mark.{Mark}
@@ -7,13 +7,10 @@ use Rattle.pmem_base.specs.Shape.{Shape}
 use Rattle.pmem_base.specs.Marks.{SealOf, seal_of, later_of, last_seal}
 use Rattle.pmem_base.specs.Lines.{zero_line}
 use Rattle.suite.specs.Setup.{Setup}
-use Rattle.board.specs.Device.{Device}
 use Rattle.seal_ledger.specs.Ledger.{LedgerState}
-use Rattle.pmem_engine.specs.declared.fault.Fault.{Fault}
-use Rattle.pmem_engine.specs.Engine.{EngineState}
 use Rattle.pmem_engine.specs.Parts.{Parts}
-use Rattle.pmem_engine.specs.Outcomes.{Outcome, is_going, outcome_of, CallEffect}
-use Rattle.pmem_engine.specs.CallFacts.{IsReady, IsUsable, IsLeftAlone, AnswersDown}
+use Rattle.pmem_engine.specs.Outcomes.{Outcome, going, cut_short, shown, is_going, CallEffect}
+use Rattle.pmem_engine.specs.CallFacts.{IsReadyWith, IsUsableWith}
 
 -- a line that was sealed still is, whatever marks follow
 pub still_sealed : (marks more : List Mark) (a : ℕ) → IsSome (last_seal marks a) → IsSome (last_seal (marks ++ more) a)
@@ -36,33 +33,34 @@ some_setup g =
 abbrev pub some_ledger : LedgerState
 some_ledger = record { marks = []; truth = []; data_lines = 0; exhibit = None }
 
+-- a call that leaves the engine up wasn't cut
+still_going : (outcome : Outcome) → not (is_going outcome) ≡ false → outcome ≡ cut_short → ⊥
+still_going going up is = true≢false (ap is_going is)
+still_going cut_short up is = true≢false up
+still_going shown up is = true≢false up
+
 -- the board is ready again
-pub ready_after : (setup : Setup) (outcome : Outcome) (made : List Mark) (old new : Parts)
-    → CallEffect setup outcome made old new → new.engine.down ≡ (old.engine.down || not (is_going outcome))
-    → IsReady setup.shape old.engine old.device → IsReady setup.shape new.engine new.device
-ready_after setup outcome made old new gone down ready = search rules
+pub ready_after : (setup : Setup) (outcome : Outcome) (made : List Mark) (old new : Parts) (later : Bool)
+    → CallEffect setup outcome made old new → later ≡ not (is_going outcome)
+    → IsReadyWith setup.shape false old.device → IsReadyWith setup.shape later new.device
+ready_after setup outcome made old new later gone after ready =
+    record {
+      its_size = gone.size ∙ ready.its_size;
+      valid_regs = gone.valid ready.valid_regs;
+      no_group =
+          λ up. ap (λ group. group.items) (gone.group (still_going outcome (sym after ∙ up))) ∙ ready.no_group refl;
+    }
 
 -- so are the ledger and the engine
-pub usable_after : (setup : Setup) (outcome : Outcome) (made : List Mark) (old new : Parts)
-    → CallEffect setup outcome made old new → new.engine.down ≡ (old.engine.down || not (is_going outcome))
-    → IsUsable setup.shape old.engine old.device old.ledger → IsUsable setup.shape new.engine new.device new.ledger
-usable_after setup outcome made old new gone down usable = search (rules, still_sealed, ready_after)
-
--- ---- a public call
-
-same_parts : (P : EngineState → Device → LedgerState → Type 0) (old new : Parts) → IsLeftAlone old new
-    → P old.engine old.device old.ledger → P new.engine new.device new.ledger
-same_parts P old new same it = search rules
-
-module _ {T : Type 0} (setup : Setup) (made : List Mark) (old new : Parts) (answer : Result T Fault)
-    (down : AnswersDown old new answer)
-    (gone : old.engine.down ≡ false → CallEffect setup (outcome_of answer) made old new) where
-  pub usable_call : IsUsable setup.shape old.engine old.device old.ledger
-      → IsUsable setup.shape new.engine new.device new.ledger
-  usable_call usable = search (rules, usable_after, same_parts)
-
-  pub ready_call : IsReady setup.shape old.engine old.device → IsReady setup.shape new.engine new.device
-  ready_call ready = search rules
-
-  pub shape_call : new.engine.shape ≡ old.engine.shape
-  shape_call = search rules
+pub usable_after : (setup : Setup) (outcome : Outcome) (made : List Mark) (old new : Parts) (later : Bool)
+    → CallEffect setup outcome made old new → later ≡ not (is_going outcome)
+    → IsUsableWith setup.shape false old.device old.ledger → IsUsableWith setup.shape later new.device new.ledger
+usable_after setup outcome made old new later gone after usable =
+    record {
+      ready = ready_after setup outcome made old new later gone after usable.ready;
+      true_lines = gone.true_lines ∙ usable.true_lines;
+      line_count = gone.data_lines ∙ usable.line_count;
+      each_sealed =
+          λ a within.
+          subst (λ marks. IsSome (last_seal marks a)) (sym gone.marks) (still_sealed old.ledger.marks made a (usable.each_sealed a within));
+    }

@@ -20,10 +20,10 @@ use Rattle.meta_path.specs.Keeping.{KeepsBlocks, IsTrueTree, HasFalseDigest, Has
 use Rattle.meta_path.proofs.PathFacts.{path_at-level, path_at-lt}
 use Rattle.meta_path.specs.declared.faults.PathFault.TheVariants as Path
 use Rattle.suite.specs.Setup.{Setup}
-use Rattle.pmem_engine.specs.Engine.{EngineState}
+use Rattle.pmem_engine.specs.Engine.{ChipState}
 use Rattle.pmem_engine.specs.declared.fault.Fault.TheVariants as Fail
 use Rattle.pmem_engine.specs.Invariants.{IsSound}
-use Rattle.pmem_engine.specs.Parts.{Parts, parts_of, AreTrusted, AreSound}
+use Rattle.pmem_engine.specs.Parts.{Parts, parts_with, AreTrusted, AreSound}
 use Rattle.pmem_engine.specs.Faults.{IsFetchedLine, IsClashShown}
 use Rattle.pmem_engine.specs.CallFacts.{IsForgedExhibit, IsPastFetch}
 use Rattle.pmem_engine.specs.Inner.{HasFetched}
@@ -46,19 +46,19 @@ none_of (Some x) it = absurd (true≢false it)
 
 -- ---- the answers
 
-module _ (setup : Setup) (page : ℕ) (old new : EngineState) (ledger noted : LedgerState) (before after : Device)
+module _ (setup : Setup) (page : ℕ) (old new : ChipState) (ledger noted : LedgerState) (before after : Device)
     (tags digests tags_now digests_now : ℕ)
     (its_page : page < layout.pages setup.shape) (few_levels : setup.shape.levels ≤ 6)
     (its_size : before.size ≡ layout.device_lines setup.shape)
-    (shape : new.shape ≡ old.shape) (mirror : new.mirror ≡ old.mirror) (down : new.down ≡ old.down)
+    (shape : new.shape ≡ old.shape) (mirror : new.mirror ≡ old.mirror)
     (same_tags : tags_now ≡ tags)
     (over : IsFetchOver before after digests digests_now ledger noted)
     (keeps : KeepsBlocks setup.shape ledger.truth page old.cache new.cache before after) where
   abbrev start : Parts
-  start = parts_of old before ledger tags digests
+  start = parts_with old before ledger tags digests
 
   abbrev finish : Parts
-  finish = parts_of new after noted tags_now digests_now
+  finish = parts_with new after noted tags_now digests_now
 
   -- the path was fetched
   pub fetched_ok : IsPathCached setup.shape new.cache page → noted ≡ ledger
@@ -69,7 +69,7 @@ module _ (setup : Setup) (page : ℕ) (old new : EngineState) (ledger noted : Le
   fetched_ok cached same fetched =
       record {
         done =
-            done_going setup page old new ledger noted before after tags digests tags_now digests_now its_size shape mirror down
+            done_going setup page old new ledger noted before after tags digests tags_now digests_now its_size shape mirror
             same_tags over keeps same fetched.work.steady fetched.work.live fetched.work.cuts;
         answered = λ trusted. tt;
         unrefused = λ sound. tt;
@@ -77,19 +77,18 @@ module _ (setup : Setup) (page : ℕ) (old new : EngineState) (ledger noted : Le
         path_fetched = λ past. cached;
         work = λ ok. fetched;
         mirror = mirror;
-        down = down;
         regs = over.regs;
         tags = same_tags;
         same_ledger = λ unshown. same;
         latches = over.latches;
         steps_of_path =
-            few_steps setup page old new ledger noted before after tags digests tags_now digests_now its_size shape mirror down
+            few_steps setup page old new ledger noted before after tags digests tags_now digests_now its_size shape mirror
             same_tags over keeps;
         steps_of_dirty = (
-          dirty_steps setup page old new ledger noted before after tags digests tags_now digests_now its_size shape mirror down
+          dirty_steps setup page old new ledger noted before after tags digests tags_now digests_now its_size shape mirror
               same_tags over keeps,
           λ live. dirty_steps setup page old new ledger noted before after tags digests tags_now digests_now its_size shape mirror
-              down same_tags over keeps,
+              same_tags over keeps,
         );
       }
 
@@ -107,7 +106,7 @@ module _ (setup : Setup) (page : ℕ) (old new : EngineState) (ledger noted : Le
   fetched_cut uncached same it left =
       record {
         done =
-            done_cut setup page old new ledger noted before after tags digests tags_now digests_now its_size shape mirror down
+            done_cut setup page old new ledger noted before after tags digests tags_now digests_now its_size shape mirror
             same_tags over keeps same it.unsteady it.off it.rose;
         answered = λ trusted. tt;
         unrefused = λ sound. tt;
@@ -115,7 +114,6 @@ module _ (setup : Setup) (page : ℕ) (old new : EngineState) (ledger noted : Le
         path_fetched = λ past. absurd past;
         work = λ ok. no_answer ok;
         mirror = mirror;
-        down = down;
         regs = over.regs;
         tags = same_tags;
         same_ledger = λ unshown. same;
@@ -129,10 +127,10 @@ module _ (setup : Setup) (page : ℕ) (old new : EngineState) (ledger noted : Le
                   omega (arith, it.writes.exact writes, over.latches, length_spilled setup.shape old.cache page it.n, it.on_path);
             };
         steps_of_dirty = (
-          dirty_steps setup page old new ledger noted before after tags digests tags_now digests_now its_size shape mirror down
+          dirty_steps setup page old new ledger noted before after tags digests tags_now digests_now its_size shape mirror
               same_tags over keeps,
           λ live. fewer_dirty_steps setup page old new ledger noted before after tags digests tags_now digests_now its_size shape
-              mirror down same_tags over keeps (left live),
+              mirror same_tags over keeps (left live),
         );
       }
 
@@ -155,7 +153,7 @@ module _ (setup : Setup) (page : ℕ) (old new : EngineState) (ledger noted : Le
         uncached = absent_before n within absent;
         before =
             read_was_there setup page old new ledger noted before after tags digests tags_now digests_now its_size shape mirror
-            down same_tags over keeps trusted (path_at setup.shape page n) line (absent_before n within absent) tells;
+            same_tags over keeps trusted (path_at setup.shape page n) line (absent_before n within absent) tells;
         read = tells;
       }
 
@@ -176,7 +174,7 @@ module _ (setup : Setup) (page : ℕ) (old new : EngineState) (ledger noted : Le
   fetched_meta uncached same x it cause =
       record {
         done =
-            done_going setup page old new ledger noted before after tags digests tags_now digests_now its_size shape mirror down
+            done_going setup page old new ledger noted before after tags digests tags_now digests_now its_size shape mirror
             same_tags over keeps same it.read.work.steady it.read.work.live it.read.work.cuts;
         answered =
             λ trusted.
@@ -191,26 +189,25 @@ module _ (setup : Setup) (page : ℕ) (old new : EngineState) (ledger noted : Le
             let false_digest = cause (true_tree (sound_trusted sound)) (cached_true (sound_trusted sound)) in
             false_digest.differs
             (ap (setup.formulas.digest_of x)
-            (read_is_true setup page old new ledger noted before after tags digests tags_now digests_now its_size shape mirror down
+            (read_is_true setup page old new ledger noted before after tags digests tags_now digests_now its_size shape mirror
             same_tags over keeps sound x false_digest.line false_digest.on_tree
             (at_line (sound_trusted sound) false_digest.line false_digest.tells).uncached false_digest.tells));
         path_cached = λ ok. no_answer ok;
         path_fetched = λ past. absurd past;
         work = λ ok. no_answer ok;
         mirror = mirror;
-        down = down;
         regs = over.regs;
         tags = same_tags;
         same_ledger = λ unshown. same;
         latches = over.latches;
         steps_of_path =
-            few_steps setup page old new ledger noted before after tags digests tags_now digests_now its_size shape mirror down
+            few_steps setup page old new ledger noted before after tags digests tags_now digests_now its_size shape mirror
             same_tags over keeps;
         steps_of_dirty = (
-          dirty_steps setup page old new ledger noted before after tags digests tags_now digests_now its_size shape mirror down
+          dirty_steps setup page old new ledger noted before after tags digests tags_now digests_now its_size shape mirror
               same_tags over keeps,
           λ live. dirty_steps setup page old new ledger noted before after tags digests tags_now digests_now its_size shape mirror
-              down same_tags over keeps,
+              same_tags over keeps,
         );
       }
     where
@@ -237,7 +234,7 @@ module _ (setup : Setup) (page : ℕ) (old new : EngineState) (ledger noted : Le
   fetched_shown uncached it cause =
       record {
         done =
-            done_shown setup page old new ledger noted before after tags digests tags_now digests_now its_size shape mirror down
+            done_shown setup page old new ledger noted before after tags digests tags_now digests_now its_size shape mirror
             same_tags over keeps never it.read.work.steady it.read.work.live it.read.work.cuts;
         answered = λ trusted. clash trusted;
         unrefused = never;
@@ -245,19 +242,18 @@ module _ (setup : Setup) (page : ℕ) (old new : EngineState) (ledger noted : Le
         path_fetched = λ past. absurd (never_past past);
         work = λ ok. no_answer ok;
         mirror = mirror;
-        down = down;
         regs = over.regs;
         tags = same_tags;
         same_ledger = λ unshown. absurd (unshown refl);
         latches = over.latches;
         steps_of_path =
-            few_steps setup page old new ledger noted before after tags digests tags_now digests_now its_size shape mirror down
+            few_steps setup page old new ledger noted before after tags digests tags_now digests_now its_size shape mirror
             same_tags over keeps;
         steps_of_dirty = (
-          dirty_steps setup page old new ledger noted before after tags digests tags_now digests_now its_size shape mirror down
+          dirty_steps setup page old new ledger noted before after tags digests tags_now digests_now its_size shape mirror
               same_tags over keeps,
           λ live. dirty_steps setup page old new ledger noted before after tags digests tags_now digests_now its_size shape mirror
-              down same_tags over keeps,
+              same_tags over keeps,
         );
       }
     where
@@ -298,6 +294,6 @@ module _ (setup : Setup) (page : ℕ) (old new : EngineState) (ledger noted : Le
       never : AreSound setup start → ⊥
       never sound =
           it.differs
-          (read_is_true setup page old new ledger noted before after tags digests tags_now digests_now its_size shape mirror down
+          (read_is_true setup page old new ledger noted before after tags digests tags_now digests_now its_size shape mirror
           same_tags over keeps sound x it.line (path_at-lt setup.shape page it.n its_page it.read.on_path) (absent_before it.n it.read.on_path it.read.absent)
           it.read.tells)

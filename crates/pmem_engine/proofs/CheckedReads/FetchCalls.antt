@@ -14,9 +14,9 @@ use Rattle.meta_path.specs.Work.{FetchState}
 use Rattle.meta_path.specs.Fetching.{absent_count, IsFetchedTo, IsPathFault}
 use Rattle.meta_path.specs.Keeping.{KeepsBlocks, IsTrueTree, IsFaultCaused}
 use Rattle.suite.specs.Setup.{Setup}
-use Rattle.pmem_engine.specs.Engine.{EngineState}
+use Rattle.pmem_engine.specs.Engine.{ChipState}
 use Rattle.pmem_engine.specs.Outcomes.{NeverFalls}
-use Rattle.pmem_engine.specs.Parts.{parts_of}
+use Rattle.pmem_engine.specs.Parts.{parts_with}
 use Rattle.pmem_engine.specs.Inner.{HasFetched}
 use Rattle.pmem_engine.proofs.CallEnds.ToldLines.{told_redone}
 use Rattle.pmem_engine.proofs.CheckedReads.FetchEnds.{IsFetchOver}
@@ -32,11 +32,11 @@ pub of_states : (g : Shape) (old new : CacheState) (P : CacheState → CacheStat
     → P old new → P (record { shape = g; banks = old.banks }) (record { shape = g; banks = new.banks })
 of_states g old new P same same_now it = subst₂ P (its_state g old same) (its_state g new same_now) it
 
-module _ (setup : Setup) (page : ℕ) (old new : EngineState) (ledger noted : LedgerState) (before after : Device)
+module _ (setup : Setup) (page : ℕ) (old new : ChipState) (ledger noted : LedgerState) (before after : Device)
     (tags digests tags_now digests_now : ℕ)
     (its_page : page < layout.pages setup.shape) (few_levels : setup.shape.levels ≤ 6)
     (its_size : before.size ≡ layout.device_lines setup.shape)
-    (shape : new.shape ≡ old.shape) (mirror : new.mirror ≡ old.mirror) (down : new.down ≡ old.down)
+    (shape : new.shape ≡ old.shape) (mirror : new.mirror ≡ old.mirror)
     (same_tags : tags_now ≡ tags) (whole : IsDevice after)
     (keeps : KeepsBlocks setup.shape ledger.truth page old.cache new.cache before after)
     (in_banks : AreInTheirBanks setup.shape old.cache) (form : IsCacheOf setup.shape old.cache) where
@@ -60,7 +60,7 @@ module _ (setup : Setup) (page : ℕ) (old new : EngineState) (ledger noted : Le
   -- the path was fetched
   pub fetch_ok : IsPathCached setup.shape new.cache page → noted ≡ ledger
       → IsFetchedTo setup.shape setup.formulas ledger.truth page (setup.shape.levels + 1) state_before state_after
-      → HasFetched setup page (parts_of old before ledger tags digests) (parts_of new after noted tags_now digests_now) (Ok tt)
+      → HasFetched setup page (parts_with old before ledger tags digests) (parts_with new after noted tags_now digests_now) (Ok tt)
   fetch_ok cached same fetched = search (rules, fetched_ok, rising, over)
 
   -- it wasn't
@@ -69,22 +69,22 @@ module _ (setup : Setup) (page : ℕ) (old new : EngineState) (ledger noted : Le
       → (IsTrueTree setup.shape setup.formulas ledger.truth before.regs.root → AreCachedTrue old.cache ledger.truth
       → IsFaultCaused setup.shape setup.formulas after.lines ledger noted fault)
       → (fault ≡ Path.Cut → before.live ≡ true → 1 ≤ dirty_count setup.shape new.cache)
-      → HasFetched setup page (parts_of old before ledger tags digests) (parts_of new after noted tags_now digests_now)
+      → HasFetched setup page (parts_with old before ledger tags digests) (parts_with new after noted tags_now digests_now)
       (Err fault)
   fetch_err Path.Cut uncached it cause left =
       fetched_cut setup page old new ledger noted before after tags digests tags_now digests_now its_page few_levels its_size
-      shape mirror down same_tags
+      shape mirror same_tags
       (over it.1 it.0.reads.never_falls (rising it.0.tries it.0.digests))
       keeps uncached it.1 it.0 (left refl)
   fetch_err (Path.Meta x) uncached it cause left =
       fetched_meta setup page old new ledger noted before after tags digests tags_now digests_now its_page few_levels its_size
-      shape mirror down same_tags
+      shape mirror same_tags
       (over it.1 it.0.read.work.reads.never_falls
       (rising (absent_count setup.shape old.cache page it.0.n + 1) it.0.read.digests))
       keeps uncached it.1 x it.0 cause
   fetch_err Path.Shown uncached it cause left =
       fetched_shown setup page old new ledger noted before after tags digests tags_now digests_now its_page few_levels its_size
-      shape mirror down same_tags
+      shape mirror same_tags
       (record {
         size = keeps.size;
         regs = keeps.regs;

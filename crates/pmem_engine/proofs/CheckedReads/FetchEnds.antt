@@ -20,9 +20,9 @@ use Rattle.meta_cache.proofs.SlotLemmas.{dirty_slot}
 use Rattle.meta_path.specs.Blocks.{dirty_count}
 use Rattle.meta_path.specs.Keeping.{KeepsBlocks, WasWrittenBack}
 use Rattle.suite.specs.Setup.{Setup}
-use Rattle.pmem_engine.specs.Engine.{EngineState}
+use Rattle.pmem_engine.specs.Engine.{ChipState}
 use Rattle.pmem_engine.specs.Invariants.{IsAnchored, IsTrusted, IsDurable, IsSound, stored_meta}
-use Rattle.pmem_engine.specs.Parts.{Parts, parts_of, AreTrusted, AreSound, HoldsCounters}
+use Rattle.pmem_engine.specs.Parts.{Parts, parts_with, AreTrusted, AreSound, HoldsCounters}
 use Rattle.pmem_engine.specs.Outcomes.{Outcome, going, cut_short, shown, NeverFalls, HasPower, HasSmallGroup, LeavesTrusted, LeavesSound, KeepsPlaces, KeepsMetaWhere, CallEffect, OneLossEffect, TakesAtMost, TakesFewer}
 use Rattle.pmem_engine.proofs.CallEnds.ToldLines.{told_surely}
 use Rattle.pmem_engine.proofs.CheckedReads.FetchedPaths.{trusted_after, sound_lines, places, counters, metadata, meta_same_or_true, own_slot}
@@ -44,18 +44,18 @@ pub record IsFetchOver (old new : Device) (digests digests_now : ℕ) (ledger no
   pub truth : noted.truth ≡ ledger.truth
   pub data_lines : noted.data_lines ≡ ledger.data_lines
 
-module _ (setup : Setup) (page : ℕ) (old new : EngineState) (ledger noted : LedgerState) (before after : Device)
+module _ (setup : Setup) (page : ℕ) (old new : ChipState) (ledger noted : LedgerState) (before after : Device)
     (tags digests tags_now digests_now : ℕ)
     (its_size : before.size ≡ layout.device_lines setup.shape)
-    (shape : new.shape ≡ old.shape) (mirror : new.mirror ≡ old.mirror) (down : new.down ≡ old.down)
+    (shape : new.shape ≡ old.shape) (mirror : new.mirror ≡ old.mirror)
     (same_tags : tags_now ≡ tags)
     (over : IsFetchOver before after digests digests_now ledger noted)
     (keeps : KeepsBlocks setup.shape ledger.truth page old.cache new.cache before after) where
   abbrev parts_old : Parts
-  parts_old = parts_of old before ledger tags digests
+  parts_old = parts_with old before ledger tags digests
 
   abbrev parts_new : Parts
-  parts_new = parts_of new after noted tags_now digests_now
+  parts_new = parts_with new after noted tags_now digests_now
 
   whole_now : (lines : List Line) → after.lines ≡ Some lines → AreLinesOf (layout.device_lines setup.shape) lines
   whole_now lines it = search rules
@@ -65,7 +65,7 @@ module _ (setup : Setup) (page : ℕ) (old new : EngineState) (ledger noted : Le
       told_surely (λ lines. IsSound setup old lines before.regs ledger) (λ lines. IsSound setup new lines after.regs ledger)
       before.lines after.lines over.told
       (λ lines now told told_now it.
-      sound_lines setup page old new ledger before after shape mirror down it.trusted keeps lines now told told_now
+      sound_lines setup page old new ledger before after shape mirror it.trusted keeps lines now told told_now
       (whole_now now told_now) over.regs it) sound
 
   still_durable : AreSound setup parts_old → MatchOption after.lines ⊥ (λ lines. IsDurable setup lines after.regs ledger)
@@ -84,7 +84,7 @@ module _ (setup : Setup) (page : ℕ) (old new : EngineState) (ledger noted : Le
   pub keeps_counters : AreTrusted setup parts_old → (block : ℕ) → block < layout.pages setup.shape
       → HoldsCounters setup parts_old block → HoldsCounters setup parts_new block
   keeps_counters trusted =
-      counters setup page old new ledger before after shape mirror down trusted keeps tags digests tags_now digests_now noted
+      counters setup page old new ledger before after shape mirror trusted keeps tags digests tags_now digests_now noted
       over.marks over.truth over.regs over.told
 
   -- the engine goes on: the path was fetched, or refused
@@ -95,13 +95,13 @@ module _ (setup : Setup) (page : ℕ) (old new : EngineState) (ledger noted : Le
         gone =
             gone going (steady, live, cuts) (λ unshown. ap (λ l. l.exhibit) same)
             (λ trusted. subst (λ l. IsTrusted setup new after.regs l) (sym same)
-            (trusted_after setup page old new ledger before after shape mirror down trusted keeps over.regs))
+            (trusted_after setup page old new ledger before after shape mirror trusted keeps over.regs))
             (λ sound. subst (λ l. MatchOption after.lines ⊥ (λ lines. IsSound setup new lines after.regs l)) (sym same) (still_sound sound))
             (λ trusted.
-            places setup page old new ledger before after shape mirror down trusted keeps tags digests tags_now digests_now noted
+            places setup page old new ledger before after shape mirror trusted keeps tags digests tags_now digests_now noted
             over.marks over.truth over.regs over.told)
             (λ trusted.
-            metadata setup page old new ledger before after shape mirror down trusted keeps tags digests tags_now digests_now noted
+            metadata setup page old new ledger before after shape mirror trusted keeps tags digests tags_now digests_now noted
             over.marks over.truth over.regs over.told)
             (λ none. tt);
         loss = ap (λ regs. regs.loss) over.regs;
@@ -118,7 +118,7 @@ module _ (setup : Setup) (page : ℕ) (old new : EngineState) (ledger noted : Le
             (λ trusted. subst₂ (λ regs l. IsAnchored setup regs l) (sym over.regs) (sym same) trusted.anchored)
             (λ sound. subst (λ l. MatchOption after.lines ⊥ (λ lines. IsDurable setup lines after.regs l)) (sym same) (still_durable sound))
             (λ trusted.
-            places setup page old new ledger before after shape mirror down trusted keeps tags digests tags_now digests_now noted
+            places setup page old new ledger before after shape mirror trusted keeps tags digests tags_now digests_now noted
             over.marks over.truth over.regs over.told)
             (λ trusted. tt)
             (λ none. omega (arith, ap (λ regs. length regs.group.items) over.regs, ap length none));
@@ -135,10 +135,10 @@ module _ (setup : Setup) (page : ℕ) (old new : EngineState) (ledger noted : Le
             gone shown (steady, live, cuts) (λ unshown. absurd (unshown refl))
             (λ trusted. subst (λ marks. IsFresh marks) (sym over.marks) trusted.anchored.fresh) never
             (λ trusted.
-            places setup page old new ledger before after shape mirror down trusted keeps tags digests tags_now digests_now noted
+            places setup page old new ledger before after shape mirror trusted keeps tags digests tags_now digests_now noted
             over.marks over.truth over.regs over.told)
             (λ trusted.
-            metadata setup page old new ledger before after shape mirror down trusted keeps tags digests tags_now digests_now noted
+            metadata setup page old new ledger before after shape mirror trusted keeps tags digests tags_now digests_now noted
             over.marks over.truth over.regs over.told)
             (λ none. tt);
         loss = ap (λ regs. regs.loss) over.regs;
@@ -172,7 +172,7 @@ module _ (setup : Setup) (page : ℕ) (old new : EngineState) (ledger noted : Le
       never : (bank set : ℕ) (slot : Slot) → Contains (set_of old.cache bank set) slot
           → layout.meta_line setup.shape x ≡ layout.meta_line setup.shape slot.position → ⊥
       never bank set slot stands here =
-          let own = own_slot setup page old new ledger before after shape mirror down trusted keeps bank set slot stands in
+          let own = own_slot setup page old new ledger before after shape mirror trusted keeps bank set slot stands in
           let one : slot.position ≡ x = omega (arith, here) in
           let found : list_any (λ s. s.position == x) (set_of old.cache bank set) ≡ true =
           list_any_at (λ s. s.position == x) (set_of old.cache bank set) stands.0 slot stands.1
@@ -207,7 +207,7 @@ module _ (setup : Setup) (page : ℕ) (old new : EngineState) (ledger noted : Le
       go (Some lines) (Some now) told told_now same it =
           let reads : line ≡ stored_meta setup.shape now x =
           subst (λ z. Tells z (layout.meta_line setup.shape x) line) told_now tells in
-          elim (meta_same_or_true setup page old new ledger before after shape mirror down it.trusted keeps lines now told told_now x) [
+          elim (meta_same_or_true setup page old new ledger before after shape mirror it.trusted keeps lines now told told_now x) [
             | inl as_was ↦ reads ∙ as_was ∙ it.true_unless_dirty x within (not_dirty x absent)
             | inr true_now ↦ reads ∙ true_now
           ]

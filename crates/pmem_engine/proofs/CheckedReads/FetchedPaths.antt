@@ -17,10 +17,10 @@ use Rattle.meta_cache.proofs.SlotLemmas.{dirty_slot, is_cached_dirty_from}
 use Rattle.meta_path.specs.Keeping.{KeepsBlocks, HasGivenWay, WasWrittenBack}
 use Rattle.meta_path.specs.Keeping as path
 use Rattle.suite.specs.Setup.{Setup}
-use Rattle.pmem_engine.specs.Engine.{EngineState}
+use Rattle.pmem_engine.specs.Engine.{ChipState}
 use Rattle.pmem_engine.specs.Invariants.{IsTrueSlot, IsTrusted, IsSound, stored_meta}
 use Rattle.pmem_engine.specs.Recached.{IsRecached, IsNewlyCached, IsTrueOrDirty, WasCleaned}
-use Rattle.pmem_engine.specs.Parts.{Parts, parts_of, lines_redone, meta_line_in, HoldsCounters, HoldsMeta}
+use Rattle.pmem_engine.specs.Parts.{Parts, parts_with, lines_redone, meta_line_in, HoldsCounters, HoldsMeta}
 use Rattle.pmem_engine.specs.Outcomes.{KeepsPlaces, KeepsMeta}
 use Rattle.pmem_engine.proofs.CallEnds.ToldLines.{unarmed}
 use Rattle.pmem_engine.proofs.Laws.CounterBlocks.{IsCounterStored-same, IsCounterStored-true}
@@ -28,8 +28,8 @@ use Rattle.pmem_engine.proofs.Laws.MendableLaws.{IsMendable-no_group, IsDurable-
 use Rattle.pmem_engine.proofs.Laws.CacheLaws.{IsTrusted-recached, IsSound-recached}
 
 -- what a fetch is seen to keep, over a trusted chip
-module _ (setup : Setup) (page : ℕ) (old new : EngineState) (ledger : LedgerState) (before after : Device)
-    (shape : new.shape ≡ old.shape) (mirror : new.mirror ≡ old.mirror) (down : new.down ≡ old.down)
+module _ (setup : Setup) (page : ℕ) (old new : ChipState) (ledger : LedgerState) (before after : Device)
+    (shape : new.shape ≡ old.shape) (mirror : new.mirror ≡ old.mirror)
     (trusted : IsTrusted setup old before.regs ledger)
     (keeps : KeepsBlocks setup.shape ledger.truth page old.cache new.cache before after) where
   recached : IsRecached setup old new ledger
@@ -37,7 +37,6 @@ module _ (setup : Setup) (page : ℕ) (old new : EngineState) (ledger : LedgerSt
       record {
         shape = shape;
         mirror = mirror;
-        down = down;
         slots = λ bank set slot stands. from bank set slot stands (keeps.slots_now bank set slot stands);
       }
     where
@@ -165,10 +164,10 @@ module _ (setup : Setup) (page : ℕ) (old new : EngineState) (ledger : LedgerSt
       (marks : noted.marks ≡ ledger.marks) (truth : noted.truth ≡ ledger.truth)
       (same_regs : after.regs ≡ before.regs) (same_told : is_some after.lines ≡ is_some before.lines) where
     abbrev parts_before : Parts
-    parts_before = parts_of old before ledger tags digests
+    parts_before = parts_with old before ledger tags digests
 
     abbrev parts_after : Parts
-    parts_after = parts_of new after noted tags_now digests_now
+    parts_after = parts_with new after noted tags_now digests_now
 
     no_group_now : after.regs.group.items ≡ []
     no_group_now = ap (λ regs. regs.group.items) same_regs ∙ trusted.no_group

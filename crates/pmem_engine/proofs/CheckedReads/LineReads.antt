@@ -1,7 +1,7 @@
 -- A read: its path was fetched, and its line unsealed or refused.
 use Rattle.std.proofs.lemmas.Grind.{common_steps}
 use Rattle.std.specs.Prelude.{IsOk}
-use Rattle.std.proofs.Common.{rules, ℕ, ◌≡◌, inl, true, false, [], Result, Ok, Err, refl, sym, ap, subst, subst₂, ◌∙◌, arith}
+use Rattle.std.proofs.Common.{rules, ℕ, ◌≡◌, inl, true, false, [], Result, Ok, Err, refl, sym, subst, subst₂, ◌∙◌, arith}
 use Rattle.std.proofs.lemmas.Bool.{true≢false}
 use Rattle.pmem_base.specs.declared.lines.Line.{Line}
 use Rattle.pmem_base.specs.declared.lines.Ctr.{Ctr}
@@ -18,11 +18,15 @@ use Rattle.pmem_engine.specs.declared.fault.Fault.{Fault}
 use Rattle.pmem_engine.specs.declared.fault.LineFault.{LineFault}
 use Rattle.pmem_engine.specs.declared.fault.LineFault.TheVariants as AtLine
 use Rattle.pmem_engine.specs.declared.reading.Unsealed.{Unsealed}
-use Rattle.pmem_engine.specs.Engine.{EngineState}
-use Rattle.pmem_engine.specs.Parts.{Parts, AreTrusted, AreSound}
-use Rattle.pmem_engine.specs.Outcomes.{fault_of_path, fault_of_line, of_line, Outcome, going, cut_short, shown, outcome_of, OneLossEffect, TakesSteps, TakesAtMost}
+use Rattle.pmem_engine.specs.Engine.{ChipState}
+use Rattle.pmem_engine.specs.Parts.{Parts, regs_of, AreTrusted, AreSound}
+use Rattle.pmem_engine.specs.Outcomes.{fault_of_path, fault_of_line, of_line, Outcome, going, cut_short, shown, outcome_of_fault, outcome_of, OneLossEffect, TakesSteps, TakesAtMost}
 use Rattle.pmem_engine.specs.CallFacts.{IsDownAnswer, IsUnrefused, TakesWithin, TakesWithinOfLive, fetch_state, fetch_work, unseal_work, IsPathFetched, IsPastFetch, IsAnswerOfRead, IsReadWork, AnswersRead}
-use Rattle.pmem_engine.specs.Inner.{HasFetched, HasUnsealed, AnswersFetch, UpReadOutcome, IsLastCounter, AnswersUnseal}
+use Rattle.pmem_engine.specs.Inner.{HasFetched, HasUnsealed, AnswersFetch, IsLastCounter, AnswersUnseal}
+use Rattle.call_plan.specs.Plans.{ended}
+use Rattle.pmem_engine.specs.Calls.{HasReadLine}
+use Rattle.call_plan.specs.Following.{Follows}
+use Rattle.pmem_engine.specs.Plans.{chip_in, read_plan}
 use Rattle.pmem_engine.proofs.CallEnds.CallChains.{done_chained}
 use Rattle.pmem_engine.proofs.CallEnds.ErrorAnswers.{path_not_down, path_unrefused}
 use Rattle.pmem_engine.proofs.CallEnds.ExactWork.{work_then, fetch_worked, unseal_worked}
@@ -74,6 +78,15 @@ still_unrefused v0 it = search rules
 never_down : (answer : Result Unsealed LineFault) → IsDownAnswer (plain_answer answer) → ⊥
 never_down v0 it = search rules
 
+-- the board followed the read's plan
+abbrev pub IsReadPlanned : Setup → ℕ → Parts → Parts → Result Line Fault → Type 0
+IsReadPlanned setup a old new answer =
+    Follows (read_plan setup (regs_of old) a (chip_in old)) old.device new.device (ended answer (chip_in new))
+
+-- then this is the read's relation
+abbrev pub IsReadEnd : Setup → ℕ → Parts → Parts → Result Line Fault → Type 0
+IsReadEnd setup a old new answer = IsReadPlanned setup a old new answer → HasReadLine setup a old new answer
+
 module _ (setup : Setup) (a : ℕ) (ctr : Ctr) (old mid new : Parts) (its_shape : old.engine.shape ≡ setup.shape)
     (fetched : HasFetched setup (page_of a) old mid (Ok tt)) where
   answers_read : (answer : Result Unsealed LineFault) → AnswersUnseal setup a mid new answer
@@ -81,9 +94,11 @@ module _ (setup : Setup) (a : ℕ) (ctr : Ctr) (old mid new : Parts) (its_shape 
   answers_read v0 it = grind (arith, common_steps)
 
   pub read_after : (answer : Result Unsealed LineFault) → HasUnsealed setup a ctr mid new answer
-      → (AreTrusted setup mid → IsLastCounter mid a ctr) → UpReadOutcome setup a old new (plain_answer answer)
-  read_after answer unsealed last =
+      → (AreTrusted setup mid → IsLastCounter mid a ctr) → IsReadEnd setup a old new (plain_answer answer)
+  read_after answer unsealed last planned =
       record {
+        plan = planned;
+        not_down = never_down answer;
         done =
             subst (λ outcome. OneLossEffect setup outcome [] old new) (sym (same_outcome answer))
             (done_chained setup (outcome_of (of_line answer)) [] [] old mid new fetched.done unsealed.done);
@@ -95,14 +110,11 @@ module _ (setup : Setup) (a : ℕ) (ctr : Ctr) (old mid new : Parts) (its_shape 
             λ was.
             let now : AreSound setup mid = fetched.done.gone.sound was in
             still_unrefused answer (unsealed.unrefused now (last (sound_trusted setup mid now)));
-        not_down = never_down answer;
         path_fetched =
             λ past.
             subst (λ engine. IsPathCached setup.shape engine.cache (page_of a)) (sym unsealed.engine) (fetched.path_cached refl);
         possible = possible_after answer;
-        work = work answer unsealed;
-        mirror = ap (λ engine. engine.mirror) unsealed.engine ∙ fetched.mirror;
-        down = ap (λ engine. engine.down) unsealed.engine ∙ fetched.down;
+        work = λ ok. work answer unsealed ok;
         steps_of_path = steps (path_length setup.shape) fetched.steps_of_path;
         steps_of_dirty = steps (dirty_count setup.shape old.engine.cache) fetched.steps_of_dirty.0;
       }
@@ -121,7 +133,7 @@ module _ (setup : Setup) (a : ℕ) (ctr : Ctr) (old mid new : Parts) (its_shape 
       work (Ok opened) it ok =
           record {
             cache =
-                subst (λ (e : EngineState). IsPathFetched setup.shape (page_of a) old (record mid { engine = e })) (sym unsealed.engine)
+                subst (λ (e : ChipState). IsPathFetched setup.shape (page_of a) old (record mid { engine = e })) (sym unsealed.engine)
                 did_fetch.cache;
             lines = unsealed.lines ∙ did_fetch.work.lines;
             work =
@@ -141,7 +153,7 @@ module _ (setup : Setup) (a : ℕ) (ctr : Ctr) (old mid new : Parts) (its_shape 
   pub read_after_fetch : (formulas : Formulas) → formulas ≡ setup.formulas → (answer : Result Unsealed LineFault)
       → HasUnsealed (record { shape = mid.engine.shape; formulas = formulas }) a ctr mid new answer
       → (AreTrusted setup mid → IsPathCached setup.shape mid.engine.cache (page_of a) → IsLastCounter mid a ctr)
-      → UpReadOutcome setup a old new (plain_answer answer)
+      → IsReadEnd setup a old new (plain_answer answer)
   read_after_fetch formulas same answer unsealed last =
       read_after answer
       (subst₂ (λ shape f. HasUnsealed (record { shape = shape; formulas = f }) a ctr mid new answer)
@@ -176,5 +188,20 @@ module _ (setup : Setup) (a : ℕ) (old new : Parts) where
   unfetched_possible v0 = search rules
 
   pub read_unfetched : (fault : PathFault) → HasFetched setup (page_of a) old new (Err fault)
-      → UpReadOutcome setup a old new (Err (fault_of_path fault))
-  read_unfetched fault it = search (rules, true≢false, most_of_within, past_fault, unfetched_says, unfetched_possible, path_unrefused, path_not_down)
+      → IsReadEnd setup a old new (Err (fault_of_path fault))
+  read_unfetched fault it planned =
+      record {
+        plan = planned;
+        not_down = path_not_down Line fault;
+        done = it.done;
+        answered = λ was. unfetched_says fault (it.answered was);
+        unrefused = λ sound. path_unrefused Unit Line fault (it.unrefused sound);
+        path_fetched = λ past. it.path_fetched (past_fault Line old new fault past);
+        possible = unfetched_possible fault;
+        work = λ ok. absurd (true≢false (sym ok));
+        steps_of_path = (
+          most_of_within (outcome_of_fault (fault_of_path fault)) (path_length setup.shape) old new it.steps_of_path,
+          λ live. it.steps_of_path,
+        );
+        steps_of_dirty = it.steps_of_dirty;
+      }

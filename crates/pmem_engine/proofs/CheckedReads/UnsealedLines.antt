@@ -24,9 +24,9 @@ use Rattle.seal_ledger.proofs.MarkLemmas.{last_seal_has}
 use Rattle.line_seal.specs.Seals.{unsealed}
 use Rattle.plain_model.specs.View.{plain_line}
 use Rattle.pmem_engine.specs.declared.fault.LineFault.TheVariants as AtLine
-use Rattle.pmem_engine.specs.Engine.{EngineState}
+use Rattle.pmem_engine.specs.Engine.{ChipState}
 use Rattle.pmem_engine.specs.Invariants.{IsSound, IsSealStored, IsSealTagged}
-use Rattle.pmem_engine.specs.Parts.{Parts, parts_of, AreTrusted, AreSound, HoldsSeal}
+use Rattle.pmem_engine.specs.Parts.{Parts, parts_with, AreTrusted, AreSound, HoldsSeal}
 use Rattle.pmem_engine.specs.Outcomes.{NeverFalls, TakesSteps}
 use Rattle.pmem_engine.specs.Still.{HasOnlyRead}
 use Rattle.pmem_engine.specs.Inner.{HasUnsealed, IsLastCounter}
@@ -101,14 +101,14 @@ pub right_tag : (f : Formulas) (a : ℕ) (ctr : Ctr) (cipher : Line) (tag slot :
     → unsealed f a ctr cipher tag ≡ Some plain → (f.tag_of a ctr cipher ≡ slot) × (unsealed f a ctr cipher slot ≡ Some plain)
 right_tag f a ctr cipher tag slot plain same it = search (rules, cond-false, none-some, same_bytes-true)
 
-module _ (setup : Setup) (engine : EngineState) (ledger : LedgerState) (a : ℕ) (ctr : Ctr) (cipher tag_line : Line)
+module _ (setup : Setup) (engine : ChipState) (ledger : LedgerState) (a : ℕ) (ctr : Ctr) (cipher tag_line : Line)
     (old new : Device) (tags digests tags_now digests_now : ℕ)
     (both : HasReadBoth setup a cipher tag_line old new) (one_tag : tags_now ≡ risen tags) (same : digests_now ≡ digests) where
   abbrev before : Parts
-  before = parts_of engine old ledger tags digests
+  before = parts_with engine old ledger tags digests
 
   abbrev after : LedgerState → Parts
-  after noted = parts_of engine new noted tags_now digests_now
+  after noted = parts_with engine new noted tags_now digests_now
 
   only_read : HasOnlyRead before (after ledger)
   only_read = search rules

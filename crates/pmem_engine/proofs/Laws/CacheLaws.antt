@@ -20,7 +20,7 @@ use Rattle.meta_cache.specs.KeptSlots.{IsFromBefore, IsStillDirty}
 use Rattle.meta_cache.specs.Banks.{Banks, set_of, set_index, slot_number, is_cached_dirty}
 use Rattle.meta_cache.proofs.SlotLemmas.{All-stands, All-from_stands, dirty_slot, is_cached_dirty_from, is_cached_dirty_still}
 use Rattle.suite.specs.Setup.{Setup}
-use Rattle.pmem_engine.specs.Engine.{EngineState}
+use Rattle.pmem_engine.specs.Engine.{ChipState}
 use Rattle.pmem_engine.specs.Invariants.{IsAnchored, IsTrueSlot, IsTrusted, stored_meta, is_named, IsMendable, IsDurable, IsDirtyNamed, IsSound}
 use Rattle.pmem_engine.specs.Steps.{with_true_line}
 use Rattle.pmem_engine.specs.Recached.{IsTrueOrDirty, WasCleaned, IsNewlyCached, IsRecached}
@@ -76,7 +76,7 @@ pub IsDurable-written_back : (setup : Setup) (lines : List Line) (regs : Regs) (
 IsDurable-written_back setup lines regs ledger x durable empty h = search (rules, AreLinesOf-set, IsMendable-no_group, IsDurable-no_group, IsMendable-true_line_written, IsLine-true)
 
 -- .. and so does Sound, of the engine as it is.
-pub IsSound-written_back : (setup : Setup) (engine : EngineState) (lines : List Line) (regs : Regs)
+pub IsSound-written_back : (setup : Setup) (engine : ChipState) (lines : List Line) (regs : Regs)
     (ledger : LedgerState) (x : ℕ) → IsSound setup engine lines regs ledger → x < meta_lines setup.shape
     → IsSound setup engine (with_true_line setup.shape lines ledger.truth x) regs ledger
 IsSound-written_back setup engine lines regs ledger x sound h =
@@ -95,14 +95,13 @@ IsSound-written_back setup engine lines regs ledger x sound h =
 -- ---- the cache changes
 
 -- The engine stays trusted, whatever the device holds.
-pub IsTrusted-recached : (setup : Setup) (old new : EngineState) (regs : Regs) (ledger : LedgerState)
+pub IsTrusted-recached : (setup : Setup) (old new : ChipState) (regs : Regs) (ledger : LedgerState)
     → IsTrusted setup old regs ledger → IsRecached setup old new ledger → IsTrusted setup new regs ledger
 IsTrusted-recached setup old new regs ledger trusted recached =
     record {
       its_shape = recached.shape ∙ trusted.its_shape;
       anchored = trusted.anchored;
       no_group = trusted.no_group;
-      not_down = recached.down ∙ trusted.not_down;
       cached_true =
           λ bank set.
           All-from_stands (IsTrueSlot setup.shape ledger.truth bank set) (set_of new.cache bank set)
@@ -115,7 +114,7 @@ IsTrusted-recached setup old new regs ledger trusted recached =
     true_slot bank set slot v3 = search rules
 
 -- Sound stays while blocks are used, cleaned once they are true on the device, dropped, or fetched.
-pub IsSound-recached : (setup : Setup) (old new : EngineState) (lines : List Line) (regs : Regs)
+pub IsSound-recached : (setup : Setup) (old new : ChipState) (lines : List Line) (regs : Regs)
     (ledger : LedgerState) → IsSound setup old lines regs ledger → IsRecached setup old new ledger
     → ((x : ℕ) → x < meta_lines setup.shape → WasCleaned setup.shape old.cache new.cache x
     → stored_meta setup.shape lines x ≡ line_at ledger.truth x)
@@ -154,7 +153,7 @@ IsSound-recached setup old new lines regs ledger sound recached true_if_cleaned 
     named bank set slot dirty (inr came) = absurd (false≢true (sym came.clean ∙ dirty))
 
 -- A dirty block is written back, and its slot is then clean or gives way; the other dirty blocks stay.
-pub IsSound-cleaned : (setup : Setup) (old new : EngineState) (lines : List Line) (regs : Regs)
+pub IsSound-cleaned : (setup : Setup) (old new : ChipState) (lines : List Line) (regs : Regs)
     (ledger : LedgerState) (x : ℕ) → IsSound setup old lines regs ledger → x < meta_lines setup.shape
     → IsRecached setup old new ledger
     → ((y : ℕ) → y < meta_lines setup.shape → y ≢ x → ¬ WasCleaned setup.shape old.cache new.cache y)
@@ -170,7 +169,7 @@ IsSound-cleaned setup old new lines regs ledger x sound h recached kept =
 
 -- ---- no dirty block is lost, or none but x
 
-pub not_cleaned_other : (setup : Setup) (old new : EngineState) (x y : ℕ) → y ≢ x
+pub not_cleaned_other : (setup : Setup) (old new : ChipState) (x y : ℕ) → y ≢ x
     → ((bank set : ℕ) (slot : Slot) → Contains (set_of old.cache bank set) slot → slot.dirty ≡ true
     → slot.position ≢ x → IsStillDirty (set_of new.cache bank set) slot)
     → ¬ WasCleaned setup.shape old.cache new.cache y
@@ -179,7 +178,7 @@ not_cleaned_other setup old new x y apart still cleaned = search (rules, false�
 -- ---- each metadata line by itself: true on the device or cached dirty, over any lines
 
 -- where the device is sound it is
-pub IsTrueOrDirty-sound : (setup : Setup) (engine : EngineState) (lines : List Line) (regs : Regs)
+pub IsTrueOrDirty-sound : (setup : Setup) (engine : ChipState) (lines : List Line) (regs : Regs)
     (ledger : LedgerState) (x : ℕ) → IsSound setup engine lines regs ledger → x < meta_lines setup.shape
     → IsTrueOrDirty setup.shape engine.cache lines ledger.truth x
 IsTrueOrDirty-sound setup engine lines regs ledger x sound h = search rules
@@ -192,7 +191,7 @@ IsTrueOrDirty-cleaned g old new lines truth x y size h kept before = search rule
 
 -- ---- what is cached dirty afterwards was so before
 
-pub dirty_before-recached : (setup : Setup) (old new : EngineState) (ledger : LedgerState) (bank x : ℕ)
+pub dirty_before-recached : (setup : Setup) (old new : ChipState) (ledger : LedgerState) (bank x : ℕ)
     → IsRecached setup old new ledger → is_cached_dirty setup.shape new.cache bank x ≡ true
     → is_cached_dirty setup.shape old.cache bank x ≡ true
 dirty_before-recached setup old new ledger bank x recached dirty =

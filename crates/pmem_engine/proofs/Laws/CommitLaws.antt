@@ -17,7 +17,7 @@ use Rattle.shadow_tables.specs.Entries.{is_named_in, shadow_of}
 use Rattle.meta_cache.specs.Banks.{set_of}
 use Rattle.suite.specs.Setup.{Setup}
 use Rattle.pmem_engine.specs.Truth.{true_block}
-use Rattle.pmem_engine.specs.Engine.{EngineState}
+use Rattle.pmem_engine.specs.Engine.{ChipState}
 use Rattle.pmem_engine.specs.Invariants.{IsAnchored, IsTrusted, IsSealStored, IsCounterStored, stored_meta, is_named, IsMendable, IsDurable, IsDirtyNamed, IsSound}
 use Rattle.pmem_engine.specs.Steps.{IsPlaceKept}
 use Rattle.pmem_engine.specs.Recached.{IsTrueOrDirty}
@@ -32,7 +32,7 @@ use Rattle.pmem_engine.proofs.Laws.DeviceSteps.{writes_block, IsDeviceStep}
 use Rattle.pmem_engine.proofs.Laws.TruthSteps.{IsDirtyIn, IsStill, IsTruthStep}
 
 -- the engine is trusted, whatever the device holds
-pub trusted_after : (setup : Setup) (mark : Mark) (page : ℕ) (written : Bool) (block : Line) (old new : EngineState) (regs : Regs)
+pub trusted_after : (setup : Setup) (mark : Mark) (page : ℕ) (written : Bool) (block : Line) (old new : ChipState) (regs : Regs)
     (before after : LedgerState) → IsTruthStep setup mark page written block regs.loss old new before.truth after.truth
     → (final : Regs) → IsTrusted setup old regs before → IsAnchored setup final after → final.group.items ≡ []
     → IsTrusted setup new final after
@@ -41,12 +41,11 @@ trusted_after setup mark page written block old new regs before after truth fina
       its_shape = truth.shape ∙ trusted.its_shape;
       anchored = anchored;
       no_group = none;
-      not_down = truth.down ∙ trusted.not_down;
       cached_true = truth.true_slots;
     }
 
 -- what one commit keeps over lines and what they come to
-pub record KeepsOver (setup : Setup) (mark : Mark) (loss : ℕ) (old new : EngineState) (before after : LedgerState)
+pub record KeepsOver (setup : Setup) (mark : Mark) (loss : ℕ) (old new : ChipState) (before after : LedgerState)
     (lines lines' : List Line) : Type 0 where
   -- each seal that was stored, and the new one
   pub seals :
@@ -67,7 +66,7 @@ pub record KeepsOver (setup : Setup) (mark : Mark) (loss : ℕ) (old new : Engin
   pub counters :
       (other : ℕ) → IsCounterStored setup lines loss before.truth other → IsCounterStored setup lines' loss after.truth other
 
-module _ (setup : Setup) (mark : Mark) (page : ℕ) (written : Bool) (block : Line) (old new : EngineState) (regs : Regs)
+module _ (setup : Setup) (mark : Mark) (page : ℕ) (written : Bool) (block : Line) (old new : ChipState) (regs : Regs)
     (before after : LedgerState) (lines lines' : List Line)
     (device : IsDeviceStep setup.shape mark before.marks page written block lines lines')
     (truth : IsTruthStep setup mark page written block regs.loss old new before.truth after.truth)

@@ -18,7 +18,7 @@ use Rattle.seal_ledger.specs.Ledger.{LedgerState}
 use Rattle.shadow_tables.specs.Entries.{shadow_of}
 use Rattle.shadow_tables.proofs.EntryLaws.{AreAllZero, is_named_in-zero}
 use Rattle.suite.specs.Setup.{Setup}
-use Rattle.pmem_engine.specs.Engine.{EngineState}
+use Rattle.pmem_engine.specs.Engine.{ChipState}
 use Rattle.pmem_engine.specs.Invariants.{IsAnchored, IsSealStored, IsCounterStored, IsMendable, IsDurable, IsSound, stored_meta, is_named}
 use Rattle.pmem_engine.specs.Mendable.{IsAllTrue, IsShadowZero}
 use Rattle.pmem_engine.specs.Steps.{IsEmptied}
@@ -99,7 +99,7 @@ AreAllZero-shadow_of setup lines z = search (rules, cases_lt, line_at-shadow_of,
 pub is_named-zero : (setup : Setup) (lines : List Line) (x : ℕ) → IsShadowZero setup lines → is_named setup.shape lines x ≡ false
 is_named-zero setup lines x z = is_named_in-zero setup.shape (shadow_of setup.shape lines) (level_of x) x (AreAllZero-shadow_of setup lines z)
 
-pub IsSound-new_engine : (setup : Setup) (engine : EngineState) (lines : List Line) (regs : Regs) (ledger : LedgerState) → IsNewEngine setup engine lines → AreLinesOf (layout.device_lines setup.shape) lines → IsMendable setup lines regs ledger → IsAllTrue setup lines ledger → regs.group.items ≡ [] → IsSound setup engine lines regs ledger
+pub IsSound-new_engine : (setup : Setup) (engine : ChipState) (lines : List Line) (regs : Regs) (ledger : LedgerState) → IsNewEngine setup engine lines → AreLinesOf (layout.device_lines setup.shape) lines → IsMendable setup lines regs ledger → IsAllTrue setup lines ledger → regs.group.items ≡ [] → IsSound setup engine lines regs ledger
 IsSound-new_engine setup engine lines regs ledger new whole d all none = search rules
 
 -- zero shadow lines as a list, as a new engine's copy of them is made

@@ -20,7 +20,7 @@ use Rattle.meta_cache.specs.declared.slot.Slot.{Slot}
 use Rattle.meta_cache.specs.Banks.{Banks, set_of, slot_number, is_cached_dirty, IsInPlace, IsBanksOf}
 use Rattle.meta_cache.proofs.SlotLemmas.{All-stands, All-from_stands, dirty_slot, same_slot, in_place_of, slot_number_within}
 use Rattle.suite.specs.Setup.{Setup}
-use Rattle.pmem_engine.specs.Engine.{EngineState}
+use Rattle.pmem_engine.specs.Engine.{ChipState}
 use Rattle.pmem_engine.specs.Invariants.{IsTrusted, stored_meta, is_named, IsMendable, IsDirtyNamed, IsSound}
 use Rattle.pmem_engine.specs.Recached.{IsMirrorWritten}
 use Rattle.pmem_engine.specs.Named.{named_slot_line, IsSlotInShadow}
@@ -88,7 +88,7 @@ IsSlotNamed-kept g cache old new bank set slot bank' set' other form stands stan
 -- ---- the law: a shadow line is written
 
 -- the engine stays trusted while its mirror is written, whatever the device holds
-pub IsTrusted-named : (setup : Setup) (old new : EngineState) (regs : Regs) (ledger : LedgerState) (n : ℕ)
+pub IsTrusted-named : (setup : Setup) (old new : ChipState) (regs : Regs) (ledger : LedgerState) (n : ℕ)
     (line : Line) → IsMirrorWritten old new n line → IsTrusted setup old regs ledger
     → IsTrusted setup new regs ledger
 IsTrusted-named setup old new regs ledger n line written = search rules
@@ -105,7 +105,7 @@ IsMendable-set_shadow setup lines n line regs ledger true_or_named before = grin
 
 -- A cached block's shadow line is written, so that its slot's entry names it: Sound stays, with the new
 -- mirror, and with it Durable.
-pub IsSound-named : (setup : Setup) (old new : EngineState) (lines : List Line) (regs : Regs)
+pub IsSound-named : (setup : Setup) (old new : ChipState) (lines : List Line) (regs : Regs)
     (ledger : LedgerState) (bank set : ℕ) (slot : Slot) (line : Line) → IsSound setup old lines regs ledger
     → IsBanksOf setup.shape old.cache → Contains (set_of old.cache bank set) slot
     → Names setup.shape old.mirror new.mirror bank (slot_number setup.shape set slot) slot.position → IsLine line

@@ -15,7 +15,7 @@ use Rattle.meta_cache.specs.Sets.{slot_with}
 use Rattle.meta_cache.specs.Banks.{Banks, set_of, set_index, slot_number, IsBanksOf}
 use Rattle.meta_cache.proofs.SlotLemmas.{All-stands, slot_with-is}
 use Rattle.suite.specs.Setup.{Setup}
-use Rattle.pmem_engine.specs.Engine.{EngineState}
+use Rattle.pmem_engine.specs.Engine.{ChipState}
 use Rattle.pmem_engine.specs.Invariants.{IsTrueSlot, IsTrusted}
 use Rattle.pmem_engine.specs.Named.{IsSlotInShadow, ArePathSlotsNamed}
 
@@ -31,7 +31,7 @@ pub slot_number_at-own : (g : Shape) (cache : Banks) (bank set : ℕ) (slot : Sl
 slot_number_at-own g cache bank set slot form its_set stands = search (rules, slot_with-is)
 
 -- each level's slot is named: then each slot of the cache that holds a block of the path is
-pub ArePathSlotsNamed-levels : (setup : Setup) (engine : EngineState) (regs : Regs) (ledger : LedgerState)
+pub ArePathSlotsNamed-levels : (setup : Setup) (engine : ChipState) (regs : Regs) (ledger : LedgerState)
     (shadow : List Line) (page : ℕ) → IsTrusted setup engine regs ledger → IsBanksOf setup.shape engine.cache
     → setup.shape.levels ≤ 6 → page < pages setup.shape
     → ((j : ℕ) → j ≤ setup.shape.levels

@@ -14,7 +14,7 @@ use Rattle.bonsai_tree.specs.Positions.{level_of, counter_position}
 use Rattle.meta_cache.specs.Banks.{Banks, set_of, is_cached_dirty, IsBanksOf}
 use Rattle.seal_ledger.specs.Ledger.{LedgerState}
 use Rattle.suite.specs.Setup.{Setup}
-use Rattle.pmem_engine.specs.Engine.{EngineState}
+use Rattle.pmem_engine.specs.Engine.{ChipState}
 use Rattle.pmem_engine.specs.Truth.{true_block}
 use Rattle.pmem_engine.specs.Invariants.{IsTrueSlot, IsDirtyNamed, IsTrusted}
 use Rattle.pmem_engine.specs.Outcomes.{IsTouchedBy}
@@ -32,11 +32,10 @@ IsStill g old new truth after x =
 
 -- one mark's commit: the true lines before and after, and the cache, whose other blocks are newly dirty or as they were;
 -- what is stored of a counter block that isn't written is so of the new true one
-pub record IsTruthStep (setup : Setup) (mark : Mark) (page : ℕ) (written : Bool) (block : Line) (loss : ℕ) (old new : EngineState)
+pub record IsTruthStep (setup : Setup) (mark : Mark) (page : ℕ) (written : Bool) (block : Line) (loss : ℕ) (old new : ChipState)
     (truth after : List Line) : Type 0 where
   pub shape : new.shape ≡ old.shape
   pub mirror : new.mirror ≡ old.mirror
-  pub down : new.down ≡ old.down
   pub true_slots : (bank set : ℕ) → All (IsTrueSlot setup.shape after bank set) (set_of new.cache bank set)
   pub named :
       ((bank set : ℕ) → All (IsDirtyNamed setup.shape old.mirror bank set) (set_of old.cache bank set))
@@ -54,7 +53,7 @@ pub record IsTruthStep (setup : Setup) (mark : Mark) (page : ℕ) (written : Boo
       → IsStoredBlock loss stored (true_block setup.shape after other)
 
 -- a mark that leaves the engine and the true lines as they are
-pub truth_stays : (setup : Setup) (mark : Mark) (page : ℕ) (block : Line) (loss : ℕ) (engine : EngineState) (regs : Regs)
+pub truth_stays : (setup : Setup) (mark : Mark) (page : ℕ) (block : Line) (loss : ℕ) (engine : ChipState) (regs : Regs)
     (ledger : LedgerState) → IsTrusted setup engine regs ledger
     → IsTruthStep setup mark page false block loss engine engine ledger.truth ledger.truth
 truth_stays setup mark page block loss engine regs ledger trusted = search (rules, true≢false)

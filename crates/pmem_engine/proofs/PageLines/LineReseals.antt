@@ -15,10 +15,10 @@ use Rattle.page_reencrypt.specs.Registers.{register_held}
 use Rattle.seal_ledger.specs.Ledger.{LedgerState}
 use Rattle.suite.specs.Setup.{Setup}
 use Rattle.pmem_engine.specs.declared.resealing.NextSeal.{NextSeal}
-use Rattle.pmem_engine.specs.Engine.{EngineState}
+use Rattle.pmem_engine.specs.Engine.{ChipState}
 use Rattle.pmem_engine.specs.Invariants.{IsTrusted}
 use Rattle.pmem_engine.specs.Sealed.{IsResealed}
-use Rattle.pmem_engine.specs.Parts.{parts_of}
+use Rattle.pmem_engine.specs.Parts.{parts_with}
 use Rattle.pmem_engine.specs.Outcomes.{NeverFalls}
 use Rattle.pmem_engine.specs.Committing.{entries_of}
 use Rattle.pmem_engine.specs.Resealing.{HasLineSealed}
@@ -41,7 +41,7 @@ pub record IsResealing (setup : Setup) (next : NextSeal) (register : Progress) (
   pub whole : IsDevice old
   pub size : old.size ≡ layout.device_lines setup.shape
 
-module _ (setup : Setup) (next : NextSeal) (register : Progress) (engine : EngineState) (old new : Device) (before after : LedgerState)
+module _ (setup : Setup) (next : NextSeal) (register : Progress) (engine : ChipState) (old new : Device) (before after : LedgerState)
     (tags digests tags_now digests_now : ℕ) (it : IsResealing setup next register old)
     (done : HasLineSealed setup.shape next old new before after) where
   abbrev mark : Mark
@@ -53,8 +53,8 @@ module _ (setup : Setup) (next : NextSeal) (register : Progress) (engine : Engin
 
   -- it is one commit, which writes no counter block
   pub resealing : NeverFalls tags tags_now → NeverFalls digests digests_now
-      → IsCommit setup (entries_of setup.shape next) mark (page_of next.at) false zero_line (parts_of engine old before tags digests)
-      (parts_of engine new after tags_now digests_now)
+      → IsCommit setup (entries_of setup.shape next) mark (page_of next.at) false zero_line (parts_with engine old before tags digests)
+      (parts_with engine new after tags_now digests_now)
   resealing never_tags never_digests =
       record {
         unarmed = it.unarmed;

@@ -1,6 +1,6 @@
 -- The lines of a page sealed anew one after the other: the first of them, one more, or all.
 use Rattle.std.proofs.Common.{rules, ℕ, ◌≡◌, ◌<◌, ◌≤◌, ◌+◌, ◌*◌, ◌++◌, inl, inr, false, cond, List, [], ◌∷◌, length, map, get_or, Some, IsTrue, Result, Ok, refl, sym, ap, subst, ◌∙◌, arith}
-use Rattle.std.specs.Prelude.{◌||◌, slice_get}
+use Rattle.std.specs.Prelude.{slice_get}
 use Rattle.std.proofs.lemmas.Bool.{cases_Bool, true≢false}
 use Rattle.std.proofs.lemmas.List.{append_assoc, append-nil, map-append, length-append, length-map}
 use Rattle.std.proofs.lemmas.List.Elements.{All-nil, All-append}
@@ -19,13 +19,12 @@ use Rattle.pmem_engine.specs.declared.fault.LineFault.{LineFault}
 use Rattle.pmem_engine.specs.Sealed.{sealed_counter}
 use Rattle.pmem_engine.specs.Parts.{Parts, regs_of, AreTrusted, HoldsSeal}
 use Rattle.pmem_engine.specs.Outcomes.{going, is_sealed_by, OneLossEffect, TakesSteps}
-use Rattle.pmem_engine.specs.CallFacts.{IsUsable, IsMemory, moment_in, IsWork, reseal_work, IsUnderMinorZero}
-use Rattle.pmem_engine.specs.Still.{HasOnlyRead}
+use Rattle.pmem_engine.specs.CallFacts.{IsUsableWith, IsMemory, moment_in, IsWork, reseal_work, IsUnderMinorZero}
 use Rattle.pmem_engine.specs.Resealing.{register_in, line_of_page, HasResealed}
 use Rattle.pmem_engine.specs.Writing.{reseals_of, HasFinishedPage}
 use Rattle.pmem_engine.specs.Finishing.{IsStillOpen, IsClosed, HasPlacesLeft, HasResealedFirst}
 use Rattle.pmem_engine.proofs.CallEnds.CallChains.{done_chained, sealed_by_either, going_unshown}
-use Rattle.pmem_engine.proofs.CallEnds.StillParts.{done_reading}
+use Rattle.pmem_engine.proofs.CallEnds.StillParts.{nothing_done, left_alone}
 use Rattle.pmem_engine.proofs.CallEnds.ExactWork.{work_then, work_alone, reseal_more}
 use Rattle.pmem_engine.proofs.Laws.AskedCounters.{asked-held}
 use Rattle.pmem_engine.proofs.CallEnds.UsableParts.{usable_after}
@@ -56,9 +55,6 @@ left_at_first : (old : Parts) (n : ℕ) (left : List ℕ) → not_done (register
     → HasPlacesLeft old old n left
 left_at_first old n v2 is some = search rules
 
-pub same_parts : (setup : Setup) (old : Parts) → HasOnlyRead old old
-same_parts setup old = search rules
-
 pub first_none : (setup : Setup) (n : ℕ) (old : Parts) → IsValidRegs setup.shape (regs_of old)
     → n < length (regs_of old).progress.items → HasResealedFirst setup n 0 old old
 first_none setup n old valid inside =
@@ -72,10 +68,10 @@ first_none setup n old valid inside =
       seals = refl;
       work =
           work_alone (reseal_work 0) old old (omega arith) (omega arith) (omega arith) (omega arith) refl
-          (record { engine = refl; device = refl; ledger = refl; tags = refl; digests = refl });
+          (left_alone old);
       meta_lines = λ x within. refl;
       minors = All-nil IsUnderMinorZero;
-      done = done_reading setup old old (same_parts setup old);
+      done = nothing_done setup old;
       marks = λ trusted memory was. refl;
       memory_kept = λ trusted memory was. was;
       sealed_before = λ trusted a within by. absurd (true≢false (sym by));
@@ -185,11 +181,8 @@ module _ (setup : Setup) (n number : ℕ) (old mid : Parts) (valid : IsValidRegs
 
 -- the parts are usable still
 pub still_usable : (setup : Setup) (n number : ℕ) (old mid : Parts) → HasResealedFirst setup n number old mid
-    → old.engine.down ≡ false → IsUsable setup.shape old.engine old.device old.ledger
-    → IsUsable setup.shape mid.engine mid.device mid.ledger
-still_usable setup n number old mid first up usable =
-    usable_after setup going first.made old mid first.done.gone
-    (ap (λ engine. engine.down) first.engine ∙ up ∙ sym (ap (λ b. b || false) up)) usable
+    → IsUsableWith setup.shape false old.device old.ledger → IsUsableWith setup.shape false mid.device mid.ledger
+still_usable setup n number old mid first usable = usable_after setup going first.made old mid false first.done.gone refl usable
 
 -- the next line was sealed anew
 module _ (setup : Setup) (n number : ℕ) (old mid new : Parts) (valid : IsValidRegs setup.shape (regs_of old))

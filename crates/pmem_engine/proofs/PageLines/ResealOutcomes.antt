@@ -33,10 +33,10 @@ use Rattle.pmem_engine.specs.declared.fault.LineFault.TheVariants as AtLine
 use Rattle.pmem_engine.specs.declared.reading.Unsealed.{Unsealed}
 use Rattle.pmem_engine.specs.declared.resealing.HeldLine.{HeldLine}
 use Rattle.pmem_engine.specs.declared.resealing.NextSeal.{NextSeal}
-use Rattle.pmem_engine.specs.Engine.{EngineState}
-use Rattle.pmem_engine.specs.Parts.{Parts, parts_of, AreTrusted, HoldsSeal}
+use Rattle.pmem_engine.specs.Engine.{ChipState}
+use Rattle.pmem_engine.specs.Parts.{Parts, parts_with, AreTrusted, HoldsSeal}
 use Rattle.pmem_engine.specs.Outcomes.{going, cut_short, is_going, is_sealed_by, NeverFalls, TakesSteps, TakesFewer}
-use Rattle.pmem_engine.specs.CallFacts.{IsUsable, IsMemory, moment_in, IsUnderMinorZero}
+use Rattle.pmem_engine.specs.CallFacts.{IsUsableWith, IsMemory, moment_in, IsUnderMinorZero}
 use Rattle.pmem_engine.specs.Inner.{HasUnsealed, IsLastCounter}
 use Rattle.pmem_engine.specs.Committing.{next_seal_of, entries_of}
 use Rattle.pmem_engine.specs.Resealing.{IsNextHeld, HasLineSealed, HasResealCommitted, IsCutUnarmed, IsResealCutArmed, IsResealCut, line_of_page, HasResealMarks, AnswersReseal, CountsReseal, HasResealed}
@@ -52,11 +52,11 @@ use Rattle.pmem_engine.proofs.Seals.GroupCommits.{IsCommit, done_committed, done
 use Rattle.pmem_engine.proofs.PageLines.LineReseals.{IsResealing, resealing}
 
 -- what a call passed to the line that it works on
-module _ (setup : Setup) (n : ℕ) (engine : EngineState) (old : Device) (before : LedgerState) (tags digests : ℕ) (held : HeldLine)
-    (usable : IsUsable setup.shape engine old before) (up : engine.down ≡ false) (inside : n < length old.regs.progress.items)
+module _ (setup : Setup) (n : ℕ) (engine : ChipState) (old : Device) (before : LedgerState) (tags digests : ℕ) (held : HeldLine)
+    (usable : IsUsableWith setup.shape false old before) (inside : n < length old.regs.progress.items)
     (next : IsNextHeld (get_or old.regs.progress.items n empty_progress) held) where
   abbrev start : Parts
-  start = parts_of engine old before tags digests
+  start = parts_with engine old before tags digests
 
   abbrev register : Progress
   register = get_or old.regs.progress.items n empty_progress
@@ -65,7 +65,7 @@ module _ (setup : Setup) (n : ℕ) (engine : EngineState) (old : Device) (before
   in_use = usable.ready.valid_regs.each_page n empty_progress inside
 
   unarmed : old.regs.group.items ≡ []
-  unarmed = usable.ready.no_group up
+  unarmed = usable.ready.no_group refl
 
   -- the line is one of the page
   pub held_in_range : held.at < layout.data_lines setup.shape
@@ -113,8 +113,8 @@ module _ (setup : Setup) (n : ℕ) (engine : EngineState) (old : Device) (before
   kept_memory new fault it memory was a within = search rules
 
   pub not_unsealed : (new : Device) (after : LedgerState) (tags_now digests_now : ℕ) (fault : LineFault)
-      → HasUnsealed setup held.at held.now start (parts_of engine new after tags_now digests_now) (Err fault)
-      → HasResealed setup n start (parts_of engine new after tags_now digests_now) (Err fault)
+      → HasUnsealed setup held.at held.now start (parts_with engine new after tags_now digests_now) (Err fault)
+      → HasResealed setup n start (parts_with engine new after tags_now digests_now) (Err fault)
   not_unsealed new after tags_now digests_now fault it =
       record {
         place = next.place;
@@ -142,14 +142,14 @@ module _ (setup : Setup) (n : ℕ) (engine : EngineState) (old : Device) (before
       }
     where
       final : Parts
-      final = parts_of engine new after tags_now digests_now
+      final = parts_with engine new after tags_now digests_now
 
   -- ---- the line is unsealed
 
   module _ (mid : Device) (ledger : LedgerState) (tags_mid digests_mid : ℕ) (unsealed : Unsealed)
-      (it : HasUnsealed setup held.at held.now start (parts_of engine mid ledger tags_mid digests_mid) (Ok unsealed)) where
+      (it : HasUnsealed setup held.at held.now start (parts_with engine mid ledger tags_mid digests_mid) (Ok unsealed)) where
     abbrev middle : Parts
-    middle = parts_of engine mid ledger tags_mid digests_mid
+    middle = parts_with engine mid ledger tags_mid digests_mid
 
     abbrev sealing : NextSeal
     sealing = next_seal_of setup.formulas held.at held.next unsealed.plain unsealed.tag_line
@@ -198,7 +198,7 @@ module _ (setup : Setup) (n : ℕ) (engine : EngineState) (old : Device) (before
 
     cut_unarmed : (new : Device) (after : LedgerState) (tags_now digests_now : ℕ) → tags_now ≡ risen tags_mid
         → digests_now ≡ digests_mid → IsCutUnarmed mid new ledger after
-        → HasResealed setup n start (parts_of engine new after tags_now digests_now) (Err AtLine.Cut)
+        → HasResealed setup n start (parts_with engine new after tags_now digests_now) (Err AtLine.Cut)
     cut_unarmed new after tags_now digests_now more_tags same_digests was_cut =
         record {
           place = next.place;
@@ -228,7 +228,7 @@ module _ (setup : Setup) (n : ℕ) (engine : EngineState) (old : Device) (before
         }
       where
         final : Parts
-        final = parts_of engine new after tags_now digests_now
+        final = parts_with engine new after tags_now digests_now
 
         fewer : new.writes < last_count → new.latches < last_count → new.writes + new.latches < old.writes + old.latches + 4
         fewer one two = search rules
@@ -237,7 +237,7 @@ module _ (setup : Setup) (n : ℕ) (engine : EngineState) (old : Device) (before
         (same_digests : digests_now ≡ digests_mid) (in_range : AreInRange setup.formulas) (whole : IsLine unsealed.plain)
         (device : IsDevice mid) where
       abbrev final : Parts
-      final = parts_of engine new after tags_now digests_now
+      final = parts_with engine new after tags_now digests_now
 
       never_tags : NeverFalls tags_mid tags_now
       never_tags = subst (NeverFalls tags_mid) (sym more_tags) (risen_never_falls tags_mid)
@@ -263,7 +263,7 @@ module _ (setup : Setup) (n : ℕ) (engine : EngineState) (old : Device) (before
       -- ---- or while it was armed
 
       cut_armed : IsDevice new → IsResealCutArmed setup.shape sealing mid new ledger after
-          → HasResealed setup n start (parts_of engine new after tags_now digests_now) (Err AtLine.Cut)
+          → HasResealed setup n start (parts_with engine new after tags_now digests_now) (Err AtLine.Cut)
       cut_armed device_now was_cut =
           record {
             place = next.place;
@@ -302,7 +302,7 @@ module _ (setup : Setup) (n : ℕ) (engine : EngineState) (old : Device) (before
 
       resealed : (answer : ℕ × ℕ) → answer.0 ≡ held.at → answer.1 + 1 ≡ length (not_done register)
           → HasResealCommitted setup.shape sealing mid new ledger after
-          → HasResealed setup n start (parts_of engine new after tags_now digests_now) (Ok answer)
+          → HasResealed setup n start (parts_with engine new after tags_now digests_now) (Ok answer)
       resealed answer at_is left_is committed =
           record {
             place = next.place;

@@ -20,9 +20,9 @@ use Rattle.meta_path.specs.Work.{told_line}
 use Rattle.meta_path.specs.Naming.{path_number, named_path, naming_writes, IsNamedTo, IsNamingCut}
 use Rattle.meta_path.proofs.NameLemmas.{length-naming_writes}
 use Rattle.suite.specs.Setup.{Setup}
-use Rattle.pmem_engine.specs.Engine.{EngineState}
+use Rattle.pmem_engine.specs.Engine.{ChipState}
 use Rattle.pmem_engine.specs.Invariants.{IsSound, IsDurable, IsSealStored, IsCounterStored}
-use Rattle.pmem_engine.specs.Parts.{Parts, parts_of, AreTrusted, AreSound, HoldsCounters, lines_redone, meta_line_in}
+use Rattle.pmem_engine.specs.Parts.{Parts, parts_with, AreTrusted, AreSound, HoldsCounters, lines_redone, meta_line_in}
 use Rattle.pmem_engine.specs.Outcomes.{Outcome, going, cut_short, KeepsPlaces, KeepsMeta, CallEffect, OneLossEffect, HasPower, HasSmallGroup, LeavesTrusted, LeavesSound, KeepsMetaWhere}
 use Rattle.pmem_engine.specs.Inner.{HasNamedPath}
 use Rattle.pmem_engine.proofs.CallEnds.ToldLines.{unarmed, whole_lines}
@@ -33,15 +33,15 @@ use Rattle.pmem_engine.proofs.Laws.DeviceRegions.{IsSealStored-kept}
 use Rattle.pmem_engine.proofs.PathNaming.PathNames.{IsMirror, meta_kept, place_kept, sound_at}
 
 -- the first n blocks of the path were named on the board; the engine's copy may be one ahead
-module _ (setup : Setup) (page n : ℕ) (old new : EngineState) (before after : Device) (ledger : LedgerState) (tags digests : ℕ)
-    (its_shape : old.shape ≡ setup.shape) (shape : new.shape ≡ old.shape) (cache : new.cache ≡ old.cache) (down : new.down ≡ old.down)
+module _ (setup : Setup) (page n : ℕ) (old new : ChipState) (before after : Device) (ledger : LedgerState) (tags digests : ℕ)
+    (its_shape : old.shape ≡ setup.shape) (shape : new.shape ≡ old.shape) (cache : new.cache ≡ old.cache)
     (lines : after.lines ≡ redone_told (naming_writes setup.shape old.cache page old.mirror n) before.lines)
     (same_regs : after.regs ≡ before.regs) (size : after.size ≡ before.size) (reads : after.reads ≡ before.reads) where
   abbrev start : Parts
-  start = parts_of old before ledger tags digests
+  start = parts_with old before ledger tags digests
 
   abbrev finish : Parts
-  finish = parts_of new after ledger tags digests
+  finish = parts_with new after ledger tags digests
 
   abbrev now_of : List Line → List Line
   now_of lines = put_lines (naming_writes setup.shape old.cache page old.mirror n) lines
@@ -130,8 +130,8 @@ module _ (setup : Setup) (page n : ℕ) (old new : EngineState) (before after : 
 
 -- ---- the call
 
-module _ (setup : Setup) (page : ℕ) (old new : EngineState) (before after : Device) (ledger : LedgerState) (tags digests : ℕ)
-    (its_shape : old.shape ≡ setup.shape) (shape : new.shape ≡ old.shape) (cache : new.cache ≡ old.cache) (down : new.down ≡ old.down)
+module _ (setup : Setup) (page : ℕ) (old new : ChipState) (before after : Device) (ledger : LedgerState) (tags digests : ℕ)
+    (its_shape : old.shape ≡ setup.shape) (shape : new.shape ≡ old.shape) (cache : new.cache ≡ old.cache)
     (its_page : page < layout.pages setup.shape) (few_levels : setup.shape.levels ≤ 6) (some_sets : 1 ≤ setup.shape.sets)
     (cache_form : IsCacheOf setup.shape old.cache) (form : IsBanksOf setup.shape old.cache)
     (cached : IsPathCached setup.shape old.cache page) (its_mirror : IsMirror setup.shape old.mirror)
@@ -143,11 +143,11 @@ module _ (setup : Setup) (page : ℕ) (old new : EngineState) (before after : De
   levels = setup.shape.levels
 
   pub path_named : IsNamedTo setup.shape old.cache page (levels + 1) old.mirror new.mirror before after
-      → HasNamedPath setup page (parts_of old before ledger tags digests) (parts_of new after ledger tags digests) (Ok tt)
+      → HasNamedPath setup page (parts_with old before ledger tags digests) (parts_with new after ledger tags digests) (Ok tt)
   path_named it =
       record {
         done =
-            named_going setup page (levels + 1) old new before after ledger tags digests its_shape shape cache down it.work.lines
+            named_going setup page (levels + 1) old new before after ledger tags digests its_shape shape cache it.work.lines
             it.work.regs it.work.size (it.work.no_read refl) it.work.steady it.work.live it.work.cuts
             (λ were sound.
             subst (λ e. IsSound setup e (put_lines (naming_writes setup.shape old.cache page old.mirror (levels + 1)) were)
@@ -180,7 +180,6 @@ module _ (setup : Setup) (page : ℕ) (old new : EngineState) (before after : De
             ap (λ told. told_line told (layout.meta_line setup.shape x)) it.work.lines
             ∙ named_off_meta setup.shape old.cache page old.mirror (levels + 1) before.lines x within;
         cache = cache;
-        down = down;
         regs = it.work.regs;
         ledger = refl;
         tags = refl;
@@ -205,24 +204,17 @@ module _ (setup : Setup) (page : ℕ) (old new : EngineState) (before after : De
         shape = old.shape;
         cache = old.cache;
         mirror = named_path setup.shape old.cache page old.mirror (levels + 1);
-        down = old.down;
       }
       same_engine =
-          ap (λ s. record { shape = s; cache = new.cache; mirror = new.mirror; down = new.down }) shape
-          ∙ ap₂ (λ banks m. record { shape = old.shape; cache = banks; mirror = m; down = new.down }) cache it.mirror
-          ∙ ap (λ d. record {
-            shape = old.shape;
-            cache = old.cache;
-            mirror = named_path setup.shape old.cache page old.mirror (levels + 1);
-            down = d;
-          }) down
+          ap (λ s. record { shape = s; cache = new.cache; mirror = new.mirror }) shape
+          ∙ ap₂ (λ banks m. record { shape = old.shape; cache = banks; mirror = m }) cache it.mirror
 
   pub path_cut : (cut : Cut) → IsNamingCut setup.shape old.cache page old.mirror new.mirror before after
-      → HasNamedPath setup page (parts_of old before ledger tags digests) (parts_of new after ledger tags digests) (Err cut)
+      → HasNamedPath setup page (parts_with old before ledger tags digests) (parts_with new after ledger tags digests) (Err cut)
   path_cut cut it =
       record {
         done =
-            named_cut setup page it.n old new before after ledger tags digests its_shape shape cache down it.lines it.regs it.size
+            named_cut setup page it.n old new before after ledger tags digests its_shape shape cache it.lines it.regs it.size
             it.reads it.unsteady it.off it.rose
             (λ were sound.
             (sound_at setup page old were before.regs ledger its_page few_levels some_sets cache_form form cached its_mirror sound
@@ -231,7 +223,6 @@ module _ (setup : Setup) (page : ℕ) (old new : EngineState) (before after : De
         work = λ ok. absurd (true≢false (sym ok));
         meta_lines = λ ok. absurd (true≢false (sym ok));
         cache = cache;
-        down = down;
         regs = it.regs;
         ledger = refl;
         tags = refl;

@@ -26,7 +26,7 @@ use Rattle.meta_path.specs.Naming.{path_number, is_slot_named, named_slot, namin
 use Rattle.meta_path.proofs.NameLemmas.{path_number_low}
 use Rattle.meta_path.proofs.PathFacts.{path_at-lt}
 use Rattle.suite.specs.Setup.{Setup}
-use Rattle.pmem_engine.specs.Engine.{EngineState}
+use Rattle.pmem_engine.specs.Engine.{ChipState}
 use Rattle.pmem_engine.specs.Invariants.{IsSound, stored_meta}
 use Rattle.pmem_engine.specs.Steps.{IsPlaceKept}
 use Rattle.pmem_engine.proofs.Laws.DeviceRegions.{stored_meta-set_shadow, IsPlaceKept-same, IsPlaceKept-trans, IsPlaceKept-set_shadow}
@@ -112,18 +112,17 @@ named_mirror g cache page mirror (suc n) it =
 
 -- ---- sound
 
-module _ (setup : Setup) (page : ℕ) (engine : EngineState) (lines : List Line) (regs : Regs) (ledger : LedgerState)
+module _ (setup : Setup) (page : ℕ) (engine : ChipState) (lines : List Line) (regs : Regs) (ledger : LedgerState)
     (its_page : page < layout.pages setup.shape) (few_levels : setup.shape.levels ≤ 6) (some_sets : 1 ≤ setup.shape.sets)
     (cache_form : IsCacheOf setup.shape engine.cache) (form : IsBanksOf setup.shape engine.cache)
     (cached : IsPathCached setup.shape engine.cache page) (its_mirror : IsMirror setup.shape engine.mirror) where
   -- the engine and the device once the path's first n blocks are named
-  abbrev engine_at : ℕ → EngineState
+  abbrev engine_at : ℕ → ChipState
   engine_at n =
       record {
         shape = engine.shape;
         cache = engine.cache;
         mirror = named_path setup.shape engine.cache page engine.mirror n;
-        down = engine.down;
       }
 
   abbrev lines_at : ℕ → List Line
@@ -135,7 +134,7 @@ module _ (setup : Setup) (page : ℕ) (engine : EngineState) (lines : List Line)
   -- with these shadow lines, after these writes
   abbrev IsSoundWith : ℕ → List (ℕ × Line) → List Line → Type 0
   IsSoundWith n writes shadow =
-      IsSound setup (record { shape = engine.shape; cache = engine.cache; mirror = shadow; down = engine.down })
+      IsSound setup (record { shape = engine.shape; cache = engine.cache; mirror = shadow })
       (put_lines writes (lines_at n)) regs ledger
 
   one_named : (n : ℕ) → n ≤ setup.shape.levels → IsSoundAt n
@@ -149,7 +148,7 @@ module _ (setup : Setup) (page : ℕ) (engine : EngineState) (lines : List Line)
       subst₂ (λ k y. IsSoundWith n ((shadow_line g (entry_line g n k), naming_line g mirror n k y) ∷ []) (with_named g mirror n k y))
       (sym its_number) slot.2
       (IsSound-named setup (engine_at n)
-      (record { shape = engine.shape; cache = engine.cache; mirror = with_named g mirror n number slot.0.position; down = engine.down })
+      (record { shape = engine.shape; cache = engine.cache; mirror = with_named g mirror n number slot.0.position })
       (lines_at n) regs ledger n (set_index g x) slot.0 (naming_line g mirror n number slot.0.position) sound form slot.1
       (Names-with_named g mirror n number slot.0.position low
       (subst (λ k. k < slots g) its_number
@@ -158,7 +157,7 @@ module _ (setup : Setup) (page : ℕ) (engine : EngineState) (lines : List Line)
       (subst (λ y. y + 1 < 2 ^ 32) (sym slot.2)
       (omega (arith, path_at-lt g page n its_page low, meta_lines-most g few_levels))))
       (naming_line-whole g mirror n number slot.0.position now.whole)
-      (record { mirror = refl; shape = refl; cache = refl; down = refl }))
+      (record { mirror = refl; shape = refl; cache = refl }))
     where
       g : Shape
       g = setup.shape

@@ -8,23 +8,23 @@ use Rattle.pmem_base.proofs.LineSets.{put_lines-append}
 use Rattle.board.specs.Device.{Device}
 use Rattle.board.specs.Steps.{HasWritten, WasCut, with_line}
 use Rattle.call_plan.specs.Plans.{for_each}
-use Rattle.call_plan.specs.Bounds.{IsFront, Leaves, AtEnd}
+use Rattle.call_plan.specs.Bounds.{Leaves, AtEnd}
 use Rattle.call_plan.proofs.Leaves.{leaves, leaves_mapped, leaves_more, leaves_for_each}
 use Rattle.commit_regs.specs.Groups.{redone_told}
 use Rattle.commit_regs.proofs.GroupLemmas.{redone-nil}
 use Rattle.meta_path.specs.Blocks.{line_in}
 use Rattle.meta_path.specs.Plans.{cleaned, write_back_plan}
-use Rattle.pmem_engine.specs.Engine.{EngineState}
+use Rattle.pmem_engine.specs.Engine.{ChipState}
 use Rattle.pmem_engine.specs.Flushed.{cache_of}
 use Rattle.pmem_engine.specs.Plans.{with_cache, block_plan, dirty_counter_blocks, counter_block_turn, counter_blocks_plan}
 use Rattle.pmem_engine.specs.KeptLaws.{with_clean, block_entries, AreWrittenBack, IsWrittenInOrder, BlocksAreWrittenInOrder}
 
 -- one block more
-clean-more : (front : List ℕ) (x : ℕ) (engine : EngineState) → with_clean (front ++ x ∷ []) engine ≡ with_clean (x ∷ []) (with_clean front engine)
+clean-more : (front : List ℕ) (x : ℕ) (engine : ChipState) → with_clean (front ++ x ∷ []) engine ≡ with_clean (x ∷ []) (with_clean front engine)
 clean-more [] x engine = refl
 clean-more (y ∷ front) x engine = clean-more front x (with_cache engine (cleaned (cache_of engine) engine.shape.levels y))
 
-entries-more : (front : List ℕ) (x : ℕ) (engine : EngineState)
+entries-more : (front : List ℕ) (x : ℕ) (engine : ChipState)
     → block_entries (front ++ x ∷ []) engine ≡ block_entries front engine ++ block_entries (x ∷ []) (with_clean front engine)
 entries-more [] x engine = refl
 entries-more (y ∷ front) x engine =
@@ -36,20 +36,20 @@ redone-more : (front : List (ℕ × Line)) (entry : ℕ × Line) (told : Option 
 redone-more front entry None = refl
 redone-more front entry (Some lines) = ap Some (put_lines-append front (entry ∷ []) lines)
 
-module _ (first : EngineState) (old : Device) where
+module _ (first : ChipState) (old : Device) where
   abbrev blocks : List ℕ
   blocks = dirty_counter_blocks first
 
   -- these blocks are left, and those before them are written back
-  record AreLeft (later : List ℕ) (engine : EngineState) (now : Device) : Type 0 where
+  record AreLeft (later : List ℕ) (engine : ChipState) (now : Device) : Type 0 where
     front : List ℕ
     both : blocks ≡ front ++ later
     written : AreWrittenBack front first engine old now
 
-  abbrev IsCut : EngineState × Cut → Device → Type 0
+  abbrev IsCut : ChipState × Cut → Device → Type 0
   IsCut left new = IsWrittenInOrder first old new (Err left)
 
-  at_cut : (later : List ℕ) (engine : EngineState) (cut : Cut) (now new : Device) → AreLeft later engine now → WasCut now new → IsCut (engine, cut) new
+  at_cut : (later : List ℕ) (engine : ChipState) (cut : Cut) (now new : Device) → AreLeft later engine now → WasCut now new → IsCut (engine, cut) new
   at_cut later engine cut now new left was = (
     left.front,
     record { later = later; all_of = left.both },
@@ -61,7 +61,7 @@ module _ (first : EngineState) (old : Device) where
     },
   )
 
-  one_more : (x : ℕ) (later : List ℕ) (engine : EngineState) (now new : Device) → AreLeft (x ∷ later) engine now
+  one_more : (x : ℕ) (later : List ℕ) (engine : ChipState) (now new : Device) → AreLeft (x ∷ later) engine now
       → HasWritten now (layout.meta_line engine.shape x) (line_in engine.shape engine.cache engine.shape.levels x) new
       → AreLeft later (with_cache engine (cleaned (cache_of engine) engine.shape.levels x)) new
   one_more x later engine now new left was =
@@ -72,19 +72,19 @@ module _ (first : EngineState) (old : Device) where
             record {
               lines =
                   was.lines ∙ ap (λ told. with_line told (layout.meta_line engine.shape x) (line_in engine.shape engine.cache engine.shape.levels x)) left.written.lines
-                  ∙ ap (λ (e : EngineState). with_line (redone_told (block_entries left.front first) old.lines) (layout.meta_line e.shape x)
+                  ∙ ap (λ (e : ChipState). with_line (redone_told (block_entries left.front first) old.lines) (layout.meta_line e.shape x)
                   (line_in e.shape e.cache e.shape.levels x)) left.written.engine_left
                   ∙ sym (redone-more (block_entries left.front first) _ old.lines)
                   ∙ ap (λ entries. redone_told entries old.lines) (sym (entries-more left.front x first));
               engine_left =
-                  ap (λ (e : EngineState). with_cache e (cleaned (cache_of e) e.shape.levels x)) left.written.engine_left
+                  ap (λ (e : ChipState). with_cache e (cleaned (cache_of e) e.shape.levels x)) left.written.engine_left
                   ∙ sym (clean-more left.front x first);
               regs = was.regs ∙ left.written.regs;
               reads = was.reads ∙ left.written.reads;
             };
       }
 
-  turn : (x : ℕ) (later : List ℕ) (engine : EngineState) (now : Device) → AreLeft (x ∷ later) engine now
+  turn : (x : ℕ) (later : List ℕ) (engine : ChipState) (now : Device) → AreLeft (x ∷ later) engine now
       → Leaves (block_plan engine.shape.levels x engine) (λ end d. AreLeft later end.0 d) (λ left d. IsCut left d) now
   unfolding block_plan write_back_plan Leaves
   turn x later engine now left =
@@ -113,7 +113,7 @@ pub blocks_in_order : BlocksAreWrittenInOrder
 blocks_in_order engine old new end it =
     at_end end (leaves (λ end d. AreWrittenBack (dirty_counter_blocks engine) engine end.0 old d) (λ left d. IsCut engine old left d) (in_order engine old) it)
   where
-    at_end : (end : Result (EngineState × ℕ) (EngineState × Cut))
+    at_end : (end : Result (ChipState × ℕ) (ChipState × Cut))
         → AtEnd (λ end d. AreWrittenBack (dirty_counter_blocks engine) engine end.0 old d) (λ left d. IsCut engine old left d) end new
         → IsWrittenInOrder engine old new end
     at_end (Ok t) it = it

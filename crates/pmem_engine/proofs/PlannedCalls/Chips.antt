@@ -6,14 +6,14 @@ use Rattle.board.specs.Device.{Device}
 use Rattle.call_plan.specs.Plans.{Plan}
 use Rattle.call_plan.specs.Following.{Follows}
 use Rattle.seal_ledger.specs.Ledger.{LedgerState}
-use Rattle.pmem_engine.specs.Engine.{EngineState}
-use Rattle.pmem_engine.specs.Plans.{chip_of, ended_with}
+use Rattle.pmem_engine.specs.Engine.{ChipState}
+use Rattle.pmem_engine.specs.Plans.{chip_with, ended_with}
 use Rattle.pmem_engine.proofs.CallEnds.ErrorAnswers.{is_err_of}
 
-pub same_chip : (engine : EngineState) {ledger other : LedgerState} {tags other_tags digests other_digests : ℕ} → ledger ≡ other → tags ≡ other_tags
-    → digests ≡ other_digests → chip_of engine ledger tags digests ≡ chip_of engine other other_tags other_digests
+pub same_chip : (engine : ChipState) {ledger other : LedgerState} {tags other_tags digests other_digests : ℕ} → ledger ≡ other → tags ≡ other_tags
+    → digests ≡ other_digests → chip_with engine ledger tags digests ≡ chip_with engine other other_tags other_digests
 same_chip engine {other = other} {tags = tags} {digests = digests} e f h =
-    ap (λ l. chip_of engine l tags digests) e ∙ ap₂ (λ t d. chip_of engine other t d) f h
+    ap (λ l. chip_with engine l tags digests) e ∙ ap₂ (λ t d. chip_with engine other t d) f h
 
 -- a part that stopped, as a `?` answers it
 pub ended_with_err : {S F : Type 0} {plan : Plan (S × F) (S × Regs)} {old new : Device} {state : S} {fault : F} (regs : Regs)

@@ -23,9 +23,9 @@ use Rattle.seal_ledger.specs.Ledger.{LedgerState}
 use Rattle.seal_ledger.specs.Notes.{HasMark}
 use Rattle.seal_ledger.proofs.NoteLemmas.{noted_is}
 use Rattle.pmem_engine.specs.declared.resealing.NextSeal.{NextSeal}
-use Rattle.pmem_engine.specs.Engine.{EngineState}
+use Rattle.pmem_engine.specs.Engine.{ChipState}
 use Rattle.pmem_engine.specs.Sealing.{seal_group, begin_group}
-use Rattle.pmem_engine.specs.Plans.{chip_of, ended_with, group_plan}
+use Rattle.pmem_engine.specs.Plans.{chip_with, ended_with, group_plan}
 use Rattle.pmem_engine.specs.GroupLaws.{IsGroupDone, IsGroupLeftArmed, IsOneAct, GroupsAreOneAct}
 use Rattle.pmem_engine.specs.SealPlans.{with_path, with_true_path, with_marked_path, seal_armed, begin_armed}
 
@@ -51,12 +51,12 @@ begin_armed_is g page register block root old now new same its_root progress los
     same_regs new (begin_armed g page register block root now) its_root group progress loss ∙ ap (begin_armed g page register block root) same
 
 -- the mark is made, and then the path is stored and told
-pub marked_path_is : (g : Shape) (mark : Mark) (page : ℕ) (persisted : Bool) (lines : List (ℕ × Line)) (old new : EngineState)
+pub marked_path_is : (g : Shape) (mark : Mark) (page : ℕ) (persisted : Bool) (lines : List (ℕ × Line)) (old new : ChipState)
     (before marked after : LedgerState) (tags digests : ℕ) → HasMark before marked mark → after ≡ with_true_path lines marked
     → new ≡ with_path g page persisted lines old
-    → chip_of new after tags digests ≡ with_marked_path g mark page persisted lines (chip_of old before tags digests)
+    → chip_with new after tags digests ≡ with_marked_path g mark page persisted lines (chip_with old before tags digests)
 marked_path_is g mark page persisted lines old new before marked after tags digests mark_made told stored =
-    ap₂ (λ (engine : EngineState) (ledger : LedgerState). chip_of engine ledger tags digests) stored
+    ap₂ (λ (engine : ChipState) (ledger : LedgerState). chip_with engine ledger tags digests) stored
     (told ∙ ap (with_true_path lines) (noted_is before marked mark mark_made))
 
 -- ---- the ends

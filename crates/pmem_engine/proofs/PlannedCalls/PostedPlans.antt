@@ -16,13 +16,13 @@ use Rattle.meta_path.specs.declared.faults.PathFault.{PathFault}
 use Rattle.suite.specs.Setup.{Setup}
 use Rattle.pmem_engine.specs.declared.fault.Fault.{Fault}
 use Rattle.pmem_engine.specs.declared.fault.LineFault.{LineFault}
-use Rattle.pmem_engine.specs.Engine.{EngineState}
+use Rattle.pmem_engine.specs.Engine.{ChipState}
 use Rattle.pmem_engine.specs.Outcomes.{fault_of_cut, fault_of_line, fault_of_path}
 use Rattle.pmem_engine.specs.Inner.{cached_block}
 use Rattle.pmem_engine.specs.Writing.{overflow_of}
 use Rattle.pmem_engine.specs.Plans.{Chip, with_engine, name_plan, fetch_path_plan}
 use Rattle.pmem_engine.specs.SealPlans.{seal_next_plan, begin_for_plan}
-use Rattle.pmem_engine.specs.WritePlans.{overflow_end, overflow_plan, plain_plan, finish_for_plan, write_posted_plan}
+use Rattle.pmem_engine.specs.WritePlans.{overflow_end, overflow_plan, plain_plan, finish_for_plan, write_plan}
 
 module _ (setup : Setup) (regs : Regs) (write : Posted) where
   abbrev page : ℕ
@@ -53,11 +53,11 @@ module _ (setup : Setup) (regs : Regs) (write : Posted) where
   module _ (chip : Chip) (start : Device) where
     -- the write has come so far
     abbrev pub HasCome : Plan (Chip × Fault) (Chip × Ctr) → Device → Type 0
-    HasCome rest now = HasReached (write_posted_plan setup regs write chip) start rest now
+    HasCome rest now = HasReached (write_plan setup regs write chip) start rest now
 
     begins : HasCome (bind (lifted (λ now. now) fault_of_path (fetch_path_plan setup regs.root page chip)) to_overflow) start
-    unfolding write_posted_plan
-    begins = reached_start (write_posted_plan setup regs write chip) start
+    unfolding write_plan
+    begins = reached_start (write_plan setup regs write chip) start
 
     -- ---- the fetch
 
@@ -67,7 +67,7 @@ module _ (setup : Setup) (regs : Regs) (write : Posted) where
 
     pub isnt_fetched : {new : Device} (after : Chip) (fault : PathFault)
         → Follows (fetch_path_plan setup regs.root page chip) start new (Err (after, fault))
-        → Follows (write_posted_plan setup regs write chip) start new (Err (after, fault_of_path fault))
+        → Follows (write_plan setup regs write chip) start new (Err (after, fault_of_path fault))
     isnt_fetched after fault it = reached_err _ to_overflow begins (lifted_follows (λ (now : Chip). now) fault_of_path it)
 
     -- ---- the counter
@@ -82,7 +82,7 @@ module _ (setup : Setup) (regs : Regs) (write : Posted) where
           reached_ok (overflow_plan setup write.at fetched) (to_plain (fetched, tt)) come
           (subst (λ (r : Result Bool Fault). Follows (overflow_end fetched r) now now (Ok overflows)) (sym is) (is_done {E = Chip × Fault} overflows now))
 
-      pub is_spent : (fault : Fault) → overflow ≡ Err fault → Follows (write_posted_plan setup regs write chip) start now (Err (fetched, fault))
+      pub is_spent : (fault : Fault) → overflow ≡ Err fault → Follows (write_plan setup regs write chip) start now (Err (fetched, fault))
       unfolding overflow_plan
       is_spent fault is =
           reached_err (overflow_plan setup write.at fetched) (to_plain (fetched, tt)) come
@@ -102,7 +102,7 @@ module _ (setup : Setup) (regs : Regs) (write : Posted) where
       is_made made plain it = reached_ok _ (to_finish overflows) come (lifted_follows (λ (now : Chip). now) fault_of_line (as_its it))
 
       pub isnt_made : {new : Device} (after : Chip) (fault : LineFault) → Follows (plain_plan its its_regs write fetched) now new (Err (after, fault))
-          → Follows (write_posted_plan setup regs write chip) start new (Err (after, fault_of_line fault))
+          → Follows (write_plan setup regs write chip) start new (Err (after, fault_of_line fault))
       isnt_made after fault it = reached_err _ (to_finish overflows) come (lifted_follows (λ (now : Chip). now) fault_of_line (as_its it))
 
     -- ---- a page finished
@@ -121,19 +121,19 @@ module _ (setup : Setup) (regs : Regs) (write : Posted) where
 
       pub isnt_finished : {new : Device} (after : Chip) (fault : LineFault)
           → Follows (finish_for_plan its page overflows its_regs made) now new (Err (after, fault))
-          → Follows (write_posted_plan setup regs write chip) start new (Err (after, fault_of_line fault))
+          → Follows (write_plan setup regs write chip) start new (Err (after, fault_of_line fault))
       isnt_finished after fault it =
           reached_err _ (to_name overflows plain) come (lifted_follows (λ (now : Chip). now) fault_of_line (as_finished it))
 
     -- ---- the path named
 
     module _ {now : Device} (finished : Chip × Regs) (plain : Line) (overflows : Bool) (come : HasCome (to_name overflows plain finished) now) where
-      pub is_named : {new : Device} (engine : EngineState) → Follows (name_plan page finished.0.engine) now new (Ok (engine, tt))
+      pub is_named : {new : Device} (engine : ChipState) → Follows (name_plan page finished.0.engine) now new (Ok (engine, tt))
           → HasCome (to_begin overflows plain finished.1 (with_engine finished.0 engine, tt)) new
       is_named engine it = reached_ok _ (to_begin overflows plain finished.1) come (lifted_follows (with_engine finished.0) fault_of_cut it)
 
-      pub isnt_named : {new : Device} (engine : EngineState) (cut : Cut) → Follows (name_plan page finished.0.engine) now new (Err (engine, cut))
-          → Follows (write_posted_plan setup regs write chip) start new (Err (with_engine finished.0 engine, fault_of_cut cut))
+      pub isnt_named : {new : Device} (engine : ChipState) (cut : Cut) → Follows (name_plan page finished.0.engine) now new (Err (engine, cut))
+          → Follows (write_plan setup regs write chip) start new (Err (with_engine finished.0 engine, fault_of_cut cut))
       isnt_named engine cut it = reached_err _ (to_begin overflows plain finished.1) come (lifted_follows (with_engine finished.0) fault_of_cut it)
 
     -- ---- the page begun
@@ -151,7 +151,7 @@ module _ (setup : Setup) (regs : Regs) (write : Posted) where
       is_begun begun it = reached_ok _ (to_seal plain) come (as_begun it)
 
       pub isnt_begun : {new : Device} (after : Chip) (fault : Fault) → Follows (begin_for_plan its page overflows its_regs named) now new (Err (after, fault))
-          → Follows (write_posted_plan setup regs write chip) start new (Err (after, fault))
+          → Follows (write_plan setup regs write chip) start new (Err (after, fault))
       isnt_begun after fault it = reached_err _ (to_seal plain) come (as_begun it)
 
     -- ---- the line sealed
@@ -162,9 +162,9 @@ module _ (setup : Setup) (regs : Regs) (write : Posted) where
       as_sealed {new = new} {end = end} it = subst (λ (s : Setup). Follows (seal_next_plan s write.at plain begun.1 begun.0) now new end) same it
 
       pub is_sealed : {new : Device} (after : Chip) (ctr : Ctr) → Follows (seal_next_plan its write.at plain begun.1 begun.0) now new (Ok (after, ctr))
-          → Follows (write_posted_plan setup regs write chip) start new (Ok (after, ctr))
+          → Follows (write_plan setup regs write chip) start new (Ok (after, ctr))
       is_sealed after ctr it = come.follows _ _ (lifted_follows (λ (now : Chip). now) fault_of_cut (as_sealed it))
 
       pub isnt_sealed : {new : Device} (after : Chip) (cut : Cut) → Follows (seal_next_plan its write.at plain begun.1 begun.0) now new (Err (after, cut))
-          → Follows (write_posted_plan setup regs write chip) start new (Err (after, fault_of_cut cut))
+          → Follows (write_plan setup regs write chip) start new (Err (after, fault_of_cut cut))
       isnt_sealed after cut it = come.follows _ _ (lifted_follows (λ (now : Chip). now) fault_of_cut (as_sealed it))

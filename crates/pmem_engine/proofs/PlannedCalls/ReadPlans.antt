@@ -14,7 +14,7 @@ use Rattle.pmem_engine.specs.declared.fault.Fault.{Fault}
 use Rattle.pmem_engine.specs.declared.fault.LineFault.{LineFault}
 use Rattle.pmem_engine.specs.declared.reading.Unsealed.{Unsealed}
 use Rattle.pmem_engine.specs.Outcomes.{fault_of_path, fault_of_line}
-use Rattle.pmem_engine.specs.Plans.{Chip, its_counter, fetch_path_plan, unseal_plan, read_line_plan}
+use Rattle.pmem_engine.specs.Plans.{Chip, its_counter, fetch_path_plan, unseal_plan, read_plan}
 
 module _ (setup : Setup) (regs : Regs) (at : ℕ) (chip : Chip) where
   abbrev after_fetch : Chip × Unit {0} → Plan (Chip × Fault) (Chip × Line)
@@ -25,8 +25,8 @@ module _ (setup : Setup) (regs : Regs) (at : ℕ) (chip : Chip) where
   -- the path wasn't fetched
   pub unfetched_read : {old new : Device} (after : Chip) (fault : PathFault)
       → Follows (fetch_path_plan setup regs.root (page_of at) chip) old new (Err (after, fault))
-      → Follows (read_line_plan setup regs at chip) old new (Err (after, fault_of_path fault))
-  unfolding read_line_plan
+      → Follows (read_plan setup regs at chip) old new (Err (after, fault_of_path fault))
+  unfolding read_plan
   unfetched_read after fault it = bind_err after_fetch (mapped_follows _ _ it)
 
   module _ {old mid new : Device} (fetched after : Chip) (ctr : Ctr) (counter : ctr ≡ its_counter setup regs at fetched)
@@ -37,11 +37,11 @@ module _ (setup : Setup) (regs : Regs) (at : ℕ) (chip : Chip) where
 
     -- the line was unsealed, or not
     pub unsealed_read : (unsealed : Unsealed) → Follows (unseal_plan setup at ctr fetched) mid new (Ok (after, unsealed))
-        → Follows (read_line_plan setup regs at chip) old new (Ok (after, unsealed.plain))
-    unfolding read_line_plan
+        → Follows (read_plan setup regs at chip) old new (Ok (after, unsealed.plain))
+    unfolding read_plan
     unsealed_read unsealed it = bind_ok after_fetch (mapped_follows _ _ first) (mapped_follows _ _ (its_unsealing it))
 
     pub refused_read : (fault : LineFault) → Follows (unseal_plan setup at ctr fetched) mid new (Err (after, fault))
-        → Follows (read_line_plan setup regs at chip) old new (Err (after, fault_of_line fault))
-    unfolding read_line_plan
+        → Follows (read_plan setup regs at chip) old new (Err (after, fault_of_line fault))
+    unfolding read_plan
     refused_read fault it = bind_ok after_fetch (mapped_follows _ _ first) (mapped_follows _ _ (its_unsealing it))

@@ -19,7 +19,7 @@ use Rattle.pmem_engine.specs.declared.reading.Unsealed.{Unsealed}
 use Rattle.pmem_engine.specs.declared.resealing.HeldLine.{HeldLine}
 use Rattle.pmem_engine.specs.Committing.{next_seal_of}
 use Rattle.pmem_engine.specs.Resealing.{IsNextHeld, line_of_page}
-use Rattle.pmem_engine.specs.Plans.{Chip, chip_of, held_of, register_at, unseal_plan, commit_plan, seal_anew_plan, reseal_plan}
+use Rattle.pmem_engine.specs.Plans.{Chip, chip_with, held_of, register_at, unseal_plan, commit_plan, seal_anew_plan, reseal_plan}
 
 -- the held line, as a value
 pub held_is : (register : Progress) (held : HeldLine) → IsNextHeld register held → held ≡ held_of register
@@ -48,7 +48,7 @@ module _ (setup : Setup) (n : ℕ) (regs : Regs) (chip : Chip) where
 
   module _ (after : Chip) (opened : Unsealed) {old mid : Device} (first : Follows (unseal_plan setup held.at held.now chip) old mid (Ok (after, opened))) where
     abbrev its_end : LedgerState → Chip
-    its_end ledger = chip_of after.engine ledger (risen after.tags) after.digests
+    its_end ledger = chip_with after.engine ledger (risen after.tags) after.digests
 
     -- its commit was cut
     pub reseal_cut : {new : Device} (ledger : LedgerState) (cut : Cut)

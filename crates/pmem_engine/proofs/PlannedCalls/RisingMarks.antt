@@ -28,13 +28,12 @@ use Rattle.pmem_engine.specs.declared.fault.Fault.{Fault}
 use Rattle.pmem_engine.specs.declared.reading.Unsealed.{Unsealed}
 use Rattle.pmem_engine.specs.declared.resealing.HeldLine.{HeldLine}
 use Rattle.pmem_engine.specs.declared.resealing.NextSeal.{NextSeal}
-use Rattle.pmem_engine.specs.Outcomes.{fault_of_line}
 use Rattle.pmem_engine.specs.Inner.{cached_block}
 use Rattle.pmem_engine.specs.Committing.{next_seal_of}
 use Rattle.pmem_engine.specs.Writing.{overflow_of, register_to_finish}
-use Rattle.pmem_engine.specs.Plans.{Chip, with_tags, fetch_parts_of, its_counter, register_at, held_of, armed, with_seal, group_plan, commit_plan, opened_plan, unseal_plan, fetch_path_plan, seal_anew_plan, reseal_plan, oldest_page_plan, turn_plan, name_plan, called, chip_call}
+use Rattle.pmem_engine.specs.Plans.{Chip, with_tags, fetch_parts_of, its_counter, register_at, held_of, armed, with_seal, group_plan, commit_plan, opened_plan, unseal_plan, fetch_path_plan, seal_anew_plan, reseal_plan, oldest_page_plan, turn_plan, name_plan}
 use Rattle.pmem_engine.specs.SealPlans.{begin_page_plan, begin_for_plan, seal_next_plan}
-use Rattle.pmem_engine.specs.WritePlans.{overflow_end, overflow_plan, plain_plan, finish_turn, finish_page_plan, finish_found_plan, finish_for_plan, write_posted_plan, write_plan}
+use Rattle.pmem_engine.specs.WritePlans.{overflow_end, overflow_plan, plain_plan, finish_turn, finish_page_plan, finish_found_plan, finish_for_plan, write_plan}
 use Rattle.pmem_engine.specs.MarkLaws.{marks_at, CutMakesAFront, KeepsMarks, CutWritesMakeFronts, CutTurnsMakeFronts, WritesKeepMarks, TurnsKeepMarks}
 
 -- marks that are a front of others
@@ -234,8 +233,8 @@ seal_next setup at plain regs chip =
     read_so (same chip.ledger.marks) (λ tags. mapped_so _ _ (group (λ (c : Chip). c.ledger.marks) _ _ _ (one_more chip.ledger.marks _)))
 
 write_posted : (setup : Setup) (regs : Regs) (posted : Posted) (chip : Chip)
-    → Rises of_chip of_chip chip.ledger.marks (write_posted_plan setup regs posted chip)
-unfolding write_posted_plan
+    → Rises of_chip of_chip chip.ledger.marks (write_plan setup regs posted chip)
+unfolding write_plan
 write_posted setup regs posted chip =
     bind_so _ (mapped_so _ _ (fetch_path setup regs.root (page_of posted.at) chip)) (λ fetched.
     bind_so _ (overflow setup posted.at fetched.0) (λ overflows.
@@ -246,11 +245,6 @@ write_posted setup regs posted chip =
     mapped_so _ _ (seal_next setup posted.at made.1 begun.1 begun.0)))))))
 
 -- ---- the calls
-
-up_or_down : {A F : Type 0} (fault : F → Fault) (chip : Chip) {plan : Plan (Chip × F) (Chip × A)} → Rises of_chip of_chip chip.ledger.marks plan
-    → Rises of_chip of_chip chip.ledger.marks (chip_call fault chip plan)
-unfolding called
-up_or_down fault chip it = either _ (stop_so (same chip.ledger.marks)) (mapped_so _ _ it)
 
 oldest_page : (setup : Setup) (regs : Regs) (chip : Chip) (registers : List Progress)
     → Rises of_chip of_chip chip.ledger.marks (oldest_page_plan setup regs chip registers)
@@ -278,13 +272,13 @@ module _ {A : Type 0} (chip : Chip) (plan : Plan (Chip × Fault) (Chip × A)) (i
       at_end (Err t) it = it
 
 pub write_front : CutWritesMakeFronts
-write_front setup regs posted chip = marks_front chip (write_plan setup regs posted chip) (up_or_down (λ fault. fault) chip (write_posted setup regs posted chip))
+write_front setup regs posted chip = marks_front chip (write_plan setup regs posted chip) (write_posted setup regs posted chip)
 
 pub turn_front : CutTurnsMakeFronts
-turn_front setup regs chip = marks_front chip (turn_plan setup regs chip) (up_or_down fault_of_line chip (oldest_page setup regs chip regs.progress.items))
+turn_front setup regs chip = marks_front chip (turn_plan setup regs chip) (mapped_so _ _ (oldest_page setup regs chip regs.progress.items))
 
 pub write_keeps : WritesKeepMarks
-write_keeps setup regs posted chip = marks_kept chip (write_plan setup regs posted chip) (up_or_down (λ fault. fault) chip (write_posted setup regs posted chip))
+write_keeps setup regs posted chip = marks_kept chip (write_plan setup regs posted chip) (write_posted setup regs posted chip)
 
 pub turn_keeps : TurnsKeepMarks
-turn_keeps setup regs chip = marks_kept chip (turn_plan setup regs chip) (up_or_down fault_of_line chip (oldest_page setup regs chip regs.progress.items))
+turn_keeps setup regs chip = marks_kept chip (turn_plan setup regs chip) (mapped_so _ _ (oldest_page setup regs chip regs.progress.items))

@@ -1,5 +1,5 @@
 -- The ends of a turn, as its plan has them.
-use Rattle.std.proofs.Common.{◌≡◌, ℕ, ◌<◌, true, false, List, [], ◌∷◌, Option, Some, None, Result, Ok, Err, length, refl, sym, subst, arith}
+use Rattle.std.proofs.Common.{◌≡◌, ℕ, ◌<◌, List, [], ◌∷◌, Option, Some, None, Result, Ok, Err, length, sym, subst, arith}
 use Rattle.pmem_base.specs.declared.registers.Progress.{Progress}
 use Rattle.pmem_base.specs.declared.registers.Regs.{Regs}
 use Rattle.board.specs.Device.{Device}
@@ -8,24 +8,15 @@ use Rattle.call_plan.specs.Following.{Follows}
 use Rattle.call_plan.proofs.Steps.{is_done}
 use Rattle.call_plan.proofs.Bind.{mapped_follows}
 use Rattle.suite.specs.Setup.{Setup}
-use Rattle.pmem_engine.specs.declared.fault.Fault.TheVariants as Fail
 use Rattle.pmem_engine.specs.declared.fault.LineFault.{LineFault}
-use Rattle.pmem_engine.specs.Outcomes.{of_line, fault_of_line, outcome_of}
-use Rattle.pmem_engine.specs.Inner.{ended_by}
-use Rattle.pmem_engine.specs.Plans.{Chip, with_engine, reseal_plan, oldest_page_plan, turn_plan}
+use Rattle.pmem_engine.specs.Plans.{Chip, reseal_plan, oldest_page_plan, turn_plan}
 use Rattle.pmem_engine.proofs.PageLines.TurnOutcomes.{turned_of}
-use Rattle.pmem_engine.proofs.PlannedCalls.CalledEngines.{called_down, called_up, called_end}
 
 module _ (setup : Setup) (regs : Regs) (chip : Chip) where
-  pub turn_down : (d : Device) → chip.engine.down ≡ true → Follows (turn_plan setup regs chip) d d (Err (chip, Fail.Down))
-  turn_down d down =
-      called_down (λ (old : Chip). old.engine) with_engine fault_of_line chip (oldest_page_plan setup regs chip regs.progress.items) d down
-
-  pub turn_idle : (d : Device) → chip.engine.down ≡ false → regs.progress.items ≡ [] → Follows (turn_plan setup regs chip) d d (Ok (chip, None))
+  pub turn_idle : (d : Device) → regs.progress.items ≡ [] → Follows (turn_plan setup regs chip) d d (Ok (chip, None))
   unfolding oldest_page_plan
-  turn_idle d up none =
-      called_up (λ (old : Chip). old.engine) with_engine fault_of_line chip (oldest_page_plan setup regs chip regs.progress.items) up
-      (mapped_follows _ _ (subst (λ items. Follows (oldest_page_plan setup regs chip items) d d (Ok (chip, None))) (sym none) (is_done (chip, None) d)))
+  turn_idle d none =
+      mapped_follows _ _ (subst (λ items. Follows (oldest_page_plan setup regs chip items) d d (Ok (chip, None))) (sym none) (is_done (chip, None) d))
 
   module _ {old new : Device} (after : Chip) where
     its_page : (registers : List Progress) (answer : Result (ℕ × ℕ) LineFault) → 0 < length registers
@@ -38,12 +29,8 @@ module _ (setup : Setup) (regs : Regs) (chip : Chip) where
     its_page (register ∷ others) (Err fault) some it = mapped_follows _ _ it
 
     -- a line was to be sealed
-    pub turn_end : (answer : Result (ℕ × ℕ) LineFault) → chip.engine.down ≡ false → 0 < length regs.progress.items
+    pub turn_end : (answer : Result (ℕ × ℕ) LineFault) → 0 < length regs.progress.items
         → Follows (reseal_plan setup 0 regs chip) old new (ended answer after)
-        → Follows (turn_plan setup regs chip) old new (ended (turned_of answer) (with_engine after (ended_by after.engine (outcome_of (of_line answer)))))
-    turn_end (Ok sealed) up some it =
-        called_end (λ (old : Chip). old.engine) with_engine fault_of_line chip (oldest_page_plan setup regs chip regs.progress.items) up (λ t. refl)
-        (Ok (Some sealed)) after (its_page regs.progress.items (Ok sealed) some it)
-    turn_end (Err fault) up some it =
-        called_end (λ (old : Chip). old.engine) with_engine fault_of_line chip (oldest_page_plan setup regs chip regs.progress.items) up (λ t. refl)
-        (Err fault) after (its_page regs.progress.items (Err fault) some it)
+        → Follows (turn_plan setup regs chip) old new (ended (turned_of answer) after)
+    turn_end (Ok sealed) some it = mapped_follows _ _ (its_page regs.progress.items (Ok sealed) some it)
+    turn_end (Err fault) some it = mapped_follows _ _ (its_page regs.progress.items (Err fault) some it)

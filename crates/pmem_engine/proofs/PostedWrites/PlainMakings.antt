@@ -23,8 +23,7 @@ use Rattle.pmem_engine.specs.Parts.{Parts, AreTrusted}
 use Rattle.pmem_engine.specs.CallFacts.{IsWork, unseal_work, unsealed_count}
 use Rattle.pmem_engine.specs.Inner.{HasUnsealed, IsLastCounter}
 use Rattle.pmem_engine.specs.Writing.{HasMadePlain}
-use Rattle.pmem_engine.proofs.PageLines.PageFinishes.{same_parts}
-use Rattle.pmem_engine.proofs.CallEnds.StillParts.{done_reading}
+use Rattle.pmem_engine.proofs.CallEnds.StillParts.{nothing_done, left_alone}
 use Rattle.pmem_engine.proofs.CallEnds.ExactWork.{work_alone, unseal_worked}
 
 -- ---- a write of a whole line
@@ -75,14 +74,14 @@ pub plain_whole : (setup : Setup) (write : Posted) (parts : Parts) → IsPosted 
     → HasMadePlain setup write parts parts (Ok write.line)
 plain_whole setup write parts posted whole =
     record {
-      done = done_reading setup parts parts (same_parts setup parts);
+      done = nothing_done setup parts;
       answered =
           λ trusted cached. (
             whole_answer setup write parts posted whole trusted (last_seal parts.ledger.marks write.at) refl,
             λ shorter. absurd (omega (arith, shorter, whole)),
           );
       unrefused = λ sound cached. tt;
-      whole = λ is. (refl, record { engine = refl; device = refl; ledger = refl; tags = refl; digests = refl });
+      whole = λ is. (refl, left_alone parts);
       engine = refl;
       lines = refl;
       regs = refl;
@@ -92,7 +91,7 @@ plain_whole setup write parts posted whole =
       work =
           λ ok.
           work_alone (unseal_work (unsealed_count write)) parts parts (ap (λ n. 2 * n) (none_unsealed write whole)) refl refl
-          (none_unsealed write whole) refl (record { engine = refl; device = refl; ledger = refl; tags = refl; digests = refl });
+          (none_unsealed write whole) refl (left_alone parts);
       cut_unpowered = λ is. absurd (true≢false (ap is_ok is));
     }
 

@@ -15,7 +15,7 @@ use Rattle.suite.specs.Setup.{Setup}
 use Rattle.pmem_engine.specs.declared.fault.Fault.{Fault}
 use Rattle.pmem_engine.specs.declared.fault.Fault.TheVariants as Fail
 use Rattle.pmem_engine.specs.Parts.{Parts, AreTrusted}
-use Rattle.pmem_engine.specs.Engine.{EngineState}
+use Rattle.pmem_engine.specs.Engine.{ChipState}
 use Rattle.pmem_engine.specs.Outcomes.{outcome_of, TakesSteps, TakesAtMost, TakesFewer}
 use Rattle.pmem_engine.specs.CallFacts.{IsWork, begin_work, KeepsButPath, KeepsOtherMeta, IsUnderMinorZero, AreUnderMinorZero}
 use Rattle.pmem_engine.specs.Inner.{cached_block}
@@ -73,7 +73,7 @@ module _ (setup : Setup) (at : ℕ) (old new : Parts) (answer : Result Unit Faul
             work_alone (begin_work setup.shape 0) old new refl refl (omega arith) refl (omega arith) it.alone;
         cache =
             kept_same setup.shape (page_of at) old.engine.cache new.engine.cache
-            (ap (λ (e : EngineState). e.cache) it.alone.engine);
+            (ap (λ (e : ChipState). e.cache) it.alone.engine);
         meta_lines =
             λ ok x within apart.
             ap (λ (d : Device). told_line d.lines (meta_line setup.shape x)) it.alone.device;

@@ -1,6 +1,6 @@
 -- What a write answers where a part ended it, by the part's answer.
 use Rattle.std.proofs.lemmas.Grind.{common_steps}
-use Rattle.std.proofs.Common.{rules, ℕ, ◌≡◌, ◌<◌, ◌≤◌, ◌+◌, ◌*◌, ◌++◌, inl, inr, true, List, [], ◌∷◌, length, IsTrue, Option, Some, None, Err, sym, ap, subst, ◌∙◌, arith}
+use Rattle.std.proofs.Common.{rules, ℕ, ◌≡◌, ◌<◌, ◌≤◌, ◌+◌, ◌*◌, ◌++◌, inl, inr, true, List, [], ◌∷◌, length, IsTrue, Option, Some, None, Result, Err, sym, ap, subst, ◌∙◌, arith}
 use Rattle.std.specs.Prelude.{◌||◌, nat_lt, unwrap_or, is_none, IsSome}
 use Rattle.std.proofs.lemmas.Bool.{true≢false, cond-false, lt-ltb}
 use Rattle.std.proofs.lemmas.List.{append_assoc, append-nil, length-append}
@@ -20,11 +20,16 @@ use Rattle.plain_model.specs.Fits.{IsResealOf}
 use Rattle.pmem_engine.specs.declared.fault.Fault.{Fault}
 use Rattle.pmem_engine.specs.declared.fault.LineFault.{LineFault}
 use Rattle.pmem_engine.specs.declared.fault.LineFault.TheVariants as AtLine
-use Rattle.pmem_engine.specs.Parts.{Parts, AreTrusted, AreSound}
+use Rattle.pmem_engine.specs.Parts.{Parts, regs_of, AreTrusted, AreSound}
 use Rattle.pmem_engine.specs.Outcomes.{fault_of_path, fault_of_line, outcome_of_fault, is_seal_of, is_sealed_by, TakesAtMost}
 use Rattle.pmem_engine.specs.CallFacts.{IsMemory, IsDownAnswer, IsUnrefused, TakesWithin, TakesWithinOfLive, moment_in, IsPartOf, IsRefusedLine, AreMarksOfWrite, AnswersWrite, write_bound, TakesSpent, TakesOfWrite, IsPastFetch, IsUnderMinorZero, AreUnderMinorZero, AreInWriteOrder}
 use Rattle.pmem_engine.specs.Inner.{AnswersFetch, HasFetched}
-use Rattle.pmem_engine.specs.Writing.{AnswersPlain, IsFrontOf, IsStoppedAt, HasFinishMarks, AnswersFinish, CountsFinish, UpWriteOutcome}
+use Rattle.pmem_engine.specs.Writing.{AnswersPlain, IsFrontOf, IsStoppedAt, HasFinishMarks, AnswersFinish, CountsFinish}
+use Rattle.pmem_engine.specs.Calls.{HasWrittenLine}
+use Rattle.call_plan.specs.Plans.{ended}
+use Rattle.call_plan.specs.Following.{Follows}
+use Rattle.pmem_engine.specs.Plans.{chip_in}
+use Rattle.pmem_engine.specs.WritePlans.{write_plan}
 use Rattle.pmem_engine.proofs.CallEnds.ErrorAnswers.{path_not_down, path_unrefused}
 use Rattle.pmem_engine.proofs.CheckedReads.LineReads.{past_fault, most_of_within}
 use Rattle.pmem_engine.proofs.PostedWrites.WriteParts.{IsWritePart, fetch_part}
@@ -84,6 +89,18 @@ unsealed_order at made few minors = search (rules, append-nil, All-nil)
 pub none_order : (at : ℕ) → AreInWriteOrder at []
 none_order at = unsealed_order at [] (omega arith) (All-nil IsUnderMinorZero)
 
+-- the board followed the write's plan
+abbrev pub IsWritePlanned : Setup → Posted → Parts → Parts → Result Ctr Fault → Type 0
+IsWritePlanned setup write old new answer =
+    Follows (write_plan setup (regs_of old) write (chip_in old)) old.device new.device (ended answer (chip_in new))
+
+-- then this is the write's relation
+abbrev pub IsWriteEnd : Setup → Posted → Parts → Parts → Result Ctr Fault → Type 0
+IsWriteEnd setup write old new answer = IsWritePlanned setup write old new answer → HasWrittenLine setup write old new answer
+
+pub few_in_order : (at : ℕ) (made : List Mark) → AreInWriteOrder at made → length made ≤ 66
+few_in_order at made it = search (rules, length-append)
+
 pub stopped : (setup : Setup) (write : Posted) (old new : Parts) (made : List Mark) (fault : Fault)
     → IsWritePart setup write.at (outcome_of_fault fault) made old new
     → IsExit setup write old new made fault
@@ -97,10 +114,12 @@ pub stopped : (setup : Setup) (write : Posted) (old new : Parts) (made : List Ma
     → (AreTrusted setup old → (memory : Memory) → IsMemory setup memory old
     → marks_of_write setup.formulas (moment_in setup memory old) write ≡ None
     → TakesSpent setup.shape (outcome_of_fault fault) old new)
-    → UpWriteOutcome setup write old new (Err fault)
-stopped setup write old new made fault part exit marks answered unrefused not_down steps steps_of_spent =
+    → IsWriteEnd setup write old new (Err fault)
+stopped setup write old new made fault part exit marks answered unrefused not_down steps steps_of_spent planned =
     record {
+      plan = planned;
       made = made;
+      not_down = not_down;
       done = part.done;
       marks = marks;
       memory =
@@ -110,15 +129,14 @@ stopped setup write old new made fault part exit marks answered unrefused not_do
           (part.memory_kept trusted memory was);
       answered = answered;
       unrefused = unrefused;
-      not_down = not_down;
       sealed_before = λ trusted a within sealed other. part.sealed_before trusted a within sealed;
       path_named = λ ok. absurd (true≢false (sym ok));
       path_fetched = exit.path_fetched;
       order = exit.order;
+      few_marks = few_in_order write.at made exit.order;
       own_sealed = λ ok. absurd (true≢false (sym ok));
       few_steps = exit.few_steps;
       work = tt;
-      down = part.down;
       steps = steps;
       steps_of_spent = steps_of_spent;
       block_written = λ trusted. tt;
@@ -142,7 +160,8 @@ unfetched_steps : (setup : Setup) (write : Posted) (old new : Parts) (asked : Op
 unfetched_steps setup write old new v4 v5 says path dirty = search rules
 
 pub written_unfetched : (setup : Setup) (write : Posted) (old new : Parts) (fault : PathFault)
-    → HasFetched setup (page_of write.at) old new (Err fault) → UpWriteOutcome setup write old new (Err (fault_of_path fault))
+    → HasFetched setup (page_of write.at) old new (Err fault)
+    → IsWriteEnd setup write old new (Err (fault_of_path fault))
 written_unfetched setup write old new fault it =
     stopped setup write old new [] (fault_of_path fault) (fetch_part setup write.at old new (Err fault) it)
     (record {

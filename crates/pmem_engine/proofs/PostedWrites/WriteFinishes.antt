@@ -136,7 +136,6 @@ module _ (setup : Setup) (at : ℕ) (old new : Parts) (answer : Result Unit Line
             (or_parts (is_sealed_by it.made at) (is_sealed_by front.left at)
             (sym (list_any-append (is_seal_of at) it.made front.left)
             ∙ ap (λ ms. is_sealed_by ms at) (sym front.front) ∙ none)).0;
-        down = ap (λ engine. engine.down) it.engine;
       }
 
   left_out : HasLeftOut old new answer → HasFinishedSome setup at (λ memory. []) old new answer

@@ -55,20 +55,19 @@ kept_but_path g page persisted lines old new it bank set = search (rules, cases_
 
 -- what storing a path makes of the cache, as the engine says it
 pub stored_path : (g : Shape) (page : ℕ) (persisted : Bool) (lines : List (ℕ × Line)) (old new : CacheState) (mirror : List Line)
-    (down : Bool) → old.shape ≡ g → new.shape ≡ old.shape → IsPathOf g page lines → IsPathCached g old.banks page
+    → old.shape ≡ g → new.shape ≡ old.shape → IsPathOf g page lines → IsPathCached g old.banks page
     → IsBanksOf old.shape old.banks → IsBanksOf new.shape new.banks
     → (IsPathOf old.shape page lines → IsStoredTo old.shape page persisted lines (old.shape.levels + 1) old new)
     → (IsPathOf old.shape page lines → KeepsSlots old.shape page persisted lines old.banks new.banks)
     → (IsPathCached old.shape old.banks page → IsPathCached old.shape new.banks page)
-    → HasStoredPath g page persisted lines (record { shape = g; cache = old.banks; mirror = mirror; down = down })
-    (record { shape = g; cache = new.banks; mirror = mirror; down = down })
-stored_path g page persisted lines old new mirror down its_shape same path cached before after stored slots still =
+    → HasStoredPath g page persisted lines (record { shape = g; cache = old.banks; mirror = mirror })
+    (record { shape = g; cache = new.banks; mirror = mirror })
+stored_path g page persisted lines old new mirror its_shape same path cached before after stored slots still =
     let its_path : IsPathOf old.shape page lines = subst (λ s. IsPathOf s page lines) (sym its_shape) path in
     record {
       path = path;
       shape = refl;
       mirror = refl;
-      down = refl;
       slots = subst (λ s. KeepsSlots s page persisted lines old.banks new.banks) its_shape (slots its_path);
       kept =
           subst (λ s. KeepsButPath s page old.banks new.banks) its_shape

@@ -22,11 +22,11 @@ use Rattle.board.specs.Steps.{Tells}
 use Rattle.line_seal.specs.Seals.{with_tag}
 use Rattle.seal_ledger.specs.Ledger.{LedgerState}
 use Rattle.pmem_engine.specs.declared.resealing.NextSeal.{NextSeal}
-use Rattle.pmem_engine.specs.Engine.{EngineState}
+use Rattle.pmem_engine.specs.Engine.{ChipState}
 use Rattle.pmem_engine.specs.Truth.{true_block}
 use Rattle.pmem_engine.specs.Invariants.{IsTrusted}
 use Rattle.pmem_engine.specs.Sealed.{sealed_counter, sealed_block, IsSealed}
-use Rattle.pmem_engine.specs.Parts.{parts_of}
+use Rattle.pmem_engine.specs.Parts.{parts_with}
 use Rattle.pmem_engine.specs.Outcomes.{is_touching, NeverFalls}
 use Rattle.pmem_engine.specs.Committing.{next_seal_of}
 use Rattle.pmem_engine.specs.Inner.{cached_block}
@@ -39,7 +39,7 @@ use Rattle.pmem_engine.proofs.Seals.GroupCommits.{IsCommit}
 
 -- the seal about to be committed is one of a line under its next counter, with its page's path made anew
 pub record IsPathSealing (setup : Setup) (at : ℕ) (tag_line : Line) (persisted : Bool) (lines : List (ℕ × Line)) (root : List ℕ)
-    (engine : EngineState) (old : Device) : Type 0 where
+    (engine : ChipState) (old : Device) : Type 0 where
   pub path : IsRenewing setup (page_of at) (raised_block setup.shape engine at) lines root engine
   pub its_line : at < layout.data_lines setup.shape
   pub low : minor_of (cached_block setup.shape engine (page_of at)) (index_in_page at) < 127
@@ -50,7 +50,7 @@ pub record IsPathSealing (setup : Setup) (at : ℕ) (tag_line : Line) (persisted
   pub size : old.size ≡ layout.device_lines setup.shape
 
 module _ (setup : Setup) (at : ℕ) (plain tag_line : Line) (persisted : Bool) (lines : List (ℕ × Line)) (root : List ℕ)
-    (engine engine_now : EngineState) (old new : Device) (before after : LedgerState) (tags digests tags_now digests_now : ℕ)
+    (engine engine_now : ChipState) (old new : Device) (before after : LedgerState) (tags digests tags_now digests_now : ℕ)
     (it : IsPathSealing setup at tag_line persisted lines root engine old)
     (done : HasPathSealed setup.shape
     (next_seal_of setup.formulas at (next_counter_of setup.shape engine at) plain tag_line) persisted
@@ -124,7 +124,7 @@ module _ (setup : Setup) (at : ℕ) (plain tag_line : Line) (persisted : Bool) (
   -- it is one commit
   pub sealing : NeverFalls tags tags_now → NeverFalls digests digests_now
       → IsCommit setup (seal_group setup.shape next persisted block) mark page persisted block
-      (parts_of engine old before tags digests) (parts_of engine_now new after tags_now digests_now)
+      (parts_with engine old before tags digests) (parts_with engine_now new after tags_now digests_now)
   sealing never_tags never_digests =
       record {
         unarmed = it.unarmed;

@@ -28,11 +28,11 @@ use Rattle.meta_path.specs.Storing.{IsRenewed}
 use Rattle.plain_model.specs.View.{plain_line}
 use Rattle.plain_model.specs.Bounds.{path_length}
 use Rattle.pmem_engine.specs.declared.resealing.NextSeal.{NextSeal}
-use Rattle.pmem_engine.specs.Engine.{EngineState}
+use Rattle.pmem_engine.specs.Engine.{ChipState}
 use Rattle.pmem_engine.specs.Invariants.{IsTrusted}
-use Rattle.pmem_engine.specs.Parts.{Parts, parts_of, lines_redone, AreTrusted}
+use Rattle.pmem_engine.specs.Parts.{Parts, parts_with, lines_redone, AreTrusted}
 use Rattle.pmem_engine.specs.Outcomes.{going, cut_short, is_sealed_by, NeverFalls, OneLossEffect}
-use Rattle.pmem_engine.specs.CallFacts.{IsUsable, IsPathNamedInMirror}
+use Rattle.pmem_engine.specs.CallFacts.{IsUsableWith, IsPathNamedInMirror}
 use Rattle.pmem_engine.specs.Committing.{next_seal_of, HasCommitted, IsCutArmed}
 use Rattle.pmem_engine.specs.Inner.{cached_block}
 use Rattle.pmem_engine.specs.Sealing.{next_counter_of, raised_block, seal_steps, seal_group, HasPathSealed, HasSealCommitted, IsNothingDone, IsSealCut, HasSealedNext}
@@ -47,15 +47,15 @@ use Rattle.pmem_engine.proofs.CallEnds.MetaLines.{committed_at, seal_off_meta}
 use Rattle.pmem_engine.proofs.Seals.GroupCommits.{IsCommit, block_true, comes_committed, done_committed, done_cut}
 use Rattle.pmem_engine.proofs.Seals.PathSeals.{IsPathSealing, sealing}
 
-module _ (setup : Setup) (at : ℕ) (plain : Line) (engine : EngineState) (old : Device) (before : LedgerState) (tags digests : ℕ)
-    (usable : IsUsable setup.shape engine old before) (up : engine.down ≡ false) where
+module _ (setup : Setup) (at : ℕ) (plain : Line) (engine : ChipState) (old : Device) (before : LedgerState) (tags digests : ℕ)
+    (usable : IsUsableWith setup.shape false old before) where
   abbrev start : Parts
-  start = parts_of engine old before tags digests
+  start = parts_with engine old before tags digests
 
   -- the board was cut, and nothing done
   pub seal_unread : (new : Device) (tags_now digests_now : ℕ) → tags_now ≡ tags → NeverFalls digests digests_now → (cut : Cut) → WasCut old new
       → 4 ≤ seal_steps old.regs.loss (next_counter_of setup.shape engine at)
-      → HasSealedNext setup at plain start (parts_of engine new before tags_now digests_now) (Err cut)
+      → HasSealedNext setup at plain start (parts_with engine new before tags_now digests_now) (Err cut)
   seal_unread new tags_now digests_now same_tags never_digests cut was some =
       record {
         made = [];
@@ -65,7 +65,6 @@ module _ (setup : Setup) (at : ℕ) (plain : Line) (engine : EngineState) (old :
         plain_now = λ a. refl;
         path_cached = λ ok. absurd (true≢false (sym ok));
         path_named = λ ok. absurd (true≢false (sym ok));
-        down = refl;
         steps =
             search rules;
         work = tt;
@@ -88,9 +87,9 @@ some_written false n its none = omega (arith, its, none)
 pub some_steps : (loss : ℕ) (ctr : Ctr) → 4 ≤ seal_steps loss ctr
 some_steps loss ctr = search rules
 
-module _ (setup : Setup) (at : ℕ) (plain tag_line : Line) (persisted : Bool) (engine engine_now : EngineState) (old mid new : Device)
+module _ (setup : Setup) (at : ℕ) (plain tag_line : Line) (persisted : Bool) (engine engine_now : ChipState) (old mid new : Device)
     (before after : LedgerState) (tags digests tags_now digests_now : ℕ) (lines : List (ℕ × Line)) (root : List ℕ)
-    (usable : IsUsable setup.shape engine old before) (up : engine.down ≡ false) (few : setup.shape.levels ≤ 6)
+    (usable : IsUsableWith setup.shape false old before) (few : setup.shape.levels ≤ 6)
     (in_range : AreInRange setup.formulas) (inside : at < layout.data_lines setup.shape) (whole : IsLine plain)
     (cached : IsPathCached setup.shape engine.cache (page_of at)) (named : IsPathNamedInMirror setup.shape engine (page_of at))
     (minor_low : minor_of (cached_block setup.shape engine (page_of at)) (index_in_page at) < 127)
@@ -102,13 +101,13 @@ module _ (setup : Setup) (at : ℕ) (plain tag_line : Line) (persisted : Bool) (
     (more_tags : tags_now ≡ risen tags) (more_digests : digests_now ≡ risen_times (path_length setup.shape) digests)
     (device : IsDevice mid) where
   abbrev first : Parts
-  first = parts_of engine old before tags digests
+  first = parts_with engine old before tags digests
 
   abbrev middle : Parts
-  middle = parts_of engine mid before tags digests
+  middle = parts_with engine mid before tags digests
 
   abbrev final : Parts
-  final = parts_of engine_now new after tags_now digests_now
+  final = parts_with engine_now new after tags_now digests_now
 
   abbrev ctr : Ctr
   ctr = next_counter_of setup.shape engine at
@@ -129,7 +128,7 @@ module _ (setup : Setup) (at : ℕ) (plain tag_line : Line) (persisted : Bool) (
   position = counter_position setup.shape (page_of at)
 
   was_unarmed : old.regs.group.items ≡ []
-  was_unarmed = usable.ready.no_group up
+  was_unarmed = usable.ready.no_group refl
 
   mid_unarmed : mid.regs.group.items ≡ []
   mid_unarmed = ap (λ regs. regs.group.items) read.regs ∙ was_unarmed
@@ -181,7 +180,6 @@ module _ (setup : Setup) (at : ℕ) (plain tag_line : Line) (persisted : Bool) (
           plain_now = plain_after done.noted.marks;
           path_cached = λ ok. absurd (true≢false (sym ok));
           path_named = λ ok. absurd (true≢false (sym ok));
-          down = done.stored.down;
           steps =
               search rules;
           work = tt;
@@ -202,7 +200,6 @@ module _ (setup : Setup) (at : ℕ) (plain tag_line : Line) (persisted : Bool) (
           plain_now = plain_after done.noted.marks;
           path_cached = λ ok. done.stored.cached;
           path_named = λ ok. path_named;
-          down = done.stored.down;
           steps =
               search rules;
           work =
@@ -254,12 +251,11 @@ module _ (setup : Setup) (at : ℕ) (plain tag_line : Line) (persisted : Bool) (
         plain_now = λ a. ap (λ ledger. plain_line setup.formulas ledger.marks a) was.ledger;
         path_cached = λ ok. absurd (true≢false (sym ok));
         path_named = λ ok. absurd (true≢false (sym ok));
-        down = ap (λ e. e.down) was.engine;
         steps =
             search rules;
         work = tt;
         cache =
-            kept_same setup.shape (page_of at) engine.cache engine_now.cache (ap (λ (e : EngineState). e.cache) was.engine);
+            kept_same setup.shape (page_of at) engine.cache engine_now.cache (ap (λ (e : ChipState). e.cache) was.engine);
         meta_lines = λ ok. absurd (true≢false (sym ok));
         block_written = λ trusted ok. absurd (true≢false (sym ok));
       }

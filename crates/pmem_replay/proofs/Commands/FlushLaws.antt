@@ -10,7 +10,7 @@ use Rattle.meta_cache.specs.Banks.{set_of, set_index, is_cached_dirty}
 use Rattle.meta_cache.proofs.SlotLemmas.{dirty_slot, All-stands}
 use Rattle.suite.specs.Setup.{Setup}
 use Rattle.pmem_engine.specs.declared.fault.Fault.TheVariants as Fail
-use Rattle.pmem_engine.specs.Engine.{EngineState}
+use Rattle.pmem_engine.specs.Engine.{EngineState, on_chip}
 use Rattle.pmem_engine.specs.Invariants.{IsTrusted, IsTrueSlot}
 use Rattle.pmem_engine.specs.Calls.{HasFlushed, IsLeftAlone}
 use Rattle.pmem_replay.specs.World.{WorldState, IsOn}
@@ -34,7 +34,7 @@ left_alone-steps setup old new engine after taken alone =
 
 -- a position that is no longer dirty in its level's bank isn't in any other
 pub clean_everywhere : (setup : Setup) (world : WorldState) (after : EngineState) (bank x y : ℕ)
-    → IsTrusted setup after world.board.regs world.ledger
+    → IsTrusted setup (on_chip after) world.board.regs world.ledger
     → is_cached_dirty setup.shape after.cache (level_of x) x ≡ false
     → is_cached_dirty setup.shape after.cache bank y ≡ true → y ≢ x
 clean_everywhere setup world after bank x y trusted clean dirty same =
@@ -61,8 +61,8 @@ module _ (setup : Setup) (old new : WorldState) (engine after : EngineState) (ta
   module _ (x : ℕ) (flush : HasFlushed setup (parts_in old engine none_taken) (parts_in new after taken) (Ok (Some x))) where
     pub flushed-good : IsGood setup old Do.Flush (without_marks (Say.Flushed x (steps_in taken)))
     flushed-good =
-        let answered = flush.answered on_now.trusted.not_down in
-        let done = flush.done on_now.trusted.not_down in
+        let answered = flush.answered in
+        let done = flush.done in
         let powered = done.gone.power.1 (call.world.board.power ∙ on_now.powered) in
         good refl (within_fuse old.state old.board new.board taken call.world.board call.follows powered) refl tt tt
         refl tt tt (on_now.dirty (level_of x) x answered.0)

@@ -12,7 +12,7 @@ use Rattle.plain_model.specs.After.{after_clean}
 use Rattle.plain_model.specs.Answers.{decided_answer}
 use Rattle.pmem_engine.specs.declared.fault.Fault.{Fault}
 use Rattle.pmem_engine.specs.declared.fault.Fault.TheVariants as Fail
-use Rattle.pmem_engine.specs.Engine.{EngineState}
+use Rattle.pmem_engine.specs.Engine.{ChipState, EngineState}
 use Rattle.pmem_engine.specs.Outcomes.{going, cut_short, outcome_of, OneLossEffect}
 use Rattle.pmem_engine.specs.Calls.{HasFlushed, AnswersFlush}
 use Rattle.watched_board.specs.Watching.{none_taken, steps_in}
@@ -29,10 +29,10 @@ use Rattle.pmem_replay.proofs.EngineCalls.CommandSteps.{Serving, old_of, on_of, 
 
 module _ (answer : Result (Option ℕ) Fault) (s : Serving FlushesBlock None answer) where
   done : OneLossEffect s.setup (outcome_of answer) [] (parts_in (old_of s) s.called.engine none_taken) (parts_in s.new s.called.after s.taken)
-  done = s.called.related.related.done (on_of s).trusted.not_down
+  done = s.called.related.related.done
 
   answered : AnswersFlush s.setup.shape (parts_in (old_of s) s.called.engine none_taken) (parts_in s.new s.called.after s.taken) answer
-  answered = s.called.related.related.answered (on_of s).trusted.not_down
+  answered = s.called.related.related.answered
 
   undecided : decided_answer s.setup.shape s.first.state Do.Flush ≡ None
   undecided = rw (lit_in s.setup (old_of s) s.called.engine s.called.call.world s.called.call.was_on) refl
@@ -49,7 +49,7 @@ flush_clean_in s =
     let clean = answered (Ok None) s in
     subst (λ (g : Shape). IsCleanIn g s.new.engine) (sym (same_shape (Ok None) s))
     (subst (λ (e : Option EngineState). IsCleanIn s.setup.shape e) (sym s.called.kept)
-    (λ bank x. ap (λ (e : EngineState). is_cached_dirty s.setup.shape e.cache bank x) clean.0.engine ∙ clean.1 bank x))
+    (λ bank x. ap (λ (e : ChipState). is_cached_dirty s.setup.shape e.cache bank x) clean.0.engine ∙ clean.1 bank x))
 
 pub flush_clean : (s : Serving FlushesBlock None (Ok None))
     → HasStepped s.setup s.first Do.Flush (without_marks Say.Clean) (record (s.new) { state = after_clean s.setup.shape s.new.state })

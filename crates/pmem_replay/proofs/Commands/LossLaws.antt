@@ -53,7 +53,7 @@ module _ (setup : Setup) (old new : WorldState) (engine after : EngineState) (ta
   module _ (steps : ℕ) (set : HasSetLoss setup n (parts_in old engine none_taken) (parts_in new after taken) (Ok steps)) where
     its_steps : MatchBool (nat_lt old.state.loss n) (steps_in taken ≡ 1) (steps_in taken ≡ dirty_now + 1)
     its_steps =
-        let answered = set.answered on_now.trusted.not_down in
+        let answered = set.answered in
         let same : steps_in taken ≡ steps = exactly old.board new.board taken steps call.follows.few answered.1 in
         let by_less : MatchBool (nat_lt old.board.regs.loss n) (steps ≡ 1) (steps ≡ dirty_now + 1) =
         subst (λ b. MatchBool b (steps ≡ 0) (MatchBool (nat_lt old.board.regs.loss n) (steps ≡ 1) (steps ≡ dirty_now + 1))) not_same answered.0 in
@@ -76,7 +76,7 @@ module _ (setup : Setup) (old new : WorldState) (engine after : EngineState) (ta
 
     pub set-good : IsGood setup old (Do.Loss n) (without_marks (Say.LossSet (steps_in taken)))
     set-good =
-        let gone = set.gone on_now.trusted.not_down in
+        let gone = set.gone in
         let powered = gone.power.1 (call.world.board.power ∙ on_now.powered) in
         good refl (within_fuse old.state old.board new.board taken call.world.board call.follows powered) refl
         (set_steps (nat_lt old.state.loss n) its_steps) tt refl tt tt tt
@@ -90,7 +90,7 @@ module _ (setup : Setup) (old new : WorldState) (engine after : EngineState) (ta
   module _ (set : HasSetLoss setup n (parts_in old engine none_taken) (parts_in new after taken) (Err Fail.Cut)) where
     cut_steps : MatchBool (nat_lt old.state.loss n) (steps_in taken < 1) (steps_in taken < dirty_now + 1)
     cut_steps =
-        let answered = set.answered on_now.trusted.not_down in
+        let answered = set.answered in
         let by_less =
         subst (λ b. MatchBool b ⊥ (MatchBool (nat_lt old.board.regs.loss n)
         (TakesFewer 1 (device_during old.board none_taken) (device_during new.board taken))
@@ -120,7 +120,7 @@ module _ (setup : Setup) (old new : WorldState) (engine after : EngineState) (ta
 
     pub cut-good : IsGood setup old (Do.Loss n) (without_marks (Say.Cut (steps_in taken)))
     cut-good =
-        let gone = set.gone on_now.trusted.not_down in
+        let gone = set.gone in
         good refl
         (cut_at_fuse old.state old.board new.board taken call.world.board call.follows gone.power.1
         (omega (arith, few_steps (nat_lt old.state.loss n) cut_steps)))

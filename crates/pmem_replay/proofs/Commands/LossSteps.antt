@@ -19,14 +19,14 @@ use Rattle.pmem_replay.specs.Replies.{without_marks}
 use Rattle.pmem_replay.specs.Stepped.{HasStepped, IsLossAnswer}
 use Rattle.pmem_replay.proofs.Commands.LossLaws as laws
 use Rattle.pmem_replay.proofs.Table.UnchangedSteps.{lit_in}
-use Rattle.pmem_replay.proofs.EngineCalls.CommandSteps.{Serving, old_of, on_of, few_of, ends_as}
+use Rattle.pmem_replay.proofs.EngineCalls.CommandSteps.{Serving, old_of, few_of, ends_as}
 
 module _ (n : ℕ) (answer : Result ℕ Fault) (s : Serving (SetsLoss n) None answer) (some : IsTrue (is_loss n)) (other : n ≢ s.first.state.loss) where
   effect : CallEffect s.setup (outcome_of answer) [] (parts_in (old_of s) s.called.engine none_taken) (parts_in s.new s.called.after s.taken)
-  effect = s.called.related.related.gone (on_of s).trusted.not_down
+  effect = s.called.related.related.gone
 
   answered : AnswersLoss s.setup.shape n (parts_in (old_of s) s.called.engine none_taken) (parts_in s.new s.called.after s.taken) answer
-  answered = s.called.related.related.answered (on_of s).trusted.not_down
+  answered = s.called.related.related.answered
 
   undecided : decided_answer s.setup.shape s.first.state (Do.Loss n) ≡ None
   undecided =

@@ -53,8 +53,8 @@ module _ (setup : Setup) (old new : WorldState) (engine after : EngineState) (ta
   steps_within : (answer : Result Line Fault) → HasReadLine setup at (parts_in old engine none_taken) (parts_in new after taken) answer
       → (steps_in taken ≤ path_length setup.shape) × (steps_in taken ≤ dirty_bound setup.shape old.state)
   steps_within answer read =
-      let path = at_most taken (path_length setup.shape) call.follows.few (read.steps_of_path on_now.trusted.not_down).0.sum in
-      let dirty = at_most taken (dirty_count setup.shape engine.cache) call.follows.few (read.steps_of_dirty on_now.trusted.not_down).0.sum in
+      let path = at_most taken (path_length setup.shape) call.follows.few read.steps_of_path.0.sum in
+      let dirty = at_most taken (dirty_count setup.shape engine.cache) call.follows.few read.steps_of_dirty.0.sum in
       let few = dirty_count-le setup.shape engine.cache old.state (accounted_in setup old engine call.world on_now) in
       (path, omega (arith, dirty, few))
 
@@ -63,15 +63,15 @@ module _ (setup : Setup) (old new : WorldState) (engine after : EngineState) (ta
       → (steps_in taken < path_length setup.shape) × (steps_in taken < dirty_bound setup.shape old.state)
   cut_within read =
       let live : old.board.powered ≡ true = call.world.board.power ∙ on_now.powered in
-      let path = fewer taken (path_length setup.shape) call.follows.few ((read.steps_of_path on_now.trusted.not_down).1 live).sum in
-      let dirty = fewer taken (dirty_count setup.shape engine.cache) call.follows.few ((read.steps_of_dirty on_now.trusted.not_down).1 live).sum in
+      let path = fewer taken (path_length setup.shape) call.follows.few (read.steps_of_path.1 live).sum in
+      let dirty = fewer taken (dirty_count setup.shape engine.cache) call.follows.few (read.steps_of_dirty.1 live).sum in
       let few = dirty_count-le setup.shape engine.cache old.state (accounted_in setup old engine call.world on_now) in
       (path, omega (arith, dirty, few))
 
   read_powered : (answer : Result Line Fault) → outcome_of answer ≡ going
       → HasReadLine setup at (parts_in old engine none_taken) (parts_in new after taken) answer → new.board.powered ≡ true
   read_powered answer goes read =
-      let done = subst (λ o. OneLossEffect setup o [] (parts_in old engine none_taken) (parts_in new after taken)) goes (read.done on_now.trusted.not_down) in
+      let done = subst (λ o. OneLossEffect setup o [] (parts_in old engine none_taken) (parts_in new after taken)) goes read.done in
       done.gone.power.1 (call.world.board.power ∙ on_now.powered)
 
   -- ---- a line
@@ -81,15 +81,15 @@ module _ (setup : Setup) (old new : WorldState) (engine after : EngineState) (ta
     pub read-memory : line ≡ line_at old.state.memory at
     read-memory =
         same_Some line (line_at old.state.memory at)
-        (sym (read.answered on_now.trusted.not_down on_now.trusted).0 ∙ call.world.memory.each at within)
+        (sym (read.answered on_now.trusted).0 ∙ call.world.memory.each at within)
 
     -- and its seal stands on the device
     pub read-stored : IsSealStored setup.shape (lines_in new) new.ledger.marks at
-    read-stored = (read.answered on_now.trusted.not_down on_now.trusted).1
+    read-stored = (read.answered on_now.trusted).1
 
     read-unspoiled : is_flagged old.state.spoiled at ≡ false
     read-unspoiled =
-        let done = read.done on_now.trusted.not_down in
+        let done = read.done in
         stored_unspoiled setup old.state (lines_in old) old.board.regs.loss old.ledger at call.world.kept within
         (stored_before setup old new engine after taken [] (done.gone.places on_now.trusted) done.gone.marks at within refl read-stored)
 
@@ -107,10 +107,10 @@ module _ (setup : Setup) (old new : WorldState) (engine after : EngineState) (ta
   module _ (x : ℕ) (read : HasReadLine setup at (parts_in old engine none_taken) (parts_in new after taken) (Err (Fail.Meta x))) where
     pub meta-good : IsGood setup old (Do.Read port at) (without_marks (Say.Refused None (Place.Meta x) (steps_in taken)))
     meta-good =
-        let refused = read.answered on_now.trusted.not_down on_now.trusted in
+        let refused = read.answered on_now.trusted in
         let powered = read_powered (Err (Fail.Meta x)) refl read in
         let bounds = steps_within (Err (Fail.Meta x)) read in
-        let done = read.done on_now.trusted.not_down in
+        let done = read.done in
         let in_tree = on_path-within setup.shape (page_of at) x (omega (arith, within)) refused.fetched.on_path in
         let other : refused.line ≢ line_at old.ledger.truth x = λ same. refused.other_digest (ap (setup.formulas.digest_of x) same) in
         good refl (within_fuse old.state old.board new.board taken call.world.board call.follows powered) refl (
@@ -128,8 +128,8 @@ module _ (setup : Setup) (old new : WorldState) (engine after : EngineState) (ta
   module _ (b : ℕ) (read : HasReadLine setup at (parts_in old engine none_taken) (parts_in new after taken) (Err (Fail.Tag b))) where
     pub tag-good : IsGood setup old (Do.Read port at) (without_marks (Say.Refused None (Place.Line b) (steps_in taken)))
     tag-good =
-        let refused = read.answered on_now.trusted.not_down on_now.trusted in
-        let done = read.done on_now.trusted.not_down in
+        let refused = read.answered on_now.trusted in
+        let done = read.done in
         let powered = read_powered (Err (Fail.Tag b)) refl read in
         let bounds = steps_within (Err (Fail.Tag b)) read in
         good refl (within_fuse old.state old.board new.board taken call.world.board call.follows powered) refl (
@@ -146,7 +146,7 @@ module _ (setup : Setup) (old new : WorldState) (engine after : EngineState) (ta
   module _ (read : HasReadLine setup at (parts_in old engine none_taken) (parts_in new after taken) (Err Fail.Cut)) where
     pub cut-good : setup.shape.levels ≤ 6 → IsGood setup old (Do.Read port at) (without_marks (Say.Cut (steps_in taken)))
     cut-good few =
-        let done = read.done on_now.trusted.not_down in
+        let done = read.done in
         let bounds = cut_within read in
         good refl
         (cut_at_fuse old.state old.board new.board taken call.world.board call.follows done.gone.power.1
@@ -189,7 +189,7 @@ module _ (setup : Setup) (old new : WorldState) (engine after : EngineState) (ta
         → KeepsPlaces setup [] (parts_in old engine none_taken) (parts_in new after taken)
         → IsShown setup old.state (view_in setup old) (Do.Read port at) [] exhibit
     forged-shown forged places =
-        let done = read.done on_now.trusted.not_down in
+        let done = read.done in
         let marks : new.ledger.marks ≡ old.ledger.marks = done.gone.marks ∙ append-nil old.ledger.marks in
         let none : new.board.regs.group.items ≡ [] = ap (λ group. group.items) (done.gone.group shown_uncut) ∙ on_now.trusted.no_group in
         let same = same_Some (Forged at forged.ctr forged.cipher forged.tag) exhibit (sym forged.exhibit ∙ its) in
@@ -221,7 +221,7 @@ module _ (setup : Setup) (old new : WorldState) (engine after : EngineState) (ta
         → IsGood setup old (Do.Read port at) (without_marks (Say.Shown exhibit))
     shown-good before places =
         good refl (zero_within old.state.fuse) refl tt
-        (elim (read.answered on_now.trusted.not_down on_now.trusted) [
+        (elim (read.answered on_now.trusted) [
           | inl clash ↦ clash-shown clash (before clash)
           | inr forged ↦ forged-shown forged places
         ])

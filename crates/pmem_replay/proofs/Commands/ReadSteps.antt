@@ -45,7 +45,7 @@ module _ (port at : ℕ) (answer : Result Line Fault) (s : Serving (ReadsLine at
   read = s.called.related.related
 
   pub done : OneLossEffect s.setup (outcome_of answer) [] (parts_in (old_of s) s.called.engine none_taken) (parts_in s.new s.called.after s.taken)
-  done = read.done (on_of s).trusted.not_down
+  done = read.done
 
   pub same_marks : s.new.ledger.marks ≡ s.first.ledger.marks
   same_marks = done.gone.marks ∙ append-nil s.first.ledger.marks
@@ -91,7 +91,7 @@ pub read_stopped : (port at : ℕ) (fault : Fault) (s : Serving (ReadsLine at) N
     → HasStepped s.setup s.first (Do.Read port at) (without_marks said) s.new
 read_stopped port at (Fail.Meta x) s within uncovered said is =
     let w = s.called in
-    let refused = w.related.related.answered (on_of s).trusted.not_down (on_of s).trusted in
+    let refused = w.related.related.answered (on_of s).trusted in
     let in_tree = on_path-within s.setup.shape (page_of at) x (omega (arith, within)) refused.fetched.on_path in
     let effect = (done port at (Err (Fail.Meta x)) s within uncovered).gone in
     subst (λ a. HasStepped s.setup s.first (Do.Read port at) (without_marks a) s.new) (sym is)
@@ -104,7 +104,7 @@ read_stopped port at (Fail.Meta x) s within uncovered said is =
     refused.other_digest))
 read_stopped port at (Fail.Tag b) s within uncovered said is =
     let w = s.called in
-    let refused = w.related.related.answered (on_of s).trusted.not_down (on_of s).trusted in
+    let refused = w.related.related.answered (on_of s).trusted in
     subst (λ a. HasStepped s.setup s.first (Do.Read port at) (without_marks a) s.new) (sym is)
     (read_ends port at (Err (Fail.Tag b)) s within uncovered going refl (Say.Refused None (Place.Line b) (steps_in s.taken))
     (laws.tag-good s.setup (old_of s) s.new w.engine w.after s.taken w.call port at within b w.related.related)
@@ -123,7 +123,7 @@ read_stopped port at Fail.Shown s within uncovered said is =
     let on = on_of s in
     let effect = (done port at (Err Fail.Shown) s within uncovered).gone in
     let sight : IsExhibitValue exhibit × IsExhibitSeen s.setup s.new exhibit =
-    elim (w.related.related.answered on.trusted.not_down on.trusted) [
+    elim (w.related.related.answered on.trusted) [
       | inl clash ↦
           clash_sight s.setup (old_of s) s.new w.engine w.after s.taken (page_of at) exhibit w.call.world.whole_shape (omega (arith, within))
           w.call.each_line on.trusted.anchored.of_shape.truth_lines clash is.1

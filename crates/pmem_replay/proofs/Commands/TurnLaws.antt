@@ -54,9 +54,9 @@ module _ (setup : Setup) (old new : WorldState) (engine after : EngineState) (ta
   module _ (turned : ℕ × ℕ) (turn : HasTurned setup (parts_in old engine none_taken) (parts_in new after taken) (Ok (Some turned))) where
     pub turned-good : IsGood setup old Do.Turn (record { marks = turn.made; answer = Say.Turned turned.1 (steps_in taken) })
     turned-good =
-        let marks = turn.marks on_now.trusted.not_down on_now.trusted old.state.memory call.world.memory.each in
-        let counts = turn.counts on_now.trusted.not_down in
-        let done = turn.done on_now.trusted.not_down in
+        let marks = turn.marks on_now.trusted old.state.memory call.world.memory.each in
+        let counts = turn.counts in
+        let done = turn.done in
         let powered = done.gone.power.1 (call.world.board.power ∙ on_now.powered) in
         good refl (within_fuse old.state old.board new.board taken call.world.board call.follows powered) refl tt tt
         (marks.0, marks.2) tt tt tt (exactly old.board new.board taken 4 call.follows.few counts.0)
@@ -65,37 +65,37 @@ module _ (setup : Setup) (old new : WorldState) (engine after : EngineState) (ta
 
   module _ (b : ℕ) (turn : HasTurned setup (parts_in old engine none_taken) (parts_in new after taken) (Err (Fail.Tag b))) where
     refused_made : turn.made ≡ []
-    refused_made = (turn.marks on_now.trusted.not_down on_now.trusted old.state.memory call.world.memory.each).0
+    refused_made = (turn.marks on_now.trusted old.state.memory call.world.memory.each).0
 
     refused_done : OneLossEffect setup going [] (parts_in old engine none_taken) (parts_in new after taken)
     refused_done =
         subst (λ made. OneLossEffect setup going made (parts_in old engine none_taken) (parts_in new after taken)) refused_made
-        (turn.done on_now.trusted.not_down)
+        turn.done
 
     pub refused-good : IsGood setup old Do.Turn (without_marks (Say.Refused None (Place.Line b) (steps_in taken)))
     refused-good =
-        let marks = turn.marks on_now.trusted.not_down on_now.trusted old.state.memory call.world.memory.each in
+        let marks = turn.marks on_now.trusted old.state.memory call.world.memory.each in
         let done = refused_done in
         let powered = done.gone.power.1 (call.world.board.power ∙ on_now.powered) in
         let within = lowest_within setup.shape (view_in setup old).open_pages b pages_whole marks.1 in
         good refl (within_fuse old.state old.board new.board taken call.world.board call.follows powered) refl (
           hurt_before setup old new engine after taken [] b call.world.kept (done.gone.places on_now.trusted) within
-              (tag_unstored setup new after taken b (done.gone.trusted on_now.trusted) (turn.answered on_now.trusted.not_down on_now.trusted)),
+              (tag_unstored setup new after taken b (done.gone.trusted on_now.trusted) (turn.answered on_now.trusted)),
           tt,
         )
         tt (refl, marks.1) tt tt tt
-        (exactly old.board new.board taken 0 call.follows.few (turn.counts on_now.trusted.not_down))
+        (exactly old.board new.board taken 0 call.follows.few turn.counts)
 
   -- ---- a cut
 
   module _ (turn : HasTurned setup (parts_in old engine none_taken) (parts_in new after taken) (Err Fail.Cut)) where
     cut_marks : IsSome (oldest_page now) × ((turn.made ≡ []) ⊎ IsTurnMark setup.formulas now turn.made)
-    cut_marks = turn.marks on_now.trusted.not_down on_now.trusted old.state.memory call.world.memory.each
+    cut_marks = turn.marks on_now.trusted old.state.memory call.world.memory.each
 
     pub cut-good : IsGood setup old Do.Turn (record { marks = turn.made; answer = Say.Cut (steps_in taken) })
     cut-good =
-        let done = turn.done on_now.trusted.not_down in
-        let few = fewer taken 4 call.follows.few (turn.counts on_now.trusted.not_down).sum in
+        let done = turn.done in
+        let few = fewer taken 4 call.follows.few turn.counts.sum in
         good refl
         (cut_at_fuse old.state old.board new.board taken call.world.board call.follows done.gone.power.1
         (omega (arith, few)))
@@ -106,15 +106,15 @@ module _ (setup : Setup) (old new : WorldState) (engine after : EngineState) (ta
   module _ (turn : HasTurned setup (parts_in old engine none_taken) (parts_in new after taken) (Err Fail.Shown))
       (exhibit : Exhibit) (its : new.ledger.exhibit ≡ Some exhibit) where
     pub shown-made : turn.made ≡ []
-    shown-made = (turn.marks on_now.trusted.not_down on_now.trusted old.state.memory call.world.memory.each).0
+    shown-made = (turn.marks on_now.trusted old.state.memory call.world.memory.each).0
 
     pub shown-good : KeepsPlaces setup [] (parts_in old engine none_taken) (parts_in new after taken)
         → IsGood setup old Do.Turn (without_marks (Say.Shown exhibit))
     shown-good places =
-        let marks_of = turn.marks on_now.trusted.not_down on_now.trusted old.state.memory call.world.memory.each in
+        let marks_of = turn.marks on_now.trusted old.state.memory call.world.memory.each in
         let done = subst (λ made. OneLossEffect setup shown made (parts_in old engine none_taken) (parts_in new after taken)) shown-made
-        (turn.done on_now.trusted.not_down) in
-        let found = turn.answered on_now.trusted.not_down on_now.trusted in
+        turn.done in
+        let found = turn.answered on_now.trusted in
         let forged = found.forged in
         let within = lowest_within setup.shape (view_in setup old).open_pages found.at pages_whole found.lowest in
         let marks : new.ledger.marks ≡ old.ledger.marks = done.gone.marks ∙ append-nil old.ledger.marks in

@@ -35,10 +35,10 @@ module _ (answer : Result (Option (ℕ × ℕ)) Fault) (s : Serving TurnsPage No
   turn = s.called.related.related
 
   pub done : OneLossEffect s.setup (outcome_of answer) turn.made (parts_in (old_of s) s.called.engine none_taken) (parts_in s.new s.called.after s.taken)
-  done = turn.done (on_of s).trusted.not_down
+  done = turn.done
 
   pub marks_of : AreMarksOfTurn s.setup.formulas (moment_in s.setup s.first.state.memory (parts_in (old_of s) s.called.engine none_taken)) turn.made answer
-  marks_of = turn.marks (on_of s).trusted.not_down (on_of s).trusted s.first.state.memory s.called.call.world.memory.each
+  marks_of = turn.marks (on_of s).trusted s.first.state.memory s.called.call.world.memory.each
 
   -- the command returns
   pub turn_ends : (o : Outcome) → outcome_of answer ≡ o → (marks : List Mark) → turn.made ≡ marks → (said : Answer)
@@ -60,7 +60,7 @@ module _ (answer : Result (Option (ℕ × ℕ)) Fault) (s : Serving TurnsPage No
 pub turn_idle : (s : Serving TurnsPage None (Ok None)) → HasStepped s.setup s.first Do.Turn (record { marks = []; answer = Say.Idle }) s.new
 turn_idle s =
     let w = s.called in
-    let none : steps_in s.taken ≡ 0 = left_alone-steps s.setup (old_of s) s.new w.engine w.after s.taken (w.related.related.counts (on_of s).trusted.not_down) in
+    let none : steps_in s.taken ≡ 0 = left_alone-steps s.setup (old_of s) s.new w.engine w.after s.taken w.related.related.counts in
     turn_ends (Ok None) s going refl [] (marks_of (Ok None) s).0 Say.Idle
     (laws.idle-good s.setup (old_of s) s.new w.engine w.after s.taken w.call w.related.related) tt refl refl (λ quiet. sym none)
     (λ quiet. ap (λ (n : ℕ). called_state s.setup.shape going None [] n s.first.state.loss s.first.state) none) refl tt
@@ -87,7 +87,7 @@ turn_stopped (Fail.Tag b) s said is =
     (turn_ends (Err (Fail.Tag b)) s going refl [] marks.0 (Say.Refused None (Place.Line b) (steps_in s.taken))
     (laws.refused-good s.setup (old_of s) s.new w.engine w.after s.taken w.call b w.related.related)
     (tt, small_line s.setup.shape w.call.world.whole_shape b within, few_of s) refl refl (λ quiet. refl) (λ quiet. refl) refl
-    (tag_wrong s.setup s.new w.after s.taken b (w.related.related.answered (on_of s).trusted.not_down (on_of s).trusted))))
+    (tag_wrong s.setup s.new w.after s.taken b (w.related.related.answered (on_of s).trusted))))
 turn_stopped Fail.Cut s said is =
     let w = s.called in
     subst (λ a. HasStepped s.setup s.first Do.Turn (record { marks = w.related.related.made; answer = a }) s.new) (sym is)
@@ -98,7 +98,7 @@ turn_stopped Fail.Shown s said is =
     let exhibit = is.0 in
     let on = on_of s in
     let none = (marks_of (Err Fail.Shown) s).0 in
-    let found = w.related.related.answered on.trusted.not_down on.trusted in
+    let found = w.related.related.answered on.trusted in
     let effect = (done (Err Fail.Shown) s).gone in
     let marks : s.new.ledger.marks ≡ s.first.ledger.marks =
     effect.marks ∙ ap (λ (ms : List Mark). s.first.ledger.marks ++ ms) none ∙ append-nil s.first.ledger.marks in

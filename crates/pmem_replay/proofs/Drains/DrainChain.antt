@@ -192,7 +192,7 @@ module _ (setup : Setup) (old mid : WorldState) (port n : ℕ) (made : List Mark
     on_mid = on_in setup mid engine call.world call.was_on
 
     ok_asked : marks_of_write setup.formulas (moment_of mid.state (view_in setup mid)) write ≡ Some written.made
-    ok_asked = written.marks on_mid.trusted.not_down on_mid.trusted mid.state.memory call.world.memory.each
+    ok_asked = written.marks on_mid.trusted mid.state.memory call.world.memory.each
 
     pub ok_sealed : is_sealed_by written.made write.at ≡ true
     ok_sealed =
@@ -203,7 +203,7 @@ module _ (setup : Setup) (old mid : WorldState) (port n : ℕ) (made : List Mark
     pub ok_steps : steps_in taken ≤ write_bound setup.shape written.made
     ok_steps =
         at_most taken (write_bound setup.shape written.made) call.follows.few
-        (written.steps on_mid.trusted.not_down on_mid.trusted mid.state.memory call.world.memory.each).sum
+        (written.steps on_mid.trusted mid.state.memory call.world.memory.each).sum
 
     part_unspoiled : write.len ≢ 64 → is_flagged mid.state.spoiled write.at ≡ false
     part_unspoiled part =
@@ -216,7 +216,7 @@ module _ (setup : Setup) (old mid : WorldState) (port n : ℕ) (made : List Mark
         new.state ≡ put_state mid.state port write later (steps_in taken) (touched_after mid.state.touched written.made) (flushed_after setup.shape mid.state.flushed written.made)
         → IsWorld setup new → IsDrainedTo setup old new port (suc n) (made ++ written.made) (spent + steps_in taken)
     drained-more state holds =
-        let done = written.done on_mid.trusted.not_down in
+        let done = written.done in
         let powered = done.gone.power.1 (call.world.board.power ∙ on_mid.powered) in
         let touched : touched_after mid.state.touched written.made ≡ touched_after old.state.touched (made ++ written.made) =
         ap (λ (s : PlainState). touched_after s.touched written.made) drained.state ∙ sym (touched-append old.state.touched made written.made) in

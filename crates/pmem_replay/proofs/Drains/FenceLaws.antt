@@ -46,10 +46,12 @@ drained_before setup old new capacity grown write one it =
     record {
       engine = it.engine;
       was_on = it.was_on;
+      up = it.up;
       after = it.after;
       kept = it.kept;
       taken = it.taken;
       result = it.result;
+      down = it.down;
       outcome = it.outcome;
       related = it.related;
       said = it.said;
@@ -160,7 +162,7 @@ module _ (formulas_of : List ℕ → Formulas) (mid now new : WorldState) (port 
       let g = it.1.given in
       let on = on_in setup now g.engine draining.fencing.drained.world g.was_on in
       let asked : marks_of_write setup.formulas (moment_of now.state (view_in setup now)) g.write ≡ Some g.written.made =
-      g.written.marks on.trusted.not_down on.trusted now.state.memory draining.fencing.drained.world.memory.each in
+      g.written.marks on.trusted now.state.memory draining.fencing.drained.world.memory.each in
       let few = asked_few setup.formulas g.write g.written.made
       (asked_form setup.shape setup.formulas (moment_of now.state (view_in setup now)) g.write g.written.made
       (whole_pages setup now.board.regs now.ledger on.trusted.anchored) asked) in

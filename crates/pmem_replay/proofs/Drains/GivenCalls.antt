@@ -44,10 +44,12 @@ given_drained setup old new capacity grown port answer given said says kept powe
     record {
       engine = given.engine;
       was_on = given.was_on;
+      up = given.up;
       after = given.after;
       kept = kept;
       taken = given.taken;
       result = answer;
+      down = given.down;
       outcome = given.outcome;
       related = given.written;
       said = says;

@@ -104,7 +104,7 @@ module _ (setup : Setup) (old new : WorldState) (port : ℕ) (small : port < 8) 
     on_now = on_in setup old w.engine whole w.call.was_on
 
     done : OneLossEffect setup (outcome_of answer) w.related.related.made (parts_in old w.engine none_taken) (parts_in new w.after taken)
-    done = w.related.related.done on_now.trusted.not_down
+    done = w.related.related.done
 
     abbrev was_given : WasWriteGiven setup old port answer new
     was_given =
@@ -114,7 +114,9 @@ module _ (setup : Setup) (old new : WorldState) (port : ℕ) (small : port < 8) 
           waits = waits;
           engine = w.engine;
           was_on = w.call.was_on;
+          up = w.up;
           after = w.after;
+          down = w.down;
           taken = taken;
           follows = w.call.follows;
           in_count = w.call.in_count;

@@ -116,11 +116,11 @@ module _ {setup : Setup} {old mid now new : WorldState} {command : Command} {d :
       let g = is.given in
       let c = given_call setup now new port (Err (Fail.Meta x)) whole g in
       let on = on_now (Err (Fail.Meta x)) g in
-      let refused = g.written.answered on.trusted.not_down on.trusted now.state.memory whole.memory.each in
+      let refused = g.written.answered on.trusted now.state.memory whole.memory.each in
       let inside = within (Err (Fail.Meta x)) g in
       let in_tree = on_path-within setup.shape (layout.page_of g.write.at) x (omega (arith, inside)) refused.fetched.on_path in
-      let done = g.written.done on.trusted.not_down in
-      let none : g.written.made ≡ [] = g.written.marks on.trusted.not_down on.trusted now.state.memory whole.memory.each in
+      let done = g.written.done in
+      let none : g.written.made ≡ [] = g.written.marks on.trusted now.state.memory whole.memory.each in
       let marks : new.ledger.marks ≡ now.ledger.marks = g.marks ∙ ap (λ (ms : List Mark). now.ledger.marks ++ ms) none ∙ append-nil now.ledger.marks in
       subst (λ (s : ℕ). Ends g.written.made (Say.Refused d (Place.Meta x) s)) (all_steps k (steps_in g.taken) is.counted)
       (w.step (Err (Fail.Meta x)) g (Say.Refused None (Place.Meta x) (steps_in g.taken)) (Say.Refused d (Place.Meta x) (spent + steps_in g.taken))
@@ -144,7 +144,7 @@ module _ {setup : Setup} {old mid now new : WorldState} {command : Command} {d :
       let small_b = small_line setup.shape whole.whole_shape b
       (refused_within setup.shape setup.formulas (moment_of now.state (view_in setup now)) g.write g.written.made b
       (whole_pages setup now.board.regs now.ledger on.trusted.anchored) (within (Err (Fail.Tag b)) g)
-      (g.written.marks on.trusted.not_down on.trusted now.state.memory whole.memory.each)) in
+      (g.written.marks on.trusted now.state.memory whole.memory.each)) in
       subst (λ (s : ℕ). Ends g.written.made (Say.Refused d (Place.Line b) s)) (all_steps k (steps_in g.taken) is.counted)
       (w.step (Err (Fail.Tag b)) g (Say.Refused None (Place.Line b) (steps_in g.taken)) (Say.Refused d (Place.Line b) (spent + steps_in g.taken))
       (tag-good setup mid now new command d port n made spent w.writing w.drained w.whole w.small g.write g.later g.waits g.engine g.after g.taken c b g.written
@@ -154,7 +154,7 @@ module _ {setup : Setup} {old mid now new : WorldState} {command : Command} {d :
       ∙ after_refused setup mid now command d port n made g.written.made spent (steps_in g.taken) w.writing w.drained g.write g.later g.waits (Place.Line b))
       (λ quiet. is.holds)
       (w.seen (Say.Refused d (Place.Line b) (spent + steps_in g.taken))
-      (tag_wrong setup new g.after g.taken b (g.written.answered on.trusted.not_down on.trusted now.state.memory whole.memory.each))))
+      (tag_wrong setup new g.after g.taken b (g.written.answered on.trusted now.state.memory whole.memory.each))))
 
   ends-spent : (page k : ℕ) (is : IsWriteGiven setup now port k (Err (Fail.Spent page)) false true new)
       → Ends is.given.written.made (Say.Spent d page (spent + k))
@@ -162,7 +162,7 @@ module _ {setup : Setup} {old mid now new : WorldState} {command : Command} {d :
       let g = is.given in
       let c = given_call setup now new port (Err (Fail.Spent page)) whole g in
       let on = on_now (Err (Fail.Spent page)) g in
-      let its = g.written.marks on.trusted.not_down on.trusted now.state.memory whole.memory.each in
+      let its = g.written.marks on.trusted now.state.memory whole.memory.each in
       let its_page : page ≡ layout.page_of g.write.at = its.2 in
       let small_at = small_line setup.shape whole.whole_shape g.write.at (within (Err (Fail.Spent page)) g) in
       let small_page : page < 2 ^ 32 = omega (arith, its_page, small_at) in
@@ -184,7 +184,7 @@ module _ {setup : Setup} {old mid now new : WorldState} {command : Command} {d :
       let c = given_call setup now new port (Err Fail.Cut) whole g in
       let on = on_now (Err Fail.Cut) g in
       let all : marks_of_write setup.formulas (moment_of now.state (view_in setup now)) g.write ≡ Some g.written.made =
-      elim (g.written.marks on.trusted.not_down on.trusted now.state.memory whole.memory.each) [
+      elim (g.written.marks on.trusted now.state.memory whole.memory.each) [
         | inl asked ↦ asked
         | inr part ↦
             absurd (true≢false (sym is.sealed
@@ -205,7 +205,7 @@ module _ {setup : Setup} {old mid now new : WorldState} {command : Command} {d :
       let c = given_call setup now new port (Err Fail.Cut) whole g in
       let on = on_now (Err Fail.Cut) g in
       let part : IsPartOf (marks_of_write setup.formulas (moment_of now.state (view_in setup now)) g.write) g.written.made =
-      elim (g.written.marks on.trusted.not_down on.trusted now.state.memory whole.memory.each) [
+      elim (g.written.marks on.trusted now.state.memory whole.memory.each) [
         | inl asked ↦
             absurd (true≢false (sym
             (kept-sealed setup mid now new command d port n made spent w.writing w.drained w.whole w.small g.write g.later g.waits g.engine g.after g.taken c g.written asked)
@@ -229,11 +229,11 @@ module _ {setup : Setup} {old mid now new : WorldState} {command : Command} {d :
       let c = given_call setup now new port (Err Fail.Shown) whole g in
       let on = on_now (Err Fail.Shown) g in
       let inside = within (Err Fail.Shown) g in
-      let done = g.written.done on.trusted.not_down in
+      let done = g.written.done in
       let places = done.gone.places on.trusted in
       let pages = whole_pages setup now.board.regs now.ledger on.trusted.anchored in
       let sight : IsExhibitValue exhibit × IsExhibitSeen setup new exhibit =
-      elim (g.written.answered on.trusted.not_down on.trusted now.state.memory whole.memory.each) [
+      elim (g.written.answered on.trusted now.state.memory whole.memory.each) [
         | inl clash ↦
             clash_sight setup now new g.engine g.after g.taken (layout.page_of g.write.at) exhibit whole.whole_shape (omega (arith, inside))
             g.each_line on.trusted.anchored.of_shape.truth_lines clash.1 its

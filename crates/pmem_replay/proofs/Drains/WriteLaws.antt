@@ -162,7 +162,7 @@ module _ (setup : Setup) (old mid new : WorldState) (command : Command) (d : Opt
     path-steps =
         let takes =
         subst (λ o. TakesSpent setup.shape o (parts_in mid engine none_taken) (parts_in new after taken)) goes
-        (written.steps_of_spent on_mid.trusted.not_down on_mid.trusted mid.state.memory call.world.memory.each none) in
+        (written.steps_of_spent on_mid.trusted mid.state.memory call.world.memory.each none) in
         let path = at_most taken (path_length setup.shape) call.follows.few takes.0.sum in
         let dirty = at_most taken (dirty_count setup.shape engine.cache) call.follows.few takes.1.0.sum in
         let few = dirty_count-le setup.shape engine.cache mid.state (accounted_in setup mid engine call.world on_mid) in
@@ -175,19 +175,19 @@ module _ (setup : Setup) (old mid new : WorldState) (command : Command) (d : Opt
 
   module _ (x : ℕ) (written : HasWrittenLine setup write (parts_in mid engine none_taken) (parts_in new after taken) (Err (Fail.Meta x))) where
     pub meta-made : written.made ≡ []
-    meta-made = written.marks on_mid.trusted.not_down on_mid.trusted mid.state.memory call.world.memory.each
+    meta-made = written.marks on_mid.trusted mid.state.memory call.world.memory.each
 
     pub meta-good : (asked ≡ None → IsSpentWithin setup.shape old.state d (made ++ written.made) (spent + steps_in taken))
         → IsGood setup old command (record { marks = made ++ written.made; answer = Say.Refused d (Place.Meta x) (spent + steps_in taken) })
     meta-good if_spent =
-        let refused = written.answered on_mid.trusted.not_down on_mid.trusted mid.state.memory call.world.memory.each in
-        let done = subst (λ m. OneLossEffect setup going m (parts_in mid engine none_taken) (parts_in new after taken)) meta-made (written.done on_mid.trusted.not_down) in
+        let refused = written.answered on_mid.trusted mid.state.memory call.world.memory.each in
+        let done = subst (λ m. OneLossEffect setup going m (parts_in mid engine none_taken) (parts_in new after taken)) meta-made written.done in
         let powered = done.gone.power.1 (call.world.board.power ∙ on_mid.powered) in
         let in_tree = on_path-within setup.shape (page_of write.at) x (omega (arith, within)) refused.fetched.on_path in
         let other : refused.line ≢ line_at mid.ledger.truth x = λ same. refused.other_digest (ap (setup.formulas.digest_of x) same) in
         let few = at_most taken (write_bound setup.shape written.made) call.follows.few
         (takes_meta setup.shape asked written.made (parts_in mid engine none_taken) (parts_in new after taken) x
-        (written.steps on_mid.trusted.not_down on_mid.trusted mid.state.memory call.world.memory.each)).sum in
+        (written.steps on_mid.trusted mid.state.memory call.world.memory.each)).sum in
         let it =
         refusal written.made (Place.Meta x) (spent + steps_in taken) (all_within powered)
         (meta_caused x refused.fetched.on_path
@@ -201,17 +201,17 @@ module _ (setup : Setup) (old mid new : WorldState) (command : Command) (d : Opt
 
   module _ (b : ℕ) (written : HasWrittenLine setup write (parts_in mid engine none_taken) (parts_in new after taken) (Err (Fail.Tag b))) where
     tag_line_of : IsRefusedLine asked written.made write b
-    tag_line_of = written.marks on_mid.trusted.not_down on_mid.trusted mid.state.memory call.world.memory.each
+    tag_line_of = written.marks on_mid.trusted mid.state.memory call.world.memory.each
 
     pub tag-good : (asked ≡ None → IsSpentWithin setup.shape old.state d (made ++ written.made) (spent + steps_in taken))
         → IsGood setup old command (record { marks = made ++ written.made; answer = Say.Refused d (Place.Line b) (spent + steps_in taken) })
     tag-good if_spent =
-        let refused = written.answered on_mid.trusted.not_down on_mid.trusted mid.state.memory call.world.memory.each in
-        let done = written.done on_mid.trusted.not_down in
+        let refused = written.answered on_mid.trusted mid.state.memory call.world.memory.each in
+        let done = written.done in
         let powered = done.gone.power.1 (call.world.board.power ∙ on_mid.powered) in
         let few = at_most taken (write_bound setup.shape written.made) call.follows.few
         (takes_tag setup.shape asked written.made (parts_in mid engine none_taken) (parts_in new after taken) b
-        (written.steps on_mid.trusted.not_down on_mid.trusted mid.state.memory call.world.memory.each)).sum in
+        (written.steps on_mid.trusted mid.state.memory call.world.memory.each)).sum in
         let inside = refused_within setup.shape setup.formulas (moment_of mid.state (view_in setup mid)) write written.made b pages_whole within tag_line_of in
         let it =
         refusal written.made (Place.Line b) (spent + steps_in taken) (all_within powered)
@@ -232,7 +232,7 @@ module _ (setup : Setup) (old mid new : WorldState) (command : Command) (d : Opt
 
   module _ (page : ℕ) (written : HasWrittenLine setup write (parts_in mid engine none_taken) (parts_in new after taken) (Err (Fail.Spent page))) where
     pub spent_marks : (asked ≡ None) × (written.made ≡ []) × (page ≡ page_of write.at)
-    spent_marks = written.marks on_mid.trusted.not_down on_mid.trusted mid.state.memory call.world.memory.each
+    spent_marks = written.marks on_mid.trusted mid.state.memory call.world.memory.each
 
     -- its steps are those of its path alone, and of blocks that were dirty
     pub spent-steps : (steps_in taken ≤ path_length setup.shape) × (steps_in taken ≤ dirty_bound setup.shape mid.state)
@@ -241,7 +241,7 @@ module _ (setup : Setup) (old mid new : WorldState) (command : Command) (d : Opt
     pub spent-good : IsSpentWithin setup.shape old.state d (made ++ written.made) (spent + steps_in taken)
         → IsGood setup old command (record { marks = made ++ written.made; answer = Say.Spent d page (spent + steps_in taken) })
     spent-good bound =
-        let done = written.done on_mid.trusted.not_down in
+        let done = written.done in
         let powered = done.gone.power.1 (call.world.board.power ∙ on_mid.powered) in
         let all : made ++ written.made ≡ made = ap (λ more. made ++ more) spent_marks.1 ∙ append-nil made in
         good (writing.can_spend page (spent + steps_in taken)) (all_within powered) done_writes tt tt
@@ -267,7 +267,7 @@ module _ (setup : Setup) (old mid new : WorldState) (command : Command) (d : Opt
     cut_takes : (it : Option (List Mark)) → asked ≡ it → TakesOfWrite setup.shape it written.made (parts_in mid engine none_taken) (parts_in new after taken) (Err Fail.Cut)
     cut_takes it there =
         subst (λ o. TakesOfWrite setup.shape o written.made (parts_in mid engine none_taken) (parts_in new after taken) (Err Fail.Cut)) there
-        (written.steps on_mid.trusted.not_down on_mid.trusted mid.state.memory call.world.memory.each)
+        (written.steps on_mid.trusted mid.state.memory call.world.memory.each)
 
     cut_few : (it : Option (List Mark)) → asked ≡ it → (spent + steps_in taken < bound_by setup.shape n made it) × (steps_in taken < step_limit)
     cut_few None there =
@@ -298,7 +298,7 @@ module _ (setup : Setup) (old mid new : WorldState) (command : Command) (d : Opt
         go (Some marks) there = tt
 
     cut_off : new.board.powered ≡ false
-    cut_off = (written.done on_mid.trusted.not_down).gone.power.1
+    cut_off = written.done.gone.power.1
 
     -- the own seal isn't made
     pub lost-good : IsPartOf asked written.made → IsCutWriteWithin setup old.state (view_in setup old) port d (spent + steps_in taken)
@@ -346,7 +346,7 @@ module _ (setup : Setup) (old mid new : WorldState) (command : Command) (d : Opt
   module _ (written : HasWrittenLine setup write (parts_in mid engine none_taken) (parts_in new after taken) (Err Fail.Shown))
       (exhibit : Exhibit) (its : new.ledger.exhibit ≡ Some exhibit) where
     shown_part : IsPartOf asked written.made
-    shown_part = written.marks on_mid.trusted.not_down on_mid.trusted mid.state.memory call.world.memory.each
+    shown_part = written.marks on_mid.trusted mid.state.memory call.world.memory.each
 
     clash-shown : written.made ≡ []
         → (clash : IsClashShown setup (page_of write.at) (parts_in mid engine none_taken) (parts_in new after taken))
@@ -378,7 +378,7 @@ module _ (setup : Setup) (old mid new : WorldState) (command : Command) (d : Opt
         → KeepsPlaces setup written.made (parts_in mid engine none_taken) (parts_in new after taken)
         → IsShown setup old.state (view_in setup old) command (made ++ written.made) exhibit
     forged-shown found places =
-        let done = written.done on_mid.trusted.not_down in
+        let done = written.done in
         let forged = found.forged in
         let inside = refused_within setup.shape setup.formulas (moment_of mid.state (view_in setup mid)) write written.made found.at pages_whole within found.refusable in
         let none : new.board.regs.group.items ≡ [] = ap (λ group. group.items) (done.gone.group shown_uncut) ∙ on_mid.trusted.no_group in
@@ -423,7 +423,7 @@ module _ (setup : Setup) (old mid new : WorldState) (command : Command) (d : Opt
         → IsGood setup old command (record { marks = made ++ written.made; answer = Say.Shown exhibit })
     shown-good before places =
         good (writing.can_show exhibit) (zero_within old.state.fuse) refl tt
-        (elim (written.answered on_mid.trusted.not_down on_mid.trusted mid.state.memory call.world.memory.each) [
+        (elim (written.answered on_mid.trusted mid.state.memory call.world.memory.each) [
           | inl clash ↦ clash-shown clash.0 clash.1 (before clash.1)
           | inr forged ↦ forged-shown forged places
         ])

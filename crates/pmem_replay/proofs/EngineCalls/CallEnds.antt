@@ -1,6 +1,6 @@
 -- A call of the engine over a world's own parts: the state and the world that it leaves.
 use Rattle.std.proofs.Common.{ℕ, ◌≡◌, ◌<◌, ◌≤◌, Bool, true, false, List, Option, Some, None, refl, sym, ap, subst, ◌∙◌, arith}
-use Rattle.std.specs.Prelude.{Result, All, IfSome, length, drop, if◌then◌else◌}
+use Rattle.std.specs.Prelude.{Result, All, IfSome, length, drop, if◌then◌else◌, not}
 use Rattle.std.proofs.lemmas.Bool.{true≢false}
 use Rattle.std.proofs.lemmas.List.{length-append}
 use Rattle.std.proofs.Math.Seq.{drop-append_seam}
@@ -18,7 +18,7 @@ use Rattle.plain_model.proofs.PlainMemory.{memory_is}
 use Rattle.pmem_engine.specs.declared.fault.Fault.{Fault}
 use Rattle.pmem_engine.specs.Engine.{EngineState}
 use Rattle.pmem_engine.specs.Parts.{Parts, parts_of}
-use Rattle.pmem_engine.specs.Outcomes.{Outcome, going, cut_short, shown, outcome_of, LeavesTrusted, HasPower}
+use Rattle.pmem_engine.specs.Outcomes.{Outcome, going, cut_short, shown, outcome_of, LeavesTrusted, HasPower, is_going}
 use Rattle.watched_board.specs.declared.taken.Taken.{Taken}
 use Rattle.watched_board.specs.Watching.{none_taken, steps_in, device_during}
 use Rattle.pmem_replay.specs.During.{parts_in}
@@ -53,7 +53,7 @@ module _ {T : Type 0} (setup : Setup) (p : WorldParts) (keys : List ℕ) (board 
     (engine after : EngineState) (taken : Taken) (served : IsServed setup p keys board steps engine taken)
     (same_capacity : capacity ≡ p.capacity) (relation : Setup → Parts → Parts → Result T Fault → Type 0) (write : Option Posted) (answer : Result T Fault)
     (made : IsLawfulCall relation write setup (parts_in (world_of setup p) engine none_taken) (parts_of after (device_during board taken) ledger tags digests) answer)
-    (within : IfSome write (λ w. w.at < layout.data_lines setup.shape)) where
+    (within : IfSome write (λ w. w.at < layout.data_lines setup.shape)) (down : after.down ≡ not (is_going (outcome_of answer))) where
   abbrev old : WorldState
   old = world_of setup p
 
@@ -167,13 +167,15 @@ module _ {T : Type 0} (setup : Setup) (p : WorldParts) (keys : List ℕ) (board 
           capacity = same_capacity;
           related = made.related;
           lawful = lawful;
+          up = on_now.up;
+          down = down;
           kept = engine_now;
           shown = served.going.unshown ∙ sym quiet;
           state = λ unshown. state;
           holds =
               λ unshown.
               world_called setup old new engine after taken call write lawful.made lawful.its_memory lawful.sealed_before lawful.counters
-              (outcome_of answer) lawful.effect quiet state engine_now
+              (outcome_of answer) lawful.effect quiet state down engine_now
               (subst (λ g. IsBanksOf g after.cache) (lawful.effect.shape ∙ on_now.trusted.its_shape) whole_cache);
         }
 
@@ -189,6 +191,8 @@ module _ {T : Type 0} (setup : Setup) (p : WorldParts) (keys : List ℕ) (board 
         capacity = same_capacity;
         related = made.related;
         lawful = lawful;
+        up = on_now.up;
+        down = down;
         kept = stays (outcome_of answer) is;
         shown = sym is;
         state = λ unshown. absurd (true≢false unshown);

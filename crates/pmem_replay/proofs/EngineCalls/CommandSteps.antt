@@ -100,10 +100,12 @@ module _ {T : Type 0} {relation : Setup → Parts → Parts → Result T Fault �
       record {
         engine = s.called.engine;
         was_on = s.called.call.was_on;
+        up = s.called.up;
         after = s.called.after;
         kept = s.called.kept ∙ sym (lost_engine (outcome_of answer) s.called.after (is_cut said) cut);
         taken = s.taken;
         result = answer;
+        down = s.called.down;
         outcome = record { run = run_of s.called; follows = made.follows };
         related = made.related;
         said = told;

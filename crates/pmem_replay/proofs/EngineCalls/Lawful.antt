@@ -20,8 +20,8 @@ use Rattle.pmem_engine.specs.declared.fault.Fault.{Fault}
 use Rattle.pmem_engine.specs.declared.fault.Fault.TheVariants as Fail
 use Rattle.pmem_engine.specs.Parts.{Parts, regs_of, HoldsCounters, HoldsMeta}
 use Rattle.pmem_engine.specs.Outcomes.{outcome_of, CallEffect, TakesSteps, TakesAtMost, TakesFewer}
-use Rattle.pmem_engine.specs.Calls.{AnswersDown, IsDownAnswer, moment_in, HasReadLine, HasTurned, HasFlushed, HasSetLoss, HasWrittenLine, AnswersRead, AnswersTurn, AnswersFlush, AnswersLoss, AnswersWrite}
-use Rattle.pmem_engine.specs.CallFacts.{CountsTurn, IsCutInLoss}
+use Rattle.pmem_engine.specs.Calls.{moment_in, HasReadLine, HasTurned, HasFlushed, HasSetLoss, HasWrittenLine, AnswersRead, AnswersTurn, AnswersFlush, AnswersLoss, AnswersWrite}
+use Rattle.pmem_engine.specs.CallFacts.{IsDownAnswer, CountsTurn, IsCutInLoss}
 use Rattle.plain_model.specs.Asked.{marks_of_write}
 use Rattle.plain_model.specs.Bounds.{path_length}
 use Rattle.watched_board.specs.Watching.{step_limit}
@@ -30,10 +30,6 @@ use Rattle.pmem_replay.specs.EngineCalls.{IsCallStart, IsLawful}
 -- an exhibit is there
 there : (exhibit : Option Exhibit) (its : Exhibit) → exhibit ≡ Some its → IsSome exhibit
 there exhibit its is = subst (λ (o : Option Exhibit). IsSome o) (sym is) refl
-
--- an engine that isn't down doesn't answer so
-up_of : {T : Type 0} (old new : Parts) (answer : Result T Fault) → AnswersDown old new answer → old.engine.down ≡ false → IsDownAnswer answer → ⊥
-up_of old new answer down up is = true≢false (sym (down.exactly.0 is) ∙ up)
 
 -- few steps end before the limit
 at_most_few : (n : ℕ) (old new : Device) → n < step_limit → TakesAtMost n old new → TakesFewer step_limit old new
@@ -64,16 +60,16 @@ loss_few dirty loss n old new few it = by_same (n == loss) it
 
 -- a call that makes no mark
 markless : {T : Type 0} (setup : Setup) (memory : Memory) (old new : Parts) (answer : Result T Fault) → IsCallStart setup None memory old
-    → AnswersDown old new answer → CallEffect setup (outcome_of answer) [] old new
+    → (IsDownAnswer answer → ⊥) → CallEffect setup (outcome_of answer) [] old new
     → ((page : ℕ) → page < layout.pages setup.shape → HoldsMeta setup.shape old (counter_position setup.shape page)
     → HoldsCounters setup old page → HoldsCounters setup new page)
     → (answer ≡ Err Fail.Shown → IsSome new.ledger.exhibit)
     → (answer ≡ Err Fail.Cut → TakesFewer step_limit old.device new.device)
     → IsLawful setup None memory old new answer
-markless setup memory old new answer begun down effect counters exhibit early =
+markless setup memory old new answer begun up effect counters exhibit early =
     record {
       made = [];
-      up = up_of old new answer down begun.trusted.not_down;
+      up = up;
       effect = effect;
       its_memory =
           subst (λ (ms : List Mark). (a : ℕ) → a < layout.data_lines setup.shape → plain_line setup.formulas ms a ≡ Some (line_at memory a))
@@ -87,48 +83,44 @@ markless setup memory old new answer begun down effect counters exhibit early =
 pub read_lawful : (setup : Setup) (a : ℕ) (memory : Memory) (old new : Parts) (answer : Result Line Fault) → HasReadLine setup a old new answer
     → IsCallStart setup None memory old → IsLawful setup None memory old new answer
 read_lawful setup a memory old new answer read begun =
-    let up = begun.trusted.not_down in
-    let done = read.done up in
-    markless setup memory old new answer begun read.down done.gone
+    let done = read.done in
+    markless setup memory old new answer begun read.not_down done.gone
     (λ page within meta it. done.counters begun.trusted page within it)
     (λ is.
-    elim (subst (λ (r : Result Line Fault). AnswersRead setup a old new r) is (read.answered up begun.trusted)) [
+    elim (subst (λ (r : Result Line Fault). AnswersRead setup a old new r) is (read.answered begun.trusted)) [
       | inl clash ↦ there new.ledger.exhibit _ clash.exhibit
       | inr forged ↦ there new.ledger.exhibit _ forged.exhibit
     ])
     (λ is.
-    at_most_few (path_length setup.shape) old.device new.device (omega (arith, begun.whole_shape.at_most_six_levels)) (read.steps_of_path up).0)
+    at_most_few (path_length setup.shape) old.device new.device (omega (arith, begun.whole_shape.at_most_six_levels)) read.steps_of_path.0)
 
 pub flush_lawful : (setup : Setup) (memory : Memory) (old new : Parts) (answer : Result (Option ℕ) Fault) → HasFlushed setup old new answer
     → IsCallStart setup None memory old → IsLawful setup None memory old new answer
 flush_lawful setup memory old new answer flush begun =
-    let up = begun.trusted.not_down in
-    let done = flush.done up in
-    markless setup memory old new answer begun flush.down done.gone
+    let done = flush.done in
+    markless setup memory old new answer begun flush.not_down done.gone
     (λ page within meta it. done.counters begun.trusted page within it)
-    (λ is. absurd (subst (λ (r : Result (Option ℕ) Fault). AnswersFlush setup.shape old new r) is (flush.answered up)))
+    (λ is. absurd (subst (λ (r : Result (Option ℕ) Fault). AnswersFlush setup.shape old new r) is flush.answered))
     (λ is.
-    steps_few old.device new.device (subst (λ (r : Result (Option ℕ) Fault). AnswersFlush setup.shape old new r) is (flush.answered up)).1)
+    steps_few old.device new.device (subst (λ (r : Result (Option ℕ) Fault). AnswersFlush setup.shape old new r) is flush.answered).1)
 
 pub loss_lawful : (setup : Setup) (n : ℕ) (memory : Memory) (old new : Parts) (answer : Result ℕ Fault) → HasSetLoss setup n old new answer
     → IsCallStart setup None memory old → IsLawful setup None memory old new answer
 loss_lawful setup n memory old new answer set begun =
-    let up = begun.trusted.not_down in
-    markless setup memory old new answer begun set.down (set.gone up)
-    (λ page within meta it. set.counters up begun.trusted page within meta it)
-    (λ is. absurd (subst (λ (r : Result ℕ Fault). AnswersLoss setup.shape n old new r) is (set.answered up)))
+    markless setup memory old new answer begun set.not_down set.gone
+    (λ page within meta it. set.counters begun.trusted page within meta it)
+    (λ is. absurd (subst (λ (r : Result ℕ Fault). AnswersLoss setup.shape n old new r) is set.answered))
     (λ is.
     loss_few (bank_dirty_count setup.shape old.engine.cache setup.shape.levels) (regs_of old).loss n old new (begun.few_dirty setup.shape.levels)
-    (subst (λ (r : Result ℕ Fault). AnswersLoss setup.shape n old new r) is (set.answered up)).0)
+    (subst (λ (r : Result ℕ Fault). AnswersLoss setup.shape n old new r) is set.answered).0)
 
 pub turn_lawful : (setup : Setup) (memory : Memory) (old new : Parts) (answer : Result (Option (ℕ × ℕ)) Fault) → HasTurned setup old new answer
     → IsCallStart setup None memory old → IsLawful setup None memory old new answer
 turn_lawful setup memory old new answer turn begun =
-    let up = begun.trusted.not_down in
-    let done = turn.done up in
+    let done = turn.done in
     record {
       made = turn.made;
-      up = up_of old new answer turn.down up;
+      up = turn.not_down;
       effect = done.gone;
       its_memory = turn.memory_kept begun.trusted memory begun.its_memory;
       sealed_before = λ a within sealed other. turn.sealed_before begun.trusted a within sealed;
@@ -136,20 +128,19 @@ turn_lawful setup memory old new answer turn begun =
       exhibit =
           λ is.
           there new.ledger.exhibit _
-          (subst (λ (r : Result (Option (ℕ × ℕ)) Fault). AnswersTurn setup old new r) is (turn.answered up begun.trusted)).forged.exhibit;
+          (subst (λ (r : Result (Option (ℕ × ℕ)) Fault). AnswersTurn setup old new r) is (turn.answered begun.trusted)).forged.exhibit;
       early =
           λ is.
-          fewer_few 4 old.device new.device (omega arith) (subst (λ (r : Result (Option (ℕ × ℕ)) Fault). CountsTurn old new r) is (turn.counts up));
+          fewer_few 4 old.device new.device (omega arith) (subst (λ (r : Result (Option (ℕ × ℕ)) Fault). CountsTurn old new r) is turn.counts);
     }
 
 pub write_lawful : (setup : Setup) (write : Posted) (memory : Memory) (old new : Parts) (answer : Result Ctr Fault) → HasWrittenLine setup write old new answer
     → IsCallStart setup (Some write) memory old → IsLawful setup (Some write) memory old new answer
 write_lawful setup write memory old new answer written begun =
-    let up = begun.trusted.not_down in
-    let done = written.done up in
+    let done = written.done in
     record {
       made = written.made;
-      up = up_of old new answer written.down up;
+      up = written.not_down;
       effect = done.gone;
       its_memory = written.memory begun.trusted memory begun.within begun.its_memory;
       sealed_before =
@@ -159,7 +150,7 @@ write_lawful setup write memory old new answer written begun =
       exhibit =
           λ is.
           elim (subst (λ (r : Result Ctr Fault). AnswersWrite setup (marks_of_write setup.formulas (moment_in setup memory old) write) written.made write old new r) is
-          (written.answered up begun.trusted memory begun.its_memory)) [
+          (written.answered begun.trusted memory begun.its_memory)) [
             | inl clash ↦ there new.ledger.exhibit _ clash.1.exhibit
             | inr forged ↦ there new.ledger.exhibit _ forged.forged.exhibit
           ];

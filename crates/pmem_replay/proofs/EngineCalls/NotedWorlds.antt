@@ -70,6 +70,7 @@ restated setup old queues touched flushed whole waiting touched_count flushed_co
     chip (Some engine) on may =
         record {
           powered = on.powered;
+          up = on.up;
           trusted = on.trusted;
           sound = on.sound;
           whole_cache = on.whole_cache;

@@ -1,6 +1,6 @@
 -- The world after a call of the engine is a world, by the law that each call owes.
 use Rattle.std.proofs.Common.{ℕ, ◌≡◌, ◌≢◌, ◌<◌, inl, inr, ◌⊎◌, Bool, true, false, List, length, IsTrue, Option, Some, None, refl, sym, ap, subst, ◌∙◌, arith}
-use Rattle.std.specs.Prelude.{All, if◌then◌else◌}
+use Rattle.std.specs.Prelude.{All, if◌then◌else◌, not}
 use Rattle.std.proofs.lemmas.Bool.{true≢false, cases_Bool, cases_eq, cases_lt}
 use Rattle.std.proofs.lemmas.Option.{same_Some, none-some}
 use Rattle.std.proofs.lemmas.List.{length-set, get_or-set_same, get_or-set_other, get_or_past}
@@ -19,7 +19,7 @@ use Rattle.plain_model.specs.Bounds.{can_be_dirty}
 use Rattle.plain_model.specs.View.{IsMemoryOf}
 use Rattle.pmem_engine.specs.Engine.{EngineState}
 use Rattle.pmem_engine.specs.Parts.{HoldsSeal, HoldsCounters, HoldsMeta}
-use Rattle.pmem_engine.specs.Outcomes.{Outcome, going, cut_short, shown, is_sealed_by, CallEffect}
+use Rattle.pmem_engine.specs.Outcomes.{Outcome, going, cut_short, shown, is_sealed_by, CallEffect, is_going}
 use Rattle.pmem_engine.specs.Calls.{IsMemory}
 use Rattle.pmem_replay.specs.Flagged.{healed_flags}
 use Rattle.pmem_replay.specs.World.{WorldState, HasFlags, HasQueues, IsOn, IsWorld, lines_in}
@@ -175,13 +175,13 @@ module _ (setup : Setup) (old new : WorldState) (engine after : EngineState) (ta
       (subst (λ f. may_be setup.shape touched_now f x ≡ true) (sym flushed) may)
 
   world_on : CallEffect setup going made (parts_in old engine none_taken) (parts_in new after taken)
-      → new.state ≡ state_at going → new.engine ≡ Some after → IsBanksOf setup.shape after.cache → IsWorld setup new
-  world_on effect is there whole_cache =
+      → new.state ≡ state_at going → after.down ≡ false → new.engine ≡ Some after → IsBanksOf setup.shape after.cache → IsWorld setup new
+  world_on effect is up there whole_cache =
       let state = is ∙ after_marks-is setup.shape _ made in
       world-going setup old new engine after taken made call effect kept_counters
       (healed_now (ap (λ s. s.named) state) (ap (λ s. s.loose) state) (ap (λ s. s.hurt) state) (ap (λ s. s.spoiled) state))
       (record { snapped = ap (λ s. s.snapped) state; steps = ap (λ s. s.steps) state })
-      (ap (λ s. s.fuse) state) (ap (λ s. s.power) state ∙ on_now.powered) there (sym (ap (λ s. s.loss) state))
+      (ap (λ s. s.fuse) state) (ap (λ s. s.power) state ∙ on_now.powered) up there (sym (ap (λ s. s.loss) state))
       (subst (λ s. IsMemoryOf setup new.ledger.marks s.memory) (sym state) memory_now)
       (flags_now new.state (ap (λ s. s.named) state) (ap (λ s. s.hurt) state) (ap (λ s. s.spoiled) state) (ap (λ s. s.touched) state) (ap (λ s. s.flushed) state))
       (subst (λ s. HasQueues setup.shape s) (sym state) (record { ports = call.world.queues.ports; on_memory = call.world.queues.on_memory }))
@@ -202,8 +202,8 @@ module _ (setup : Setup) (old new : WorldState) (engine after : EngineState) (ta
 
   -- the law: unless an exhibit ended it
   pub world_called : (o : Outcome) → CallEffect setup o made (parts_in old engine none_taken) (parts_in new after taken)
-      → is_outcome_shown o ≡ false → new.state ≡ state_at o → new.engine ≡ engine_left o after → IsBanksOf setup.shape after.cache
+      → is_outcome_shown o ≡ false → new.state ≡ state_at o → after.down ≡ not (is_going o) → new.engine ≡ engine_left o after → IsBanksOf setup.shape after.cache
       → IsWorld setup new
-  world_called going effect quiet state kept whole_cache = world_on effect state kept whole_cache
-  world_called cut_short effect quiet state kept whole_cache = world_off effect state kept
-  world_called shown effect quiet state kept whole_cache = absurd (true≢false quiet)
+  world_called going effect quiet state up kept whole_cache = world_on effect state up kept whole_cache
+  world_called cut_short effect quiet state up kept whole_cache = world_off effect state kept
+  world_called shown effect quiet state up kept whole_cache = absurd (true≢false quiet)

@@ -1,6 +1,6 @@
 -- The first world, as formatting leaves it.
 use Rattle.std.proofs.Common.{rules}
-use Rattle.std.proofs.Common.{ℕ, ◌≡◌, ◌<◌, ◌≤◌, Bool, true, false, inl, List, [], Option, Some, None, refl, sym, ap, subst, ◌∙◌, arith}
+use Rattle.std.proofs.Common.{ℕ, ◌≡◌, ◌<◌, ◌≤◌, true, false, inl, List, [], Option, Some, None, refl, sym, ap, subst, ◌∙◌, arith}
 use Rattle.std.specs.Prelude.{length, replicate, All, is_none, is_some, MatchOption, map}
 use Rattle.std.proofs.lemmas.Bool.{true≢false, and_parts}
 use Rattle.std.proofs.lemmas.List.{length-replicate, get_or-replicate, ext_get_or}
@@ -19,10 +19,10 @@ use Rattle.commit_regs.specs.Groups.{redone}
 use Rattle.meta_cache.specs.Banks.{IsBanksOf, is_cached_dirty}
 use Rattle.suite.specs.Formulas.{AreInRange}
 use Rattle.suite.specs.Setup.{Setup}
-use Rattle.plain_model.specs.State.{no_flags, is_flagged, start_state}
+use Rattle.plain_model.specs.State.{is_flagged, start_state}
 use Rattle.plain_model.specs.View.{OpenPage, start_view, view_of, IsMemoryOf, plain_memory}
 use Rattle.plain_model.proofs.Views.{length-view_of, counter_at-last}
-use Rattle.pmem_engine.specs.Engine.{EngineState}
+use Rattle.pmem_engine.specs.Engine.{EngineState, on_chip}
 use Rattle.pmem_engine.specs.Invariants.{IsSound, register_page, stored_meta}
 use Rattle.pmem_engine.specs.Mendable.{new_engine}
 use Rattle.pmem_recovery.specs.Formatting.{HasFormatted, first_regs, first_counter}
@@ -131,7 +131,7 @@ module _ (setup : Setup) (p : WorldParts) (old : Device) (made : IsJustMade setu
       ap (λ (c : List Ctr). record { counters = c; open_pages = (view_of setup.shape p.ledger.marks).open_pages }) counters_same
       ∙ ap (λ (o : List OpenPage). record { counters = replicate (layout.data_lines setup.shape) (first_counter setup); open_pages = o }) pages_same
 
-  sound : IsSound setup found.0 p.board.lines p.board.regs p.ledger
+  sound : IsSound setup (on_chip found.0) p.board.lines p.board.regs p.ledger
   sound = formatted.sound p.board.lines refl
 
   lines : lines_in world ≡ p.board.lines
@@ -145,6 +145,7 @@ module _ (setup : Setup) (p : WorldParts) (old : Device) (made : IsJustMade setu
   on =
       record {
         powered = powered;
+        up = ap (λ (e : EngineState). e.down) formatted.engine_new;
         trusted = formatted.trusted;
         sound = λ honest. sound;
         whole_cache = subst (λ (e : EngineState). IsBanksOf setup.shape e.cache) (sym formatted.engine_new) (whole_empty setup.shape);

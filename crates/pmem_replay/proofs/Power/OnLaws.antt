@@ -24,7 +24,7 @@ use Rattle.suite.specs.Setup.{Setup}
 use Rattle.plain_model.specs.State.{PlainState, is_flagged, has_flags, no_flags}
 use Rattle.plain_model.specs.After.{steps_with}
 use Rattle.plain_model.specs.Bounds.{recovery_bound, path_length}
-use Rattle.pmem_engine.specs.Engine.{EngineState}
+use Rattle.pmem_engine.specs.Engine.{EngineState, on_chip}
 use Rattle.pmem_engine.specs.Invariants.{IsTrusted, IsSound, IsDurable, IsSealStored}
 use Rattle.meta_path.proofs.PathFacts.{set_of-empty_banks}
 use Rattle.pmem_recovery.specs.declared.faults.Work.{Work}
@@ -159,10 +159,10 @@ module _ (setup : Setup) (old new : WorldState) (left : BoardMemory) (taken : Ta
         few_steps = few_steps setup old new left taken (Ok (engine, work)) call;
       })
 
-  trusted_now : IsTrusted setup engine left.regs old.ledger
+  trusted_now : IsTrusted setup (on_chip engine) left.regs old.ledger
   trusted_now = call.recovered.trusted its_off.anchored
 
-  sound_now : has_flags old.state.named ≡ false → IsSound setup engine left.lines left.regs old.ledger
+  sound_now : has_flags old.state.named ≡ false → IsSound setup (on_chip engine) left.lines left.regs old.ledger
   sound_now honest = (mended setup old new left taken (Ok (engine, work)) call).from_durable (its_off.durable honest)
 
   recovered_kept : AreKept setup (recovered_state setup.shape old.state (steps_in taken)) (redone left.regs.group.items left.lines) left.regs.loss old.ledger
@@ -175,13 +175,16 @@ module _ (setup : Setup) (old new : WorldState) (left : BoardMemory) (taken : Ta
             (sound_now (tight_named setup old new left taken (Ok (engine, work)) call tight)).durable.mendable.counters_stored page within;
       }
 
+  up_now : engine.down ≡ false
+  up_now = ap (λ (e : EngineState). e.down) call.recovered.engine
+
   clean_now : (bank x : ℕ) → is_cached_dirty setup.shape engine.cache bank x ≡ false
   clean_now bank x =
       ap (λ (e : EngineState). is_cached_dirty setup.shape e.cache bank x) call.recovered.engine ∙ nothing_dirty setup.shape bank x
 
   recovered_on : (lines : redone left.regs.group.items left.lines ≡ left.lines) → IsBanksOf setup.shape engine.cache
       → IsOn setup (record new { state = recovered_state setup.shape old.state (steps_in taken); board = left; ledger = old.ledger }) engine
-  recovered_on lines whole_cache = search (rules, clean_now, sound_now, tight_named, trusted_now)
+  recovered_on lines whole_cache = search (rules, up_now, clean_now, sound_now, tight_named, trusted_now)
 
   pub recovered-world : new.state ≡ recovered_state setup.shape old.state (steps_in taken) → new.board ≡ left → new.engine ≡ Some engine
       → IsBanksOf setup.shape engine.cache → IsWorld setup new
@@ -200,6 +203,7 @@ module _ (setup : Setup) (old new : WorldState) (left : BoardMemory) (taken : Ta
             let on = recovered_on lines whole_cache in
             record {
               powered = on.powered;
+              up = on.up;
               trusted = on.trusted;
               sound = on.sound;
               whole_cache = on.whole_cache;

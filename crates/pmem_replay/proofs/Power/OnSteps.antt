@@ -60,8 +60,8 @@ use Rattle.pmem_replay.proofs.Power.RecoveryCalls.{whole_empty, apart_ok, apart_
 
 -- a board is its fields
 same_board : (a b : BoardMemory) → a.lines ≡ b.lines → a.regs ≡ b.regs → a.powered ≡ b.powered → a.fuse ≡ b.fuse → a.snapshot ≡ b.snapshot
-    → a.reads ≡ b.reads → a.writes ≡ b.writes → a.latches ≡ b.latches → a.cuts ≡ b.cuts → a ≡ b
-same_board a b lines regs powered fuse snapshot reads writes latches cuts = grind arith
+    → a.reads ≡ b.reads → a.writes ≡ b.writes → a.latches ≡ b.latches → a.cuts ≡ b.cuts → a.accesses ≡ b.accesses → a ≡ b
+same_board a b lines regs powered fuse snapshot reads writes latches cuts accesses = grind arith
 
 module _ (s : RecoveryCall) where
   abbrev setup : Setup
@@ -422,6 +422,7 @@ module _ (s : RecoveryCall) where
       s.served.watched.follows.burnt lasting ∙ no_steps s.parts.board.fuse (steps_in s.taken) (omega (arith, writes, latches)) in
       same_board dim s.parts.board (same_Some s.board.lines s.parts.board.lines (ap (λ d. d.lines) same)) (ap (λ d. d.regs) same) (sym its_off.unpowered)
       fuse s.served.watched.follows.snapshot (ap (λ d. d.reads) same) its_writes its_latches (s.served.watched.follows.uncut lasting)
+      (same_Some s.board.accesses s.parts.board.accesses (ap (λ d. d.accesses) same))
 
   -- nothing has changed
   pub on-memory : (rested : BoardMemory) → s.outcome ≡ Err Fail.Memory → rested ≡ dim → left_with s.engine rested ≡ s.parts

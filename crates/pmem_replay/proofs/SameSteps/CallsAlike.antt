@@ -1,6 +1,6 @@
 -- Two outcomes of one call of the engine: by its plan the result, the parts and the board are the same, and so is what is answered.
-use Rattle.std.proofs.Common.{ℕ, ◌≡◌, Bool, true, List, Option, Some, None, sym, ap, ap₂, subst, ◌∙◌}
-use Rattle.std.specs.Prelude.{Result, Ok, Err, length, drop, if◌then◌else◌}
+use Rattle.std.proofs.Common.{ℕ, ◌≡◌, Bool, true, List, Option, Some, None, sym, ap, ap₂, subst, ◌∙◌, arith}
+use Rattle.std.specs.Prelude.{Result, Ok, Err, length, drop, if◌then◌else◌, not}
 use Rattle.std.proofs.lemmas.Option.{same_Some}
 use Rattle.pmem_base.specs.declared.commands.Posted.{Posted}
 use Rattle.pmem_base.specs.declared.answers.Answer.{Answer}
@@ -15,8 +15,8 @@ use Rattle.seal_ledger.specs.Ledger.{LedgerState}
 use Rattle.plain_model.specs.After.{is_cut}
 use Rattle.pmem_engine.specs.declared.fault.Fault.{Fault}
 use Rattle.pmem_engine.specs.declared.fault.Fault.TheVariants as Fail
-use Rattle.pmem_engine.specs.Engine.{EngineState}
-use Rattle.pmem_engine.specs.Outcomes.{is_sealed_by}
+use Rattle.pmem_engine.specs.Engine.{EngineState, ChipState, on_chip}
+use Rattle.pmem_engine.specs.Outcomes.{is_sealed_by, outcome_of, is_going}
 use Rattle.pmem_engine.specs.Parts.{Parts}
 use Rattle.pmem_engine.specs.Plans.{Chip, chip_of}
 use Rattle.pmem_replay.specs.Planned.{CallPlan}
@@ -67,6 +67,14 @@ loss_says_one before after steps (Err fault) x y is its = one_fault after.exhibi
 
 -- ---- the call
 
+-- an engine is its fields, so what is on its chip, and whether it is down
+engine_fields : (a b : EngineState) → a.shape ≡ b.shape → a.cache ≡ b.cache → a.mirror ≡ b.mirror → a.down ≡ b.down → a ≡ b
+engine_fields a b shape cache mirror down = grind arith
+
+same_engine : (a b : EngineState) → on_chip a ≡ on_chip b → a.down ≡ b.down → a ≡ b
+same_engine a b chip down =
+    engine_fields a b (ap (λ (c : ChipState). c.shape) chip) (ap (λ (c : ChipState). c.cache) chip) (ap (λ (c : ChipState). c.mirror) chip) down
+
 -- from the same parts, with power on, the answers and the parts afterwards are the same
 pub calls_alike : {T : Type 0} {plan : CallPlan T} {relation : Parts → Parts → Result T Fault → Type 0}
     {says : LedgerState → LedgerState → ℕ → Result T Fault → Answer → Type 0} → SaysOne says → (old other a b : WorldState) (x y : Answer)
@@ -83,6 +91,9 @@ calls_alike {T = T} {plan = plan} {says = says} one old other a b x y same on it
     (chip_of its.after b.ledger b.tags b.digests)) (sym same.board) its.outcome) in
     let both = call_is_determined on it.outcome second in
     let left = both.1 in
+    let after : it.after ≡ its.after =
+    same_engine it.after its.after (ap (λ (c : Chip). c.engine) left)
+    (it.down ∙ ap (λ (r : Result T Fault). not (is_going (outcome_of r))) both.0 ∙ sym its.down) in
     let ledger : a.ledger ≡ b.ledger = ap (λ (c : Chip). c.ledger) left in
     let said : says old.ledger a.ledger (steps_in it.taken) it.result y =
     subst (λ (l : LedgerState). says l a.ledger (steps_in it.taken) it.result y) (sym same.ledger)
@@ -95,7 +106,7 @@ calls_alike {T = T} {plan = plan} {says = says} one old other a b x y same on it
         board = both.2;
         engine =
             it.kept
-            ∙ ap₂ (λ (z : Answer) (e : EngineState). if is_cut z then None else Some e) answer (ap (λ (c : Chip). c.engine) left)
+            ∙ ap₂ (λ (z : Answer) (e : EngineState). if is_cut z then None else Some e) answer after
             ∙ sym its.kept;
         ledger = ledger;
         tags = ap (λ (c : Chip). c.tags) left;

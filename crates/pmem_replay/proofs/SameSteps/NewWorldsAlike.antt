@@ -1,9 +1,9 @@
 -- Two new worlds of one geometry, of the same keys and counts: formatting's plan leaves one device.
-use Rattle.std.proofs.Common.{ℕ, ◌≡◌, Bool, false, inl, inr, List, Option, Some, None, refl, sym, ap, ap₂, subst, ◌∙◌}
+use Rattle.std.proofs.Common.{ℕ, ◌≡◌, false, inl, inr, List, Option, Some, None, refl, sym, ap, ap₂, subst, ◌∙◌}
 use Rattle.std.specs.Prelude.{Ok, is_some, slice_set}
 use Rattle.std.proofs.lemmas.Bool.{true≢false}
+use Rattle.std.proofs.lemmas.Option.{same_Some}
 use Rattle.pmem_base.specs.declared.lines.Line.{Line}
-use Rattle.pmem_base.specs.declared.registers.Regs.{Regs}
 use Rattle.pmem_base.specs.declared.answers.Mark.{Mark}
 use Rattle.pmem_base.specs.declared.answers.Exhibit.{Exhibit}
 use Rattle.pmem_base.specs.Layout as layout
@@ -53,36 +53,23 @@ none_is : {T : Type 0} (o : Option T) → is_some o ≡ false → o ≡ None
 none_is None none = refl
 none_is (Some x) none = absurd (true≢false none)
 
-abbrev board_with : List Line → Regs → Bool → Option ℕ → Option (List Line) → ℕ → ℕ → ℕ → ℕ → BoardMemory
-board_with lines regs powered fuse snapshot reads writes latches cuts =
-    record {
-      lines = lines;
-      regs = regs;
-      powered = powered;
-      fuse = fuse;
-      snapshot = snapshot;
-      reads = reads;
-      writes = writes;
-      latches = latches;
-      cuts = cuts;
-    }
-
-told_lines : (a b : List Line) → Some a ≡ Some b → a ≡ b
-told_lines a b same = cc
-
 boards_alike : (a b : BoardMemory) → device_of a ≡ device_of b → a.fuse ≡ b.fuse → a.snapshot ≡ b.snapshot → a ≡ b
 boards_alike a b device fuse snapshot =
-    let lines : a.lines ≡ b.lines = told_lines a.lines b.lines (ap (λ (d : Device). d.lines) device) in
-    let regs : a.regs ≡ b.regs = ap (λ (d : Device). d.regs) device in
-    let powered : a.powered ≡ b.powered = ap (λ (d : Device). d.live) device in
-    let reads : a.reads ≡ b.reads = ap (λ (d : Device). d.reads) device in
-    let writes : a.writes ≡ b.writes = ap (λ (d : Device). d.writes) device in
-    let latches : a.latches ≡ b.latches = ap (λ (d : Device). d.latches) device in
-    let cuts : a.cuts ≡ b.cuts = ap (λ (d : Device). d.cuts) device in
-    let same : board_with a.lines a.regs a.powered a.fuse a.snapshot a.reads a.writes a.latches a.cuts
-    ≡ board_with b.lines b.regs b.powered b.fuse b.snapshot b.reads b.writes b.latches b.cuts =
-    cc (lines, regs, powered, fuse, snapshot, reads, writes, latches, cuts) in
-    same
+    let lines : a.lines ≡ b.lines = same_Some a.lines b.lines (ap (λ (d : Device). d.lines) device) in
+    let accesses : a.accesses ≡ b.accesses = same_Some a.accesses b.accesses (ap (λ (d : Device). d.accesses) device) in
+    λ i.
+    record {
+      lines = lines i;
+      regs = (device i).regs;
+      powered = (device i).live;
+      fuse = fuse i;
+      snapshot = snapshot i;
+      reads = (device i).reads;
+      writes = (device i).writes;
+      latches = (device i).latches;
+      cuts = (device i).cuts;
+      accesses = accesses i;
+    }
 
 ledgers_alike : (a b : LedgerState) → a.marks ≡ b.marks → a.truth ≡ b.truth → a.data_lines ≡ b.data_lines → is_some a.exhibit ≡ false
     → is_some b.exhibit ≡ false → a ≡ b

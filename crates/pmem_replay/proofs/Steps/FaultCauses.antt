@@ -26,7 +26,7 @@ use Rattle.suite.specs.Setup.{Setup}
 use Rattle.plain_model.specs.State.{PlainState, is_flagged}
 use Rattle.plain_model.specs.Legal.{MayDiffer}
 use Rattle.plain_model.specs.View.{IsMemoryOf}
-use Rattle.pmem_engine.specs.Engine.{EngineState}
+use Rattle.pmem_engine.specs.Engine.{EngineState, on_chip}
 use Rattle.pmem_engine.specs.Invariants.{IsAnchored, IsTrusted, IsSealStored, IsSealTagged, stored_meta}
 use Rattle.pmem_engine.specs.Outcomes.{Outcome, going, cut_short, shown, is_sealed_by, KeepsPlaces, CallEffect}
 use Rattle.pmem_engine.specs.Faults.{IsFetchedLine, IsTagRefused, IsForgedShown}
@@ -155,7 +155,7 @@ hurt_before setup old new engine after taken made a kept places within unstored 
 
 -- a line whose tag is refused isn't stored, with a trusted chip afterwards
 pub tag_unstored : (setup : Setup) (world : WorldState) (engine : EngineState) (taken : Taken) (a : ℕ)
-    → IsTrusted setup engine world.board.regs world.ledger
+    → IsTrusted setup (on_chip engine) world.board.regs world.ledger
     → IsTagRefused setup a (parts_in world engine taken)
     → IsSealStored setup.shape (lines_in world) world.ledger.marks a → ⊥
 tag_unstored setup world engine taken a trusted refused stored =

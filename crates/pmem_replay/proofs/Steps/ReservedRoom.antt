@@ -18,6 +18,7 @@ roomy_power setup world capacity None off = record { unpowered = off.unpowered; 
 roomy_power setup world capacity (Some engine) on =
     record {
       powered = on.powered;
+      up = on.up;
       trusted = on.trusted;
       sound = on.sound;
       whole_cache = on.whole_cache;

@@ -48,6 +48,7 @@ same_world setup one other same whole =
     chip (Some engine) on =
         record {
           powered = on.powered;
+          up = on.up;
           trusted = on.trusted;
           sound = on.sound;
           whole_cache = on.whole_cache;

@@ -104,12 +104,13 @@ module _ (setup : Setup) (old new : WorldState) (engine after : EngineState) (ta
 
   -- the chip after a call that goes on
   pub on-called : IsOn setup old engine → CallEffect setup going made before then_
-      → IsHealed setup made old.state new.state → new.state.power ≡ true → IsBanksOf setup.shape after.cache
+      → IsHealed setup made old.state new.state → new.state.power ≡ true → after.down ≡ false → IsBanksOf setup.shape after.cache
       → ((bank x : ℕ) → is_cached_dirty setup.shape after.cache bank x ≡ true → IsTrue (can_be_dirty setup.shape new.state x))
       → IsOn setup new after
-  on-called on gone healed power whole_cache dirty =
+  on-called on gone healed power up whole_cache dirty =
       record {
         powered = power;
+        up = up;
         trusted = gone.trusted on.trusted;
         sound =
             λ honest.
@@ -204,14 +205,14 @@ pub world-going : (setup : Setup) (old new : WorldState) (engine after : EngineS
     → IsHealed setup made old.state new.state
     → IsCountedOn old.state new.state (steps_in taken)
     → new.state.fuse ≡ option_map (λ n. n - steps_in taken) old.state.fuse
-    → new.state.power ≡ true → new.engine ≡ Some after
+    → new.state.power ≡ true → after.down ≡ false → new.engine ≡ Some after
     → new.board.regs.loss ≡ new.state.loss
     → IsMemoryOf setup new.ledger.marks new.state.memory
     → HasFlags setup.shape new.state → HasQueues setup.shape new.state
     → IsBanksOf setup.shape after.cache
     → ((bank x : ℕ) → is_cached_dirty setup.shape after.cache bank x ≡ true → IsTrue (can_be_dirty setup.shape new.state x))
     → IsWorld setup new
-world-going setup old new engine after taken made call gone counters healed counted_on fuse power there loss memory flags queues whole_cache dirty =
+world-going setup old new engine after taken made call gone counters healed counted_on fuse power up there loss memory flags queues whole_cache dirty =
     let on = on_in setup old engine call.world call.was_on in
     let powered : new.board.powered ≡ true = gone.power.1 (call.world.board.power ∙ on.powered) in
     let group : new.board.regs.group ≡ old.board.regs.group = gone.group going_uncut in
@@ -223,7 +224,7 @@ world-going setup old new engine after taken made call gone counters healed coun
       memory = memory;
       chip =
           subst (λ e. IsPowered setup new e) (sym there)
-          (on-called setup old new engine after taken made on gone healed power whole_cache dirty);
+          (on-called setup old new engine after taken made on gone healed power up whole_cache dirty);
       kept = kept-called setup old new engine after taken made call.world.kept (gone.places on.trusted) gone.marks counters healed;
       flags = flags;
       queues = queues;

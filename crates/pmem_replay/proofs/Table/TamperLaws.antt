@@ -311,6 +311,7 @@ module _ (setup : Setup) (old : WorldState) (d : ℕ) (line : Line) (flipped : B
   chip (Some engine) on =
       record {
         powered = (ap (λ (s : PlainState). s.power) hurt.others) ∙ on.powered;
+        up = on.up;
         trusted = on.trusted;
         sound = λ honest. absurd (true≢false (sym some_named ∙ honest));
         whole_cache = on.whole_cache;

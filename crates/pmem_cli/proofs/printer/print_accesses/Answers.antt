@@ -1,5 +1,5 @@
 use Rattle.std.proofs.Common.{◌∙◌, [], ◌++◌, get_or, refl, subst, arith}
-use Rattle.access_log.specs.declared.access.Access.{Access}
+use Rattle.board.specs.declared.access.Access.{Access}
 use Rattle.plain_model.specs.Texts.{as_line}
 use Rattle.pmem_cli.specs.Logged.{access_text}
 use Rattle.pmem_cli.specs.Printed.{Prints, PrintsFront, with_waiting}

@@ -1,6 +1,5 @@
 use Rattle.std.proofs.Common.{rules, [], List, refl, sym, subst, ◌∙◌, arith}
 use Rattle.pmem_base.specs.declared.lines.Line.{Line}
-use Rattle.pmem_base.specs.Layout.{shadow_line}
 use Rattle.board.specs.Steps.{HasRead}
 use Rattle.call_plan.proofs.Steps.{ended_err}
 use Rattle.call_plan.proofs.Loops.{AreTurnsLeft, turns_start, turn_ok, turn_err, turns_end}

@@ -1,5 +1,5 @@
 -- The board as the call finds it, and the reference to it.
-use Rattle.board.specs.MemBoard.{memory_of}
+use Rattle.tree_session.proofs.Common.{memory_of}
 use Rattle.tree_session.proofs.calls.format.Given as goal
 
 abbrev pub ghosts-format_kept : goal.ghosts-format_kept

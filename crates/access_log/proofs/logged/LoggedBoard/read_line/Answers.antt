@@ -1,6 +1,6 @@
 -- An access that is done is noted.
 use Rattle.board.specs.MemBoard.{memory_of}
-use Rattle.access_log.specs.declared.access.Access.TheVariants as Did
+use Rattle.board.specs.declared.access.Access.TheVariants as Did
 use Rattle.access_log.proofs.TraceLemmas.{goes_on-noted, read-traced}
 use Rattle.access_log.proofs.logged.LoggedBoard.read_line.Goals as goal
 

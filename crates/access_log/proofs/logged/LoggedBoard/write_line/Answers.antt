@@ -2,7 +2,7 @@
 use Rattle.std.proofs.Common.{subst}
 use Rattle.pmem_base.specs.declared.lines.Line.{Line}
 use Rattle.board.specs.MemBoard.{memory_of}
-use Rattle.access_log.specs.declared.access.Access.TheVariants as Did
+use Rattle.board.specs.declared.access.Access.TheVariants as Did
 use Rattle.access_log.specs.Traced.{IsNoted}
 use Rattle.access_log.proofs.TraceLemmas.{goes_on-noted, write-traced}
 use Rattle.access_log.proofs.logged.LoggedBoard.write_line.Goals as goal

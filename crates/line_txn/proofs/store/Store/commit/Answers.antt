@@ -1,7 +1,9 @@
--- What the calls of a commit make of the lines.
+-- The engine is down, or the calls of a commit are made, and what they make of the lines.
+use Rattle.std.proofs.Common.{◌∙◌, refl, sym}
 use Rattle.suite.specs.Setup.{Setup}
 use Rattle.pmem_engine.specs.Engine.{EngineState}
 use Rattle.pmem_engine.specs.Parts.{Parts, parts_of}
+use Rattle.pmem_engine.proofs.CallEnds.EngineCalls.{guarded_up, guarded_down}
 use Rattle.line_txn.proofs.Commits.{left_logged, commit_trusted, commit_sound, spent_undecided}
 use Rattle.line_txn.proofs.store.Store.commit.Given.{Over}
 use Rattle.line_txn.proofs.store.Store.commit.Goals as goal
@@ -13,33 +15,44 @@ abbrev at : (g : Over) → EngineState → g.row.B.Denot → g.row.S.Denot → g
 at g engine board suite audit =
     parts_of engine (g.B.Board.device board) (g.A.Audit.ledger audit) (g.S.Suite.tags suite) (g.S.Suite.digests suite)
 
-pub returns-clause-logged : goal.returns-clause-logged
-returns-clause-logged g c = λ trusted lines had.
-    left_logged (setup_at g c.args.self.now.engine c.args.suite.now) c.args.txn.now.items lines c.args.self.now
-    c.commit_lines.new.self (at g c.args.self.now.engine c.args.board.now c.args.suite.now c.args.audit.now)
-    (at g c.commit_lines.new.self.engine c.commit_lines.new.board c.commit_lines.new.suite c.commit_lines.new.audit)
-    c.commit_lines.result
+pub commit_lines-requires-clause-up : goal.commit_lines-requires-clause-up
+commit_lines-requires-clause-up g c = sym c.is_down.ensures ∙ c.if-is_down.false
+
+pub returns-then-is_down-clause-committed : goal.returns-then-is_down-clause-committed
+returns-then-is_down-clause-committed g c =
+    guarded_down _ _ _ _ _ (sym c.is_down.ensures ∙ c.if-is_down.true)
+    (c.refused.ensures.answer, record { its_lines = refl; its_targets = refl; its_page = refl })
+
+pub returns-clause-committed : goal.returns-clause-committed
+returns-clause-committed g c =
+    guarded_up _ _ _ _ _ _ _ (sym c.is_down.ensures ∙ c.if-is_down.false) c.commit_lines.ensures.down
     (record {
-      size = c.args.self.now.its_lines;
-      low = c.args.self.now.few_lines;
-      below = c.requires.targets;
-      lines = c.commit_lines.ensures.whole;
+      committed = c.commit_lines.ensures.committed;
+      plan = c.commit_lines.ensures.plan;
+      logged =
+          λ trusted lines had.
+          left_logged (setup_at g c.args.self.now.engine c.args.suite.now) c.args.txn.now.items lines c.args.self.now
+          c.commit_lines.new.self (at g c.args.self.now.engine c.args.board.now c.args.suite.now c.args.audit.now)
+          (at g c.commit_lines.new.self.engine c.commit_lines.new.board c.commit_lines.new.suite c.commit_lines.new.audit)
+          c.commit_lines.result
+          (record {
+            size = c.args.self.now.its_lines;
+            low = c.args.self.now.few_lines;
+            below = c.requires.targets;
+            lines = c.commit_lines.ensures.whole;
+          })
+          had trusted c.commit_lines.ensures.committed;
+      trusted =
+          commit_trusted (setup_at g c.args.self.now.engine c.args.suite.now) c.args.txn.now.items c.args.self.now
+          c.commit_lines.new.self (at g c.args.self.now.engine c.args.board.now c.args.suite.now c.args.audit.now)
+          (at g c.commit_lines.new.self.engine c.commit_lines.new.board c.commit_lines.new.suite c.commit_lines.new.audit)
+          c.commit_lines.result c.commit_lines.ensures.committed;
+      sound =
+          commit_sound (setup_at g c.args.self.now.engine c.args.suite.now) c.args.txn.now.items c.args.self.now
+          c.commit_lines.new.self (at g c.args.self.now.engine c.args.board.now c.args.suite.now c.args.audit.now)
+          (at g c.commit_lines.new.self.engine c.commit_lines.new.board c.commit_lines.new.suite c.commit_lines.new.audit)
+          c.commit_lines.result c.commit_lines.ensures.committed;
     })
-    had trusted c.commit_lines.ensures.committed
-
-pub returns-clause-trusted : goal.returns-clause-trusted
-returns-clause-trusted g c =
-    commit_trusted (setup_at g c.args.self.now.engine c.args.suite.now) c.args.txn.now.items c.args.self.now
-    c.commit_lines.new.self (at g c.args.self.now.engine c.args.board.now c.args.suite.now c.args.audit.now)
-    (at g c.commit_lines.new.self.engine c.commit_lines.new.board c.commit_lines.new.suite c.commit_lines.new.audit)
-    c.commit_lines.result c.commit_lines.ensures.committed
-
-pub returns-clause-sound : goal.returns-clause-sound
-returns-clause-sound g c =
-    commit_sound (setup_at g c.args.self.now.engine c.args.suite.now) c.args.txn.now.items c.args.self.now
-    c.commit_lines.new.self (at g c.args.self.now.engine c.args.board.now c.args.suite.now c.args.audit.now)
-    (at g c.commit_lines.new.self.engine c.commit_lines.new.board c.commit_lines.new.suite c.commit_lines.new.audit)
-    c.commit_lines.result c.commit_lines.ensures.committed
 
 pub returns-clause-spent : goal.returns-clause-spent
 returns-clause-spent g c =

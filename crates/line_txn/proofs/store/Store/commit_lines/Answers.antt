@@ -1,12 +1,15 @@
 -- The bodies and the header are written or not, and then the targets and the zero header.
-use Rattle.std.proofs.Common.{true, Ok, Err, refl, sym, ap, subst, ◌∙◌}
+use Rattle.std.proofs.Common.{true, not, Ok, Err, refl, sym, ap, subst, ◌∙◌}
 use Rattle.std.specs.Prelude.{All}
 use Rattle.pmem_base.specs.Layout.{data_lines}
 use Rattle.suite.specs.Setup.{Setup}
+use Rattle.pmem_engine.specs.declared.fault.Fault.{Fault}
 use Rattle.pmem_engine.specs.declared.fault.Fault.TheVariants as Fail
 use Rattle.pmem_engine.specs.Engine.{EngineState}
 use Rattle.pmem_engine.specs.Parts.{Parts, parts_of}
 use Rattle.pmem_engine.specs.Plans.{Chip, chip_of}
+use Rattle.pmem_engine.specs.Outcomes.{outcome_of_fault, is_going}
+use Rattle.pmem_engine.proofs.CallEnds.EngineCalls.{down_after, up_after}
 use Rattle.engine_lines.proofs.EditPlans.{edits_as, edits_follow_under}
 use Rattle.line_txn.specs.declared.store.Committed.TheVariants as Do
 use Rattle.line_txn.specs.Logged.{targets_of}
@@ -52,7 +55,7 @@ returns-in-Err-clause-committed g c =
     (at g c.args.self.now.engine c.args.board.now c.args.suite.now c.args.audit.now)
     (at g c.edit_all.new.engine c.edit_all.new.board c.edit_all.new.suite c.edit_all.new.audit) (Err c.in-Err.fault))
     (c.deref-2.ensures.0 ∙ c.deciding-edits.ensures.edits ∙ ap (deciding_edits c.args.self.now.lines) c.deref.ensures.0)
-    c.in-Err.ensures.edited)
+    (c.in-Err.ensures.edited.did c.requires.up).edited)
     (record { its_lines = refl; its_targets = refl; its_page = refl })
 
 pub edit_all-requires-2-clause-places : goal.edit_all-requires-2-clause-places
@@ -76,14 +79,14 @@ returns-in-Ok-clause-committed g c =
     (at g c.args.self.now.engine c.args.board.now c.args.suite.now c.args.audit.now)
     (at g c.edit_all.new.engine c.edit_all.new.board c.edit_all.new.suite c.edit_all.new.audit) (Ok tt))
     (c.deref-2.ensures.0 ∙ c.deciding-edits.ensures.edits ∙ ap (deciding_edits c.args.self.now.lines) c.deref.ensures.0)
-    c.in_default.ensures.edited)
+    (c.in_default.ensures.edited.did c.requires.up).edited)
     (subst
     (λ es. AreEdited (setup_at g c.args.self.now.engine c.args.suite.now) es
     (at g c.edit_all.new.engine c.edit_all.new.board c.edit_all.new.suite c.edit_all.new.audit)
     (at g c.edit_all-2.new.engine c.edit_all-2.new.board c.edit_all-2.new.suite c.edit_all-2.new.audit) (Ok tt))
     (c.deref-4.ensures.0 ∙ c.applying-edits.ensures ∙ ap (applying_edits c.args.self.now.lines) c.deref-3.ensures.0)
     (edits_under g.S.Suite.formulas_of c.args.self.now.engine.shape c.edit_all.new.engine.shape (g.S.Suite.keys c.args.suite.now)
-    (g.S.Suite.keys c.edit_all.new.suite) c.in_default.ensures.shape c.in_default.ensures.keys _ _ _ _ c.in-Ok.ensures.edited))
+    (g.S.Suite.keys c.edit_all.new.suite) c.in_default.ensures.shape c.in_default.ensures.keys _ _ _ _ (c.in-Ok.ensures.edited.did (up_after c.in_default.ensures.edited c.requires.up refl)).edited))
     refl (record { its_lines = refl; its_targets = refl; its_page = refl })
 
 pub returns-in-Spent-clause-committed : goal.returns-in-Spent-clause-committed
@@ -99,7 +102,7 @@ returns-in-Spent-clause-committed g c =
     (at g c.args.self.now.engine c.args.board.now c.args.suite.now c.args.audit.now)
     (at g c.edit_all.new.engine c.edit_all.new.board c.edit_all.new.suite c.edit_all.new.audit) (Ok tt))
     (c.deref-2.ensures.0 ∙ c.deciding-edits.ensures.edits ∙ ap (deciding_edits c.args.self.now.lines) c.deref.ensures.0)
-    c.in_default.ensures.edited)
+    (c.in_default.ensures.edited.did c.requires.up).edited)
     (subst
     (λ es. AreEdited (setup_at g c.args.self.now.engine c.args.suite.now) es
     (at g c.edit_all.new.engine c.edit_all.new.board c.edit_all.new.suite c.edit_all.new.audit)
@@ -112,7 +115,7 @@ returns-in-Spent-clause-committed g c =
     (λ f. AreEdited (setup_at g c.edit_all.new.engine c.edit_all.new.suite) c.deref-4.result.now
     (at g c.edit_all.new.engine c.edit_all.new.board c.edit_all.new.suite c.edit_all.new.audit)
     (at g c.edit_all-2.new.engine c.edit_all-2.new.board c.edit_all-2.new.suite c.edit_all-2.new.audit) (Err f))
-    c.in-Spent.is c.in-Err-edit_all.ensures.edited)))
+    c.in-Spent.is (c.in-Err-edit_all.ensures.edited.did (up_after c.in_default.ensures.edited c.requires.up refl)).edited)))
     refl
     (record {
       its_lines = refl;
@@ -133,7 +136,7 @@ returns-in_default-fault-clause-committed g c =
     (at g c.args.self.now.engine c.args.board.now c.args.suite.now c.args.audit.now)
     (at g c.edit_all.new.engine c.edit_all.new.board c.edit_all.new.suite c.edit_all.new.audit) (Ok tt))
     (c.deref-2.ensures.0 ∙ c.deciding-edits.ensures.edits ∙ ap (deciding_edits c.args.self.now.lines) c.deref.ensures.0)
-    c.in_default.ensures.edited)
+    (c.in_default.ensures.edited.did c.requires.up).edited)
     (subst
     (λ es. AreEdited (setup_at g c.args.self.now.engine c.args.suite.now) es
     (at g c.edit_all.new.engine c.edit_all.new.board c.edit_all.new.suite c.edit_all.new.audit)
@@ -141,7 +144,7 @@ returns-in_default-fault-clause-committed g c =
     (Err c.in-Err-edit_all.fault))
     (c.deref-4.ensures.0 ∙ c.applying-edits.ensures ∙ ap (applying_edits c.args.self.now.lines) c.deref-3.ensures.0)
     (edits_under g.S.Suite.formulas_of c.args.self.now.engine.shape c.edit_all.new.engine.shape (g.S.Suite.keys c.args.suite.now)
-    (g.S.Suite.keys c.edit_all.new.suite) c.in_default.ensures.shape c.in_default.ensures.keys _ _ _ _ c.in-Err-edit_all.ensures.edited))
+    (g.S.Suite.keys c.edit_all.new.suite) c.in_default.ensures.shape c.in_default.ensures.keys _ _ _ _ (c.in-Err-edit_all.ensures.edited.did (up_after c.in_default.ensures.edited c.requires.up refl)).edited))
     (sym (fault_answer c.in-Err-edit_all.fault c.in_default-fault.not-Spent))
     (fault_served c.in-Err-edit_all.fault c.args.txn.now.items c.args.self.now _ c.in_default-fault.not-Spent
     (record { its_lines = refl; its_targets = refl; its_page = refl }))
@@ -159,7 +162,7 @@ returns-in-Err-clause-plan g c =
     (chip g c.args.self.now.engine c.args.suite.now c.args.audit.now) (chip g c.edit_all.new.engine c.edit_all.new.suite c.edit_all.new.audit)
     c.args.txn.now.items c.in-Err.fault (some_list c.args.txn.now.items (sym c.is_empty.ensures ∙ c.if-is_empty.false))
     (edits_as (setup_at g c.args.self.now.engine c.args.suite.now) _ _ _
-    (c.deref-2.ensures.0 ∙ c.deciding-edits.ensures.edits ∙ ap (deciding_edits c.args.self.now.lines) c.deref.ensures.0) c.in-Err.ensures.plan)
+    (c.deref-2.ensures.0 ∙ c.deciding-edits.ensures.edits ∙ ap (deciding_edits c.args.self.now.lines) c.deref.ensures.0) (c.in-Err.ensures.edited.did c.requires.up).plan)
     (record { its_lines = refl; its_targets = refl; its_page = refl })
 
 pub returns-in-Ok-clause-plan : goal.returns-in-Ok-clause-plan
@@ -169,11 +172,11 @@ returns-in-Ok-clause-plan g c =
     c.args.txn.now.items (chip g c.edit_all.new.engine c.edit_all.new.suite c.edit_all.new.audit) (Ok tt) _
     (some_list c.args.txn.now.items (sym c.is_empty.ensures ∙ c.if-is_empty.false))
     (edits_as (setup_at g c.args.self.now.engine c.args.suite.now) _ _ _
-    (c.deref-2.ensures.0 ∙ c.deciding-edits.ensures.edits ∙ ap (deciding_edits c.args.self.now.lines) c.deref.ensures.0) c.in_default.ensures.plan)
+    (c.deref-2.ensures.0 ∙ c.deciding-edits.ensures.edits ∙ ap (deciding_edits c.args.self.now.lines) c.deref.ensures.0) (c.in_default.ensures.edited.did c.requires.up).plan)
     (edits_as (setup_at g c.args.self.now.engine c.args.suite.now) _ _ _
     (c.deref-4.ensures.0 ∙ c.applying-edits.ensures ∙ ap (applying_edits c.args.self.now.lines) c.deref-3.ensures.0)
     (edits_follow_under g.S.Suite.formulas_of c.args.self.now.engine.shape c.edit_all.new.engine.shape (g.S.Suite.keys c.args.suite.now)
-    (g.S.Suite.keys c.edit_all.new.suite) c.in_default.ensures.shape c.in_default.ensures.keys _ _ c.in-Ok.ensures.plan))
+    (g.S.Suite.keys c.edit_all.new.suite) c.in_default.ensures.shape c.in_default.ensures.keys _ _ (c.in-Ok.ensures.edited.did (up_after c.in_default.ensures.edited c.requires.up refl)).plan))
     refl
     (record { its_lines = refl; its_targets = refl; its_page = refl })
 
@@ -184,11 +187,11 @@ returns-in-Spent-clause-plan g c =
     c.args.txn.now.items (chip g c.edit_all.new.engine c.edit_all.new.suite c.edit_all.new.audit) (Err (Fail.Spent c.in-Spent.page)) _
     (some_list c.args.txn.now.items (sym c.is_empty.ensures ∙ c.if-is_empty.false))
     (edits_as (setup_at g c.args.self.now.engine c.args.suite.now) _ _ _
-    (c.deref-2.ensures.0 ∙ c.deciding-edits.ensures.edits ∙ ap (deciding_edits c.args.self.now.lines) c.deref.ensures.0) c.in_default.ensures.plan)
+    (c.deref-2.ensures.0 ∙ c.deciding-edits.ensures.edits ∙ ap (deciding_edits c.args.self.now.lines) c.deref.ensures.0) (c.in_default.ensures.edited.did c.requires.up).plan)
     (edits_as (setup_at g c.args.self.now.engine c.args.suite.now) _ _ _
     (c.deref-4.ensures.0 ∙ c.applying-edits.ensures ∙ ap (applying_edits c.args.self.now.lines) c.deref-3.ensures.0)
     (edits_follow_under g.S.Suite.formulas_of c.args.self.now.engine.shape c.edit_all.new.engine.shape (g.S.Suite.keys c.args.suite.now)
-    (g.S.Suite.keys c.edit_all.new.suite) c.in_default.ensures.shape c.in_default.ensures.keys _ _ (edits_fault (setup_at g c.edit_all.new.engine c.edit_all.new.suite) (chip g c.edit_all-2.new.engine c.edit_all-2.new.suite c.edit_all-2.new.audit) _ _ c.in-Spent.is c.in-Err-edit_all.ensures.plan)))
+    (g.S.Suite.keys c.edit_all.new.suite) c.in_default.ensures.shape c.in_default.ensures.keys _ _ (edits_fault (setup_at g c.edit_all.new.engine c.edit_all.new.suite) (chip g c.edit_all-2.new.engine c.edit_all-2.new.suite c.edit_all-2.new.audit) _ _ c.in-Spent.is (c.in-Err-edit_all.ensures.edited.did (up_after c.in_default.ensures.edited c.requires.up refl)).plan)))
     refl
     (record { its_lines = refl; its_targets = c.targets_in-self.ensures ∙ ap targets_of c.deref-in-Spent.ensures.0; its_page = refl })
 
@@ -199,10 +202,25 @@ returns-in_default-fault-clause-plan g c =
     c.args.txn.now.items (chip g c.edit_all.new.engine c.edit_all.new.suite c.edit_all.new.audit) (Err c.in-Err-edit_all.fault) _
     (some_list c.args.txn.now.items (sym c.is_empty.ensures ∙ c.if-is_empty.false))
     (edits_as (setup_at g c.args.self.now.engine c.args.suite.now) _ _ _
-    (c.deref-2.ensures.0 ∙ c.deciding-edits.ensures.edits ∙ ap (deciding_edits c.args.self.now.lines) c.deref.ensures.0) c.in_default.ensures.plan)
+    (c.deref-2.ensures.0 ∙ c.deciding-edits.ensures.edits ∙ ap (deciding_edits c.args.self.now.lines) c.deref.ensures.0) (c.in_default.ensures.edited.did c.requires.up).plan)
     (edits_as (setup_at g c.args.self.now.engine c.args.suite.now) _ _ _
     (c.deref-4.ensures.0 ∙ c.applying-edits.ensures ∙ ap (applying_edits c.args.self.now.lines) c.deref-3.ensures.0)
     (edits_follow_under g.S.Suite.formulas_of c.args.self.now.engine.shape c.edit_all.new.engine.shape (g.S.Suite.keys c.args.suite.now)
-    (g.S.Suite.keys c.edit_all.new.suite) c.in_default.ensures.shape c.in_default.ensures.keys _ _ c.in-Err-edit_all.ensures.plan))
+    (g.S.Suite.keys c.edit_all.new.suite) c.in_default.ensures.shape c.in_default.ensures.keys _ _ (c.in-Err-edit_all.ensures.edited.did (up_after c.in_default.ensures.edited c.requires.up refl)).plan))
     (sym (fault_answer c.in-Err-edit_all.fault c.in_default-fault.not-Spent))
     (fault_served c.in-Err-edit_all.fault c.args.txn.now.items c.args.self.now _ c.in_default-fault.not-Spent (record { its_lines = refl; its_targets = refl; its_page = refl }))
+
+pub returns-in-Err-clause-down : goal.returns-in-Err-clause-down
+returns-in-Err-clause-down g c = down_after c.in-Err.ensures.edited c.requires.up
+
+pub returns-in-Ok-clause-down : goal.returns-in-Ok-clause-down
+returns-in-Ok-clause-down g c = down_after c.in-Ok.ensures.edited (up_after c.in_default.ensures.edited c.requires.up refl)
+
+pub returns-in-Spent-clause-down : goal.returns-in-Spent-clause-down
+returns-in-Spent-clause-down g c =
+    down_after c.in-Err-edit_all.ensures.edited (up_after c.in_default.ensures.edited c.requires.up refl)
+    ∙ ap (λ (fault : Fault). not (is_going (outcome_of_fault fault))) c.in-Spent.is
+
+pub returns-in_default-fault-clause-down : goal.returns-in_default-fault-clause-down
+returns-in_default-fault-clause-down g c =
+    down_after c.in-Err-edit_all.ensures.edited (up_after c.in_default.ensures.edited c.requires.up refl)

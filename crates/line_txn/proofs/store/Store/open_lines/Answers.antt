@@ -1,20 +1,24 @@
 -- The header is read, and its transaction redone.
-use Rattle.std.proofs.Common.{◌≡◌, ◌+◌, ◌-◌, ◌<◌, ◌^◌, inr, ℕ, Some, None, Ok, Err, rules, refl, ap, sym, subst, ◌∙◌, arith}
+use Rattle.std.proofs.Common.{not, ◌≡◌, ◌+◌, ◌-◌, inl, inr, ℕ, Some, None, Ok, Err, rules, refl, ap, sym, subst, ◌∙◌, arith}
 use Rattle.std.specs.Prelude.{All}
 use Rattle.pmem_base.specs.Shape.{Shape}
 use Rattle.pmem_base.specs.Geo.{shape_of}
 use Rattle.pmem_base.specs.Layout.{data_lines}
 use Rattle.suite.specs.Setup.{Setup}
+use Rattle.pmem_engine.specs.declared.fault.Fault.{Fault}
 use Rattle.pmem_engine.specs.declared.fault.Fault.TheVariants as Fail
 use Rattle.pmem_engine.specs.Engine.{EngineState}
 use Rattle.pmem_engine.specs.Parts.{Parts, parts_of}
+use Rattle.pmem_engine.specs.Calls.{HasReadLine}
 use Rattle.pmem_engine.specs.Plans.{Chip, chip_of}
+use Rattle.pmem_engine.specs.Outcomes.{outcome_of_fault, is_going}
+use Rattle.pmem_engine.proofs.CallEnds.EngineCalls.{down_after, up_after}
 use Rattle.engine_lines.proofs.EditPlans.{edits_as, edits_follow_under}
 use Rattle.engine_lines.specs.Edits.{AreEdited, IsEditOf}
 use Rattle.engine_lines.proofs.EngineLines.{least_lines}
 use Rattle.engine_lines.proofs.EditLaws.{edits_under}
 use Rattle.line_txn.specs.Edits.{redoing_edits}
-use Rattle.line_txn.specs.Store.{logged_lines}
+use Rattle.line_txn.specs.Store.{logged_lines, HasTargetsRedone}
 use Rattle.line_txn.proofs.EditStages.{redoing_fit}
 use Rattle.line_txn.proofs.Openings.{logged_size, none_by, redone_by, some_none, unspent_fault}
 use Rattle.line_txn.specs.Header.{header_in}
@@ -56,7 +60,7 @@ returns-in_default-clause-opened g c = (
       (at g c.args.engine c.args.board.now c.args.suite.now c.args.audit.now)
       (at g c.read.new.self c.read.new.board c.read.new.suite c.read.new.audit) c.in-Ok.header
       (logged_in c.lines-lines.result (shape_of c.geo.result.now) c.args.engine.shape c.lines-lines.ensures.value c.geo.ensures)
-      c.in-Ok.ensures.read (λ targets its. c.in_default.ensures.none (search rules) targets its),
+      (c.in-Ok.ensures.read.did c.requires.up) (λ targets its. c.in_default.ensures.none (search rules) targets its),
 )
 
 pub edit_all-requires-clause-places : goal.edit_all-requires-clause-places
@@ -92,6 +96,70 @@ invariant_of-result-in-Spent g c =
       only_stuck = λ e. absurd (some_none c.in-Spent.page e);
     }
 
+pub returns-in-Err-clause-opened : goal.returns-in-Err-clause-opened
+returns-in-Err-clause-opened g c = (
+  c.read.new.self,
+  inl
+      (subst (λ (n : ℕ). HasReadLine (setup_at g c.args.engine c.args.suite.now) n
+      (at g c.args.engine c.args.board.now c.args.suite.now c.args.audit.now) (at g c.read.new.self c.read.new.board c.read.new.suite c.read.new.audit)
+      (Err c.in-Err.fault))
+      (logged_in c.lines-lines.result (shape_of c.geo.result.now) c.args.engine.shape c.lines-lines.ensures.value c.geo.ensures)
+      (c.in-Err.ensures.read.did c.requires.up)),
+)
+
+pub returns-in-Ok-edit_all-clause-opened : goal.returns-in-Ok-edit_all-clause-opened
+returns-in-Ok-edit_all-clause-opened g c =
+    let its = logged_in c.lines-lines.result (shape_of c.geo.result.now) c.args.engine.shape c.lines-lines.ensures.value c.geo.ensures in
+    record {
+      targets = c.in-Some.targets.items;
+      redone = Ok tt;
+      was_redone =
+          redone_by (setup_at g c.args.engine c.args.suite.now) (c.lines-lines.result - 16)
+          (at g c.args.engine c.args.board.now c.args.suite.now c.args.audit.now)
+          (at g c.read.new.self c.read.new.board c.read.new.suite c.read.new.audit)
+          (at g c.edit_all.new.engine c.edit_all.new.board c.edit_all.new.suite c.edit_all.new.audit) c.in-Ok.header
+          c.in-Some.targets.items (Ok tt) its (c.in-Ok.ensures.read.did c.requires.up) c.in-Some.ensures.header
+          (subst
+          (λ es. AreEdited (setup_at g c.args.engine c.args.suite.now) es
+          (at g c.read.new.self c.read.new.board c.read.new.suite c.read.new.audit)
+          (at g c.edit_all.new.engine c.edit_all.new.board c.edit_all.new.suite c.edit_all.new.audit) (Ok tt))
+          (c.deref-2.ensures.0 ∙ c.redoing-edits.ensures ∙ ap (redoing_edits (c.lines-lines.result - 16)) c.deref.ensures.0)
+          (edits_under g.S.Suite.formulas_of c.args.engine.shape c.read.new.self.shape (g.S.Suite.keys c.args.suite.now)
+          (g.S.Suite.keys c.read.new.suite) c.in-Ok.ensures.shape c.in-Ok.ensures.keys _ _ _ _
+          (c.in-Ok-edit_all.ensures.edited.did (up_after c.in-Ok.ensures.read c.requires.up refl)).edited));
+      its_lines = its;
+      its_count = search rules;
+      its_end = (c.new.ensures, refl, refl);
+    }
+
+pub returns-in-Spent-clause-opened : goal.returns-in-Spent-clause-opened
+returns-in-Spent-clause-opened g c =
+    let its = logged_in c.lines-lines.result (shape_of c.geo.result.now) c.args.engine.shape c.lines-lines.ensures.value c.geo.ensures in
+    record {
+      targets = c.in-Some.targets.items;
+      redone = Err (Fail.Spent c.in-Spent.page);
+      was_redone =
+          subst (λ (fault : Fault). HasTargetsRedone (setup_at g c.args.engine c.args.suite.now) c.in-Some.targets.items
+          (at g c.args.engine c.args.board.now c.args.suite.now c.args.audit.now)
+          (at g c.edit_all.new.engine c.edit_all.new.board c.edit_all.new.suite c.edit_all.new.audit) (Err fault)) c.in-Spent.is
+          (redone_by (setup_at g c.args.engine c.args.suite.now) (c.lines-lines.result - 16)
+          (at g c.args.engine c.args.board.now c.args.suite.now c.args.audit.now)
+          (at g c.read.new.self c.read.new.board c.read.new.suite c.read.new.audit)
+          (at g c.edit_all.new.engine c.edit_all.new.board c.edit_all.new.suite c.edit_all.new.audit) c.in-Ok.header
+          c.in-Some.targets.items (Err c.in-Err-edit_all.fault) its (c.in-Ok.ensures.read.did c.requires.up) c.in-Some.ensures.header
+          (subst
+          (λ es. AreEdited (setup_at g c.args.engine c.args.suite.now) es
+          (at g c.read.new.self c.read.new.board c.read.new.suite c.read.new.audit)
+          (at g c.edit_all.new.engine c.edit_all.new.board c.edit_all.new.suite c.edit_all.new.audit) (Err c.in-Err-edit_all.fault))
+          (c.deref-2.ensures.0 ∙ c.redoing-edits.ensures ∙ ap (redoing_edits (c.lines-lines.result - 16)) c.deref.ensures.0)
+          (edits_under g.S.Suite.formulas_of c.args.engine.shape c.read.new.self.shape (g.S.Suite.keys c.args.suite.now)
+          (g.S.Suite.keys c.read.new.suite) c.in-Ok.ensures.shape c.in-Ok.ensures.keys _ _ _ _
+          (c.in-Err-edit_all.ensures.edited.did (up_after c.in-Ok.ensures.read c.requires.up refl)).edited)));
+      its_lines = its;
+      its_count = search rules;
+      its_end = (refl, refl, refl);
+    }
+
 pub returns-in_default-fault-clause-opened : goal.returns-in_default-fault-clause-opened
 returns-in_default-fault-clause-opened g c =
     let its = logged_in c.lines-lines.result (shape_of c.geo.result.now) c.args.engine.shape c.lines-lines.ensures.value c.geo.ensures in (
@@ -104,21 +172,21 @@ returns-in_default-fault-clause-opened g c =
                 (at g c.args.engine c.args.board.now c.args.suite.now c.args.audit.now)
                 (at g c.read.new.self c.read.new.board c.read.new.suite c.read.new.audit)
                 (at g c.edit_all.new.engine c.edit_all.new.board c.edit_all.new.suite c.edit_all.new.audit) c.in-Ok.header
-                c.in-Some.targets.items (Err c.in-Err-edit_all.fault) its c.in-Ok.ensures.read c.in-Some.ensures.header
+                c.in-Some.targets.items (Err c.in-Err-edit_all.fault) its (c.in-Ok.ensures.read.did c.requires.up) c.in-Some.ensures.header
                 (subst
                 (λ es. AreEdited (setup_at g c.args.engine c.args.suite.now) es
                 (at g c.read.new.self c.read.new.board c.read.new.suite c.read.new.audit)
                 (at g c.edit_all.new.engine c.edit_all.new.board c.edit_all.new.suite c.edit_all.new.audit) (Err c.in-Err-edit_all.fault))
                 (c.deref-2.ensures.0 ∙ c.redoing-edits.ensures ∙ ap (redoing_edits (c.lines-lines.result - 16)) c.deref.ensures.0)
                 (edits_under g.S.Suite.formulas_of c.args.engine.shape c.read.new.self.shape (g.S.Suite.keys c.args.suite.now)
-                (g.S.Suite.keys c.read.new.suite) c.in-Ok.ensures.shape c.in-Ok.ensures.keys _ _ _ _ c.in-Err-edit_all.ensures.edited));
+                (g.S.Suite.keys c.read.new.suite) c.in-Ok.ensures.shape c.in-Ok.ensures.keys _ _ _ _ (c.in-Err-edit_all.ensures.edited.did (up_after c.in-Ok.ensures.read c.requires.up refl)).edited));
             unspent = unspent_fault c.in-Err-edit_all.fault c.in_default-fault.not-Spent;
           }),
     )
 
 pub returns-in-Err-clause-plan : goal.returns-in-Err-clause-plan
 returns-in-Err-clause-plan g c =
-    (c.read.new.self, header_unread (setup_at g c.args.engine c.args.suite.now) (chip g c.args.engine c.args.suite.now c.args.audit.now) (c.lines-lines.result - 16) c.in-Err.fault (chip g c.read.new.self c.read.new.suite c.read.new.audit) (logged_in c.lines-lines.result (shape_of c.geo.result.now) c.args.engine.shape c.lines-lines.ensures.value c.geo.ensures) c.in-Err.ensures.read.plan)
+    (c.read.new.self, header_unread (setup_at g c.args.engine c.args.suite.now) (chip g c.args.engine c.args.suite.now c.args.audit.now) (c.lines-lines.result - 16) c.in-Err.fault (chip g c.read.new.self c.read.new.suite c.read.new.audit) (logged_in c.lines-lines.result (shape_of c.geo.result.now) c.args.engine.shape c.lines-lines.ensures.value c.geo.ensures) (c.in-Err.ensures.read.did c.requires.up).plan)
 
 pub returns-in_default-clause-plan : goal.returns-in_default-clause-plan
 returns-in_default-clause-plan g c = (
@@ -126,7 +194,7 @@ returns-in_default-clause-plan g c = (
   header_refused (setup_at g c.args.engine c.args.suite.now) (chip g c.args.engine c.args.suite.now c.args.audit.now) (c.lines-lines.result - 16) c.in-Ok.header (chip g c.read.new.self c.read.new.suite c.read.new.audit) (logged_in c.lines-lines.result (shape_of c.geo.result.now) c.args.engine.shape c.lines-lines.ensures.value c.geo.ensures)
       (subst (λ n. header_in n c.in-Ok.header ≡ None) (logged_in c.lines-lines.result (shape_of c.geo.result.now) c.args.engine.shape c.lines-lines.ensures.value c.geo.ensures)
       (header_none (c.lines-lines.result - 16) c.in-Ok.header (λ targets its. c.in_default.ensures.none (search rules) targets its)))
-      c.in-Ok.ensures.read.plan,
+      (c.in-Ok.ensures.read.did c.requires.up).plan,
 )
 
 pub returns-in-Ok-edit_all-clause-plan : goal.returns-in-Ok-edit_all-clause-plan
@@ -136,11 +204,11 @@ returns-in-Ok-edit_all-clause-plan g c =
           (chip g c.read.new.self c.read.new.suite c.read.new.audit) (chip g c.edit_all.new.engine c.edit_all.new.suite c.edit_all.new.audit) (Ok tt) _ (logged_in c.lines-lines.result (shape_of c.geo.result.now) c.args.engine.shape c.lines-lines.ensures.value c.geo.ensures)
           (subst (λ n. header_in n c.in-Ok.header ≡ Some c.in-Some.targets.items) (logged_in c.lines-lines.result (shape_of c.geo.result.now) c.args.engine.shape c.lines-lines.ensures.value c.geo.ensures)
           (header_found (c.lines-lines.result - 16) c.in-Ok.header c.in-Some.targets.items (omega (arith, c.lines-lines.ensures.bound)) c.in-Some.ensures.header))
-          c.in-Ok.ensures.read.plan
+          (c.in-Ok.ensures.read.did c.requires.up).plan
           (edits_as (setup_at g c.args.engine c.args.suite.now) _ _ _
           (c.deref-2.ensures.0 ∙ c.redoing-edits.ensures ∙ ap (redoing_edits (c.lines-lines.result - 16)) c.deref.ensures.0)
           (edits_follow_under g.S.Suite.formulas_of c.args.engine.shape c.read.new.self.shape (g.S.Suite.keys c.args.suite.now) (g.S.Suite.keys c.read.new.suite)
-          c.in-Ok.ensures.shape c.in-Ok.ensures.keys _ _ c.in-Ok-edit_all.ensures.plan))
+          c.in-Ok.ensures.shape c.in-Ok.ensures.keys _ _ (c.in-Ok-edit_all.ensures.edited.did (up_after c.in-Ok.ensures.read c.requires.up refl)).plan))
           (search rules);
       its_lines = (logged_in c.lines-lines.result (shape_of c.geo.result.now) c.args.engine.shape c.lines-lines.ensures.value c.geo.ensures);
       its_page = refl;
@@ -153,11 +221,11 @@ returns-in-Spent-clause-plan g c =
           (chip g c.read.new.self c.read.new.suite c.read.new.audit) (chip g c.edit_all.new.engine c.edit_all.new.suite c.edit_all.new.audit) (Err (Fail.Spent c.in-Spent.page)) _ (logged_in c.lines-lines.result (shape_of c.geo.result.now) c.args.engine.shape c.lines-lines.ensures.value c.geo.ensures)
           (subst (λ n. header_in n c.in-Ok.header ≡ Some c.in-Some.targets.items) (logged_in c.lines-lines.result (shape_of c.geo.result.now) c.args.engine.shape c.lines-lines.ensures.value c.geo.ensures)
           (header_found (c.lines-lines.result - 16) c.in-Ok.header c.in-Some.targets.items (omega (arith, c.lines-lines.ensures.bound)) c.in-Some.ensures.header))
-          c.in-Ok.ensures.read.plan
+          (c.in-Ok.ensures.read.did c.requires.up).plan
           (edits_as (setup_at g c.args.engine c.args.suite.now) _ _ _
           (c.deref-2.ensures.0 ∙ c.redoing-edits.ensures ∙ ap (redoing_edits (c.lines-lines.result - 16)) c.deref.ensures.0)
           (edits_follow_under g.S.Suite.formulas_of c.args.engine.shape c.read.new.self.shape (g.S.Suite.keys c.args.suite.now) (g.S.Suite.keys c.read.new.suite)
-          c.in-Ok.ensures.shape c.in-Ok.ensures.keys _ _ (edits_fault (setup_at g c.read.new.self c.read.new.suite) (chip g c.edit_all.new.engine c.edit_all.new.suite c.edit_all.new.audit) _ _ c.in-Spent.is c.in-Err-edit_all.ensures.plan)))
+          c.in-Ok.ensures.shape c.in-Ok.ensures.keys _ _ (edits_fault (setup_at g c.read.new.self c.read.new.suite) (chip g c.edit_all.new.engine c.edit_all.new.suite c.edit_all.new.audit) _ _ c.in-Spent.is (c.in-Err-edit_all.ensures.edited.did (up_after c.in-Ok.ensures.read c.requires.up refl)).plan)))
           (search rules);
       its_lines = (logged_in c.lines-lines.result (shape_of c.geo.result.now) c.args.engine.shape c.lines-lines.ensures.value c.geo.ensures);
       its_page = refl;
@@ -170,10 +238,19 @@ returns-in_default-fault-clause-plan g c = (
       (chip g c.read.new.self c.read.new.suite c.read.new.audit) (chip g c.edit_all.new.engine c.edit_all.new.suite c.edit_all.new.audit) (Err c.in-Err-edit_all.fault) _ (logged_in c.lines-lines.result (shape_of c.geo.result.now) c.args.engine.shape c.lines-lines.ensures.value c.geo.ensures)
       (subst (λ n. header_in n c.in-Ok.header ≡ Some c.in-Some.targets.items) (logged_in c.lines-lines.result (shape_of c.geo.result.now) c.args.engine.shape c.lines-lines.ensures.value c.geo.ensures)
       (header_found (c.lines-lines.result - 16) c.in-Ok.header c.in-Some.targets.items (omega (arith, c.lines-lines.ensures.bound)) c.in-Some.ensures.header))
-      c.in-Ok.ensures.read.plan
+      (c.in-Ok.ensures.read.did c.requires.up).plan
       (edits_as (setup_at g c.args.engine c.args.suite.now) _ _ _
       (c.deref-2.ensures.0 ∙ c.redoing-edits.ensures ∙ ap (redoing_edits (c.lines-lines.result - 16)) c.deref.ensures.0)
       (edits_follow_under g.S.Suite.formulas_of c.args.engine.shape c.read.new.self.shape (g.S.Suite.keys c.args.suite.now) (g.S.Suite.keys c.read.new.suite)
-      c.in-Ok.ensures.shape c.in-Ok.ensures.keys _ _ c.in-Err-edit_all.ensures.plan))
+      c.in-Ok.ensures.shape c.in-Ok.ensures.keys _ _ (c.in-Err-edit_all.ensures.edited.did (up_after c.in-Ok.ensures.read c.requires.up refl)).plan))
       (sym (unredone_fault c.in-Some.targets.items c.in-Err-edit_all.fault c.in_default-fault.not-Spent)),
 )
+
+pub returns-in-Ok-edit_all-clause-up : goal.returns-in-Ok-edit_all-clause-up
+returns-in-Ok-edit_all-clause-up g c =
+    up_after c.in-Ok-edit_all.ensures.edited (up_after c.in-Ok.ensures.read c.requires.up refl) refl
+
+pub returns-in-Spent-clause-up : goal.returns-in-Spent-clause-up
+returns-in-Spent-clause-up g c =
+    down_after c.in-Err-edit_all.ensures.edited (up_after c.in-Ok.ensures.read c.requires.up refl)
+    ∙ ap (λ (fault : Fault). not (is_going (outcome_of_fault fault))) c.in-Spent.is

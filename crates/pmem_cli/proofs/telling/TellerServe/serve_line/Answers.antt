@@ -1,6 +1,6 @@
 -- A line was answered, and told with its log before it.
 use Rattle.std.proofs.Common.{◌∙◌, List, [], ap, subst, Option, None, Some}
-use Rattle.access_log.specs.declared.access.Access.{Access}
+use Rattle.board.specs.declared.access.Access.{Access}
 use Rattle.pmem_cli.proofs.TellingLemmas.{told_as, shown_is, answered_line, exhibited, exhibit_untold}
 use Rattle.pmem_cli.proofs.telling.TellerServe.serve_line.Goals as goal
 

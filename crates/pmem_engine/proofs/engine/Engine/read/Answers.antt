@@ -1,46 +1,60 @@
--- The read of an engine that is up, which is down afterwards where it was cut or shown.
-use Rattle.std.proofs.Common.{[], Result, Err, sym, ap, subst, subst₂, ◌∙◌}
+-- The engine is down, or it was up and read, and is down afterwards where it was cut or shown.
+use Rattle.std.proofs.Common.{◌≡◌, [], Result, Err, sym, ap, subst, subst₂, ◌∙◌}
+use Rattle.std.specs.Prelude.{not}
 use Rattle.pmem_base.specs.declared.lines.Line.{Line}
-use Rattle.suite.specs.Setup.{Setup}
 use Rattle.pmem_engine.specs.declared.fault.Fault.{Fault}
-use Rattle.pmem_engine.specs.Engine.{EngineState}
-use Rattle.pmem_engine.specs.Parts.{Parts, parts_of, parts_at, setup_at}
+use Rattle.pmem_engine.specs.Engine.{ChipState, EngineState}
+use Rattle.pmem_engine.specs.Parts.{parts_with_at, parts_at, setup_at}
+use Rattle.pmem_engine.specs.Outcomes.{outcome_of, is_going}
+use Rattle.pmem_engine.specs.CallFacts.{IsUsableWith}
 use Rattle.pmem_engine.specs.Calls.{HasReadLine}
-use Rattle.pmem_engine.proofs.CheckedReads.ReadEnds.{read_ended, read_down}
-use Rattle.pmem_engine.proofs.CallEnds.UsableParts.{usable_call, shape_call}
+use Rattle.pmem_engine.proofs.CallEnds.EngineCalls.{was_up, was_down}
+use Rattle.pmem_engine.proofs.CallEnds.UsableParts.{usable_after}
 use Rattle.pmem_engine.proofs.CallEnds.ErrorAnswers.{is_err_of}
+use Rattle.pmem_engine.proofs.engine.Engine.read.Given.{Over}
+use Rattle.pmem_engine.proofs.engine.Engine.read.Goals.{After-ended}
 use Rattle.pmem_engine.proofs.engine.Engine.read.Goals as goal
+
+module _ (g : Over) (c : After-ended g) where
+  read : HasReadLine (setup_at g.S.Suite c.args.self.now c.args.suite.now) c.args.at
+      (parts_at g.B.Board g.S.Suite g.A.Audit c.args.self.now c.args.board.now c.args.suite.now c.args.audit.now)
+      (parts_at g.B.Board g.S.Suite g.A.Audit c.ended.new.self c.read_line-answer.new.board c.read_line-answer.new.suite c.read_line-answer.new.audit)
+      c.ended.result
+  read =
+      subst₂
+      (λ (engine : ChipState) (answer : Result Line Fault). HasReadLine (setup_at g.S.Suite c.args.self.now c.args.suite.now) c.args.at
+      (parts_at g.B.Board g.S.Suite g.A.Audit c.args.self.now c.args.board.now c.args.suite.now c.args.audit.now)
+      (parts_with_at g.B.Board g.S.Suite g.A.Audit engine c.read_line-answer.new.board c.read_line-answer.new.suite c.read_line-answer.new.audit) answer)
+      (sym c.ended.ensures.chip) (sym c.ended.ensures.answer)
+      (subst
+      (λ (engine : EngineState). HasReadLine (setup_at g.S.Suite engine c.args.suite.now) c.args.at
+      (parts_at g.B.Board g.S.Suite g.A.Audit engine c.args.board.now c.args.suite.now c.args.audit.now)
+      (parts_with_at g.B.Board g.S.Suite g.A.Audit c.read_line-answer.new.self c.read_line-answer.new.board c.read_line-answer.new.suite
+      c.read_line-answer.new.audit) c.read_line-answer.result)
+      c.self.view_is c.read_line-answer.ensures.read)
+
+  after : c.ended.new.self.down ≡ not (is_going (outcome_of c.ended.result))
+  after = c.ended.ensures.down ∙ ap (λ (answer : Result Line Fault). not (is_going (outcome_of answer))) (sym c.ended.ensures.answer)
 
 pub returns-clause-read : goal.returns-clause-read
 returns-clause-read g c =
-    let setup : Setup = setup_at g.S.Suite c.args.self.now c.args.suite.now in
-    let old : Parts = parts_at g.B.Board g.S.Suite g.A.Audit c.args.self.now c.args.board.now c.args.suite.now c.args.audit.now in
-    let new : Parts = parts_at g.B.Board g.S.Suite g.A.Audit c.read_line-answer.new.self c.read_line-answer.new.board c.read_line-answer.new.suite c.read_line-answer.new.audit in
-    subst₂
-    (λ (engine : EngineState) (answer : Result Line Fault). HasReadLine setup c.args.at old
-    (parts_of engine new.device new.ledger new.tags new.digests) answer)
-    (sym c.ended.ensures.engine) (sym c.ended.ensures.answer)
-    (read_ended setup c.args.at old new c.read_line-answer.result (c.in_ok-is_up.ensures.up) c.read_line-answer.ensures.plan
-    c.read_line-answer.ensures.read)
+    let end : After-ended g = (goal.at.returns-clause-read g c).After-ended in
+    was_up _ _ _ _ c.ended.result _ c.in_ok-is_up.ensures.up (after g end) (read g end)
 
 pub returns-clause-usable : goal.returns-clause-usable
 returns-clause-usable g c =
-    let setup : Setup = setup_at g.S.Suite c.args.self.now c.args.suite.now in
-    let old : Parts = parts_at g.B.Board g.S.Suite g.A.Audit c.args.self.now c.args.board.now c.args.suite.now c.args.audit.now in
-    let new : Parts = parts_at g.B.Board g.S.Suite g.A.Audit c.ended.new.self c.read_line-answer.new.board c.read_line-answer.new.suite c.read_line-answer.new.audit in
-    usable_call setup [] old new c.ended.result (returns-clause-read g c).down (λ up. ((returns-clause-read g c).done up).gone) c.requires.usable
+    let end : After-ended g = (goal.at.returns-clause-usable g c).After-ended in
+    usable_after (setup_at g.S.Suite c.args.self.now c.args.suite.now) (outcome_of c.ended.result) []
+    (parts_at g.B.Board g.S.Suite g.A.Audit c.args.self.now c.args.board.now c.args.suite.now c.args.audit.now)
+    (parts_at g.B.Board g.S.Suite g.A.Audit c.ended.new.self c.read_line-answer.new.board c.read_line-answer.new.suite c.read_line-answer.new.audit)
+    c.ended.new.self.down (read g end).done.gone (after g end)
+    (subst (λ b. IsUsableWith c.args.self.now.shape b (g.B.Board.device c.args.board.now) (g.A.Audit.ledger c.args.audit.now))
+    c.in_ok-is_up.ensures.up c.requires.usable)
 
 pub returns-clause-shape : goal.returns-clause-shape
-returns-clause-shape g c =
-    let setup : Setup = setup_at g.S.Suite c.args.self.now c.args.suite.now in
-    let old : Parts = parts_at g.B.Board g.S.Suite g.A.Audit c.args.self.now c.args.board.now c.args.suite.now c.args.audit.now in
-    let new : Parts = parts_at g.B.Board g.S.Suite g.A.Audit c.ended.new.self c.read_line-answer.new.board c.read_line-answer.new.suite c.read_line-answer.new.audit in
-    shape_call setup [] old new c.ended.result (returns-clause-read g c).down (λ up. ((returns-clause-read g c).done up).gone)
+returns-clause-shape g c = (read g (goal.at.returns-clause-shape g c).After-ended).done.gone.shape
 
 pub returns-in_err-is_up-clause-read : goal.returns-in_err-is_up-clause-read
 returns-in_err-is_up-clause-read g c =
-    let setup : Setup = setup_at g.S.Suite c.args.self.now c.args.suite.now in
-    let old : Parts = parts_at g.B.Board g.S.Suite g.A.Audit c.args.self.now c.args.board.now c.args.suite.now c.args.audit.now in
-    subst (HasReadLine setup c.args.at old old)
-    (sym (is_err_of c.from_residual.result c.in_err-is_up.field-0.0 c.from_residual.ensures.1 ∙ ap Err c.in_err-is_up.ensures.fault))
-    (read_down setup c.args.at old c.in_err-is_up.ensures.down)
+    was_down _ _ c.from_residual.result _ c.in_err-is_up.ensures.down
+    (is_err_of c.from_residual.result c.in_err-is_up.field-0.0 c.from_residual.ensures.1 ∙ ap Err c.in_err-is_up.ensures.fault)

@@ -1,48 +1,70 @@
--- The number is changed by an engine that is up, which is down afterwards where it was cut.
-use Rattle.std.proofs.Common.{◌≤◌, ℕ, [], Result, Err, refl, sym, ap, subst, subst₂, ◌∙◌}
+-- The engine is down, or it was up and set the number, and is down afterwards where it was cut.
+use Rattle.std.proofs.Common.{◌≡◌, ◌≤◌, ◌∙◌, [], ℕ, Result, Err, refl, sym, ap, subst, subst₂}
+use Rattle.std.specs.Prelude.{not}
 use Rattle.pmem_base.specs.Shape.{Shape}
 use Rattle.suite.specs.Setup.{Setup}
+use Rattle.seal_ledger.specs.Ledger.{LedgerState}
 use Rattle.pmem_engine.specs.declared.fault.Fault.{Fault}
-use Rattle.pmem_engine.specs.Engine.{EngineState}
-use Rattle.pmem_engine.specs.Parts.{Parts, parts_of}
+use Rattle.pmem_engine.specs.Engine.{ChipState, EngineState}
+use Rattle.pmem_engine.specs.Parts.{Parts, parts_with, parts_of}
+use Rattle.pmem_engine.specs.Outcomes.{of_cut, outcome_of, is_going}
+use Rattle.pmem_engine.specs.CallFacts.{IsReadyWith}
 use Rattle.pmem_engine.specs.Calls.{HasSetLoss}
-use Rattle.pmem_engine.proofs.BlockWrites.LossOutcomes.{loss_set, set_down}
+use Rattle.pmem_engine.proofs.BlockWrites.LossOutcomes.{loss_set}
+use Rattle.pmem_engine.proofs.CallEnds.EngineCalls.{was_up, was_down}
 use Rattle.pmem_engine.proofs.CallEnds.ErrorAnswers.{is_err_of}
-use Rattle.pmem_engine.proofs.CallEnds.UsableParts.{some_setup, some_ledger, ready_call, shape_call}
+use Rattle.pmem_engine.proofs.CallEnds.UsableParts.{some_setup, some_ledger, ready_after}
+use Rattle.pmem_engine.proofs.engine.Engine.set_loss.Given.{Over}
+use Rattle.pmem_engine.proofs.engine.Engine.set_loss.Goals.{After-ended_or_cut}
 use Rattle.pmem_engine.proofs.engine.Engine.set_loss.Goals as goal
+
+module _ (g : Over) (c : After-ended_or_cut g) where
+  did : (setup : Setup) (ledger : LedgerState) (tags digests : ℕ) → setup.shape ≡ c.args.self.now.shape
+      → HasSetLoss setup c.args.n (parts_of c.args.self.now (g.B.Board.device c.args.board.now) ledger tags digests)
+      (parts_of c.ended_or_cut.new.self (g.B.Board.device c.latch_loss-answer.new.board) ledger tags digests) c.ended_or_cut.result
+  did setup ledger tags digests shape =
+      subst₂
+      (λ (engine : ChipState) (answer : Result ℕ Fault). HasSetLoss setup c.args.n
+      (parts_of c.args.self.now (g.B.Board.device c.args.board.now) ledger tags digests)
+      (parts_with engine (g.B.Board.device c.latch_loss-answer.new.board) ledger tags digests) answer)
+      (sym c.ended_or_cut.ensures.chip) (sym c.ended_or_cut.ensures.answer)
+      (subst
+      (λ (engine : EngineState). HasSetLoss setup c.args.n (parts_of engine (g.B.Board.device c.args.board.now) ledger tags digests)
+      (parts_with c.latch_loss-answer.new.self (g.B.Board.device c.latch_loss-answer.new.board) ledger tags digests)
+      (of_cut c.latch_loss-answer.result)) c.self.view_is
+      (loss_set setup c.args.n c.self.inside.chip c.latch_loss-answer.new.self (g.B.Board.device c.args.board.now)
+      (g.B.Board.device c.latch_loss-answer.new.board) ledger tags digests (its_shape ∙ sym shape)
+      (subst (λ (s : Shape). s.levels ≤ 6) (its_shape ∙ sym shape) c.has_shape.ensures.at_most_six_levels)
+      c.requires.number c.requires.ready.valid_regs.known_loss (c.requires.ready.no_group c.in_ok-is_up.ensures.up)
+      c.latch_loss-answer.result c.latch_loss-answer.ensures.plan c.latch_loss-answer.ensures.changed))
+    where
+      its_shape : c.self.inside.chip.shape ≡ c.args.self.now.shape
+      its_shape = ap (λ (engine : EngineState). engine.shape) c.self.view_is
+
+  after : c.ended_or_cut.new.self.down ≡ not (is_going (outcome_of c.ended_or_cut.result))
+  after =
+      c.ended_or_cut.ensures.down
+      ∙ ap (λ (answer : Result ℕ Fault). not (is_going (outcome_of answer))) (sym c.ended_or_cut.ensures.answer)
 
 pub returns-clause-set : goal.returns-clause-set
 returns-clause-set g c = λ setup ledger tags digests shape.
-    subst₂
-    (λ (engine : EngineState) (answer : Result ℕ Fault). HasSetLoss setup c.args.n
-    (parts_of c.args.self.now (g.B.Board.device c.args.board.now) ledger tags digests)
-    (parts_of engine (g.B.Board.device c.latch_loss-answer.new.board) ledger tags digests) answer)
-    (sym c.ended_or_cut.ensures.engine) (sym c.ended_or_cut.ensures.answer)
-    (loss_set setup c.args.n c.args.self.now c.latch_loss-answer.new.self (g.B.Board.device c.args.board.now)
-    (g.B.Board.device c.latch_loss-answer.new.board) ledger tags digests (sym shape)
-    (subst (λ (s : Shape). s.levels ≤ 6) (sym shape) c.has_shape.ensures.at_most_six_levels)
-    c.requires.number c.requires.ready.valid_regs.known_loss (c.requires.ready.no_group (c.in_ok-is_up.ensures.up))
-    c.latch_loss-answer.result (c.in_ok-is_up.ensures.up) c.latch_loss-answer.ensures.plan c.latch_loss-answer.ensures.changed)
+    let end : After-ended_or_cut g = (goal.at.returns-clause-set g c).After-ended_or_cut in
+    was_up _ _ _ _ c.ended_or_cut.result _ c.in_ok-is_up.ensures.up (after g end) (did g end setup ledger tags digests shape)
 
 pub returns-clause-ready : goal.returns-clause-ready
 returns-clause-ready g c =
+    let end : After-ended_or_cut g = (goal.at.returns-clause-ready g c).After-ended_or_cut in
     let setup : Setup = some_setup c.args.self.now.shape in
     let old : Parts = parts_of c.args.self.now (g.B.Board.device c.args.board.now) some_ledger 0 0 in
     let new : Parts = parts_of c.ended_or_cut.new.self (g.B.Board.device c.latch_loss-answer.new.board) some_ledger 0 0 in
-    let set : HasSetLoss setup c.args.n old new c.ended_or_cut.result = returns-clause-set g c setup some_ledger 0 0 refl in
-    ready_call setup [] old new c.ended_or_cut.result set.down set.gone c.requires.ready
+    ready_after setup (outcome_of c.ended_or_cut.result) [] old new c.ended_or_cut.new.self.down (did g end setup some_ledger 0 0 refl).gone (after g end)
+    (subst (λ b. IsReadyWith c.args.self.now.shape b (g.B.Board.device c.args.board.now)) c.in_ok-is_up.ensures.up c.requires.ready)
 
 pub returns-clause-shape : goal.returns-clause-shape
 returns-clause-shape g c =
-    let setup : Setup = some_setup c.args.self.now.shape in
-    let old : Parts = parts_of c.args.self.now (g.B.Board.device c.args.board.now) some_ledger 0 0 in
-    let new : Parts = parts_of c.ended_or_cut.new.self (g.B.Board.device c.latch_loss-answer.new.board) some_ledger 0 0 in
-    let set : HasSetLoss setup c.args.n old new c.ended_or_cut.result = returns-clause-set g c setup some_ledger 0 0 refl in
-    shape_call setup [] old new c.ended_or_cut.result set.down set.gone
+    (did g (goal.at.returns-clause-shape g c).After-ended_or_cut (some_setup c.args.self.now.shape) some_ledger 0 0 refl).gone.shape
 
 pub returns-in_err-is_up-clause-set : goal.returns-in_err-is_up-clause-set
 returns-in_err-is_up-clause-set g c = λ setup ledger tags digests shape.
-    let parts : Parts = parts_of c.args.self.now (g.B.Board.device c.args.board.now) ledger tags digests in
-    subst (HasSetLoss setup c.args.n parts parts)
-    (sym (is_err_of c.from_residual.result c.in_err-is_up.field-0.0 c.from_residual.ensures.1 ∙ ap Err c.in_err-is_up.ensures.fault))
-    (set_down setup c.args.n parts c.in_err-is_up.ensures.down)
+    was_down _ _ c.from_residual.result _ c.in_err-is_up.ensures.down
+    (is_err_of c.from_residual.result c.in_err-is_up.field-0.0 c.from_residual.ensures.1 ∙ ap Err c.in_err-is_up.ensures.fault)

@@ -18,11 +18,23 @@ use Rattle.pmem_replay.specs.EngineCalls.{written_line, IsLawfulCall, HasCalledE
 use Rattle.pmem_replay.specs.Flagged.{Tampering, Dirtying, with_dirtying, healed}
 use Rattle.pmem_replay.specs.World.{WorldParts, WorldState, IsWorld, world_of}
 use Rattle.pmem_replay.proofs.Steps.PartsOfWorld.{held, setup_in, going_in, shape_in, moved}
+use Rattle.pmem_replay.proofs.Steps.WorldsAfterCalls.{on_in}
 use Rattle.pmem_replay.proofs.Steps.CallSurroundings.{called, IsServed}
 use Rattle.pmem_replay.proofs.EngineCalls.CallEnds.{marks_longer, marks_whole, parts_made, was_called, was_shown}
 use Rattle.pmem_replay.proofs.world.World.call.Given.{Over}
 use Rattle.pmem_replay.proofs.world.World.call.Goals.{After-saturating_add-self-inside}
 use Rattle.pmem_replay.proofs.world.World.call.Goals as goal
+
+-- the engine is up
+pub make-done-requires-clause-up : goal.make-done-requires-clause-up
+make-done-requires-clause-up g c =
+    let p : WorldParts =
+    held (g.S.Suite.keys c.self.inside.suite) (memory_of c.self.inside.board) (ledger_of c.self.inside.ledger) (capacity_of c.self.inside.ledger) c.self.inside.engine
+    (g.S.Suite.tags c.self.inside.suite) (g.S.Suite.digests c.self.inside.suite) c.self.inside.ports c.self.inside.tampered
+    c.self.inside.dirtied c.self.inside.steps c.self.inside.start c.self.inside.shown in
+    let going = going_in g.S.Suite.formulas_of (shape_of c.self.inside.geo) p c.args.self.now c.self.view_is c.requires.shown c.self.invariant in
+    (on_in (setup_in g.S.Suite.formulas_of (shape_of c.self.inside.geo) p) (world_of (setup_in g.S.Suite.formulas_of (shape_of c.self.inside.geo) p) p)
+    c.in-Some.engine going.whole c.in-Some.is).up
 
 -- once the engine has answered
 module _ (g : Over) (c : After-saturating_add-self-inside g) where
@@ -64,7 +76,7 @@ module _ (g : Over) (c : After-saturating_add-self-inside g) where
   longer : length p.ledger.marks ≤ length (ledger_of c.make-done.new.ledger).marks
   longer =
       marks_longer setup p _ _ _ (capacity_of c.make-done.new.ledger) _ _ _ c.in-Some.engine c.make-done.new.engine c.make-done.result.taken served c.make-done.ensures.capacity (g.C.Call.relation c.args.call.now)
-      (g.C.Call.write c.args.call.now) c.make-done.result.answer made within
+      (g.C.Call.write c.args.call.now) c.make-done.result.answer made within c.make-done.ensures.down
 
   -- the parts afterwards
   abbrev after : Option EngineState → List (List Posted) → Tampering → Dirtying → WorldParts
@@ -81,7 +93,7 @@ returns-then-is_shown-clause-called g c =
     (g.S.Suite.tags c.make-done.new.suite) (g.S.Suite.digests c.make-done.new.suite) c.saturating_add-self-inside.result) { shown = true })
     c.args.self.now c.self.view_is c.make-done.ensures.keys
     (was_shown (setup g at) (p g at) _ _ _ (capacity_of c.make-done.new.ledger) _ _ _ c.in-Some.engine c.make-done.new.engine c.make-done.result.taken (served g at) c.make-done.ensures.capacity (g.C.Call.relation c.args.call.now)
-    (g.C.Call.write c.args.call.now) c.make-done.result.answer (made g at) (within g at) (sym c.is_shown.ensures ∙ c.if-is_shown.true))
+    (g.C.Call.write c.args.call.now) c.make-done.result.answer (made g at) (within g at) c.make-done.ensures.down (sym c.is_shown.ensures ∙ c.if-is_shown.true))
 
 pub note_since-requires-clause-from : goal.note_since-requires-clause-from
 note_since-requires-clause-from g c =
@@ -97,7 +109,7 @@ pub note_since-requires-clause-marks : goal.note_since-requires-clause-marks
 note_since-requires-clause-marks g c =
     let at = (goal.at.note_since-requires-clause-marks g c).After-saturating_add-self-inside in
     marks_whole (setup g at) (p g at) _ _ _ (capacity_of c.make-done.new.ledger) _ _ _ c.in-Some.engine c.make-done.new.engine c.make-done.result.taken (served g at) c.make-done.ensures.capacity (g.C.Call.relation c.args.call.now)
-    (g.C.Call.write c.args.call.now) c.make-done.result.answer (made g at) (within g at) (sym c.is_shown.ensures ∙ c.if-is_shown.false)
+    (g.C.Call.write c.args.call.now) c.make-done.result.answer (made g at) (within g at) c.make-done.ensures.down (sym c.is_shown.ensures ∙ c.if-is_shown.false)
 
 pub invariant_of-self-2 : goal.invariant_of-self-2
 invariant_of-self-2 g c =
@@ -107,7 +119,7 @@ invariant_of-self-2 g c =
     (world_of (record { shape = shape_of c.self.inside.geo; formulas = g.S.Suite.formulas_of k })
     (after g at c.lose_if.new.engine c.lose_if.new.ports c.heal.new.tampered c.note_since.new.self))) (sym c.make-done.ensures.keys)
     (was_called (setup g at) (p g at) _ _ _ (capacity_of c.make-done.new.ledger) _ _ _ c.in-Some.engine c.make-done.new.engine c.make-done.result.taken (served g at) c.make-done.ensures.capacity (g.C.Call.relation c.args.call.now)
-    (g.C.Call.write c.args.call.now) c.make-done.result.answer (made g at) (within g at)
+    (g.C.Call.write c.args.call.now) c.make-done.result.answer (made g at) (within g at) c.make-done.ensures.down
     c.lose_if.new.engine c.lose_if.new.ports c.heal.new.tampered c.note_since.new.self
     c.is_cut.result (sym c.is_shown.ensures ∙ c.if-is_shown.false) c.is_cut.ensures c.lose_if.ensures.engine c.lose_if.ensures.ports
     (c.heal.ensures ∙ ap (λ l. healed l (drop (length c.marks-from.result.now) (ledger_of c.make-done.new.ledger).marks) (p g at).tampering) c.line.ensures
@@ -125,7 +137,7 @@ returns-clause-called g c =
     (after g at c.lose_if.new.engine c.lose_if.new.ports c.heal.new.tampered c.note_since.new.self)
     c.args.self.now c.self.view_is c.make-done.ensures.keys
     (was_called (setup g at) (p g at) _ _ _ (capacity_of c.make-done.new.ledger) _ _ _ c.in-Some.engine c.make-done.new.engine c.make-done.result.taken (served g at) c.make-done.ensures.capacity (g.C.Call.relation c.args.call.now)
-    (g.C.Call.write c.args.call.now) c.make-done.result.answer (made g at) (within g at)
+    (g.C.Call.write c.args.call.now) c.make-done.result.answer (made g at) (within g at) c.make-done.ensures.down
     c.lose_if.new.engine c.lose_if.new.ports c.heal.new.tampered c.note_since.new.self
     c.is_cut.result (sym c.is_shown.ensures ∙ c.if-is_shown.false) c.is_cut.ensures c.lose_if.ensures.engine c.lose_if.ensures.ports
     (c.heal.ensures ∙ ap (λ l. healed l (drop (length c.marks-from.result.now) (ledger_of c.make-done.new.ledger).marks) (p g at).tampering) c.line.ensures

@@ -1,70 +1,30 @@
--- The number of logical lines, and the wear that was read.
-use Rattle.std.proofs.Common.{ℕ, ◌≡◌, ◌-◌, ap, sym, ◌∙◌, arith}
-use Rattle.pmem_base.specs.Shape.{Shape}
-use Rattle.suite.specs.Setup.{Setup}
-use Rattle.pmem_engine.specs.Engine.{EngineState}
-use Rattle.pmem_engine.specs.Plans.{Chip, chip_of}
-use Rattle.pmem_base.specs.Geo.{shape_of}
-use Rattle.pmem_base.specs.Layout.{data_lines}
-use Rattle.start_gap.proofs.Records.{recorded-IsWear}
-use Rattle.engine_lines.proofs.EngineLines.{least_lines}
-use Rattle.start_gap.specs.Gapped.{logical_lines}
-use Rattle.start_gap.proofs.LevelledPlans.{not_read, no_record, found_record}
-use Rattle.start_gap.proofs.gapped.Gapped.open.Given.{Over}
+-- The engine is down, or the record is read.
+use Rattle.std.proofs.Common.{refl, sym, ◌∙◌}
+use Rattle.std.proofs.lemmas.Bool.{true≢false}
+use Rattle.pmem_engine.proofs.CallEnds.StillParts.{left_alone}
+use Rattle.start_gap.proofs.LevelledReads.{wear_read}
 use Rattle.start_gap.proofs.gapped.Gapped.open.Goals as goal
 
-abbrev setup_at : (g : Over) → EngineState → g.row.S.Denot → Setup
-setup_at g engine suite = record { shape = engine.shape; formulas = g.S.Suite.formulas_of (g.S.Suite.keys suite) }
+pub open_up-requires-clause-up : goal.open_up-requires-clause-up
+open_up-requires-clause-up g c = sym c.is_down.ensures ∙ c.if-is_down.false
 
-abbrev chip : (g : Over) → EngineState → g.row.S.Denot → g.row.A.Denot → Chip
-chip g engine suite audit = chip_of engine (g.A.Audit.ledger audit) (g.S.Suite.tags suite) (g.S.Suite.digests suite)
-
--- the number of logical lines
-logical_in : (lines : ℕ) (g shape : Shape) → lines ≡ data_lines g → g ≡ shape → lines - 2 ≡ logical_lines shape
-logical_in lines g shape e same = ap (λ k. k - 2) (e ∙ ap data_lines same)
-
-pub overflow_sub-lines : goal.overflow_sub-lines
-overflow_sub-lines g c = let least = least_lines (shape_of c.geo.result.now) in omega (arith, c.lines-lines.ensures.value, least)
-
-pub read-requires-clause-line : goal.read-requires-clause-line
-read-requires-clause-line g c =
-    let same : data_lines c.args.engine.shape ≡ data_lines (shape_of c.geo.result.now) = ap data_lines (sym c.geo.ensures) in
-    let least = least_lines (shape_of c.geo.result.now) in
-    omega (arith, c.lines-lines.ensures.value, least, same)
-
-pub invariant_of-result : goal.invariant_of-result
-invariant_of-result g c =
-    let same : data_lines c.read.new.self.shape ≡ data_lines (shape_of c.geo.result.now) =
-    ap data_lines (c.in-Ok.ensures.shape ∙ sym c.geo.ensures) in
-    let least = least_lines (shape_of c.geo.result.now) in
+pub returns-then-is_down-clause-opened : goal.returns-then-is_down-clause-opened
+returns-then-is_down-clause-opened g c =
     record {
-      its_lines = omega (arith, c.lines-lines.ensures.value, least, same);
-      few_lines = omega (arith, c.lines-lines.ensures.bound);
-      its_wear = recorded-IsWear (c.lines-lines.result - 2) c.in-Ok.line c.in-Some.wear (sym c.read_wear.ensures ∙ c.in-Some.is);
-      not_due = c.requires.every;
+      did = λ up. absurd (true≢false (sym c.if-is_down.true ∙ c.is_down.ensures ∙ up));
+      refuses = λ down. ((c.args.engine, left_alone _), refl);
+      up = tt;
     }
 
-pub returns-in-Err-clause-plan : goal.returns-in-Err-clause-plan
-returns-in-Err-clause-plan g c = (
-  c.read.new.self,
-  not_read (setup_at g c.args.engine c.args.suite.now) _ (chip g c.args.engine c.args.suite.now c.args.audit.now)
-      (chip g c.read.new.self c.read.new.suite c.read.new.audit) (c.lines-lines.result - 2) c.in-Err.fault
-      (logical_in c.lines-lines.result (shape_of c.geo.result.now) c.args.engine.shape c.lines-lines.ensures.value c.geo.ensures)
-      c.in-Err.ensures.read.plan,
-)
-
-pub returns-in-None-clause-plan : goal.returns-in-None-clause-plan
-returns-in-None-clause-plan g c = (
-  c.read.new.self,
-  no_record (setup_at g c.args.engine c.args.suite.now) _ (chip g c.args.engine c.args.suite.now c.args.audit.now)
-      (chip g c.read.new.self c.read.new.suite c.read.new.audit) (c.lines-lines.result - 2) c.in-Ok.line
-      (logical_in c.lines-lines.result (shape_of c.geo.result.now) c.args.engine.shape c.lines-lines.ensures.value c.geo.ensures)
-      (sym c.read_wear.ensures ∙ c.in-None.is) c.in-Ok.ensures.read.plan,
-)
-
-pub returns-in-Some-clause-plan : goal.returns-in-Some-clause-plan
-returns-in-Some-clause-plan g c =
-    found_record (setup_at g c.args.engine c.args.suite.now) _ (chip g c.args.engine c.args.suite.now c.args.audit.now)
-    (chip g c.read.new.self c.read.new.suite c.read.new.audit) (c.lines-lines.result - 2) c.in-Ok.line c.in-Some.wear
-    (logical_in c.lines-lines.result (shape_of c.geo.result.now) c.args.engine.shape c.lines-lines.ensures.value c.geo.ensures)
-    (sym c.read_wear.ensures ∙ c.in-Some.is) c.in-Ok.ensures.read.plan
+pub returns-clause-opened : goal.returns-clause-opened
+returns-clause-opened g c =
+    record {
+      did = λ up.
+          record {
+            opened = c.open_up.ensures.opened;
+            plan = c.open_up.ensures.plan;
+            levelled = λ trusted lines memory wear had levelled. wear_read _ _ _ _ _ c.open_up.ensures.opened trusted lines memory wear had levelled;
+          };
+      refuses = λ down. absurd (true≢false (sym down ∙ sym c.is_down.ensures ∙ c.if-is_down.false));
+      up = c.open_up.ensures.up;
+    }

@@ -1,7 +1,6 @@
 -- A device line is put back.
 use Rattle.std.proofs.Common.{arith}
-use Rattle.std.specs.Prelude.{IsErr}
-use Rattle.board.specs.MemBoard.{memory_of}
+use Rattle.tree_session.proofs.Common.{IsErr, memory_of}
 use Rattle.tree_session.specs.declared.commands.TreeCommand.TheVariants as Do
 use Rattle.tree_session.specs.declared.answers.TreeAnswer.TheVariants as Say
 use Rattle.tree_session.proofs.DecidedAnswers.{quiet_in, as_now, a_snapshot, back_past, back_none, back_held, back_seen}

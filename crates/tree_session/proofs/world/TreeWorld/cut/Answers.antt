@@ -1,5 +1,5 @@
 -- A cut is set.
-use Rattle.board.specs.MemBoard.{memory_of}
+use Rattle.tree_session.proofs.Common.{memory_of}
 use Rattle.tree_session.proofs.DecidedAnswers.{quiet_in, cut_held, cut_seen}
 use Rattle.tree_session.proofs.world.TreeWorld.cut.Goals as goal
 

@@ -1,9 +1,6 @@
 -- The first state of a session.
 use Rattle.std.proofs.Common.{ap, false, ◌∙◌}
-use Rattle.std.specs.Prelude.{replicate}
-use Rattle.pmem_base.specs.Geo.{shape_of}
-use Rattle.board.specs.MemBoard.{memory_of}
-use Rattle.counter_tree.specs.BookView.{watch_of}
+use Rattle.tree_session.proofs.Common.{replicate, shape_of, memory_of, watch_of}
 use Rattle.tree_session.proofs.NewCalls.{NewTreeCall, held, is_new}
 use Rattle.tree_session.proofs.world.TreeWorld.new.Goals as goal
 

@@ -1,5 +1,5 @@
 -- Power goes off.
-use Rattle.board.specs.MemBoard.{memory_of}
+use Rattle.tree_session.proofs.Common.{memory_of}
 use Rattle.tree_session.specs.declared.commands.TreeCommand.TheVariants as Do
 use Rattle.tree_session.specs.declared.answers.TreeAnswer.TheVariants as Say
 use Rattle.tree_session.proofs.DecidedAnswers.{quiet_in, as_now, none_found, some_found, off_off, off_held, off_seen}

@@ -1,17 +1,11 @@
 -- Power comes on.
-use Rattle.std.proofs.Common.{rules, refl, ap, ◌∙◌}
-use Rattle.pmem_base.specs.Geo.{shape_of}
-use Rattle.board.specs.MemBoard.{memory_of}
-use Rattle.counter_tree.specs.BookView.{watch_of}
+use Rattle.std.proofs.Common.{rules, ◌≡◌, refl, ap, ◌∙◌}
+use Rattle.tree_session.proofs.Common.{shape_of, memory_of, BoardMemory, watch_of, traced_of, goes_on-between, IsLoggedBy, logged_by, SessionState, tree_decided, parts_in, none_of}
 use Rattle.tree_session.specs.declared.commands.TreeCommand.TheVariants as Do
 use Rattle.tree_session.specs.declared.answers.TreeAnswer.TheVariants as Say
-use Rattle.access_log.specs.Traced.{GoesOn, traced_of}
-use Rattle.access_log.proofs.TraceLemmas.{goes_on-between}
-use Rattle.tree_session.specs.State.{SessionState}
-use Rattle.tree_session.specs.Fields.{parts_in}
 use Rattle.tree_session.proofs.DecidedAnswers.{quiet_in, found_some, already, as_now}
-use Rattle.pmem_recovery.proofs.ResultLaws.{none_of}
-use Rattle.tree_session.proofs.OnCalls.{OnTreeCall, on_held, on_seen, cut_kept, cut_seen, shadow_kept, shadow_seen, shown_kept, shown_seen}
+use Rattle.tree_session.proofs.LogLemmas.{not_logged}
+use Rattle.tree_session.proofs.OnCalls.{OnTreeCall, undecided_now, on_held, on_seen, cut_kept, cut_seen, shadow_kept, shadow_seen, shown_kept, shown_seen}
 use Rattle.tree_session.proofs.world.TreeWorld.on.Given.{Over}
 use Rattle.tree_session.proofs.world.TreeWorld.on.Goals.{After-steps-steps}
 use Rattle.tree_session.proofs.world.TreeWorld.on.Goals as goal
@@ -51,12 +45,13 @@ module _ (g : Over) (c : After-steps-steps g) where
         counted = c.steps-steps.ensures;
       }
 
-  -- the log goes on from the board before to the board as the call left it
-  logged : GoesOn c.args.log.now c.args.self.now.plain.board c.recover-done.new.log (memory_of c.recover-done.new.board)
-  logged =
-      goes_on-between c.args.log.now c.recover-done.new.log c.args.self.now.plain.board (memory_of c.power.new.self) (memory_of c.recover-done.new.board)
-      (memory_of c.recover-done.new.board) (ap traced_of c.power.ensures ∙ ap (λ (w : SessionState). traced_of w.plain.board) c.self.view_is) refl
-      c.recover-done.ensures.logged
+  -- the log goes on from the board before to one that is traced as the call left it
+  logged : (board : BoardMemory) → traced_of board ≡ traced_of (memory_of c.recover-done.new.board)
+      → IsLoggedBy (tree_decided c.args.self.now.shape c.args.self.now.plain Do.On) c.args.log.now c.args.self.now.plain.board c.recover-done.new.log board
+  logged board same =
+      logged_by (tree_decided c.args.self.now.shape c.args.self.now.plain Do.On) c.args.log.now c.recover-done.new.log c.args.self.now.plain.board board (undecided_now call)
+      (goes_on-between c.args.log.now c.recover-done.new.log c.args.self.now.plain.board (memory_of c.power.new.self) (memory_of c.recover-done.new.board)
+      board (ap traced_of c.power.ensures ∙ ap (λ (w : SessionState). traced_of w.plain.board) c.self.view_is) same c.recover-done.ensures.logged)
 
 pub returns-then-is_some-clause-answered : goal.returns-then-is_some-clause-answered
 returns-then-is_some-clause-answered g c =
@@ -92,23 +87,23 @@ returns-in-Err-Shown-clause-halted g c =
 
 -- ---- the log
 
+pub returns-then-is_some-clause-logged : goal.returns-then-is_some-clause-logged
+returns-then-is_some-clause-logged g c = not_logged Do.On c.args.log.now c.args.self.now c.args.self.now refl
+
 pub returns-in-Ok-clause-logged : goal.returns-in-Ok-clause-logged
-returns-in-Ok-clause-logged g c = logged g ((goal.at.returns-in-Ok-clause-logged g c).After-steps-steps)
+returns-in-Ok-clause-logged g c = logged g ((goal.at.returns-in-Ok-clause-logged g c).After-steps-steps) (memory_of c.recover-done.new.board) refl
 
 pub returns-in-Err-Cut-clause-logged : goal.returns-in-Err-Cut-clause-logged
-returns-in-Err-Cut-clause-logged g c = logged g ((goal.at.returns-in-Err-Cut-clause-logged g c).After-steps-steps)
+returns-in-Err-Cut-clause-logged g c = logged g ((goal.at.returns-in-Err-Cut-clause-logged g c).After-steps-steps) (memory_of c.recover-done.new.board) refl
 
 pub returns-in-Err-Shadow-clause-logged : goal.returns-in-Err-Shadow-clause-logged
 returns-in-Err-Shadow-clause-logged g c =
-    goes_on-between c.args.log.now c.recover-done.new.log c.args.self.now.plain.board c.args.self.now.plain.board (memory_of c.recover-done.new.board)
-    (memory_of c.rest.new.self) refl (ap traced_of c.rest.ensures) (logged g ((goal.at.returns-in-Err-Shadow-clause-logged g c).After-steps-steps))
+    logged g ((goal.at.returns-in-Err-Shadow-clause-logged g c).After-steps-steps) (memory_of c.rest.new.self) (ap traced_of c.rest.ensures)
 
 pub returns-in-Err-Memory-clause-logged : goal.returns-in-Err-Memory-clause-logged
 returns-in-Err-Memory-clause-logged g c =
-    goes_on-between c.args.log.now c.recover-done.new.log c.args.self.now.plain.board c.args.self.now.plain.board (memory_of c.recover-done.new.board)
-    (memory_of c.rest-in-Err-Memory.new.self) refl (ap traced_of c.rest-in-Err-Memory.ensures) (logged g ((goal.at.returns-in-Err-Memory-clause-logged g c).After-steps-steps))
+    logged g ((goal.at.returns-in-Err-Memory-clause-logged g c).After-steps-steps) (memory_of c.rest-in-Err-Memory.new.self) (ap traced_of c.rest-in-Err-Memory.ensures)
 
 pub returns-in-Err-Shown-clause-logged : goal.returns-in-Err-Shown-clause-logged
 returns-in-Err-Shown-clause-logged g c =
-    goes_on-between c.args.log.now c.recover-done.new.log c.args.self.now.plain.board c.args.self.now.plain.board (memory_of c.recover-done.new.board)
-    (memory_of c.rest-in-Err-Shown.new.self) refl (ap traced_of c.rest-in-Err-Shown.ensures) (logged g ((goal.at.returns-in-Err-Shown-clause-logged g c).After-steps-steps))
+    logged g ((goal.at.returns-in-Err-Shown-clause-logged g c).After-steps-steps) (memory_of c.rest-in-Err-Shown.new.self) (ap traced_of c.rest-in-Err-Shown.ensures)

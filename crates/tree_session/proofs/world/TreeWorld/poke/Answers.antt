@@ -1,6 +1,6 @@
 -- A device line is changed.
 use Rattle.std.proofs.Common.{arith}
-use Rattle.board.specs.MemBoard.{memory_of}
+use Rattle.tree_session.proofs.Common.{memory_of}
 use Rattle.tree_session.specs.declared.commands.TreeCommand.TheVariants as Do
 use Rattle.tree_session.specs.declared.answers.TreeAnswer.TheVariants as Say
 use Rattle.tree_session.proofs.DecidedAnswers.{quiet_in, as_now, poke_past, poke_held, poke_seen}

@@ -1,15 +1,11 @@
 -- A line is read, refused or shown, or power is cut.
-use Rattle.std.proofs.Common.{rules, arith, refl, ap}
-use Rattle.pmem_base.specs.Geo.{shape_of}
-use Rattle.board.specs.MemBoard.{memory_of}
-use Rattle.counter_tree.specs.BookView.{watch_of}
-use Rattle.access_log.specs.Traced.{GoesOn, traced_of}
-use Rattle.access_log.proofs.TraceLemmas.{goes_on-between}
-use Rattle.tree_session.specs.State.{SessionState}
-use Rattle.tree_session.specs.Fields.{parts_in}
+use Rattle.std.proofs.Common.{rules, arith, ◌≡◌, refl, ap}
+use Rattle.tree_session.proofs.Common.{shape_of, memory_of, BoardMemory, watch_of, traced_of, goes_on-between, IsLoggedBy, logged_by, SessionState, tree_decided, parts_in}
+use Rattle.tree_session.specs.declared.commands.TreeCommand.TheVariants as Do
 use Rattle.tree_session.proofs.AnswerClauses.{WorldCall}
 use Rattle.tree_session.proofs.DecidedAnswers.{quiet_in, read_off, read_past}
-use Rattle.tree_session.proofs.ReadCalls.{ReadTreeCall, got_held, got_seen, node_kept, node_seen, tag_kept, tag_seen, cut_kept, cut_seen, shown_kept, shown_seen}
+use Rattle.tree_session.proofs.LogLemmas.{not_logged}
+use Rattle.tree_session.proofs.ReadCalls.{ReadTreeCall, undecided_now, got_held, got_seen, node_kept, node_seen, tag_kept, tag_seen, cut_kept, cut_seen, shown_kept, shown_seen}
 use Rattle.tree_session.proofs.world.TreeWorld.read.Given.{Over}
 use Rattle.tree_session.proofs.world.TreeWorld.read.Goals.{After-steps-steps}
 use Rattle.tree_session.proofs.world.TreeWorld.read.Goals as goal
@@ -53,11 +49,13 @@ module _ (g : Over) (c : After-steps-steps g) where
         plan = c.read-done.ensures.plan;
       }
 
-  -- the log goes on by that call
-  logged : GoesOn c.args.log.now c.args.self.now.plain.board c.read-done.new.log (memory_of c.read-done.new.board)
-  logged =
-      goes_on-between c.args.log.now c.read-done.new.log c.args.self.now.plain.board (memory_of c.self.inside.board) (memory_of c.read-done.new.board)
-      (memory_of c.read-done.new.board) (ap (λ (w : SessionState). traced_of w.plain.board) c.self.view_is) refl c.read-done.ensures.logged
+  -- the log goes on from the board before to one that is traced as the call left it
+  logged : (board : BoardMemory) → traced_of board ≡ traced_of (memory_of c.read-done.new.board)
+      → IsLoggedBy (tree_decided c.args.self.now.shape c.args.self.now.plain (Do.Read c.args.at)) c.args.log.now c.args.self.now.plain.board c.read-done.new.log board
+  logged board same =
+      logged_by (tree_decided c.args.self.now.shape c.args.self.now.plain (Do.Read c.args.at)) c.args.log.now c.read-done.new.log c.args.self.now.plain.board board (undecided_now call)
+      (goes_on-between c.args.log.now c.read-done.new.log c.args.self.now.plain.board (memory_of c.self.inside.board) (memory_of c.read-done.new.board)
+      board (ap (λ (w : SessionState). traced_of w.plain.board) c.self.view_is) same c.read-done.ensures.logged)
 
 pub returns-in_default-clause-answered : goal.returns-in_default-clause-answered
 returns-in_default-clause-answered g c =
@@ -103,19 +101,24 @@ returns-in-Err-Shown-clause-halted g c =
 
 -- ---- the log
 
+pub returns-in_default-clause-logged : goal.returns-in_default-clause-logged
+returns-in_default-clause-logged g c = not_logged (Do.Read c.args.at) c.args.log.now c.args.self.now _ c.self.view_is
+
+pub returns-then-at-from-clause-logged : goal.returns-then-at-from-clause-logged
+returns-then-at-from-clause-logged g c = not_logged (Do.Read c.args.at) c.args.log.now c.args.self.now _ c.self.view_is
+
 pub returns-in-Ok-clause-logged : goal.returns-in-Ok-clause-logged
-returns-in-Ok-clause-logged g c = logged g ((goal.at.returns-in-Ok-clause-logged g c).After-steps-steps)
+returns-in-Ok-clause-logged g c = logged g ((goal.at.returns-in-Ok-clause-logged g c).After-steps-steps) (memory_of c.read-done.new.board) refl
 
 pub returns-in-Err-Node-clause-logged : goal.returns-in-Err-Node-clause-logged
-returns-in-Err-Node-clause-logged g c = logged g ((goal.at.returns-in-Err-Node-clause-logged g c).After-steps-steps)
+returns-in-Err-Node-clause-logged g c = logged g ((goal.at.returns-in-Err-Node-clause-logged g c).After-steps-steps) (memory_of c.read-done.new.board) refl
 
 pub returns-in-Err-Tag-clause-logged : goal.returns-in-Err-Tag-clause-logged
-returns-in-Err-Tag-clause-logged g c = logged g ((goal.at.returns-in-Err-Tag-clause-logged g c).After-steps-steps)
+returns-in-Err-Tag-clause-logged g c = logged g ((goal.at.returns-in-Err-Tag-clause-logged g c).After-steps-steps) (memory_of c.read-done.new.board) refl
 
 pub returns-in-Err-Cut-clause-logged : goal.returns-in-Err-Cut-clause-logged
-returns-in-Err-Cut-clause-logged g c = logged g ((goal.at.returns-in-Err-Cut-clause-logged g c).After-steps-steps)
+returns-in-Err-Cut-clause-logged g c = logged g ((goal.at.returns-in-Err-Cut-clause-logged g c).After-steps-steps) (memory_of c.read-done.new.board) refl
 
 pub returns-in-Err-Shown-clause-logged : goal.returns-in-Err-Shown-clause-logged
 returns-in-Err-Shown-clause-logged g c =
-    goes_on-between c.args.log.now c.read-done.new.log c.args.self.now.plain.board c.args.self.now.plain.board (memory_of c.read-done.new.board)
-    (memory_of c.rest.new.self) refl (ap traced_of c.rest.ensures) (logged g ((goal.at.returns-in-Err-Shown-clause-logged g c).After-steps-steps))
+    logged g ((goal.at.returns-in-Err-Shown-clause-logged g c).After-steps-steps) (memory_of c.rest.new.self) (ap traced_of c.rest.ensures)

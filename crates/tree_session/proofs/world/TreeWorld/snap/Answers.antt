@@ -1,8 +1,6 @@
 -- A snapshot is taken.
 use Rattle.std.proofs.Common.{rules}
-use Rattle.std.specs.Prelude.{IsErr}
-use Rattle.board.specs.MemBoard.{memory_of}
-use Rattle.pmem_recovery.proofs.ResultLaws.{from_no_error}
+use Rattle.tree_session.proofs.Common.{IsErr, memory_of, from_no_error}
 use Rattle.tree_session.proofs.DecidedAnswers.{quiet_in, snap_wanted, snap_held, snap_seen}
 use Rattle.tree_session.proofs.world.TreeWorld.snap.Goals as goal
 

@@ -1,15 +1,11 @@
 -- A line is written, refused or shown, or power is cut; or no write can be counted any more.
-use Rattle.std.proofs.Common.{rules, arith, refl, ap}
-use Rattle.pmem_base.specs.Geo.{shape_of}
-use Rattle.board.specs.MemBoard.{memory_of}
-use Rattle.counter_tree.specs.BookView.{watch_of}
-use Rattle.access_log.specs.Traced.{GoesOn, traced_of}
-use Rattle.access_log.proofs.TraceLemmas.{goes_on-between}
-use Rattle.tree_session.specs.State.{SessionState}
-use Rattle.tree_session.specs.Fields.{parts_in}
+use Rattle.std.proofs.Common.{rules, arith, ◌≡◌, refl, ap}
+use Rattle.tree_session.proofs.Common.{shape_of, memory_of, BoardMemory, watch_of, traced_of, goes_on-between, IsLoggedBy, logged_by, SessionState, tree_decided, parts_in}
+use Rattle.tree_session.specs.declared.commands.TreeCommand.TheVariants as Do
 use Rattle.tree_session.proofs.AnswerClauses.{WorldCall}
 use Rattle.tree_session.proofs.DecidedAnswers.{quiet_in, write_off, write_past}
-use Rattle.tree_session.proofs.WriteCalls.{WriteTreeCall, made_held, made_seen, node_kept, node_seen, spent_kept, spent_seen, lost_kept, lost_seen, cut_kept, cut_seen, shown_kept, shown_seen}
+use Rattle.tree_session.proofs.LogLemmas.{not_logged}
+use Rattle.tree_session.proofs.WriteCalls.{WriteTreeCall, undecided_now, made_held, made_seen, node_kept, node_seen, spent_kept, spent_seen, lost_kept, lost_seen, cut_kept, cut_seen, shown_kept, shown_seen}
 use Rattle.tree_session.proofs.world.TreeWorld.write.Given.{Over}
 use Rattle.tree_session.proofs.world.TreeWorld.write.Goals.{After-steps-steps}
 use Rattle.tree_session.proofs.world.TreeWorld.write.Goals as goal
@@ -55,11 +51,13 @@ module _ (g : Over) (c : After-steps-steps g) where
         plan = c.write-done.ensures.plan;
       }
 
-  -- the log goes on by that call
-  logged : GoesOn c.args.log.now c.args.self.now.plain.board c.write-done.new.log (memory_of c.write-done.new.board)
-  logged =
-      goes_on-between c.args.log.now c.write-done.new.log c.args.self.now.plain.board (memory_of c.self.inside.board) (memory_of c.write-done.new.board)
-      (memory_of c.write-done.new.board) (ap (λ (w : SessionState). traced_of w.plain.board) c.self.view_is) refl c.write-done.ensures.logged
+  -- the log goes on from the board before to one that is traced as the call left it
+  logged : (board : BoardMemory) → traced_of board ≡ traced_of (memory_of c.write-done.new.board)
+      → IsLoggedBy (tree_decided c.args.self.now.shape c.args.self.now.plain (Do.Write c.args.at c.args.line.now)) c.args.log.now c.args.self.now.plain.board c.write-done.new.log board
+  logged board same =
+      logged_by (tree_decided c.args.self.now.shape c.args.self.now.plain (Do.Write c.args.at c.args.line.now)) c.args.log.now c.write-done.new.log c.args.self.now.plain.board board (undecided_now call)
+      (goes_on-between c.args.log.now c.write-done.new.log c.args.self.now.plain.board (memory_of c.self.inside.board) (memory_of c.write-done.new.board)
+      board (ap (λ (w : SessionState). traced_of w.plain.board) c.self.view_is) same c.write-done.ensures.logged)
 
 pub returns-in_default-clause-answered : goal.returns-in_default-clause-answered
 returns-in_default-clause-answered g c =
@@ -111,22 +109,27 @@ returns-in-Err-Shown-clause-halted g c =
 
 -- ---- the log
 
+pub returns-in_default-clause-logged : goal.returns-in_default-clause-logged
+returns-in_default-clause-logged g c = not_logged (Do.Write c.args.at c.args.line.now) c.args.log.now c.args.self.now _ c.self.view_is
+
+pub returns-then-at-from-clause-logged : goal.returns-then-at-from-clause-logged
+returns-then-at-from-clause-logged g c = not_logged (Do.Write c.args.at c.args.line.now) c.args.log.now c.args.self.now _ c.self.view_is
+
 pub returns-in-Ok-clause-logged : goal.returns-in-Ok-clause-logged
-returns-in-Ok-clause-logged g c = logged g ((goal.at.returns-in-Ok-clause-logged g c).After-steps-steps)
+returns-in-Ok-clause-logged g c = logged g ((goal.at.returns-in-Ok-clause-logged g c).After-steps-steps) (memory_of c.write-done.new.board) refl
 
 pub returns-in-Err-Node-clause-logged : goal.returns-in-Err-Node-clause-logged
-returns-in-Err-Node-clause-logged g c = logged g ((goal.at.returns-in-Err-Node-clause-logged g c).After-steps-steps)
+returns-in-Err-Node-clause-logged g c = logged g ((goal.at.returns-in-Err-Node-clause-logged g c).After-steps-steps) (memory_of c.write-done.new.board) refl
 
 pub returns-in-Err-Spent-clause-logged : goal.returns-in-Err-Spent-clause-logged
-returns-in-Err-Spent-clause-logged g c = logged g ((goal.at.returns-in-Err-Spent-clause-logged g c).After-steps-steps)
+returns-in-Err-Spent-clause-logged g c = logged g ((goal.at.returns-in-Err-Spent-clause-logged g c).After-steps-steps) (memory_of c.write-done.new.board) refl
 
 pub returns-then-done-gt0-clause-logged : goal.returns-then-done-gt0-clause-logged
-returns-then-done-gt0-clause-logged g c = logged g ((goal.at.returns-then-done-gt0-clause-logged g c).After-steps-steps)
+returns-then-done-gt0-clause-logged g c = logged g ((goal.at.returns-then-done-gt0-clause-logged g c).After-steps-steps) (memory_of c.write-done.new.board) refl
 
 pub returns-else-done-gt0-clause-logged : goal.returns-else-done-gt0-clause-logged
-returns-else-done-gt0-clause-logged g c = logged g ((goal.at.returns-else-done-gt0-clause-logged g c).After-steps-steps)
+returns-else-done-gt0-clause-logged g c = logged g ((goal.at.returns-else-done-gt0-clause-logged g c).After-steps-steps) (memory_of c.write-done.new.board) refl
 
 pub returns-in-Err-Shown-clause-logged : goal.returns-in-Err-Shown-clause-logged
 returns-in-Err-Shown-clause-logged g c =
-    goes_on-between c.args.log.now c.write-done.new.log c.args.self.now.plain.board c.args.self.now.plain.board (memory_of c.write-done.new.board)
-    (memory_of c.rest.new.self) refl (ap traced_of c.rest.ensures) (logged g ((goal.at.returns-in-Err-Shown-clause-logged g c).After-steps-steps))
+    logged g ((goal.at.returns-in-Err-Shown-clause-logged g c).After-steps-steps) (memory_of c.rest.new.self) (ap traced_of c.rest.ensures)

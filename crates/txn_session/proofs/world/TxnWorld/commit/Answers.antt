@@ -5,15 +5,19 @@ use Rattle.pmem_engine.specs.declared.fault.Fault.TheVariants as Fail
 use Rattle.line_txn.proofs.Commits.{some_list}
 use Rattle.txn_session.proofs.CommitStates.{CommitCall}
 use Rattle.txn_session.proofs.CommitExits.{undecided_now, applied_exit, stuck_exit, spent_exit, cut_held, cut_marks, kept_seen, lost_seen, sound_fault}
-use Rattle.line_session.specs.Logged.{IsLoggedBy}
-use Rattle.line_session.proofs.Logs.{logged_by}
+use Rattle.trace_text.specs.Logged.{IsLoggedBy}
+use Rattle.trace_text.proofs.LogLemmas.{logged_by}
 use Rattle.txn_session.specs.declared.commands.TxnCommand.TheVariants as Do
 use Rattle.txn_session.proofs.world.TxnWorld.commit.Given.{Over}
 use Rattle.txn_session.proofs.world.TxnWorld.commit.Goals.{After-steps-steps, then-committed, else-committed, then-has_own_seal, else-has_own_seal}
 use Rattle.txn_session.proofs.world.TxnWorld.commit.Goals as goal
+use Rattle.txn_session.proofs.Worlds.{on_in}
 
 -- once the engine has answered
 module _ (g : Over) (c : After-steps-steps g) where
+  running : c.in-Some.store.engine.down ≡ false
+  running = (on_in _ _ _ c.self.invariant c.in-Some.is).running
+
   abbrev call : CommitCall
   call =
       record {
@@ -52,8 +56,9 @@ module _ (g : Over) (c : After-steps-steps g) where
         said = c.steps-steps.result;
         counted = c.steps-steps.ensures;
         answer = c.call-done.result.answer;
-        was_committed = c.call-done.ensures.made.committed;
-        plan = c.call-done.ensures.made.plan;
+        was_committed = (c.call-done.ensures.made.done.did running).committed;
+        down = c.call-done.ensures.made.done.after;
+        plan = (c.call-done.ensures.made.done.did running).plan;
       }
 
   -- the log goes on by that call

@@ -5,8 +5,8 @@ use Rattle.pmem_engine.specs.declared.fault.Fault.TheVariants as Fail
 use Rattle.pmem_recovery.specs.declared.faults.RecFault.TheVariants as Rec
 use Rattle.line_txn.specs.declared.store.TxnFault.TheVariants as Txn
 use Rattle.line_session.specs.declared.starts.StartFault.TheVariants as Start
-use Rattle.line_session.specs.Logged.{IsLoggedBy}
-use Rattle.line_session.proofs.Logs.{logged_by}
+use Rattle.trace_text.specs.Logged.{IsLoggedBy}
+use Rattle.trace_text.proofs.LogLemmas.{logged_by}
 use Rattle.txn_session.specs.declared.commands.TxnCommand.TheVariants as Do
 use Rattle.txn_session.proofs.Starts.{OnTxnCall}
 use Rattle.txn_session.proofs.OpeningExits.{open_held, open_exit, stuck_exit, cut_exit, wanted_on, wanted_exit, twin_exit, outcome_as}

@@ -1,16 +1,20 @@
 -- A line is read, or power is cut.
-use Rattle.std.proofs.Common.{rules, arith, refl, ap}
+use Rattle.std.proofs.Common.{rules, arith, refl, ap, ◌≡◌, false}
 use Rattle.txn_session.proofs.Common.{option_map, shape_of, memory_of, ledger_of, traced_of, goes_on-between, TxnState, txn_decided}
 use Rattle.txn_session.proofs.ReadLaws.{ReadTxnCall, undecided_now, got_held, got_seen, cut_held, cut_seen}
-use Rattle.line_session.specs.Logged.{IsLoggedBy}
-use Rattle.line_session.proofs.Logs.{logged_by}
+use Rattle.trace_text.specs.Logged.{IsLoggedBy}
+use Rattle.trace_text.proofs.LogLemmas.{logged_by}
 use Rattle.txn_session.specs.declared.commands.TxnCommand.TheVariants as Do
 use Rattle.txn_session.proofs.world.TxnWorld.read.Given.{Over}
 use Rattle.txn_session.proofs.world.TxnWorld.read.Goals.{After-steps-steps}
 use Rattle.txn_session.proofs.world.TxnWorld.read.Goals as goal
+use Rattle.txn_session.proofs.Worlds.{on_in}
 
 -- once the engine has answered
 module _ (g : Over) (c : After-steps-steps g) where
+  running : c.in-Some.store.engine.down ≡ false
+  running = (on_in _ _ _ c.self.invariant c.in-Some.is).running
+
   abbrev call : ReadTxnCall
   call =
       record {
@@ -47,9 +51,10 @@ module _ (g : Over) (c : After-steps-steps g) where
         said = c.steps-steps.result;
         counted = c.steps-steps.ensures;
         answer = c.call-done.result.answer;
-        was_read = c.call-done.ensures.made.was_read;
-        read_logged = c.call-done.ensures.made.logged;
-        plan = c.call-done.ensures.made.plan;
+        was_read = (c.call-done.ensures.made.read.did running).was_read;
+        down = c.call-done.ensures.made.read.after;
+        read_logged = (c.call-done.ensures.made.read.did running).logged;
+        plan = (c.call-done.ensures.made.read.did running).was_read.plan;
       }
 
   -- the log goes on by that call

@@ -6,7 +6,7 @@ use Rattle.watched_board.proofs.watched.WatchedBoard.read_line.Goals as goal
 pub invariant_of-self : goal.invariant_of-self
 invariant_of-self g c =
     record {
-      follows = read-ok _ _ _ _ _ _ c.in-Ok.ensures.ok c.in-Ok.ensures.reads c.args.self.now.follows;
+      follows = read-ok _ _ _ _ _ _ _ c.in-Ok.ensures.ok c.in-Ok.ensures.reads c.args.self.now.follows;
       in_count = c.args.self.now.in_count;
       its_name = c.args.self.now.its_name;
     }

@@ -46,7 +46,9 @@ module _ (g : Over) (c : After-open g) where
             (g.S.Suite.tags c.format.new.suite) (g.S.Suite.digests c.format.new.suite))
             (λ now. parts_of now (device_of (memory_of c.open.new.board)) (ledger_of c.open.new.audit) (g.S.Suite.tags c.open.new.suite)
             (g.S.Suite.digests c.open.new.suite)) c.open.result)
-            (ap (λ (e : EngineState). e.shape) c.in_ok-engine.ensures.formatted.engine_new) c.open.ensures.opened);
+            (ap (λ (e : EngineState). e.shape) c.in_ok-engine.ensures.formatted.engine_new)
+            (c.open.ensures.opened.did (ap (λ (e : EngineState). e.down) c.in_ok-engine.ensures.formatted.engine_new)).opened);
+        up = c.open.ensures.opened.up;
       }
 
   same_keys : g.S.Suite.keys c.open.new.suite ≡ g.S.Suite.keys c.args.suite

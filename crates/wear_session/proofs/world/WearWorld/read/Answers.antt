@@ -1,16 +1,20 @@
 -- A line is read, or power is cut.
-use Rattle.std.proofs.Common.{rules, arith, refl, ap}
+use Rattle.std.proofs.Common.{rules, arith, refl, ap, ◌≡◌, false}
 use Rattle.wear_session.proofs.Common.{shape_of, memory_of, ledger_of, traced_of, goes_on-between, WearState, wear_decided}
 use Rattle.wear_session.proofs.ReadLaws.{ReadWearCall, undecided_now, got_held, got_seen, cut_held, cut_seen}
-use Rattle.line_session.specs.Logged.{IsLoggedBy}
-use Rattle.line_session.proofs.Logs.{logged_by}
+use Rattle.trace_text.specs.Logged.{IsLoggedBy}
+use Rattle.trace_text.proofs.LogLemmas.{logged_by}
 use Rattle.wear_session.specs.declared.commands.WearCommand.TheVariants as Do
 use Rattle.wear_session.proofs.world.WearWorld.read.Given.{Over}
 use Rattle.wear_session.proofs.world.WearWorld.read.Goals.{After-steps-steps}
 use Rattle.wear_session.proofs.world.WearWorld.read.Goals as goal
+use Rattle.wear_session.proofs.Worlds.{on_in}
 
 -- once the engine has answered
 module _ (g : Over) (c : After-steps-steps g) where
+  running : c.in-Some.gapped.engine.down ≡ false
+  running = (on_in _ _ _ c.self.invariant c.in-Some.is).running
+
   abbrev call : ReadWearCall
   call =
       record {
@@ -46,8 +50,9 @@ module _ (g : Over) (c : After-steps-steps g) where
         said = c.steps-steps.result;
         counted = c.steps-steps.ensures;
         answer = c.call-done.result.answer;
-        was_read = c.call-done.ensures.made.was_read;
-        plan = c.call-done.ensures.made.plan;
+        was_read = (c.call-done.ensures.made.read.did running).was_read;
+        down = c.call-done.ensures.made.read.after;
+        plan = (c.call-done.ensures.made.read.did running).was_read.plan;
       }
 
   -- the log goes on by that call

@@ -4,15 +4,19 @@ use Rattle.wear_session.proofs.Common.{list_any, true≢false, shape_of, memory_
 use Rattle.pmem_engine.specs.declared.fault.Fault.TheVariants as Fail
 use Rattle.wear_session.proofs.WriteStates.{WriteWearCall, undecided_now}
 use Rattle.wear_session.proofs.WriteExits.{made_exit, held_exit, spent_exit, cut_held, cut_marks, kept_seen, lost_seen, sound_fault}
-use Rattle.line_session.specs.Logged.{IsLoggedBy}
-use Rattle.line_session.proofs.Logs.{logged_by}
+use Rattle.trace_text.specs.Logged.{IsLoggedBy}
+use Rattle.trace_text.proofs.LogLemmas.{logged_by}
 use Rattle.wear_session.specs.declared.commands.WearCommand.TheVariants as Do
 use Rattle.wear_session.proofs.world.WearWorld.write.Given.{Over}
 use Rattle.wear_session.proofs.world.WearWorld.write.Goals.{After-steps-steps, then-written, else-written, then-has_own_seal, else-has_own_seal}
 use Rattle.wear_session.proofs.world.WearWorld.write.Goals as goal
+use Rattle.wear_session.proofs.Worlds.{on_in}
 
 -- once the engine has answered
 module _ (g : Over) (c : After-steps-steps g) where
+  running : c.in-Some.gapped.engine.down ≡ false
+  running = (on_in _ _ _ c.self.invariant c.in-Some.is).running
+
   abbrev call : WriteWearCall
   call =
       record {
@@ -51,8 +55,9 @@ module _ (g : Over) (c : After-steps-steps g) where
         said = c.steps-steps.result;
         counted = c.steps-steps.ensures;
         answer = c.call-done.result.answer;
-        was_written = c.call-done.ensures.made.was_written;
-        plan = c.call-done.ensures.made.plan;
+        was_written = (c.call-done.ensures.made.did running).was_written;
+        down = c.call-done.ensures.made.after;
+        plan = (c.call-done.ensures.made.did running).plan;
       }
 
   -- the log goes on by that call

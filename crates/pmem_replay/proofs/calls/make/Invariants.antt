@@ -1,9 +1,0 @@
--- The board as the call finds it, the reference to it, and the log.
-use Rattle.board.specs.MemBoard.{memory_of}
-use Rattle.pmem_replay.proofs.calls.make.Given as goal
-
-abbrev pub ghosts-make_logged-K-Start : goal.ghosts-make_logged-K-Start
-ghosts-make_logged-K-Start g a = record { start = memory_of a.board.now; name = a.board.ghost_name }
-
-abbrev pub ghosts-make_logged-K-Entry : goal.ghosts-make_logged-K-Entry
-ghosts-make_logged-K-Entry g a = record { log = a.log.now }
