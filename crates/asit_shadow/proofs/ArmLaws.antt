@@ -1,30 +1,7 @@
 -- A write is armed: the registers and the watch stay anchored, the device stays durable, and once the
 -- group is written and emptied the engine is sound.
 use Rattle.std.proofs.Common.{ℕ, ◌≡◌, ◌≢◌, ◌<◌, List, [], length, true, false, Some, None, refl, sym, ap, subst, inl, inr, ◌∙◌, arith}
-use Rattle.std.specs.Prelude.{All, IsNone, slice_set, Option}
-use Rattle.std.proofs.lemmas.Bool.{cases_Bool, cases_eq, false≢true, false_from_ne_true}
-use Rattle.std.proofs.lemmas.List.{length-set, get_or-set_same, get_or-set_other}
-use Rattle.std.proofs.lemmas.Option.{same_Some}
-use Rattle.pmem_base.specs.declared.lines.Line.{Line}
-use Rattle.pmem_base.specs.declared.registers.Regs.{Regs}
-use Rattle.pmem_base.specs.Lines.{line_at, tag_slot}
-use Rattle.pmem_base.specs.Registers.{IsGroup}
-use Rattle.pmem_base.specs.Shape.{IsShape}
-use Rattle.suite.specs.Setup.{Setup}
-use Rattle.commit_regs.specs.Groups.{redone}
-use Rattle.commit_regs.proofs.GroupLemmas.{AreLinesOf-redone}
-use Rattle.counter_tree.specs.Nodes.{node_line}
-use Rattle.counter_tree.specs.Layout.{tree_lines, tree_size}
-use Rattle.counter_tree.specs.Trees.{node_at, IsRaised, is_on_line_path}
-use Rattle.counter_tree.specs.Slots.{slot_of, slot_line}
-use Rattle.counter_tree.specs.Watch.{WatchState, last_seal_of}
-use Rattle.counter_tree.specs.declared.watch.LineSeal.{LineSeal}
-use Rattle.counter_tree.proofs.TreeLaws.{raised_nodes-IsRaised}
-use Rattle.asit_shadow.specs.State.{TreeState, cache_at, IsCachedDirty}
-use Rattle.asit_shadow.specs.declared.cache.CachedNode.{CachedNode}
-use Rattle.asit_shadow.specs.Invariants.{IsTrueSeal, IsTrueTreeSlot, IsTreeAnchored, IsTrueCached, IsTreeTrusted, IsTreeSealStored, IsNamed, IsSlotStored, IsTreeMendable, IsTreeDurable, IsTreeSound}
-use Rattle.asit_shadow.specs.Paths.{is_path_slot, HasPathNamed, IsNodePathCached, HasPathCached}
-use Rattle.asit_shadow.specs.Steps.{IsTreeArmed, HasPathStored, IsTreeEmptied}
+use Rattle.asit_shadow.proofs.Common.{All, IsNone, slice_set, Option, cases_Bool, cases_eq, false≢true, false_from_ne_true, length-set, get_or-set_same, get_or-set_other, same_Some, Line, Regs, line_at, tag_slot, IsGroup, IsShape, Setup, redone, AreLinesOf-redone, node_line, tree_lines, tree_size, node_at, IsRaised, is_on_line_path, slot_of, slot_line, WatchState, last_seal_of, LineSeal, raised_nodes-IsRaised, TreeState, cache_at, IsCachedDirty, CachedNode, IsTrueSeal, IsTrueTreeSlot, IsTreeAnchored, IsTrueCached, IsTreeTrusted, IsTreeSealStored, IsNamed, IsSlotStored, IsTreeMendable, IsTreeDurable, IsTreeSound, is_path_slot, HasPathNamed, IsNodePathCached, HasPathCached, IsTreeArmed, HasPathStored, IsTreeEmptied}
 use Rattle.asit_shadow.proofs.SlotPlaces.{on_path-inside, top_on_path, path_slot-of, path_slot-from}
 use Rattle.asit_shadow.proofs.PutLaws.{write_group-IsGroup, write_group-made, IsGroupMade, tag_slot-tag_only}
 

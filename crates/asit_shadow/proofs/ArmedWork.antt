@@ -1,25 +1,7 @@
 -- What a write that was armed did, exactly.
 use Rattle.std.proofs.Common.{ℕ, ◌≡◌, ◌<◌, List, length, Some, None, sym, ap, subst, ◌∙◌, arith}
-use Rattle.std.specs.Prelude.{Option, slice_index_or}
-use Rattle.std.proofs.lemmas.Bool.{false≢true}
-use Rattle.std.proofs.lemmas.List.{get_or-set_same}
-use Rattle.pmem_base.specs.declared.lines.Line.{Line}
-use Rattle.pmem_base.specs.declared.registers.Regs.{Regs}
-use Rattle.pmem_base.specs.Shape.{Shape, IsShape}
-use Rattle.suite.specs.Setup.{Setup}
-use Rattle.board.specs.Counts.{RisesBy}
-use Rattle.commit_regs.specs.Groups.{redone_told}
-use Rattle.counter_tree.specs.declared.nodes.Node.{Node}
-use Rattle.counter_tree.specs.declared.watch.LineSeal.{LineSeal}
-use Rattle.counter_tree.specs.Layout.{tree_lines, tree_slots}
-use Rattle.counter_tree.specs.Watch.{WatchState}
-use Rattle.asit_shadow.specs.declared.cache.CachedNode.{CachedNode}
-use Rattle.asit_shadow.specs.Parts.{TreeEngineParts, IsWatchReady, tree_lines_redone}
-use Rattle.asit_shadow.specs.Paths.{is_path_slot, write_group, HasPathCached}
-use Rattle.asit_shadow.specs.Steps.{KeepsOtherRegisters}
-use Rattle.asit_shadow.specs.Work.{absent_nodes, HasSlotsFetched, HasArmedPath}
-use Rattle.asit_shadow.specs.Fetching.{IsPathFetchedTo}
-use Rattle.asit_shadow.specs.Writing.{IsWriteMade}
+use Rattle.asit_shadow.proofs.Common.{Option, slice_index_or, false≢true, get_or-set_same, Line, Regs, Shape, IsShape, Setup, RisesBy, redone_told, Node, LineSeal, tree_lines, tree_slots, WatchState, CachedNode, TreeEngineParts, IsWatchReady, tree_lines_redone, is_path_slot, HasPathCached, KeepsOtherRegisters, absent_nodes, HasSlotsFetched, HasArmedPath, IsPathFetchedTo, IsWriteMade}
+use Rattle.asit_shadow.specs.Paths.{write_group}
 use Rattle.asit_shadow.proofs.RegisterLaws.{others-then}
 use Rattle.asit_shadow.proofs.SlotPlaces.{path_slot-of}
 use Rattle.asit_shadow.proofs.SetLaws.{cache_with-HasPathCached}

@@ -1,28 +1,9 @@
 -- A write that was made over a trusted chip with the path cached is armed as its law asks.
 use Rattle.std.proofs.Common.{ℕ, ◌≡◌, ◌<◌, ◌≤◌, ◌+◌, ◌-◌, ◌/◌, ◌%◌, ◌^◌, List, length, true, refl, sym, ap, subst, ◌∙◌, arith}
-use Rattle.std.specs.Prelude.{◌==◌}
-use Rattle.pmem_base.specs.declared.lines.Line.{Line}
-use Rattle.pmem_base.specs.declared.registers.Regs.{Regs}
-use Rattle.pmem_base.specs.Lines.{put_lines}
-use Rattle.pmem_base.specs.Shape.{IsShape}
-use Rattle.pmem_base.specs.Layout.{meta_lines}
-use Rattle.bonsai_tree.specs.Positions.{child_slot}
-use Rattle.bonsai_tree.proofs.PathPositions.{path_of-on_path, path_of-block}
-use Rattle.bonsai_tree.proofs.Levels.{meta_lines-level, level_start-suc}
-use Rattle.std.proofs.lemmas.Bool.{cond-true, eq-eqb}
-use Rattle.suite.specs.Setup.{Setup}
-use Rattle.counter_tree.specs.declared.nodes.Node.{Node}
-use Rattle.counter_tree.specs.declared.watch.LineSeal.{LineSeal}
-use Rattle.counter_tree.specs.Nodes.{counter, total}
-use Rattle.counter_tree.specs.Layout.{tree_lines}
-use Rattle.counter_tree.specs.Shadow.{IsShadowTree, root_of, shadow_root, shadow_height}
-use Rattle.counter_tree.specs.Trees.{node_at, line_position, raised, raised_nodes, is_on_line_path}
-use Rattle.counter_tree.proofs.TreeLaws.{raised-same, raised_nodes-IsRaised, versions_down}
-use Rattle.asit_shadow.specs.State.{IsCached, IsCachedAs, IsTreeEngine}
-use Rattle.asit_shadow.specs.Parts.{TreeEngineParts, AreTreeTrusted}
-use Rattle.asit_shadow.specs.Paths.{slots_with, HasPathNamed, HasPathCached, IsNodePathCached, path_node}
-use Rattle.asit_shadow.specs.Steps.{IsTreeArmed, HasPathStored}
-use Rattle.asit_shadow.specs.Writing.{set_pairs, slot_entries, position_below, IsWriteMade}
+use Rattle.asit_shadow.proofs.Common.{◌==◌, Line, Regs, put_lines, IsShape, meta_lines, child_slot, path_of-on_path, path_of-block, meta_lines-level, level_start-suc, cond-true, eq-eqb, Setup, Node, LineSeal, counter, total, tree_lines, IsShadowTree, root_of, shadow_height, node_at, line_position, raised, is_on_line_path, raised-same, raised_nodes-IsRaised, versions_down, IsCached, IsCachedAs, IsTreeEngine, TreeEngineParts, AreTreeTrusted, HasPathNamed, HasPathCached, IsNodePathCached, path_node, IsTreeArmed, HasPathStored, set_pairs, slot_entries, position_below, IsWriteMade}
+use Rattle.counter_tree.specs.Shadow.{shadow_root}
+use Rattle.counter_tree.specs.Trees.{raised_nodes}
+use Rattle.asit_shadow.specs.Paths.{slots_with}
 use Rattle.asit_shadow.proofs.SlotPlaces.{on_path-inside}
 use Rattle.asit_shadow.proofs.PutLaws.{slots_with-HasPathNamed}
 use Rattle.asit_shadow.proofs.SetLaws.{cache_with-HasPathCached}

@@ -1,19 +1,6 @@
 -- The end of a call: a cut and an exhibit take the engine down.
 use Rattle.std.proofs.Common.{◌≡◌, Bool, true, false, List, length, None, refl, sym, ap, subst, ◌∙◌}
-use Rattle.std.specs.Prelude.{Option, Result, IsSome, slice_index_or, not, ◌||◌}
-use Rattle.std.proofs.lemmas.Bool.{true≢false}
-use Rattle.pmem_base.specs.declared.registers.Regs.{Regs}
-use Rattle.pmem_base.specs.Registers.{IsGroup}
-use Rattle.pmem_base.specs.Shape.{Shape}
-use Rattle.board.specs.Device.{Device}
-use Rattle.pmem_engine.specs.Outcomes.{Outcome, is_going}
-use Rattle.counter_tree.specs.declared.watch.LineSeal.{LineSeal}
-use Rattle.counter_tree.specs.Layout.{tree_size}
-use Rattle.counter_tree.specs.Watch.{WatchState}
-use Rattle.asit_shadow.specs.declared.fault.TreeFault.{TreeFault}
-use Rattle.asit_shadow.specs.State.{TreeState}
-use Rattle.asit_shadow.specs.Parts.{TreeEngineParts, tree_parts_of, IsWatchReady, IsBoardReady}
-use Rattle.asit_shadow.specs.Calls.{tree_outcome_of, AnswersTreeDown, KeepsWatch, IsTreeDownAnswer, before_end}
+use Rattle.asit_shadow.proofs.Common.{Option, Result, IsSome, slice_index_or, not, ◌||◌, true≢false, Regs, IsGroup, Shape, Device, Outcome, is_going, LineSeal, tree_size, WatchState, TreeFault, TreeState, TreeEngineParts, tree_parts_of, IsWatchReady, IsBoardReady, tree_outcome_of, AnswersTreeDown, KeepsWatch, IsTreeDownAnswer, before_end}
 
 pub or_false : (b : Bool) → b ≡ (b || false)
 or_false true = refl

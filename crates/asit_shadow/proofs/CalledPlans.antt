@@ -1,20 +1,8 @@
 -- The plans of a call and of a read, at each of their ends.
 use Rattle.std.proofs.Common.{◌≡◌, ℕ, ◌%◌, true, false, Ok, Err}
-use Rattle.pmem_base.specs.declared.lines.Line.{Line}
-use Rattle.board.specs.Device.{Device}
-use Rattle.suite.specs.Setup.{Setup}
-use Rattle.call_plan.specs.Plans.{Plan}
-use Rattle.call_plan.specs.Following.{Follows}
-use Rattle.call_plan.proofs.Steps.{is_stopped}
-use Rattle.call_plan.proofs.Bind.{bind_ok, bind_err, mapped_follows}
-use Rattle.counter_tree.specs.declared.nodes.Node.{Node}
-use Rattle.counter_tree.specs.declared.accepted.FetchFault.{FetchFault}
-use Rattle.counter_tree.specs.Nodes.{counter}
-use Rattle.counter_tree.specs.Plans.{ReadParts, line_plan}
-use Rattle.counter_tree.proofs.ReadPlans.{chosen, not_chosen}
-use Rattle.asit_shadow.specs.declared.fault.TreeFault.{TreeFault}
+use Rattle.asit_shadow.proofs.Common.{Line, Device, Setup, Plan, Follows, is_stopped, bind_ok, bind_err, mapped_follows, Node, FetchFault, counter, ReadParts, line_plan, chosen, not_chosen, TreeFault, TreeChip, read_parts_of, with_engine, with_read, fault_of_line, fetch_plan, ended_engine, data_plan}
 use Rattle.asit_shadow.specs.declared.fault.TreeFault.TheVariants as Fail
-use Rattle.asit_shadow.specs.Plans.{TreeChip, read_parts_of, with_engine, with_read, fault_of_line, fetch_plan, ended_engine, called_plan, data_plan, read_line_plan}
+use Rattle.asit_shadow.specs.Plans.{called_plan, read_line_plan}
 use Rattle.asit_shadow.proofs.FetchPlans.{lifted_err}
 
 -- ---- a call

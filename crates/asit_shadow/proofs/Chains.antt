@@ -1,14 +1,6 @@
 -- One part of a call after another: what holds of both.
-use Rattle.std.proofs.Common.{◌≡◌, ◌≢◌, Bool, true, false, List, [], sym, ap, subst, ◌∙◌}
-use Rattle.std.specs.Prelude.{Option, Some, IfSome, is_some}
-use Rattle.std.proofs.lemmas.Bool.{true≢false}
-use Rattle.pmem_base.specs.declared.lines.Line.{Line}
-use Rattle.suite.specs.Setup.{Setup}
-use Rattle.pmem_engine.specs.Outcomes.{Outcome, going, cut_short, shown, is_going}
-use Rattle.pmem_engine.proofs.CallEnds.CallChains.{power_chained}
-use Rattle.pmem_engine.proofs.CallEnds.ToldLines.{told_cases, unarmed}
-use Rattle.asit_shadow.specs.Parts.{TreeEngineParts, tree_lines_redone}
-use Rattle.asit_shadow.specs.Calls.{KeepsNodes, KeepsTreePlaces, TreeCallEffect}
+use Rattle.std.proofs.Common.{◌≡◌, List, [], sym, subst, ◌∙◌}
+use Rattle.asit_shadow.proofs.Common.{Option, Some, IfSome, is_some, Line, Setup, Outcome, going, cut_short, shown, power_chained, told_cases, unarmed, TreeEngineParts, tree_lines_redone, KeepsNodes, KeepsTreePlaces, TreeCallEffect}
 
 nodes-then : (setup : Setup) (outcome : Outcome) (old mid new : TreeEngineParts) → KeepsNodes setup going old mid → KeepsNodes setup outcome mid new → KeepsNodes setup outcome old new
 nodes-then setup going old mid new first second = λ x inside it. second x inside (first x inside it)
@@ -46,16 +38,3 @@ held-told P Q old new before after same give it =
 pub told-of : (P : List Line → Type 0) (parts : TreeEngineParts) → parts.device.regs.group.items ≡ [] → IfSome (tree_lines_redone parts) P → IfSome parts.device.lines P
 told-of P parts none it =
     subst (λ (o : Option (List Line)). IfSome o P) (unarmed parts.device.regs.group.items parts.device.lines none) it
-
--- ---- two ends are two
-
-pub going-unshown : going ≢ shown
-going-unshown e = absurd (true≢false (ap is_going e))
-
-pub cut-unshown : cut_short ≢ shown
-cut-unshown e = absurd (true≢false (ap is_cut e))
-  where
-    is_cut : Outcome → Bool
-    is_cut going = false
-    is_cut cut_short = true
-    is_cut shown = false

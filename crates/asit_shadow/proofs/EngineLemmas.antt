@@ -1,12 +1,6 @@
 -- What is true of every engine, after a change of its cache.
 use Rattle.std.proofs.Common.{ℕ, ◌≡◌, ◌<◌, ◌≤◌, ◌+◌, arith, List, length, Some, None, sym, ap, subst, inl, inr, ◌∙◌}
-use Rattle.std.specs.Prelude.{Option, IfSome, slice_set}
-use Rattle.std.proofs.lemmas.Bool.{cases_eq}
-use Rattle.std.proofs.lemmas.List.{get_or-set_same, get_or-set_other, get_or_past}
-use Rattle.std.proofs.lemmas.Option.{same_Some, none-some}
-use Rattle.pmem_base.specs.Shape.{Shape}
-use Rattle.asit_shadow.specs.declared.cache.CachedNode.{CachedNode}
-use Rattle.asit_shadow.specs.State.{cache_at, IsHeldNode}
+use Rattle.asit_shadow.proofs.Common.{Option, IfSome, slice_set, cases_eq, get_or-set_same, get_or-set_other, get_or_past, same_Some, none-some, Shape, CachedNode, cache_at, IsHeldNode}
 
 pub held-set : (g : Shape) (cache : List (Option CachedNode)) (i : ℕ) (held : CachedNode) → i < length cache → IsHeldNode g held → ((j : ℕ) (one : CachedNode) → cache_at cache j ≡ Some one → IsHeldNode g one)
     → (j : ℕ) (one : CachedNode) → cache_at (slice_set cache i (Some held)) j ≡ Some one → IsHeldNode g one

@@ -1,33 +1,6 @@
 -- How a fetch ends: with its path, or with a cut, a refused node or an exhibit.
 use Rattle.std.proofs.Common.{ℕ, ◌≡◌, ◌≢◌, Bool, true, false, List, Some, None, refl, sym, ap, subst, ◌∙◌, arith}
-use Rattle.std.specs.Prelude.{Option, All, IsNone, IsSome, IfSome, MatchOption, if◌then◌else◌}
-use Rattle.std.proofs.lemmas.Bool.{true≢false}
-use Rattle.std.proofs.lemmas.Option.{same_Some, none-some}
-use Rattle.pmem_base.specs.declared.lines.Line.{Line}
-use Rattle.pmem_base.specs.declared.registers.Regs.{Regs}
-use Rattle.pmem_base.specs.declared.answers.Exhibit.{Exhibit}
-use Rattle.pmem_base.specs.Counts.{HasRisen}
-use Rattle.pmem_base.specs.Lines.{line_at}
-use Rattle.pmem_base.specs.Shape.{Shape}
-use Rattle.suite.specs.Setup.{Setup}
-use Rattle.board.proofs.CountLemmas.{HasRisen-once}
-use Rattle.board.specs.Device.{Device}
-use Rattle.board.specs.Steps.{HasRead, Tells}
-use Rattle.collision_witness.specs.Exhibits.{IsExhibit}
-use Rattle.commit_regs.specs.Groups.{redone, redone_told}
-use Rattle.pmem_engine.specs.Outcomes.{Outcome, going, cut_short, shown, HasPower}
-use Rattle.counter_tree.specs.Nodes.{node_read}
-use Rattle.counter_tree.specs.Layout.{line_of_node}
-use Rattle.counter_tree.specs.Trees.{node_at, entry_for}
-use Rattle.counter_tree.specs.Watch.{WatchState, first_shown, forged_node}
-use Rattle.counter_tree.specs.Accepted.{IsNodeForged}
-use Rattle.asit_shadow.specs.State.{TreeState, IsCached}
-use Rattle.asit_shadow.specs.Invariants.{IsTreeAnchored, IsTreeTrusted, IsTreeDurable, IsTreeSound, IsTreeSealStored, IsSlotStored}
-use Rattle.asit_shadow.specs.Places.{IsNodeHeld, IsNodeHeldBy}
-use Rattle.asit_shadow.specs.Parts.{TreeEngineParts, AreTreeTrusted, AreTreeSound, HoldsTreeSeal, HoldsSlot, HoldsNode, tree_lines_redone}
-use Rattle.asit_shadow.specs.Calls.{TreeCallEffect, KeepsWatch}
-use Rattle.asit_shadow.specs.Work.{spilled_nodes, HasFetchedNodes}
-use Rattle.asit_shadow.specs.Fetching.{IsNodeCutOff}
+use Rattle.asit_shadow.proofs.Common.{Option, All, IsNone, IsSome, IfSome, MatchOption, if◌then◌else◌, true≢false, same_Some, none-some, Line, Regs, Exhibit, HasRisen, line_at, Shape, Setup, HasRisen-once, Device, HasRead, Tells, IsExhibit, redone, redone_told, Outcome, going, cut_short, shown, HasPower, node_read, line_of_node, node_at, entry_for, WatchState, first_shown, forged_node, IsNodeForged, TreeState, IsCached, IsTreeAnchored, IsTreeTrusted, IsTreeDurable, IsTreeSound, IsTreeSealStored, IsSlotStored, IsNodeHeld, IsNodeHeldBy, TreeEngineParts, AreTreeTrusted, AreTreeSound, HoldsTreeSeal, HoldsSlot, HoldsNode, tree_lines_redone, TreeCallEffect, KeepsWatch, spilled_nodes, HasFetchedNodes, IsNodeCutOff}
 use Rattle.asit_shadow.proofs.Chains.{told-of}
 use Rattle.asit_shadow.proofs.FetchLaws.{forged_node-holds, node_read-sound}
 use Rattle.asit_shadow.proofs.PlaceLaws.{powered_off-place, node_read-place}

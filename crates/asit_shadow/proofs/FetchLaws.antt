@@ -1,34 +1,7 @@
 -- A node is fetched under its version: what the watch stops is a forged node, what goes on is true, and
 -- over a sound engine nothing is refused.
 use Rattle.std.proofs.Common.{ℕ, ◌≡◌, ◌≢◌, ◌<◌, ◌≤◌, ◌^◌, List, length, false, Some, None, sym, ap, subst, inl, inr, ◌∙◌, arith}
-use Rattle.std.specs.Prelude.{slice_set, Option}
-use Rattle.std.proofs.lemmas.Bool.{cases_eq, false≢true}
-use Rattle.std.proofs.lemmas.List.{length-set, get_or-set_same, get_or-set_other}
-use Rattle.std.proofs.lemmas.Option.{same_Some}
-use Rattle.std.proofs.Math.Nat.{mod-eq_of_lt}
-use Rattle.pmem_base.specs.declared.lines.Line.{Line}
-use Rattle.pmem_base.specs.declared.registers.Regs.{Regs}
-use Rattle.pmem_base.specs.Lines.{line_at, tag_slot}
-use Rattle.pmem_base.specs.Shape.{IsShape}
-use Rattle.pmem_base.specs.Layout.{meta_lines}
-use Rattle.pmem_base.proofs.LineSets.{line_at-set_same, line_at-set_other}
-use Rattle.suite.specs.Formulas.{AreInRange}
-use Rattle.suite.specs.Setup.{Setup}
-use Rattle.board.proofs.LineLemmas.{AreLinesOf-set}
-use Rattle.collision_witness.specs.Exhibits.{IsExhibit}
-use Rattle.commit_regs.specs.Groups.{redone}
-use Rattle.counter_tree.specs.declared.nodes.Node.{Node}
-use Rattle.counter_tree.specs.Nodes.{wrapped_version, total, node_line, node_read, stored_node, node_place, version_counter, without_tag}
-use Rattle.counter_tree.specs.Layout.{tree_size, line_of_node, line_of_slot, line_of_tag}
-use Rattle.counter_tree.specs.Trees.{node_at, entry_for}
-use Rattle.counter_tree.specs.Slots.{slot_of}
-use Rattle.counter_tree.specs.Watch.{WatchState, forged_node}
-use Rattle.counter_tree.proofs.NodeLaws.{node_read-node_line, node_read-IsReadNode, stored_node-node_line, node_line-IsLine}
-use Rattle.counter_tree.proofs.TreeLaws.{tree-IsNode, tree-version}
-use Rattle.asit_shadow.specs.State.{TreeState, cache_at, IsCached}
-use Rattle.asit_shadow.specs.declared.cache.CachedNode.{CachedNode}
-use Rattle.asit_shadow.specs.Invariants.{IsTreeAnchored, IsTrueCached, IsTreeTrusted, IsNodeStored, IsTreeMendable, IsTreeSound, IsTreeOver}
-use Rattle.asit_shadow.specs.Steps.{IsFetched, GivesWay}
+use Rattle.asit_shadow.proofs.Common.{slice_set, Option, cases_eq, false≢true, length-set, get_or-set_same, get_or-set_other, same_Some, mod-eq_of_lt, Line, Regs, line_at, tag_slot, IsShape, meta_lines, line_at-set_same, line_at-set_other, AreInRange, Setup, AreLinesOf-set, IsExhibit, redone, Node, wrapped_version, total, node_line, node_read, stored_node, node_place, version_counter, without_tag, tree_size, line_of_node, line_of_slot, line_of_tag, node_at, entry_for, slot_of, WatchState, forged_node, node_read-node_line, node_read-IsReadNode, stored_node-node_line, node_line-IsLine, tree-IsNode, tree-version, TreeState, cache_at, IsCached, CachedNode, IsTreeAnchored, IsTrueCached, IsTreeTrusted, IsNodeStored, IsTreeMendable, IsTreeSound, IsTreeOver, IsFetched, GivesWay}
 use Rattle.asit_shadow.proofs.SlotPlaces.{slot_of-below, slot_of-inside}
 
 -- ---- any board

@@ -1,31 +1,8 @@
 -- The plans of a fetch, at each of their ends.
 use Rattle.std.proofs.Common.{refl, ◌∙◌, ◌≡◌, ℕ, true, false, Option, Some, None, Result, Ok, Err, sym, subst, subst₂}
-use Rattle.std.specs.Prelude.{OnOk, OnErr}
-use Rattle.std.proofs.lemmas.Bool.{false≢true}
-use Rattle.pmem_base.specs.declared.faults.Cut.{Cut}
-use Rattle.pmem_base.specs.declared.lines.Line.{Line}
-use Rattle.pmem_base.specs.Counts.{risen}
-use Rattle.board.specs.Device.{Device}
-use Rattle.board.specs.Steps.{HasWritten, WasCut}
-use Rattle.suite.specs.Setup.{Setup}
-use Rattle.call_plan.specs.Plans.{Plan, done, lifted, mapped_end, ended, the_cut}
-use Rattle.call_plan.specs.Following.{Follows}
-use Rattle.call_plan.proofs.Steps.{is_done, write_then, write_cut}
-use Rattle.call_plan.proofs.Bind.{bind_ok, bind_err, mapped_follows, lifted_follows}
-use Rattle.counter_tree.specs.declared.nodes.Node.{Node}
-use Rattle.counter_tree.specs.Layout.{line_of_node}
-use Rattle.counter_tree.specs.Nodes.{node_line}
-use Rattle.counter_tree.specs.Plans.{node_plan}
-use Rattle.counter_tree.specs.Slots.{slot_of}
-use Rattle.counter_tree.proofs.ReadPlans.{chosen, not_chosen}
-use Rattle.asit_shadow.specs.declared.cache.CachedNode.{CachedNode}
-use Rattle.asit_shadow.specs.declared.fault.TreeFault.{TreeFault}
+use Rattle.asit_shadow.proofs.Common.{OnOk, OnErr, false≢true, Cut, Line, risen, Device, HasWritten, WasCut, Setup, Plan, done, lifted, mapped_end, ended, the_cut, Follows, is_done, write_then, write_cut, bind_ok, bind_err, mapped_follows, lifted_follows, Node, line_of_node, node_line, node_plan, slot_of, chosen, not_chosen, CachedNode, TreeFault, WatchState, TreeState, cache_at, IsCached, tree_parts_of, IsNodeTaken, HasNoNode, TreeChip, read_parts_of, with_engine, with_tags, with_read, fault_of_node, with_clean, node_in, level_plan}
 use Rattle.asit_shadow.specs.declared.fault.TreeFault.TheVariants as Fail
-use Rattle.counter_tree.specs.Watch.{WatchState}
-use Rattle.asit_shadow.specs.State.{TreeState, cache_at, IsCached}
-use Rattle.asit_shadow.specs.Parts.{tree_parts_of}
-use Rattle.asit_shadow.specs.Fetching.{IsNodeTaken, HasNoNode}
-use Rattle.asit_shadow.specs.Plans.{TreeChip, read_parts_of, with_engine, with_tags, with_read, fault_of_node, room_plan, with_clean, place_plan, node_in, level_of, level_plan}
+use Rattle.asit_shadow.specs.Plans.{room_plan, place_plan, level_of}
 
 -- a part's fault, in the words of the whole
 pub lifted_err : {S P A F G : Type 0} (whole : S → P) (fault_of : F → G) {plan : Plan (S × F) (S × A)} {old new : Device} {left : S} {fault : F} (its : G)

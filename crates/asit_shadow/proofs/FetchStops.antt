@@ -1,26 +1,9 @@
 -- How a fetch stops at a node: with a cut, a refused node or an exhibit.
 use Rattle.std.proofs.Common.{ℕ, ◌≡◌, true, false, List, Some, refl, sym, ap, subst, ◌∙◌, arith}
-use Rattle.std.specs.Prelude.{Option, IsSome}
-use Rattle.std.proofs.lemmas.Option.{same_Some, none-some}
-use Rattle.pmem_base.specs.declared.lines.Line.{Line}
-use Rattle.suite.specs.Setup.{Setup}
-use Rattle.board.proofs.CountLemmas.{RisesBy-then, RisesBy-once}
-use Rattle.board.specs.Steps.{HasRead, Tells}
-use Rattle.pmem_engine.specs.Outcomes.{going, cut_short, shown}
-use Rattle.counter_tree.specs.Nodes.{total, node_read}
-use Rattle.counter_tree.specs.Layout.{line_of_node}
-use Rattle.counter_tree.specs.Trees.{node_at}
-use Rattle.counter_tree.specs.Slots.{slot_of}
-use Rattle.counter_tree.specs.Watch.{WatchState, HasShown, forged_node}
-use Rattle.counter_tree.specs.Accepted.{IsNodeUnaccepted, IsNodeForged}
-use Rattle.asit_shadow.specs.declared.fault.TreeFault.{TreeFault}
+use Rattle.asit_shadow.proofs.Common.{Option, IsSome, same_Some, none-some, Line, Setup, RisesBy-then, RisesBy-once, HasRead, Tells, going, cut_short, shown, total, node_read, line_of_node, node_at, slot_of, WatchState, HasShown, forged_node, IsNodeUnaccepted, IsNodeForged, TreeFault, TreeState, IsCached, cache_at, TreeEngineParts, AreTreeTrusted, IsNodeLineRead, holds_dirty, is_node_cached, absent_nodes, HasStoppedAt, IsNodeShownAt, IsCutInNodeFetch, IsNodeCutOff, HasNoNode, IsFetchStopped}
 use Rattle.asit_shadow.specs.declared.fault.TreeFault.TheVariants as Fail
-use Rattle.asit_shadow.specs.State.{TreeState, IsCached, cache_at}
-use Rattle.asit_shadow.specs.Parts.{TreeEngineParts, AreTreeTrusted}
-use Rattle.asit_shadow.specs.Calls.{IsNodeLineRead}
-use Rattle.asit_shadow.specs.Work.{holds_dirty, is_node_cached, absent_nodes, HasStoppedAt, IsNodeShownAt, IsCutInNodeFetch}
-use Rattle.asit_shadow.specs.Fetching.{IsNodeCutOff, HasNoNode, IsFetchStopped}
-use Rattle.asit_shadow.proofs.Chains.{effect-then, going-unshown, cut-unshown}
+use Rattle.call_effects.proofs.PowerLaws.{going_unshown, cut_unshown}
+use Rattle.asit_shadow.proofs.Chains.{effect-then}
 use Rattle.asit_shadow.proofs.LevelWork.{next-on_path, is_cached-false}
 use Rattle.asit_shadow.proofs.PathSteps.{IsNextLevel, level-ready, next-work, cached-after}
 use Rattle.asit_shadow.proofs.FetchEnds.{read-unwritten, cut-unwritten, cut-power, cut-effect, refused-effect, first-none, shown-some, sound-read, shown-effect, held-read, kept-watch, unwritten-levels}
@@ -74,7 +57,7 @@ cut_stop setup a j x version old now new next cut =
           (cut-effect setup now new same (cut-power setup.shape x now new cut) (ap (λ (e : TreeState). e.shape) cut.engine) cut.watch);
       down = ap (λ (e : TreeState). e.down) cut.engine ∙ next.before.down;
       regs = same.regs ∙ next.before.done.regs;
-      watch = kept-watch cut_short old.watch new.watch cut-unshown (cut.watch ∙ next.before.watch);
+      watch = kept-watch cut_short old.watch new.watch cut_unshown (cut.watch ∙ next.before.watch);
       same_watch = cut.watch ∙ next.before.watch;
       work = cut-work setup a j x version old now new next cut;
       answered = λ trusted. tt;
@@ -113,7 +96,7 @@ refused_stop setup a j x version old now new next uncached engine it =
           (refused-effect setup now new same (λ s. it.read.steady ∙ s, λ l. it.read.live ∙ l, it.read.cuts) engine it.watch_kept);
       down = ap (λ (e : TreeState). e.down) engine ∙ next.before.down;
       regs = same.regs ∙ next.before.done.regs;
-      watch = kept-watch going old.watch new.watch going-unshown (it.watch_kept ∙ next.before.watch);
+      watch = kept-watch going old.watch new.watch going_unshown (it.watch_kept ∙ next.before.watch);
       same_watch = it.watch_kept ∙ next.before.watch;
       work = stopped-at setup a j x version it.line old now new next uncached engine it.read;
       answered =

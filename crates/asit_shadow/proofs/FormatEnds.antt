@@ -1,43 +1,8 @@
 -- What formatting leaves.
 use Rattle.std.proofs.Common.{ℕ, ◌≡◌, ◌<◌, ◌+◌, ◌*◌, List, [], length, Some, None, refl, sym, ap, subst, ◌∙◌, arith, lit<, replicate}
-use Rattle.std.specs.Prelude.{Option, Ok, All, IfSome, IsNone, IsSome, option_map, true, false}
-use Rattle.std.proofs.lemmas.List.{length-replicate, length-set}
-use Rattle.std.proofs.lemmas.Option.{none-some}
-use Rattle.pmem_base.specs.declared.lines.Line.{Line}
-use Rattle.pmem_base.specs.declared.registers.Regs.{Regs}
-use Rattle.pmem_base.specs.declared.answers.Exhibit.{Exhibit}
-use Rattle.counter_tree.specs.declared.watch.LineSeal.{LineSeal}
-use Rattle.pmem_base.specs.Layout.{meta_lines}
-use Rattle.pmem_base.specs.Lines.{IsLine}
-use Rattle.pmem_base.specs.Registers.{IsGroup, empty_regs}
-use Rattle.pmem_base.specs.Shape.{Shape, IsShape}
-use Rattle.board.proofs.CountLemmas.{RisesBy-once}
-use Rattle.board.specs.Counts.{RisesBy}
-use Rattle.board.specs.Device.{Device, AreToldLines}
-use Rattle.board.specs.Steps.{HasLatched}
-use Rattle.call_plan.specs.Plans.{the_cut}
-use Rattle.call_plan.specs.Following.{Follows}
-use Rattle.call_plan.proofs.Steps.{is_done, latch_then}
-use Rattle.call_plan.proofs.Bind.{bind_ok}
-use Rattle.suite.specs.Formulas.{AreInRange}
-use Rattle.suite.specs.Setup.{Setup}
-use Rattle.pmem_engine.proofs.Laws.AnchoredLatches.{IsGroup-nil}
-use Rattle.pmem_recovery.specs.Formatting.{StaysSteady}
-use Rattle.pmem_recovery.proofs.FormatSteps.{StaysSteady-then}
-use Rattle.counter_tree.specs.declared.nodes.Node.{Node}
-use Rattle.counter_tree.specs.Nodes.{zero_node}
-use Rattle.counter_tree.specs.Layout.{tree_lines, tree_slots, tree_size}
-use Rattle.counter_tree.proofs.NodeLaws.{IsNode-zero_node}
-use Rattle.bonsai_tree.proofs.Levels.{meta_lines-level, level_start-suc}
-use Rattle.counter_tree.specs.Shadow.{ChipTree, IsChipTree, IsShadowTree, root_of, shadow_height, shadow_root}
-use Rattle.counter_tree.specs.Watch.{WatchState}
-use Rattle.asit_shadow.specs.declared.cache.CachedNode.{CachedNode}
-use Rattle.asit_shadow.specs.State.{TreeState, IsHeldNode, IsTreeEngine}
-use Rattle.asit_shadow.specs.Invariants.{IsTreeSound}
-use Rattle.asit_shadow.specs.Parts.{tree_parts_of, IsTreeUsable}
-use Rattle.asit_shadow.specs.Recovering.{Rest}
-use Rattle.asit_shadow.specs.Formatting.{sealing_plan, nodes_plan, naming_plan, after_sealing, after_nodes, after_naming, tree_format_plan}
-use Rattle.asit_shadow.specs.Formatting.{first_held, first_cache, first_slots, tree_sealed_lines, node_lines_written, slot_lines_written, AreSealsTold, AreNodesTold, AreSlotsTold, IsChipFormatted, IsFirstEngine, AreLinesFormatted, HasDeviceFormatted, HasTreeFormatted}
+use Rattle.asit_shadow.proofs.Common.{Option, Ok, All, IfSome, IsNone, IsSome, option_map, true, false, length-replicate, length-set, none-some, Line, Regs, Exhibit, LineSeal, meta_lines, IsLine, IsGroup, empty_regs, Shape, IsShape, RisesBy-once, RisesBy, Device, AreToldLines, HasLatched, the_cut, Follows, is_done, latch_then, bind_ok, AreInRange, Setup, IsGroup-nil, StaysSteady, StaysSteady-then, Node, zero_node, tree_lines, tree_slots, tree_size, IsNode-zero_node, meta_lines-level, level_start-suc, ChipTree, IsChipTree, IsShadowTree, root_of, shadow_height, WatchState, CachedNode, TreeState, IsHeldNode, IsTreeEngine, IsTreeSound, tree_parts_of, IsTreeUsable, Rest, sealing_plan, nodes_plan, naming_plan, after_sealing, after_nodes, after_naming, first_held, first_cache, first_slots, tree_sealed_lines, node_lines_written, slot_lines_written, AreSealsTold, AreNodesTold, AreSlotsTold, IsChipFormatted, IsFirstEngine, AreLinesFormatted, HasDeviceFormatted, HasTreeFormatted}
+use Rattle.counter_tree.specs.Shadow.{shadow_root}
+use Rattle.asit_shadow.specs.Formatting.{tree_format_plan}
 use Rattle.asit_shadow.proofs.FormatLaws.{replicate-default, IsTrusted-formatted, IsSound-formatted}
 use Rattle.asit_shadow.proofs.EngineLemmas.{held-set}
 use Rattle.asit_shadow.proofs.FormatSteps.{lines_formatted, formatted-told, told-mapped, mapped-then, first_slots-count, told-all}

@@ -1,34 +1,8 @@
 -- A formatted device, watch and engine are sound.
 use Rattle.std.proofs.Common.{ℕ, zero, suc, ◌≡◌, ◌<◌, ◌^◌, ◌≢◌, List, length, replicate, Some, None, refl, sym, ap, subst, inl, inr, ◌∙◌, arith, lit<}
-use Rattle.std.proofs.lemmas.Bool.{cases_eq}
-use Rattle.std.specs.Prelude.{Option, slice_index_or}
-use Rattle.std.proofs.lemmas.List.{length-replicate, length-set, get_or-set_same, get_or-set_other}
-use Rattle.std.proofs.lemmas.Option.{same_Some, none-some}
-use Rattle.pmem_base.specs.declared.lines.Line.{Line}
-use Rattle.pmem_base.specs.declared.registers.Regs.{Regs}
-use Rattle.pmem_base.specs.Lines.{line_at, zero_line, tag_slot}
-use Rattle.pmem_base.specs.Registers.{IsGroup}
-use Rattle.pmem_base.specs.Shape.{Shape, IsShape}
-use Rattle.pmem_base.specs.Layout.{meta_lines}
-use Rattle.pmem_base.proofs.LineLemmas.{IsLine-zero_line}
-use Rattle.suite.specs.Formulas.{Formulas, AreInRange, cipher_of}
-use Rattle.suite.specs.Setup.{Setup}
-use Rattle.suite.proofs.CipherLemmas.{cipher_of-IsLine}
-use Rattle.bonsai_tree.specs.Positions.{parent, child_slot}
-use Rattle.bonsai_tree.proofs.Levels.{meta_lines-level, level_start-suc}
-use Rattle.commit_regs.specs.Groups.{redone}
-use Rattle.pmem_engine.proofs.Laws.AnchoredLatches.{IsGroup-nil}
-use Rattle.counter_tree.specs.declared.nodes.Node.{Node}
-use Rattle.counter_tree.specs.Nodes.{total, counter, zero_node, version_counter, node_line}
-use Rattle.counter_tree.specs.Layout.{tree_size, tree_slots, line_of_node}
+use Rattle.asit_shadow.proofs.Common.{cases_eq, Option, slice_index_or, length-replicate, length-set, get_or-set_same, get_or-set_other, same_Some, none-some, Line, Regs, line_at, tag_slot, IsGroup, Shape, IsShape, meta_lines, IsLine-zero_line, Formulas, AreInRange, cipher_of, Setup, cipher_of-IsLine, parent, child_slot, meta_lines-level, level_start-suc, redone, IsGroup-nil, Node, total, counter, zero_node, version_counter, node_line, tree_size, tree_slots, line_of_node, node_at, line_position, IsCounterTree, slot_line, WatchState, IsLineSeal, TreeState, cache_at, CachedNode, IsTrueCached, IsTreeTrusted, IsTreeMendable, IsTreeSound, IsTreeOver, first_tree_seal, first_held, IsChipFormatted, AreLinesFormatted}
+use Rattle.pmem_base.specs.Lines.{zero_line}
 use Rattle.counter_tree.specs.Shadow.{shadow_root}
-use Rattle.counter_tree.specs.Trees.{node_at, line_position, IsCounterTree}
-use Rattle.counter_tree.specs.Slots.{slot_line}
-use Rattle.counter_tree.specs.Watch.{WatchState, IsLineSeal}
-use Rattle.asit_shadow.specs.State.{TreeState, cache_at}
-use Rattle.asit_shadow.specs.declared.cache.CachedNode.{CachedNode}
-use Rattle.asit_shadow.specs.Invariants.{IsTrueCached, IsTreeTrusted, IsTreeMendable, IsTreeSound, IsTreeOver}
-use Rattle.asit_shadow.specs.Formatting.{first_tree_seal, first_held, IsChipFormatted, AreLinesFormatted}
 use Rattle.asit_shadow.proofs.PutLaws.{tag_slot-tag_only}
 
 -- a list of one value has it everywhere

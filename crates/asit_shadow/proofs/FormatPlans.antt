@@ -1,16 +1,7 @@
 -- Two formats of one device and watch are the same.
 use Rattle.std.proofs.Common.{suc, ◌≡◌, ◌<◌, ◌≤◌, None, length, sym, subst, ◌∙◌, arith}
-use Rattle.std.proofs.lemmas.List.{ext_get_or}
-use Rattle.pmem_base.specs.Layout.{level_start}
-use Rattle.suite.specs.Setup.{Setup}
-use Rattle.pmem_recovery.proofs.UncutRuns.{uncut_alike}
-use Rattle.counter_tree.specs.Layout.{tree_lines}
-use Rattle.counter_tree.specs.Shadow.{shadow_height}
-use Rattle.counter_tree.specs.Watch.{WatchState}
-use Rattle.counter_tree.proofs.SlotPlans.{chip-tree-is}
-use Rattle.asit_shadow.specs.State.{TreeState}
-use Rattle.asit_shadow.specs.Recovering.{Rest, rest_of}
-use Rattle.asit_shadow.specs.Formatting.{first_slots, first_engine, IsFormatTold, HasTreeFormatted}
+use Rattle.asit_shadow.proofs.Common.{ext_get_or, level_start, Setup, tree_lines, shadow_height, WatchState, chip-tree-is, TreeState, Rest, rest_of, first_slots, first_engine, IsFormatTold, HasTreeFormatted}
+use Rattle.call_plan.proofs.Determined.{uncut_alike}
 use Rattle.asit_shadow.specs.Determined.{TreeFormatIsDetermined}
 
 -- the tree on the chip is that over the first slot lines

@@ -1,26 +1,7 @@
 -- The steps of formatting: what is at each place that was set.
 use Rattle.std.proofs.Common.{ℕ, zero, suc, ◌≡◌, ◌≢◌, ◌<◌, ◌≤◌, ◌+◌, ◌*◌, List, length, replicate, Some, None, refl, sym, ap, subst, inl, inr, ◌∙◌, arith}
-use Rattle.std.specs.Prelude.{Option, slice_set, slice_index_or, is_some, option_map, IfSome}
-use Rattle.std.proofs.lemmas.Bool.{cases_eq}
-use Rattle.std.proofs.lemmas.Option.{same_Some, none-some}
-use Rattle.std.proofs.lemmas.List.{ext_get_or, length-set, length-replicate, get_or-replicate, get_or-set_same, get_or-set_other}
-use Rattle.pmem_base.specs.declared.lines.Line.{Line}
-use Rattle.pmem_base.specs.Layout.{meta_lines}
-use Rattle.pmem_base.specs.Lines.{line_at, zero_line}
-use Rattle.pmem_base.specs.Shape.{Shape}
-use Rattle.suite.specs.Formulas.{Formulas}
-use Rattle.suite.specs.Setup.{Setup}
-use Rattle.board.specs.Device.{AreLinesOf, AreToldLines}
-use Rattle.board.specs.Steps.{with_line}
-use Rattle.counter_tree.specs.declared.nodes.Node.{Node}
-use Rattle.counter_tree.specs.declared.watch.LineSeal.{LineSeal}
-use Rattle.counter_tree.specs.Layout.{tree_lines, tree_slots, tree_size, line_of_tag, line_of_node, line_of_slot}
-use Rattle.counter_tree.specs.Nodes.{node_line, version_counter, zero_node}
-use Rattle.counter_tree.specs.Slots.{slot_line}
-use Rattle.counter_tree.specs.Watch.{WatchState, HasSealNoted, HasNodeNoted, HasSlotNoted}
-use Rattle.asit_shadow.specs.Paths.{tag_only}
-use Rattle.asit_shadow.specs.Writing.{IsSealMade}
-use Rattle.asit_shadow.specs.Formatting.{first_tree_seal, first_slots, set_first, tree_sealed_lines, node_lines_written, slot_lines_written, AreSealsTold, AreNodesTold, AreSlotsTold, AreLinesFormatted, IsFormatTold}
+use Rattle.asit_shadow.proofs.Common.{Option, slice_set, slice_index_or, is_some, option_map, IfSome, cases_eq, same_Some, none-some, ext_get_or, length-set, length-replicate, get_or-replicate, get_or-set_same, get_or-set_other, Line, meta_lines, line_at, Shape, Formulas, Setup, AreLinesOf, AreToldLines, with_line, Node, LineSeal, tree_lines, tree_slots, tree_size, line_of_tag, line_of_node, line_of_slot, node_line, version_counter, zero_node, slot_line, WatchState, HasSealNoted, HasNodeNoted, HasSlotNoted, tag_only, IsSealMade, first_tree_seal, first_slots, set_first, tree_sealed_lines, node_lines_written, slot_lines_written, AreSealsTold, AreNodesTold, AreSlotsTold, AreLinesFormatted, IsFormatTold}
+use Rattle.pmem_base.specs.Lines.{zero_line}
 
 -- ---- places set in order
 

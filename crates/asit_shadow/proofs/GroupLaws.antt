@@ -1,18 +1,6 @@
 -- The armed group: a line of it is written, all of it is, and it is emptied. Durable stays.
 use Rattle.std.proofs.Common.{ℕ, ◌≡◌, List, sym, subst}
-use Rattle.std.specs.Prelude.{slice_set}
-use Rattle.pmem_base.specs.declared.lines.Line.{Line}
-use Rattle.pmem_base.specs.declared.registers.Regs.{Regs}
-use Rattle.pmem_base.specs.Lines.{IsLine}
-use Rattle.suite.specs.Setup.{Setup}
-use Rattle.board.specs.Device.{AreLinesOf}
-use Rattle.board.proofs.LineLemmas.{AreLinesOf-set}
-use Rattle.commit_regs.specs.Groups.{redone, Writes}
-use Rattle.commit_regs.proofs.GroupLemmas.{redone-set, AreLinesOf-redone}
-use Rattle.counter_tree.specs.Layout.{tree_size}
-use Rattle.counter_tree.specs.Watch.{WatchState}
-use Rattle.asit_shadow.specs.Invariants.{IsTreeMendable, IsTreeDurable}
-use Rattle.asit_shadow.specs.Steps.{IsTreeEmptied}
+use Rattle.asit_shadow.proofs.Common.{slice_set, Line, Regs, IsLine, Setup, AreLinesOf, AreLinesOf-set, redone, Writes, redone-set, AreLinesOf-redone, tree_size, WatchState, IsTreeMendable, IsTreeDurable, IsTreeEmptied}
 use Rattle.asit_shadow.proofs.ArmLaws.{IsAnchored-emptied}
 
 -- lines that the group makes the same of

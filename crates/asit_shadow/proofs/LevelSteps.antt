@@ -1,37 +1,8 @@
 -- One level of a path is fetched: a node is read, the node that is dirty in its slot is written back, and it
 -- takes the slot.
 use Rattle.std.proofs.Common.{ℕ, ◌≡◌, ◌≢◌, ◌<◌, ◌≤◌, ◌⊎◌, Bool, true, false, List, [], length, Some, None, refl, sym, ap, subst, subst₂, inl, inr, ◌∙◌, arith}
-use Rattle.std.specs.Prelude.{Option, is_some, slice_set}
-use Rattle.std.proofs.lemmas.Bool.{true≢false}
-use Rattle.std.proofs.lemmas.Option.{same_Some}
-use Rattle.pmem_base.specs.declared.lines.Line.{Line}
-use Rattle.pmem_base.specs.declared.registers.Regs.{Regs}
-use Rattle.pmem_base.specs.Shape.{Shape, IsShape}
-use Rattle.pmem_base.specs.Layout.{meta_lines}
-use Rattle.pmem_base.proofs.LineSets.{line_at-set_other}
-use Rattle.suite.specs.Formulas.{AreInRange}
-use Rattle.suite.specs.Setup.{Setup}
-use Rattle.board.proofs.CountLemmas.{RisesBy-once}
-use Rattle.board.specs.Counts.{RisesBy}
-use Rattle.board.specs.Device.{Device, AreToldLines}
-use Rattle.board.specs.Steps.{HasRead, with_line}
+use Rattle.asit_shadow.proofs.Common.{Option, is_some, slice_set, true≢false, same_Some, Line, Regs, Shape, IsShape, meta_lines, line_at-set_other, AreInRange, Setup, RisesBy-once, RisesBy, Device, AreToldLines, HasRead, with_line, going, HasPower, told_surely, whole_lines, Node, node_line, node_read, tree_lines, tree_size, line_of_node, node_at, entry_for, is_on_line_path, slot_of, WatchState, CachedNode, TreeState, cache_at, IsTreeTrusted, IsTreeSound, IsNodeStored, IsTreeSealStored, IsSlotStored, IsNodeHeldBy, ArePlacesKept, TreeEngineParts, AreTreeTrusted, AreTreeSound, IsFetched, GivesWay, KeepsTreePlaces, TreeCallEffect, WritesWhere, IsRoomMade, IsNodeFound, KeepsPathLines}
 use Rattle.board.proofs.StepLemmas.{is_some-with_line}
-use Rattle.pmem_engine.specs.Outcomes.{going, HasPower}
-use Rattle.pmem_engine.proofs.CallEnds.ToldLines.{told_surely, whole_lines}
-use Rattle.counter_tree.specs.declared.nodes.Node.{Node}
-use Rattle.counter_tree.specs.Nodes.{node_line, node_read}
-use Rattle.counter_tree.specs.Layout.{tree_lines, tree_size, line_of_node}
-use Rattle.counter_tree.specs.Trees.{node_at, entry_for, is_on_line_path}
-use Rattle.counter_tree.specs.Slots.{slot_of}
-use Rattle.counter_tree.specs.Watch.{WatchState}
-use Rattle.asit_shadow.specs.declared.cache.CachedNode.{CachedNode}
-use Rattle.asit_shadow.specs.State.{TreeState, cache_at}
-use Rattle.asit_shadow.specs.Invariants.{IsTreeTrusted, IsTreeSound, IsNodeStored, IsTreeSealStored, IsSlotStored}
-use Rattle.asit_shadow.specs.Places.{IsNodeHeldBy, ArePlacesKept}
-use Rattle.asit_shadow.specs.Parts.{TreeEngineParts, AreTreeTrusted, AreTreeSound}
-use Rattle.asit_shadow.specs.Steps.{IsFetched, GivesWay}
-use Rattle.asit_shadow.specs.Calls.{KeepsTreePlaces, TreeCallEffect}
-use Rattle.asit_shadow.specs.Fetching.{WritesWhere, IsRoomMade, IsNodeFound, KeepsPathLines}
 use Rattle.asit_shadow.proofs.SlotPlaces.{path_slots-apart}
 use Rattle.asit_shadow.proofs.FetchLaws.{IsTrusted-fetched, IsSound-written_back, written_back-stored, IsSound-fetched}
 use Rattle.asit_shadow.proofs.PlaceLaws.{written_back-places, fetched-places}

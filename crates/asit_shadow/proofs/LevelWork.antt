@@ -1,32 +1,8 @@
 -- What the levels fetched so far did, exactly, and what the next one does.
 use Rattle.std.proofs.Common.{ℕ, zero, suc, ◌≡◌, ◌≢◌, ◌<◌, ◌≤◌, ◌+◌, ◌/◌, ◌⊎◌, Bool, true, false, List, [], ◌∷◌, ◌++◌, append-nil, length, Some, None, refl, sym, ap, subst, inl, inr, ◌∙◌, arith}
-use Rattle.std.specs.Prelude.{Option}
-use Rattle.std.proofs.lemmas.Bool.{cases_Bool, cases_eq, cond-true, cond-false, eq-eqb, ne_eqb}
-use Rattle.std.proofs.lemmas.List.{length-append, length-set, get_or-set_same, get_or-set_other}
-use Rattle.pmem_base.specs.declared.lines.Line.{Line}
-use Rattle.pmem_base.specs.Shape.{Shape, IsShape}
-use Rattle.suite.specs.Setup.{Setup}
-use Rattle.board.specs.Counts.{RisesBy}
-use Rattle.board.specs.Device.{Device}
-use Rattle.board.specs.Steps.{with_line}
-use Rattle.board.proofs.CountLemmas.{RisesBy-then, RisesBy-once}
+use Rattle.asit_shadow.proofs.Common.{Option, cases_Bool, cases_eq, cond-true, cond-false, eq-eqb, ne_eqb, length-append, length-set, get_or-set_same, get_or-set_other, Line, Shape, IsShape, Setup, RisesBy, Device, with_line, RisesBy-then, RisesBy-once, on_path-level, path_of-on_path, path_of-level, redone_told, redone-cons, redone-nil, Node, node_line, tree_lines, line_of_node, node_at, is_on_line_path, slot_of, WatchState, CachedNode, cache_at, IsCached, TreeEngineParts, path_node, IsNodePathCached, WritesWhere, IsRoomMade, IsNodeFound, holds_node, is_node_cached, write_back, node_level_write, node_level_reads, slot_fetched, spilled_nodes, absent_nodes, HasSlotsFetched, HasFetchedNodes}
 use Rattle.bonsai_tree.specs.Positions.{level_of}
-use Rattle.bonsai_tree.proofs.PathPositions.{on_path-level, path_of-on_path, path_of-level}
-use Rattle.commit_regs.specs.Groups.{redone_told}
-use Rattle.commit_regs.proofs.GroupLemmas.{redone-cons, redone-nil}
-use Rattle.meta_path.proofs.WorkLemmas.{redone_told-append}
-use Rattle.counter_tree.specs.declared.nodes.Node.{Node}
-use Rattle.counter_tree.specs.Nodes.{node_line}
-use Rattle.counter_tree.specs.Layout.{tree_lines, line_of_node}
-use Rattle.counter_tree.specs.Trees.{node_at, is_on_line_path}
-use Rattle.counter_tree.specs.Slots.{slot_of}
-use Rattle.counter_tree.specs.Watch.{WatchState}
-use Rattle.asit_shadow.specs.declared.cache.CachedNode.{CachedNode}
-use Rattle.asit_shadow.specs.State.{cache_at, IsCached}
-use Rattle.asit_shadow.specs.Parts.{TreeEngineParts}
-use Rattle.asit_shadow.specs.Paths.{path_node, IsNodePathCached}
-use Rattle.asit_shadow.specs.Fetching.{WritesWhere, IsRoomMade, IsNodeFound}
-use Rattle.asit_shadow.specs.Work.{holds_node, is_node_cached, write_back, node_level_write, node_level_reads, slot_fetched, spilled_nodes, absent_nodes, HasSlotsFetched, HasFetchedNodes}
+use Rattle.commit_regs.proofs.GroupLemmas.{redone_told-append}
 use Rattle.asit_shadow.proofs.SlotPlaces.{page_of_line, path_slots-apart}
 
 -- ---- positions

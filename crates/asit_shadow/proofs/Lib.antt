@@ -1,3 +1,4 @@
+pub mod Common
 pub mod SlotPlaces
 pub mod PutLaws
 pub mod ArmLaws

@@ -1,24 +1,10 @@
 -- Values set at the places of a list of pairs; and a path's nodes as such a list.
 use Rattle.std.proofs.Common.{ℕ, zero, suc, ◌≡◌, ◌≢◌, ◌<◌, ◌≤◌, ◌+◌, ◌/◌, List, [], ◌∷◌, ◌++◌, length, map, get_or, true, Some, refl, sym, ap, subst, inl, inr, ◌∙◌, arith}
-use Rattle.std.specs.Prelude.{Option, slice_index, slice_set}
-use Rattle.std.proofs.lemmas.Bool.{cases_Bool, false≢true}
-use Rattle.std.proofs.lemmas.List.{ext_get_or, length-set, length-map, get_or-set_same, get_or-set_other, get_or-map}
 use Rattle.std.proofs.lemmas.Simd.{map-map}
-use Rattle.pmem_base.specs.declared.lines.Line.{Line}
-use Rattle.pmem_base.specs.Lines.{put_lines}
-use Rattle.pmem_base.specs.Shape.{Shape, IsShape}
-use Rattle.pmem_base.specs.Layout.{meta_lines}
-use Rattle.bonsai_tree.specs.Positions.{child_slot, level_of}
-use Rattle.bonsai_tree.proofs.PathPositions.{length-path_of, on_path-level, path_of-level, path_of-on_path}
-use Rattle.counter_tree.specs.declared.nodes.Node.{Node}
-use Rattle.counter_tree.specs.declared.watch.LineSeal.{LineSeal}
-use Rattle.counter_tree.specs.Layout.{tree_lines, line_of_slot, line_of_tag}
-use Rattle.counter_tree.specs.Nodes.{zero_node}
-use Rattle.counter_tree.specs.Trees.{IsRaised, is_on_line_path, node_at, raised, raised_nodes}
-use Rattle.counter_tree.specs.Slots.{slot_of, slot_line}
-use Rattle.asit_shadow.specs.declared.cache.CachedNode.{CachedNode}
-use Rattle.asit_shadow.specs.Paths.{tag_only, line_path, path_entries, slots_with, cache_with, set_each, dirty_node, write_group, path_node}
-use Rattle.asit_shadow.specs.Writing.{set_pairs, pair_at, position_below, slot_entries, dirty_entries, armed_lines}
+use Rattle.asit_shadow.proofs.Common.{Option, slice_index, slice_set, cases_Bool, false≢true, ext_get_or, length-set, length-map, get_or-set_same, get_or-set_other, get_or-map, Line, put_lines, Shape, IsShape, meta_lines, child_slot, length-path_of, on_path-level, path_of-level, path_of-on_path, Node, LineSeal, tree_lines, line_of_slot, line_of_tag, zero_node, IsRaised, is_on_line_path, node_at, raised, slot_of, slot_line, CachedNode, tag_only, line_path, path_entries, set_each, dirty_node, path_node, set_pairs, pair_at, position_below, slot_entries, dirty_entries, armed_lines}
+use Rattle.bonsai_tree.specs.Positions.{level_of}
+use Rattle.counter_tree.specs.Trees.{raised_nodes}
+use Rattle.asit_shadow.specs.Paths.{slots_with, cache_with, write_group}
 use Rattle.asit_shadow.proofs.SlotPlaces.{page_of_line, on_path-inside}
 use Rattle.asit_shadow.proofs.RaisedNodes.{raised_nodes-on_path}
 

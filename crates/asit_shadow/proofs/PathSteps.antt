@@ -1,28 +1,7 @@
 -- The levels of a path that are fetched, one after another.
 use Rattle.std.proofs.Common.{ℕ, suc, ◌≡◌, ◌≢◌, ◌<◌, ◌≤◌, ◌+◌, ◌/◌, true, false, List, length, Some, None, refl, sym, ap, subst, inl, inr, ◌∙◌, arith}
-use Rattle.std.specs.Prelude.{Option, slice_index}
-use Rattle.std.proofs.lemmas.List.{get_or-set_same, get_or-set_other}
-use Rattle.pmem_base.specs.declared.lines.Line.{Line}
-use Rattle.pmem_base.specs.Shape.{Shape, IsShape}
-use Rattle.suite.specs.Formulas.{AreInRange}
-use Rattle.suite.specs.Setup.{Setup}
-use Rattle.board.specs.Device.{AreToldLines}
-use Rattle.board.specs.Steps.{Tells}
-use Rattle.bonsai_tree.specs.Positions.{level_of, parent, child_slot, path_of, counter_position}
-use Rattle.bonsai_tree.proofs.PathPositions.{on_path-level, path_of-top, path_of-block, path_of-parent}
-use Rattle.pmem_engine.specs.Outcomes.{going}
-use Rattle.counter_tree.specs.declared.nodes.Node.{Node}
-use Rattle.counter_tree.specs.Nodes.{counter, total, node_read}
-use Rattle.counter_tree.specs.Layout.{tree_lines, tree_slots, tree_size, line_of_node}
-use Rattle.counter_tree.specs.Trees.{node_at, entry_for, is_on_line_path}
-use Rattle.counter_tree.specs.Slots.{slot_of}
-use Rattle.counter_tree.specs.Watch.{WatchState}
-use Rattle.asit_shadow.specs.declared.cache.CachedNode.{CachedNode}
-use Rattle.asit_shadow.specs.State.{cache_at, IsCached, IsCachedAs}
-use Rattle.asit_shadow.specs.Parts.{TreeEngineParts, AreTreeTrusted}
-use Rattle.asit_shadow.specs.Paths.{line_path}
-use Rattle.asit_shadow.specs.Calls.{TreeCallEffect, IsNodeRead}
-use Rattle.asit_shadow.specs.Fetching.{IsNodeFound, HasFetchedNode, KeepsPathLines, IsPathFetchedTo}
+use Rattle.asit_shadow.proofs.Common.{Option, slice_index, get_or-set_same, get_or-set_other, Line, Shape, IsShape, AreInRange, Setup, AreToldLines, Tells, parent, child_slot, path_of, counter_position, on_path-level, path_of-top, path_of-block, path_of-parent, going, Node, counter, total, node_read, tree_lines, tree_slots, tree_size, line_of_node, node_at, entry_for, is_on_line_path, slot_of, WatchState, CachedNode, cache_at, IsCached, IsCachedAs, TreeEngineParts, AreTreeTrusted, line_path, TreeCallEffect, IsNodeRead, IsNodeFound, HasFetchedNode, KeepsPathLines, IsPathFetchedTo}
+use Rattle.bonsai_tree.specs.Positions.{level_of}
 use Rattle.asit_shadow.proofs.SlotPlaces.{slot_of-inside, page_of_line, on_path-inside, path_slots-apart}
 use Rattle.asit_shadow.proofs.Chains.{effect-then}
 use Rattle.asit_shadow.proofs.LevelWork.{IsNextWork, next-on_path, next-level, at_level, up_to, is_cached-true, is_cached-false, levels-start, reads-start, levels-cached, reads-cached, levels-found, reads-found}

@@ -1,34 +1,6 @@
 -- Each place of the device by itself, on any board.
 use Rattle.std.proofs.Common.{ℕ, ◌≡◌, ◌≢◌, ◌<◌, ◌≤◌, List, [], ◌∷◌, length, true, false, Some, None, refl, sym, ap, subst, inl, inr, ◌∙◌, arith}
-use Rattle.std.specs.Prelude.{Option, slice_set, IfSome}
-use Rattle.std.proofs.lemmas.Bool.{cases_Bool, cases_eq}
-use Rattle.std.proofs.lemmas.List.{get_or-set_other, set-set, set_comm}
-use Rattle.std.proofs.lemmas.Option.{same_Some}
-use Rattle.pmem_base.specs.declared.lines.Line.{Line}
-use Rattle.pmem_base.specs.declared.registers.Regs.{Regs}
-use Rattle.pmem_base.specs.Lines.{line_at, tag_slot}
-use Rattle.pmem_base.specs.Shape.{IsShape}
-use Rattle.pmem_base.specs.Layout.{meta_lines}
-use Rattle.pmem_base.proofs.LineSets.{line_at-set_same, line_at-set_other}
-use Rattle.pmem_base.proofs.LineLemmas.{lines-equal}
-use Rattle.suite.specs.Formulas.{AreInRange}
-use Rattle.suite.specs.Setup.{Setup}
-use Rattle.commit_regs.specs.Groups.{redone}
-use Rattle.counter_tree.specs.declared.nodes.Node.{Node}
-use Rattle.counter_tree.specs.Nodes.{total, version_counter, node_line, node_read, stored_node}
-use Rattle.counter_tree.specs.Layout.{tree_lines, tree_slots, tree_size, line_of_tag, line_of_node, line_of_slot}
-use Rattle.counter_tree.specs.Trees.{node_at, entry_for, line_counter, is_on_line_path}
-use Rattle.counter_tree.specs.Slots.{slot_of}
-use Rattle.counter_tree.specs.Watch.{WatchState, last_seal_of}
-use Rattle.counter_tree.specs.declared.watch.LineSeal.{LineSeal}
-use Rattle.counter_tree.proofs.NodeLaws.{node_read-node_line, stored_node-node_line}
-use Rattle.counter_tree.proofs.TreeLaws.{tree-IsNode, tree-version}
-use Rattle.asit_shadow.specs.State.{TreeState, cache_at, IsCached}
-use Rattle.asit_shadow.specs.declared.cache.CachedNode.{CachedNode}
-use Rattle.asit_shadow.specs.Invariants.{NamesTrueNode, IsTreeAnchored, IsTreeTrusted, IsTreeSealStored, IsNodeStored, IsSlotStored}
-use Rattle.asit_shadow.specs.Paths.{is_path_slot, IsNodePathCached}
-use Rattle.asit_shadow.specs.Places.{IsNodeHeld, IsNodeHeldBy, ArePlacesArmed, ArePlacesKept}
-use Rattle.asit_shadow.specs.Steps.{IsTreeArmed, HasPathStored, IsFetched, GivesWay, IsTreeRecovered, slots_read}
+use Rattle.asit_shadow.proofs.Common.{Option, slice_set, IfSome, cases_Bool, cases_eq, get_or-set_other, set-set, set_comm, same_Some, Line, Regs, line_at, tag_slot, IsShape, meta_lines, line_at-set_same, line_at-set_other, lines-equal, AreInRange, Setup, redone, Node, total, version_counter, node_line, node_read, stored_node, tree_lines, tree_slots, tree_size, line_of_tag, line_of_node, line_of_slot, node_at, entry_for, line_counter, is_on_line_path, slot_of, WatchState, last_seal_of, LineSeal, node_read-node_line, stored_node-node_line, tree-IsNode, tree-version, TreeState, cache_at, IsCached, CachedNode, NamesTrueNode, IsTreeAnchored, IsTreeTrusted, IsTreeSealStored, IsNodeStored, IsSlotStored, is_path_slot, IsNodePathCached, IsNodeHeld, IsNodeHeldBy, ArePlacesArmed, ArePlacesKept, IsTreeArmed, HasPathStored, IsFetched, GivesWay, IsTreeRecovered, slots_read}
 use Rattle.asit_shadow.proofs.SlotPlaces.{slot_of-inside, path_slot-from}
 use Rattle.asit_shadow.proofs.PutLaws.{IsGroupMade, tag_slot-tag_only}
 use Rattle.asit_shadow.proofs.ArmLaws.{armed-IsRaised, last_here, last_else, dirty-named, armed-made}

@@ -1,34 +1,10 @@
 -- The plain machine's truth is the watch's: its nodes are the sums of the writes made below them, and a
 -- write changes both alike.
 use Rattle.std.proofs.Common.{ℕ, zero, suc, ◌≡◌, ◌<◌, ◌≤◌, ◌+◌, ◌-◌, List, [], ◌∷◌, length, true, false, Some, None, refl, sym, ap, subst, inl, inr, ◌∙◌, arith}
-use Rattle.std.specs.Prelude.{Option, slice_set, ◌==◌, ◌||◌}
-use Rattle.std.specs.List.{list_any}
-use Rattle.std.proofs.lemmas.Bool.{cases_Bool, cases_eq, or_parts, or_right, eqb-false, eqb-true, ne_eqb, false_from_ne_true, false≢true}
-use Rattle.std.proofs.lemmas.List.{length-set, get_or-set_same, get_or-set_other}
-use Rattle.std.proofs.lemmas.Option.{same_Some}
-use Rattle.pmem_base.specs.declared.lines.Line.{Line}
-use Rattle.pmem_base.specs.declared.registers.Regs.{Regs}
-use Rattle.pmem_base.specs.Lines.{IsLine, line_at, zero_line}
-use Rattle.pmem_base.specs.Shape.{Shape, IsShape}
-use Rattle.pmem_base.specs.Layout.{meta_lines, level_start}
-use Rattle.suite.specs.Formulas.{AreInRange, cipher_of}
-use Rattle.suite.specs.Setup.{Setup}
-use Rattle.bonsai_tree.specs.Positions.{child_slot, child_position, level_of}
-use Rattle.bonsai_tree.proofs.Levels.{IsAtLevel, parent-child, child-IsAtLevel, IsAtLevel-inner, level_start-suc, meta_lines-level, level_of-IsAtLevel, level_of-le}
-use Rattle.counter_tree.proofs.Positions.{child_slot-child}
-use Rattle.counter_tree.specs.declared.nodes.Node.{Node}
-use Rattle.counter_tree.specs.Nodes.{counter, version_counter}
-use Rattle.counter_tree.specs.Layout.{tree_lines}
-use Rattle.counter_tree.specs.Trees.{node_at, entry_for, line_counter, is_on_line_path, IsCounterTree, IsRaised}
-use Rattle.counter_tree.specs.Slots.{slot_of, slot_line}
-use Rattle.counter_tree.specs.Watch.{WatchState}
-use Rattle.counter_tree.specs.declared.watch.LineSeal.{LineSeal}
-use Rattle.counter_tree.proofs.NodeLaws.{its_counters}
-use Rattle.counter_tree.proofs.TreeLaws.{lines-are_children}
-use Rattle.asit_shadow.specs.Invariants.{IsTreeAnchored}
-use Rattle.asit_shadow.specs.Paths.{line_path, is_path_slot}
-use Rattle.asit_shadow.specs.Plain.{PlainTree, writes_below, node_above_lines, true_node, true_count, slot_naming, names_with, named_at, after_tree_write, IsPlainOf}
-use Rattle.asit_shadow.specs.Steps.{IsTreeArmed, tree_plain_line}
+use Rattle.asit_shadow.proofs.Common.{Option, slice_set, ◌==◌, ◌||◌, list_any, cases_Bool, cases_eq, or_parts, or_right, eqb-false, eqb-true, ne_eqb, false_from_ne_true, false≢true, length-set, get_or-set_same, get_or-set_other, same_Some, Line, Regs, IsLine, line_at, Shape, IsShape, meta_lines, level_start, AreInRange, cipher_of, Setup, child_slot, child_position, IsAtLevel, parent-child, child-IsAtLevel, IsAtLevel-inner, level_start-suc, meta_lines-level, level_of-IsAtLevel, level_of-le, child_slot-child, Node, counter, version_counter, tree_lines, node_at, entry_for, line_counter, is_on_line_path, IsCounterTree, IsRaised, slot_of, slot_line, WatchState, LineSeal, its_counters, lines-are_children, IsTreeAnchored, line_path, is_path_slot, PlainTree, writes_below, node_above_lines, true_count, slot_naming, names_with, named_at, after_tree_write, IsPlainOf, IsTreeArmed, tree_plain_line}
+use Rattle.pmem_base.specs.Lines.{zero_line}
+use Rattle.bonsai_tree.specs.Positions.{level_of}
+use Rattle.asit_shadow.specs.Plain.{true_node}
 use Rattle.asit_shadow.proofs.ArmLaws.{armed-IsRaised}
 use Rattle.asit_shadow.proofs.ReadLaws.{armed-plain}
 use Rattle.asit_shadow.proofs.SlotPlaces.{slot_of-inside, on_path-inside, path_slots-apart, any_from, path_slot-of, path_slot-from}

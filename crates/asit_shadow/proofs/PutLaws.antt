@@ -1,27 +1,8 @@
 -- Lines put at the places of a list of positions.
 use Rattle.std.proofs.Common.{ℕ, ◌≡◌, ◌≢◌, ◌<◌, ◌+◌, ◌/◌, List, [], ◌∷◌, length, map, Bool, true, false, refl, sym, ap, subst, inl, inr, ◌∙◌, arith, replicate, lit<}
-use Rattle.std.specs.Prelude.{◌==◌, ◌||◌, slice_set, All}
-use Rattle.std.specs.List.{list_any, AllPairs}
-use Rattle.std.proofs.lemmas.Bool.{cases_Bool, cases_eq, or_parts, or_left, or_right, eqb-false, eqb-true, eq-eqb, ne_eqb, false_from_ne_true, false≢true}
-use Rattle.std.proofs.lemmas.List.{length-set, length-map, get_or-map, length-append, length-replicate, take_at}
-use Rattle.std.proofs.lemmas.List.Elements.{All-nil, All-cons, All-append, All-replicate}
 use Rattle.std.proofs.lemmas.List.Kept.{AllPairs-cons}
-use Rattle.pmem_base.specs.declared.lines.Line.{Line}
-use Rattle.pmem_base.specs.Lines.{IsLine, IsTag, line_at, put_lines, tag_slot}
-use Rattle.pmem_base.specs.Registers.{IsGroup}
-use Rattle.pmem_base.proofs.LineSets.{length-put_lines, line_at-set_same, line_at-set_other, put_lines-AreLines}
-use Rattle.pmem_base.specs.Shape.{Shape, IsShape}
-use Rattle.pmem_base.specs.Layout.{meta_lines}
-use Rattle.bonsai_tree.specs.Positions.{path_of}
-use Rattle.bonsai_tree.proofs.PathPositions.{length-path_of, path_of-level, path_of-on_path}
-use Rattle.counter_tree.specs.declared.nodes.Node.{Node}
-use Rattle.counter_tree.specs.Layout.{tree_lines, tree_slots, tree_size, line_of_tag, line_of_node, line_of_slot}
-use Rattle.counter_tree.specs.Trees.{node_at, is_on_line_path}
-use Rattle.counter_tree.specs.Slots.{slot_of, slot_line}
-use Rattle.counter_tree.specs.Watch.{IsLineSeal}
-use Rattle.counter_tree.specs.declared.watch.LineSeal.{LineSeal}
-use Rattle.counter_tree.proofs.SlotLaws.{slot_line-IsLine}
-use Rattle.asit_shadow.specs.Paths.{line_path, is_path_slot, path_entries, slots_with, tag_only, write_group, HasPathNamed}
+use Rattle.asit_shadow.proofs.Common.{◌==◌, ◌||◌, slice_set, All, list_any, AllPairs, cases_Bool, cases_eq, or_parts, or_left, or_right, eqb-false, eqb-true, eq-eqb, ne_eqb, false_from_ne_true, false≢true, length-set, length-map, get_or-map, length-append, length-replicate, take_at, All-nil, All-cons, All-append, All-replicate, Line, IsLine, IsTag, line_at, put_lines, tag_slot, IsGroup, length-put_lines, line_at-set_same, line_at-set_other, put_lines-AreLines, Shape, IsShape, meta_lines, path_of, length-path_of, path_of-level, path_of-on_path, Node, tree_lines, tree_slots, tree_size, line_of_tag, line_of_node, line_of_slot, node_at, is_on_line_path, slot_of, slot_line, IsLineSeal, LineSeal, slot_line-IsLine, line_path, is_path_slot, path_entries, tag_only, HasPathNamed}
+use Rattle.asit_shadow.specs.Paths.{slots_with, write_group}
 use Rattle.asit_shadow.proofs.SlotPlaces.{slot_of-inside, slot_of-level, page_of_line, on_path-inside, path_slots-apart, any_from, path_slot-of}
 
 abbrev pub entries_at : (ℕ → ℕ) → (ℕ → Line) → List ℕ → List (ℕ × Line)

@@ -1,21 +1,7 @@
 -- What a write makes of each node of its path.
 use Rattle.std.proofs.Common.{ℕ, zero, suc, ◌≡◌, ◌≢◌, ◌<◌, ◌≤◌, ◌+◌, ◌-◌, ◌/◌, List, length, refl, sym, ap, subst, ◌∙◌, arith}
-use Rattle.std.specs.Prelude.{◌==◌}
-use Rattle.std.proofs.lemmas.Bool.{cond-true, cond-false, eq-eqb, ne_eqb}
-use Rattle.pmem_base.specs.Shape.{Shape}
-use Rattle.pmem_base.specs.Layout.{meta_lines}
-use Rattle.bonsai_tree.specs.Positions.{parent, child_slot}
-use Rattle.bonsai_tree.proofs.Levels.{IsAtLevel, parent-IsAtLevel, level_start-suc, level_start-le}
-use Rattle.bonsai_tree.proofs.PathPositions.{path_of-block, path_of-parent}
-use Rattle.counter_tree.specs.declared.nodes.Node.{Node}
-use Rattle.counter_tree.specs.Layout.{tree_lines}
-use Rattle.counter_tree.specs.Shadow.{up}
-use Rattle.counter_tree.specs.Trees.{node_at, raised, with_raised, raised_up, raised_nodes, line_position}
-use Rattle.counter_tree.proofs.Positions.{parent-lt}
-use Rattle.counter_tree.proofs.ShadowLaws.{up-IsAtLevel}
-use Rattle.counter_tree.proofs.TreeLaws.{node_at-set_same, node_at-set_other, line_position-parent, line_position-IsAtLevel, raised_up-deep}
-use Rattle.asit_shadow.specs.Paths.{path_node}
-use Rattle.asit_shadow.specs.Writing.{position_below}
+use Rattle.asit_shadow.proofs.Common.{◌==◌, cond-true, cond-false, eq-eqb, ne_eqb, Shape, meta_lines, parent, child_slot, IsAtLevel, parent-IsAtLevel, level_start-suc, level_start-le, path_of-block, path_of-parent, Node, tree_lines, up, node_at, raised, with_raised, raised_up, line_position, parent-lt, up-IsAtLevel, node_at-set_same, node_at-set_other, line_position-parent, line_position-IsAtLevel, raised_up-deep, path_node, position_below}
+use Rattle.counter_tree.specs.Trees.{raised_nodes}
 
 -- ---- steps up
 

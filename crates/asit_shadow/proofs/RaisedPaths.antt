@@ -1,23 +1,6 @@
 -- A path's nodes as they are raised, from the top down.
 use Rattle.std.proofs.Common.{ℕ, suc, ◌≡◌, ◌<◌, ◌≤◌, ◌+◌, ◌/◌, ◌-◌, ◌^◌, ◌++◌, ◌∷◌, List, [], take, true, refl, sym, ap, subst, inl, inr, ◌∙◌, arith}
-use Rattle.std.specs.Prelude.{Option, ◌==◌}
-use Rattle.std.proofs.lemmas.Bool.{cases_eq, cond-true, cond-false, eq-eqb, ne_eqb}
-use Rattle.std.proofs.lemmas.List.{get_or_append_left, length-append, map-append, take_all, take_more}
-use Rattle.std.proofs.lemmas.List.Elements.{All-nil, All-push}
-use Rattle.std.proofs.Math.Seq.{get_or-append_seam}
-use Rattle.std.proofs.lemmas.Option.{same_Some}
-use Rattle.pmem_base.specs.Shape.{Shape, IsShape}
-use Rattle.bonsai_tree.specs.Positions.{child_slot}
-use Rattle.bonsai_tree.proofs.Levels.{meta_lines-level, level_start-suc}
-use Rattle.bonsai_tree.proofs.PathPositions.{length-path_of}
-use Rattle.counter_tree.specs.declared.nodes.Node.{Node}
-use Rattle.counter_tree.specs.Layout.{tree_lines}
-use Rattle.counter_tree.specs.Nodes.{total, zero_node}
-use Rattle.counter_tree.specs.Trees.{raised, line_position}
-use Rattle.asit_shadow.specs.declared.cache.CachedNode.{CachedNode}
-use Rattle.asit_shadow.specs.State.{IsCached, IsCachedAs, IsHeldNode}
-use Rattle.asit_shadow.specs.Paths.{line_path, path_node}
-use Rattle.asit_shadow.specs.Writing.{IsPathRaised, IsRaisedTo, pair_at, position_below}
+use Rattle.asit_shadow.proofs.Common.{Option, ◌==◌, cases_eq, cond-true, cond-false, eq-eqb, ne_eqb, get_or_append_left, length-append, map-append, take_all, take_more, All-nil, All-push, get_or-append_seam, same_Some, Shape, IsShape, child_slot, meta_lines-level, level_start-suc, length-path_of, Node, tree_lines, total, zero_node, raised, line_position, CachedNode, IsCached, IsCachedAs, IsHeldNode, line_path, path_node, IsPathRaised, IsRaisedTo, pair_at, position_below}
 use Rattle.asit_shadow.proofs.PathSteps.{next-low}
 
 -- no level yet

@@ -1,42 +1,10 @@
 -- How a read ends.
 use Rattle.std.proofs.Common.{ℕ, ◌≡◌, ◌≢◌, ◌<◌, ◌/◌, ◌%◌, List, false, Some, None, refl, sym, ap, subst, inl, inr, ◌∙◌, arith}
-use Rattle.std.specs.Prelude.{Option, Ok, Err, IfSome, IsSome, MatchOption}
-use Rattle.std.proofs.lemmas.Bool.{true≢false}
-use Rattle.std.proofs.lemmas.Option.{same_Some}
-use Rattle.pmem_base.specs.declared.lines.Line.{Line}
-use Rattle.pmem_base.specs.declared.registers.Regs.{Regs}
-use Rattle.pmem_base.specs.declared.answers.Exhibit.{Exhibit}
-use Rattle.pmem_base.specs.declared.answers.Exhibit.TheVariants.{Forged}
-use Rattle.pmem_base.specs.Lines.{tag_slot, xor_lines}
-use Rattle.pmem_base.specs.Shape.{Shape, IsShape}
-use Rattle.pmem_base.specs.Counts.{HasRisen}
-use Rattle.suite.specs.Setup.{Setup}
-use Rattle.board.proofs.CountLemmas.{RisesBy-then, RisesBy-once, HasRisen-once}
-use Rattle.board.specs.Device.{Device}
-use Rattle.board.specs.Steps.{Tells}
-use Rattle.collision_witness.specs.Exhibits.{IsExhibit}
-use Rattle.bonsai_tree.specs.Positions.{child_slot, counter_position, parent}
-use Rattle.bonsai_tree.proofs.Levels.{level_start-suc, meta_lines-level}
-use Rattle.bonsai_tree.proofs.PathPositions.{on_path-level}
-use Rattle.pmem_engine.specs.Outcomes.{going, cut_short, shown, HasPower}
-use Rattle.pmem_engine.proofs.CallEnds.CallChains.{power_chained}
-use Rattle.counter_tree.specs.declared.nodes.Node.{Node}
-use Rattle.counter_tree.specs.declared.watch.LineSeal.{LineSeal}
-use Rattle.counter_tree.specs.Accepted.{HasLineRead, IsCutReading, IsLineAccepted, IsLineUnaccepted, IsLineForged}
-use Rattle.counter_tree.specs.Nodes.{counter, version_counter}
-use Rattle.counter_tree.specs.Layout.{tree_lines, line_of_tag}
-use Rattle.counter_tree.specs.Trees.{node_at, line_counter, line_position}
-use Rattle.counter_tree.specs.Watch.{WatchState, HasShown, last_seal_of}
-use Rattle.counter_tree.proofs.TreeLaws.{line_position-parent}
+use Rattle.asit_shadow.proofs.Common.{Option, Ok, Err, IfSome, IsSome, MatchOption, true≢false, same_Some, Line, Regs, Exhibit, Forged, tag_slot, xor_lines, Shape, IsShape, HasRisen, Setup, RisesBy-then, RisesBy-once, HasRisen-once, Device, Tells, IsExhibit, child_slot, counter_position, parent, level_start-suc, meta_lines-level, on_path-level, going, cut_short, shown, HasPower, power_chained, Node, LineSeal, HasLineRead, IsCutReading, IsLineAccepted, IsLineUnaccepted, IsLineForged, counter, version_counter, tree_lines, line_of_tag, node_at, line_counter, line_position, WatchState, HasShown, last_seal_of, line_position-parent, TreeState, IsTreeSound, TreeEngineParts, AreTreeTrusted, AreTreeSound, IsPathAccepted, IsDataLineRead, IsLineRead, absent_nodes, HasFetchedPath, IsCutInNodeFetch, IsLineShownAt, KeepsPathLines, IsPathFetchedTo}
 use Rattle.asit_shadow.specs.declared.fault.TreeFault.TheVariants as Fail
-use Rattle.asit_shadow.specs.State.{TreeState}
-use Rattle.asit_shadow.specs.Invariants.{IsTreeSound}
-use Rattle.asit_shadow.specs.Parts.{TreeEngineParts, AreTreeTrusted, AreTreeSound}
-use Rattle.asit_shadow.specs.Calls.{IsPathAccepted, IsDataLineRead, IsLineRead}
-use Rattle.asit_shadow.specs.Work.{absent_nodes, HasFetchedPath, IsCutInNodeFetch, IsLineShownAt}
-use Rattle.asit_shadow.specs.Fetching.{KeepsPathLines, IsPathFetchedTo}
 use Rattle.asit_shadow.proofs.SlotPlaces.{page_of_line}
-use Rattle.asit_shadow.proofs.Chains.{places-then, effect-then, going-unshown, cut-unshown}
+use Rattle.call_effects.proofs.PowerLaws.{going_unshown, cut_unshown}
+use Rattle.asit_shadow.proofs.Chains.{places-then, effect-then}
 use Rattle.asit_shadow.proofs.ReadLaws.{read-plain, forged_line-holds, line-sound}
 use Rattle.asit_shadow.proofs.LevelSteps.{kept_lines}
 use Rattle.asit_shadow.proofs.PathSteps.{read-kept}
@@ -120,7 +88,7 @@ read-ok setup a count old mid new plain had it =
       effect =
           effect-then setup going old mid new had.path.effect
           (refused-effect setup mid new same (both-power setup a it.cipher it.tags mid.device new.device it.read) had.engine it.watch_kept);
-      watch = kept-watch going old.watch new.watch going-unshown (it.watch_kept ∙ had.path.watch);
+      watch = kept-watch going old.watch new.watch going_unshown (it.watch_kept ∙ had.path.watch);
       regs = same.regs ∙ had.path.done.regs;
       work = path-through setup a it.cipher it.tags old mid new had.path (ap (λ (e : TreeState). e.cache) had.engine) it.read;
       answered =
@@ -174,7 +142,7 @@ read-cut setup a count old mid new had cut off watch =
       effect =
           effect-then setup cut_short old mid new had.path.effect
           (cut-effect setup mid new same power (ap (λ (e : TreeState). e.shape) had.engine) watch);
-      watch = kept-watch cut_short old.watch new.watch cut-unshown (watch ∙ had.path.watch);
+      watch = kept-watch cut_short old.watch new.watch cut_unshown (watch ∙ had.path.watch);
       regs = same.regs ∙ had.path.done.regs;
       work = line_cut-work setup a count old mid new had cut off;
       answered = λ trusted. tt;
@@ -215,7 +183,7 @@ read-refused setup a count old mid new had it =
       effect =
           effect-then setup going old mid new had.path.effect
           (refused-effect setup mid new same (both-power setup a it.cipher it.tags mid.device new.device it.read) had.engine it.watch_kept);
-      watch = kept-watch going old.watch new.watch going-unshown (it.watch_kept ∙ had.path.watch);
+      watch = kept-watch going old.watch new.watch going_unshown (it.watch_kept ∙ had.path.watch);
       regs = same.regs ∙ had.path.done.regs;
       work = path-through setup a it.cipher it.tags old mid new had.path (ap (λ (e : TreeState). e.cache) had.engine) it.read;
       answered =

@@ -1,32 +1,8 @@
 -- A data line is read under its counter: its plain line is memory's, or what was read is forged; and no
 -- line is sealed twice under one counter.
 use Rattle.std.proofs.Common.{ℕ, ◌≡◌, ◌≢◌, ◌<◌, ◌≤◌, List, [], ◌∷◌, ◌++◌, length, get_or, Some, None, sym, ap, subst, inl, inr, ◌∙◌, arith}
-use Rattle.std.specs.Prelude.{slice_set, Option, All, IfSome}
-use Rattle.std.specs.List.{AllPairs}
-use Rattle.std.proofs.lemmas.Bool.{cases_eq}
-use Rattle.std.proofs.lemmas.List.{get_or-set_same, get_or-set_other}
-use Rattle.std.proofs.lemmas.List.Elements.{All-push}
 use Rattle.std.proofs.lemmas.List.Quantifiers.{all_pairs_push}
-use Rattle.std.proofs.lemmas.Option.{same_Some}
-use Rattle.pmem_base.specs.declared.lines.Line.{Line}
-use Rattle.pmem_base.specs.declared.registers.Regs.{Regs}
-use Rattle.pmem_base.specs.declared.answers.Exhibit.TheVariants.{Forged}
-use Rattle.pmem_base.specs.Lines.{IsLine, line_at, tag_slot, xor_lines}
-use Rattle.pmem_base.specs.Shape.{IsShape}
-use Rattle.suite.specs.Formulas.{AreInRange, cipher_of}
-use Rattle.suite.specs.Setup.{Setup}
-use Rattle.suite.proofs.CipherLemmas.{cipher_of-back}
-use Rattle.collision_witness.specs.Exhibits.{IsExhibit}
-use Rattle.commit_regs.specs.Groups.{redone}
-use Rattle.counter_tree.specs.Nodes.{version_counter}
-use Rattle.counter_tree.specs.Layout.{tree_lines, line_of_tag}
-use Rattle.counter_tree.specs.Trees.{line_counter, IsRaised}
-use Rattle.counter_tree.specs.Watch.{WatchState, last_seal_of}
-use Rattle.counter_tree.specs.declared.watch.LineSeal.{LineSeal}
-use Rattle.counter_tree.proofs.TreeLaws.{raised_nodes-IsRaised}
-use Rattle.asit_shadow.specs.State.{TreeState}
-use Rattle.asit_shadow.specs.Invariants.{IsTreeAnchored, IsTreeMendable, IsTreeSound}
-use Rattle.asit_shadow.specs.Steps.{IsTreeArmed, tree_plain_of, tree_plain_line, MadeSeal, IsHistory}
+use Rattle.asit_shadow.proofs.Common.{slice_set, Option, All, IfSome, AllPairs, cases_eq, get_or-set_same, get_or-set_other, All-push, same_Some, Line, Regs, Forged, IsLine, line_at, tag_slot, xor_lines, IsShape, AreInRange, cipher_of, Setup, cipher_of-back, IsExhibit, redone, version_counter, tree_lines, line_of_tag, line_counter, IsRaised, WatchState, last_seal_of, LineSeal, raised_nodes-IsRaised, TreeState, IsTreeAnchored, IsTreeMendable, IsTreeSound, IsTreeArmed, tree_plain_of, tree_plain_line, MadeSeal, IsHistory}
 
 -- ---- any board
 

@@ -1,53 +1,14 @@
 -- How a recovery ends.
 use Rattle.std.proofs.Common.{◌++◌, take, drop, ℕ, ◌≡◌, ◌≢◌, ◌<◌, false, List, [], length, Some, None, refl, sym, ap, subst, subst₂, inl, inr, ◌∙◌, arith}
-use Rattle.std.specs.Prelude.{Option, Ok, Err, All, IfSome, IsSome, MatchOption, slice_index_or}
-use Rattle.std.proofs.lemmas.Bool.{true≢false}
-use Rattle.std.proofs.lemmas.List.{append-nil, take_all, drop_all}
-use Rattle.pmem_base.specs.declared.lines.Line.{Line}
-use Rattle.pmem_base.specs.declared.registers.Regs.{Regs}
-use Rattle.pmem_base.specs.declared.answers.Exhibit.{Exhibit}
-use Rattle.pmem_base.specs.Counts.{HasRisen, risen_times}
-use Rattle.pmem_base.specs.Registers.{without_group, IsGroup}
-use Rattle.pmem_base.specs.Lines.{IsLine, line_at}
-use Rattle.pmem_base.specs.Shape.{Shape, IsShape}
-use Rattle.suite.specs.Formulas.{Formulas, AreInRange}
-use Rattle.suite.specs.Setup.{Setup}
-use Rattle.board.specs.Counts.{RisesBy}
-use Rattle.board.specs.Device.{Device, AreToldLines, IsDevice}
-use Rattle.board.specs.Steps.{Tells}
-use Rattle.collision_witness.specs.Exhibits.{IsExhibit}
-use Rattle.board.proofs.CountLemmas.{HasRisen-once}
-use Rattle.commit_regs.specs.Groups.{redone_told, finishing_latches, HasFinished, IsInterrupted}
-use Rattle.pmem_engine.specs.Outcomes.{going, cut_short, HasPower}
-use Rattle.pmem_engine.proofs.CallEnds.ToldLines.{unarmed}
-use Rattle.pmem_engine.proofs.Laws.AnchoredLatches.{IsGroup-nil}
-use Rattle.pmem_engine.proofs.CallEnds.CallChains.{power_chained, going_uncut}
-use Rattle.pmem_recovery.specs.declared.faults.Work.{Work}
-use Rattle.counter_tree.specs.Nodes.{node_line}
-use Rattle.counter_tree.specs.Accepted.{IsCutReading}
-use Rattle.counter_tree.specs.Layout.{tree_size, tree_slots, line_of_slot}
-use Rattle.counter_tree.specs.Trees.{node_at}
-use Rattle.counter_tree.specs.Slots.{slot_of, slot_line, slot_read}
-use Rattle.counter_tree.specs.Shadow.{ChipTree, shadow_height, root_of, shadow_root, shadow_digests}
-use Rattle.counter_tree.specs.declared.watch.LineSeal.{LineSeal}
-use Rattle.counter_tree.specs.Watch.{WatchState, HasShown, IsSlotClash}
-use Rattle.pmem_base.proofs.LineLemmas.{lines-equal}
-use Rattle.pmem_base.proofs.LayoutLemmas.{meta_lines-most}
-use Rattle.counter_tree.proofs.SlotLaws.{slot_read-slot_line, slot_read-zero}
-use Rattle.counter_tree.proofs.TreeLaws.{tree-version, tree-IsNode}
+use Rattle.asit_shadow.proofs.Common.{Option, Ok, Err, All, IfSome, IsSome, MatchOption, slice_index_or, true≢false, append-nil, take_all, drop_all, Line, Regs, Exhibit, HasRisen, risen_times, without_group, IsGroup, IsLine, line_at, Shape, IsShape, Formulas, AreInRange, Setup, RisesBy, Device, AreToldLines, IsDevice, Tells, IsExhibit, HasRisen-once, redone_told, finishing_latches, HasFinished, IsInterrupted, going, cut_short, HasPower, unarmed, IsGroup-nil, power_chained, going_uncut, Work, node_line, IsCutReading, tree_size, tree_slots, line_of_slot, node_at, slot_of, slot_line, slot_read, ChipTree, shadow_height, root_of, shadow_digests, LineSeal, WatchState, HasShown, IsSlotClash, lines-equal, meta_lines-most, slot_read-slot_line, slot_read-zero, tree-version, tree-IsNode, CachedNode, TreeState, IsTreeEngine, IsTreeAnchored, IsTreeDurable, IsTreeSound, IsTreeSealStored, IsSlotStored, IsNodeHeld, IsNodeHeldBy, IsTreeRecovered, slots_read, Rest, IsRestUsable, rest_redone, IsRestAnchored, IsRestDurable, HasOnlyReadLines, AreSlotsRead, IsTreeWork, IsGroupBegun, IsReadFinished, IsRoomFilled, HasTreeRecovered, IsNameable}
+use Rattle.counter_tree.specs.Shadow.{shadow_root}
 use Rattle.asit_shadow.specs.declared.recovery.TreeRec.TheVariants as Fail
-use Rattle.asit_shadow.specs.declared.cache.CachedNode.{CachedNode}
-use Rattle.asit_shadow.specs.State.{TreeState, IsTreeEngine}
-use Rattle.asit_shadow.specs.Invariants.{IsTreeAnchored, IsTreeDurable, IsTreeSound, IsTreeSealStored, IsSlotStored}
-use Rattle.asit_shadow.specs.Places.{IsNodeHeld, IsNodeHeldBy}
-use Rattle.asit_shadow.specs.Steps.{IsTreeRecovered, slots_read}
-use Rattle.asit_shadow.specs.Recovering.{Rest, IsRestUsable, rest_redone, IsRestAnchored, IsRestDurable, HasOnlyReadLines, AreSlotsRead, IsTreeWork, IsGroupBegun, IsReadFinished, IsRoomFilled, HasTreeRecovered, IsNameable}
 use Rattle.asit_shadow.proofs.ArmLaws.{IsAnchored-emptied}
 use Rattle.asit_shadow.proofs.GroupLaws.{IsDurable-again, IsDurable-finished}
 use Rattle.asit_shadow.proofs.RegisterLaws.{finished-emptied}
 use Rattle.asit_shadow.proofs.PlaceLaws.{recovered-place}
 use Rattle.asit_shadow.proofs.RecoverLaws.{clash-holds, IsTrusted-recovered, slots-sound, IsSound-recovered, length-slots_read, line_at-slots_read}
-use Rattle.asit_shadow.proofs.Chains.{cut-unshown}
+use Rattle.call_effects.proofs.PowerLaws.{cut_unshown}
 use Rattle.asit_shadow.proofs.FetchEnds.{still-steady, some_map, first-none}
 
 -- ---- what a true slot line names can be cached
@@ -233,7 +194,7 @@ shown_end setup slots at old new before after shape in_range finished read is_ro
       lines = lines;
       root = root;
       group = finished.group;
-      begun = λ is. absurd (cut-unshown (sym is));
+      begun = λ is. absurd (cut_unshown (sym is));
       work = record { reads = finished.reads; digests = counted };
       cached = tt;
       power = finished.power;

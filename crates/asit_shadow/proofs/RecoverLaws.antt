@@ -1,35 +1,10 @@
 -- Recovery: with the right root the slot lines are the true ones or show a clash, and the true ones make
 -- a trusted engine, which over a durable device is sound.
 use Rattle.std.proofs.Common.{ℕ, ◌≡◌, ◌<◌, ◌+◌, ◌-◌, List, [], length, drop, true, Some, None, refl, sym, ap, subst, inl, inr, ◌∙◌, arith}
-use Rattle.std.specs.Prelude.{All}
-use Rattle.std.proofs.lemmas.Bool.{cases_lt}
-use Rattle.std.proofs.lemmas.List.{get_or_past, get_or-take, get_or-drop, length-drop, length-take-le}
-use Rattle.std.proofs.lemmas.Option.{same_Some, none-some}
-use Rattle.pmem_base.specs.declared.lines.Line.{Line}
-use Rattle.pmem_base.specs.declared.registers.Regs.{Regs}
-use Rattle.pmem_base.specs.declared.answers.Exhibit.{Exhibit}
-use Rattle.pmem_base.specs.Lines.{IsLine, line_at, zero_line}
-use Rattle.pmem_base.specs.Shape.{Shape, IsShape}
-use Rattle.pmem_base.specs.Layout.{meta_lines}
-use Rattle.pmem_base.proofs.LayoutLemmas.{meta_lines-most}
+use Rattle.asit_shadow.proofs.Common.{All, cases_lt, get_or_past, get_or-take, get_or-drop, length-drop, length-take-le, same_Some, none-some, Line, Regs, Exhibit, IsLine, line_at, Shape, IsShape, meta_lines, meta_lines-most, AreInRange, Setup, IsExhibit, redone, tree_slots, tree_size, line_of_slot, node_at, slot_of, slot_read, shadow_height, shadow_tree_line, WatchState, IsSlotClash, shadow_height-room, shadow_clash, slot_read-slot_line, slot_read-zero, tree-IsNode, TreeState, CachedNode, NamesTrueNode, IsTreeAnchored, IsTrueCached, IsTreeTrusted, IsTreeMendable, IsTreeDurable, IsTreeSound, held_of, IsTreeRecovered, slots_read}
+use Rattle.pmem_base.specs.Lines.{zero_line}
 pub use Rattle.pmem_base.proofs.LineLemmas.{lines-equal}
-use Rattle.suite.specs.Formulas.{AreInRange}
-use Rattle.suite.specs.Setup.{Setup}
-use Rattle.collision_witness.specs.Exhibits.{IsExhibit}
-use Rattle.commit_regs.specs.Groups.{redone}
-use Rattle.counter_tree.specs.Layout.{tree_slots, tree_size, line_of_slot}
-use Rattle.counter_tree.specs.Trees.{node_at}
-use Rattle.counter_tree.specs.Slots.{slot_of, slot_read}
-use Rattle.counter_tree.specs.Shadow.{shadow_root, shadow_height, shadow_tree_line}
-use Rattle.counter_tree.specs.Watch.{WatchState, IsSlotClash}
-use Rattle.counter_tree.proofs.HeightLemmas.{shadow_height-room}
-use Rattle.counter_tree.proofs.ShadowLaws.{shadow_clash}
-use Rattle.counter_tree.proofs.SlotLaws.{slot_read-slot_line, slot_read-zero}
-use Rattle.counter_tree.proofs.TreeLaws.{tree-IsNode}
-use Rattle.asit_shadow.specs.State.{TreeState}
-use Rattle.asit_shadow.specs.declared.cache.CachedNode.{CachedNode}
-use Rattle.asit_shadow.specs.Invariants.{NamesTrueNode, IsTreeAnchored, IsTrueCached, IsTreeTrusted, IsTreeMendable, IsTreeDurable, IsTreeSound}
-use Rattle.asit_shadow.specs.Steps.{held_of, IsTreeRecovered, slots_read}
+use Rattle.counter_tree.specs.Shadow.{shadow_root}
 use Rattle.asit_shadow.proofs.SlotPlaces.{slot_of-inside}
 
 -- ---- the slot lines of a list

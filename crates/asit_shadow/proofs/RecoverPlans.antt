@@ -1,34 +1,13 @@
 -- The plans of recovery, at each of their ends.
 use Rattle.std.proofs.Common.{◌≡◌, ◌≢◌, ◌<◌, ℕ, length, map, arith, true, false, List, [], ◌∷◌, Result, Ok, Err, refl, sym, ap, subst, subst₂, inl, inr, ◌∙◌}
-use Rattle.std.specs.Prelude.{Option, None, slice_set, ◌&&◌}
-use Rattle.std.proofs.lemmas.List.{ext_get_or, length-map, get_or-map}
-use Rattle.std.proofs.lemmas.Bool.{cases_Bool, false≢true, and_parts}
-use Rattle.pmem_base.specs.declared.lines.Line.{Line}
-use Rattle.pmem_base.specs.declared.registers.Regs.{Regs}
-use Rattle.pmem_base.specs.Counts.{risen_times}
-use Rattle.pmem_base.specs.Lines.{IsLine, line_at, zero_line, same_bytes}
-use Rattle.pmem_base.specs.Shape.{Shape}
+use Rattle.asit_shadow.proofs.Common.{Option, None, slice_set, ◌&&◌, ext_get_or, length-map, get_or-map, cases_Bool, false≢true, and_parts, Line, Regs, risen_times, IsLine, line_at, same_bytes, Shape, Device, HasRead, WasCut, Setup, the_cut, done, Follows, is_done, is_stopped, read_then, read_cut, bind_ok, bind_err, mapped_follows, Work, line_of_slot, with_exhibit, clash_of, shadow_digests, chosen, not_chosen, TreeRec, slot_read, CachedNode, TreeState, cache_at, RecoverParts, recover_parts, slots_plan, cached_named, recovered_engine, recovery_work, same_lines}
+use Rattle.pmem_base.specs.Lines.{zero_line}
 use Rattle.pmem_base.proofs.ByteLaws.{same_bytes-from, same_bytes-true}
-use Rattle.board.specs.Device.{Device}
-use Rattle.board.specs.Steps.{HasRead, WasCut}
-use Rattle.suite.specs.Setup.{Setup}
 use Rattle.seal_ledger.proofs.NoteLemmas.{other_bytes, same_line}
-use Rattle.call_plan.specs.Plans.{the_cut, done}
-use Rattle.call_plan.specs.Following.{Follows}
-use Rattle.call_plan.proofs.Steps.{is_done, is_stopped, read_then, read_cut}
-use Rattle.call_plan.proofs.Bind.{bind_ok, bind_err, mapped_follows}
-use Rattle.pmem_recovery.specs.declared.faults.Work.{Work}
-use Rattle.pmem_recovery.specs.Plans.{redo_plan}
-use Rattle.counter_tree.specs.Layout.{line_of_slot}
-use Rattle.counter_tree.specs.Plans.{with_exhibit, clash_of}
-use Rattle.counter_tree.specs.Shadow.{shadow_root, shadow_digests}
-use Rattle.counter_tree.proofs.ReadPlans.{chosen, not_chosen}
-use Rattle.asit_shadow.specs.declared.recovery.TreeRec.{TreeRec}
+use Rattle.commit_regs.specs.Plans.{redo_plan}
+use Rattle.counter_tree.specs.Shadow.{shadow_root}
 use Rattle.asit_shadow.specs.declared.recovery.TreeRec.TheVariants as Fail
-use Rattle.counter_tree.specs.Slots.{slot_read}
-use Rattle.asit_shadow.specs.declared.cache.CachedNode.{CachedNode}
-use Rattle.asit_shadow.specs.State.{TreeState, cache_at}
-use Rattle.asit_shadow.specs.RecoverPlans.{RecoverParts, recover_parts, slot_turn, slots_plan, cached_named, cache_named, recovered_engine, recovery_work, same_lines, seen_plan, root_plan, fill_plan}
+use Rattle.asit_shadow.specs.RecoverPlans.{slot_turn, cache_named, seen_plan, root_plan, fill_plan}
 
 -- ---- a slot's line
 

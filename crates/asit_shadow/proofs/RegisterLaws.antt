@@ -1,8 +1,6 @@
 -- The registers beside the root and the group, and the group emptied.
 use Rattle.std.proofs.Common.{◌≡◌, refl, sym, ap, subst, ◌∙◌}
-use Rattle.pmem_base.specs.declared.registers.Regs.{Regs}
-use Rattle.pmem_base.specs.Registers.{without_group}
-use Rattle.asit_shadow.specs.Steps.{KeepsOtherRegisters, IsTreeEmptied}
+use Rattle.asit_shadow.proofs.Common.{Regs, without_group, KeepsOtherRegisters, IsTreeEmptied}
 
 pub others-same : (old new : Regs) → new ≡ old → KeepsOtherRegisters old new
 others-same old new is = subst (KeepsOtherRegisters old) (sym is) refl

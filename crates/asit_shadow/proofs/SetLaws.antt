@@ -1,15 +1,7 @@
 -- Values set at the places of a list of positions, in a list of any kind: the cache after a write.
 use Rattle.std.proofs.Common.{ℕ, ◌≡◌, ◌<◌, List, [], ◌∷◌, length, get_or, true, false, None, refl, sym, ap, subst, inl, inr, ◌∙◌, arith}
-use Rattle.std.specs.Prelude.{◌==◌, ◌||◌, slice_set, Option}
-use Rattle.std.specs.List.{list_any}
-use Rattle.std.proofs.lemmas.Bool.{cases_Bool, cases_eq, or_parts, or_right, eqb-false, eqb-true, ne_eqb, false_from_ne_true, false≢true}
-use Rattle.std.proofs.lemmas.List.{length-set, get_or-set_same, get_or-set_other}
-use Rattle.pmem_base.specs.Shape.{Shape, IsShape}
-use Rattle.counter_tree.specs.declared.nodes.Node.{Node}
-use Rattle.counter_tree.specs.Layout.{tree_lines, tree_slots}
-use Rattle.counter_tree.specs.Slots.{slot_of}
-use Rattle.asit_shadow.specs.declared.cache.CachedNode.{CachedNode}
-use Rattle.asit_shadow.specs.Paths.{line_path, set_each, cache_with, dirty_node, HasPathCached}
+use Rattle.asit_shadow.proofs.Common.{◌==◌, ◌||◌, slice_set, Option, list_any, cases_Bool, cases_eq, or_parts, or_right, eqb-false, eqb-true, ne_eqb, false_from_ne_true, false≢true, length-set, get_or-set_same, get_or-set_other, Shape, IsShape, Node, tree_lines, tree_slots, slot_of, CachedNode, line_path, set_each, dirty_node, HasPathCached}
+use Rattle.asit_shadow.specs.Paths.{cache_with}
 use Rattle.asit_shadow.proofs.SlotPlaces.{slot_of-inside, on_path-inside, path_slots-apart, any_from}
 
 pub length-set_each : {X : Type 0} (place : ℕ → ℕ) (value : ℕ → X) (xs : List ℕ) (list : List X) → length (set_each place value xs list) ≡ length list

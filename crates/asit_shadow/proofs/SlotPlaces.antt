@@ -1,19 +1,8 @@
 -- Which slot a node has.
 use Rattle.std.proofs.Common.{ℕ, suc, ◌≡◌, ◌≢◌, ◌<◌, ◌≤◌, ◌+◌, ◌-◌, ◌*◌, ◌/◌, ◌%◌, ◌^◌, List, [], ◌∷◌, Bool, true, refl, sym, ap, subst, inl, inr, ◌∙◌, arith}
-use Rattle.std.specs.Prelude.{◌==◌, ◌||◌, slice_index}
-use Rattle.std.specs.List.{list_any}
-use Rattle.std.proofs.lemmas.Bool.{cases_Bool, cases_eq, cond-false, ne_eqb, eq-eqb, eqb-true, or_left, or_right}
 use Rattle.std.proofs.lemmas.Nat.{div-mul-add, mod_below}
-use Rattle.std.proofs.Math.Nat.{mul-le-mul_right, pow-suc}
-use Rattle.pmem_base.specs.Shape.{Shape, IsShape}
-use Rattle.pmem_base.specs.Layout.{pages, meta_lines, level_start}
-use Rattle.bonsai_tree.specs.Positions.{level_of, path_of, is_on_path}
-use Rattle.bonsai_tree.proofs.Levels.{level_of-IsAtLevel, level_of-le, level_start-le, meta_lines-level}
-use Rattle.bonsai_tree.proofs.PathPositions.{path_position-IsAtLevel, on_path-position, on_path-level, path_position-top, path_position-on_path}
-use Rattle.counter_tree.specs.Layout.{tree_lines, tree_slots}
-use Rattle.counter_tree.specs.Trees.{is_on_line_path}
-use Rattle.counter_tree.specs.Slots.{slot_of}
-use Rattle.asit_shadow.specs.Paths.{line_path, is_path_slot}
+use Rattle.asit_shadow.proofs.Common.{◌==◌, ◌||◌, slice_index, list_any, cases_Bool, cases_eq, cond-false, ne_eqb, eq-eqb, eqb-true, or_left, or_right, mul-le-mul_right, pow-suc, Shape, IsShape, pages, meta_lines, level_start, path_of, is_on_path, level_of-IsAtLevel, level_of-le, level_start-le, meta_lines-level, path_position-IsAtLevel, on_path-position, on_path-level, path_position-top, path_position-on_path, tree_lines, tree_slots, is_on_line_path, slot_of, line_path, is_path_slot}
+use Rattle.bonsai_tree.specs.Positions.{level_of}
 
 pub slot_of-below : (g : Shape) (x : ℕ) → x ≢ 0 → slot_of g x ≡ 1 + (level_of x - 1) * g.sets + x % g.sets
 slot_of-below g x low = cond-false (x == 0) 0 (1 + (level_of x - 1) * g.sets + x % g.sets) (ne_eqb x 0 low)

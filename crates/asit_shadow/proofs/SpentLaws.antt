@@ -1,18 +1,9 @@
 -- All writes made are the version of the top.
 use Rattle.std.proofs.Common.{ℕ, zero, suc, ◌≡◌, ◌<◌, ◌≤◌, ◌+◌, ◌-◌, ◌*◌, ◌^◌, List, length, take, drop, get_or, refl, sym, ap, subst, ◌∙◌, arith}
-use Rattle.std.specs.List.{sum}
-use Rattle.std.proofs.lemmas.List.{drop-drop}
 use Rattle.std.proofs.lemmas.List.Sums.{sum_by-append}
-use Rattle.std.proofs.Math.Seq.{drop-cons, take-add, take-length}
-use Rattle.std.proofs.Math.Nat.{pow-suc}
-use Rattle.pmem_base.specs.Shape.{Shape, IsShape}
-use Rattle.pmem_base.specs.Layout.{meta_lines, level_start}
-use Rattle.bonsai_tree.specs.Positions.{child_position, level_of}
-use Rattle.bonsai_tree.proofs.Levels.{IsAtLevel, child-IsAtLevel, level_start-suc, meta_lines-level}
-use Rattle.counter_tree.specs.Nodes.{total}
-use Rattle.counter_tree.specs.Layout.{tree_lines}
-use Rattle.counter_tree.proofs.TreeLaws.{lines-are_children}
-use Rattle.asit_shadow.specs.Plain.{PlainTree, writes_below, node_above_lines, true_node, true_version, writes_made}
+use Rattle.asit_shadow.proofs.Common.{sum, drop-drop, drop-cons, take-add, take-length, pow-suc, Shape, IsShape, meta_lines, level_start, child_position, IsAtLevel, child-IsAtLevel, level_start-suc, meta_lines-level, total, tree_lines, lines-are_children, PlainTree, writes_below, node_above_lines, true_version, writes_made}
+use Rattle.bonsai_tree.specs.Positions.{level_of}
+use Rattle.asit_shadow.specs.Plain.{true_node}
 
 -- the sum of n numbers from o on
 part : ℕ → ℕ → List ℕ → ℕ

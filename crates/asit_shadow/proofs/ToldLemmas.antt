@@ -1,7 +1,6 @@
 -- A device's lines where they are told.
 use Rattle.std.proofs.Common.{List, Some, None}
-use Rattle.std.specs.Prelude.{Option, MatchOption, ⊤}
-use Rattle.pmem_base.specs.declared.lines.Line.{Line}
+use Rattle.asit_shadow.proofs.Common.{Option, MatchOption, ⊤, Line}
 
 -- lines of a device before and after: told of both or of none, and where told as said
 abbrev pub AreToldWith : (List Line → List Line → Type 0) → Option (List Line) → Option (List Line) → Type 0

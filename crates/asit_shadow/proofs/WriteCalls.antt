@@ -1,26 +1,7 @@
 -- When a write is spent, and that its group can be armed.
 use Rattle.std.proofs.Common.{ℕ, ◌≡◌, ◌<◌, ◌^◌, ◌-◌, List, map, sym, ap, subst}
-use Rattle.std.specs.Prelude.{Result, Err, ◌↔◌, replicate}
-use Rattle.std.proofs.lemmas.List.{length-replicate}
-use Rattle.pmem_base.specs.declared.lines.Line.{Line}
-use Rattle.pmem_base.specs.Registers.{IsGroup}
-use Rattle.pmem_base.specs.Shape.{Shape, IsShape}
-use Rattle.pmem_base.specs.Layout.{meta_lines}
-use Rattle.suite.specs.Setup.{Setup}
-use Rattle.counter_tree.specs.declared.nodes.Node.{Node}
-use Rattle.counter_tree.specs.declared.watch.LineSeal.{LineSeal}
-use Rattle.counter_tree.specs.Nodes.{total, zero_node}
-use Rattle.counter_tree.specs.Layout.{tree_lines, tree_size}
-use Rattle.counter_tree.specs.Watch.{IsLineSeal}
-use Rattle.counter_tree.specs.Trees.{node_at}
-use Rattle.asit_shadow.specs.declared.fault.TreeFault.{TreeFault}
+use Rattle.asit_shadow.proofs.Common.{Result, Err, ◌↔◌, replicate, length-replicate, Line, IsGroup, Shape, IsShape, meta_lines, Setup, Node, LineSeal, total, zero_node, tree_lines, tree_size, IsLineSeal, node_at, TreeFault, top_node, TreeEngineParts, AreTreeTrusted, line_path, IsTreeSpentAnswer, IsLineWritten, IsFetchFault, armed_lines, set_pairs, HasWrittenUp}
 use Rattle.asit_shadow.specs.declared.fault.TreeFault.TheVariants as Fail
-use Rattle.asit_shadow.specs.State.{top_node}
-use Rattle.asit_shadow.specs.Parts.{TreeEngineParts, AreTreeTrusted}
-use Rattle.asit_shadow.specs.Paths.{line_path}
-use Rattle.asit_shadow.specs.Calls.{IsTreeSpentAnswer, IsLineWritten}
-use Rattle.asit_shadow.specs.Fetching.{IsFetchFault}
-use Rattle.asit_shadow.specs.Writing.{armed_lines, set_pairs, HasWrittenUp}
 use Rattle.asit_shadow.proofs.PathSteps.{top-in, in-true}
 use Rattle.asit_shadow.proofs.PairSets.{pairs-are, lines-are}
 use Rattle.asit_shadow.proofs.PutLaws.{write_group-IsGroup}

@@ -1,28 +1,10 @@
 -- How a write ends.
 use Rattle.std.proofs.Common.{ℕ, ◌≡◌, ◌<◌, ◌+◌, ◌/◌, refl, sym, ap, subst, inl, inr, ◌∙◌, arith}
-use Rattle.std.specs.Prelude.{Err}
-use Rattle.std.proofs.lemmas.Bool.{true≢false}
-use Rattle.pmem_base.specs.declared.lines.Line.{Line}
-use Rattle.pmem_base.specs.declared.registers.Regs.{Regs}
-use Rattle.pmem_base.specs.Shape.{IsShape}
-use Rattle.bonsai_tree.proofs.PathPositions.{on_path-level}
-use Rattle.suite.specs.Setup.{Setup}
-use Rattle.board.proofs.CountLemmas.{HasRisen-once}
-use Rattle.board.specs.Counts.{RisesBy}
-use Rattle.board.specs.Steps.{WasCut}
-use Rattle.pmem_engine.specs.Outcomes.{going, cut_short, shown}
-use Rattle.counter_tree.specs.declared.nodes.Node.{Node}
-use Rattle.counter_tree.specs.Layout.{tree_lines}
-use Rattle.asit_shadow.specs.declared.fault.TreeFault.{TreeFault}
+use Rattle.asit_shadow.proofs.Common.{Err, true≢false, Line, Regs, IsShape, on_path-level, Setup, HasRisen-once, RisesBy, WasCut, going, cut_short, shown, Node, tree_lines, TreeFault, TreeEngineParts, AreTreeTrusted, IsNodePathCached, IsUsedUp, KeepsWatch, absent_nodes, HasFetchedPath, IsFetchStopped, IsNodePathFetched, IsPathFetchedTo, HasWrittenUp}
 use Rattle.asit_shadow.specs.declared.fault.TreeFault.TheVariants as Fail
-use Rattle.asit_shadow.specs.Parts.{TreeEngineParts, AreTreeTrusted}
-use Rattle.asit_shadow.specs.Paths.{IsNodePathCached}
-use Rattle.asit_shadow.specs.Calls.{IsUsedUp, KeepsWatch}
-use Rattle.asit_shadow.specs.Work.{absent_nodes, HasFetchedPath}
-use Rattle.asit_shadow.specs.Fetching.{IsFetchStopped, IsNodePathFetched, IsPathFetchedTo}
-use Rattle.asit_shadow.specs.Writing.{HasWrittenUp}
 use Rattle.asit_shadow.proofs.SlotPlaces.{page_of_line}
-use Rattle.asit_shadow.proofs.Chains.{going-unshown, cut-unshown, effect-then}
+use Rattle.call_effects.proofs.PowerLaws.{going_unshown, cut_unshown}
+use Rattle.asit_shadow.proofs.Chains.{effect-then}
 use Rattle.asit_shadow.proofs.FetchEnds.{AreUnwritten, cut-effect, kept-watch, unwritten-levels}
 use Rattle.asit_shadow.proofs.CallEnds.{ready-kept, board-kept}
 
@@ -111,7 +93,7 @@ write-spent setup a plain old used =
       work = refl;
       answered = λ trusted. (used trusted, refl);
       unrefused = λ sound. tt;
-      watch = λ e. kept-watch going old.watch old.watch going-unshown refl;
+      watch = λ e. kept-watch going old.watch old.watch going_unshown refl;
       ready = λ was. was;
       board = λ was. was;
       no_group = λ e none. none;
@@ -135,7 +117,7 @@ write-lost setup a plain old mid new node unspent fetched shape cache down cut w
     let same : AreUnwritten mid.device new.device =
     record { lines = cut.lines; regs = cut.regs; size = cut.size; writes = cut.writes; latches = cut.latches } in
     let path = fetched.path in
-    let kept : KeepsWatch cut_short old.watch new.watch = kept-watch cut_short old.watch new.watch cut-unshown (watch ∙ path.watch) in
+    let kept : KeepsWatch cut_short old.watch new.watch = kept-watch cut_short old.watch new.watch cut_unshown (watch ∙ path.watch) in
     record {
       kind = tt;
       up = λ e. e;

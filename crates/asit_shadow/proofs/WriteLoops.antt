@@ -1,21 +1,6 @@
 -- One node of a path more: what is told, stored and named of it.
 use Rattle.std.proofs.Common.{ℕ, suc, ◌*◌, ◌≡◌, ◌<◌, ◌++◌, ◌∷◌, ◌+◌, List, [], length, take, get_or, Some, true, sym, ap, subst, subst₂, ◌∙◌, arith}
-use Rattle.std.specs.Prelude.{Option, slice_set}
-use Rattle.std.proofs.lemmas.List.{map-append, take_more}
-use Rattle.pmem_base.specs.declared.lines.Line.{Line}
-use Rattle.pmem_base.specs.Counts.{risen_times}
-use Rattle.pmem_base.specs.Lines.{put_lines}
-use Rattle.pmem_base.specs.Shape.{Shape}
-use Rattle.pmem_base.proofs.LineSets.{put_lines-append}
-use Rattle.pmem_recovery.proofs.PartLaws.{risen_times-then}
-use Rattle.counter_tree.specs.declared.nodes.Node.{Node}
-use Rattle.counter_tree.specs.declared.watch.LineSeal.{LineSeal}
-use Rattle.counter_tree.specs.Layout.{line_of_slot, line_of_tag}
-use Rattle.counter_tree.specs.Slots.{slot_of, slot_line}
-use Rattle.counter_tree.specs.Watch.{WatchState, HasNodeNoted, HasSlotNoted, HasSealNoted}
-use Rattle.asit_shadow.specs.declared.cache.CachedNode.{CachedNode}
-use Rattle.asit_shadow.specs.Paths.{tag_only}
-use Rattle.asit_shadow.specs.Writing.{armed_lines, set_pairs, slot_entries, dirty_entries, IsWriteTold}
+use Rattle.asit_shadow.proofs.Common.{Option, slice_set, map-append, take_more, Line, risen_times, put_lines, Shape, put_lines-append, risen_times-then, Node, LineSeal, line_of_slot, line_of_tag, slot_of, slot_line, WatchState, HasNodeNoted, HasSlotNoted, HasSealNoted, CachedNode, tag_only, armed_lines, set_pairs, slot_entries, dirty_entries, IsWriteTold}
 use Rattle.asit_shadow.proofs.PairSets.{set_pairs-append}
 
 -- a slot line more

@@ -1,43 +1,7 @@
 -- A write that was armed: kept at a cut, or done.
 use Rattle.std.proofs.Common.{ℕ, ◌≡◌, ◌≢◌, ◌<◌, ◌≤◌, ◌+◌, ◌-◌, ◌^◌, List, [], ◌∷◌, length, true, Some, None, refl, sym, ap, subst, inl, inr, ◌∙◌, arith}
-use Rattle.std.specs.Prelude.{Option, Ok, Err, IfSome, IsSome, slice_set, slice_index_or}
-use Rattle.std.proofs.lemmas.Bool.{cases_eq, true≢false, false_from_ne_true}
-use Rattle.std.proofs.lemmas.List.{length-set, length-map, get_or-set_same, get_or-set_other}
-use Rattle.pmem_base.specs.declared.lines.Line.{Line}
-use Rattle.pmem_base.specs.declared.registers.Regs.{Regs}
-use Rattle.pmem_base.specs.Counts.{HasRisen}
-use Rattle.pmem_base.specs.Lines.{line_at}
-use Rattle.pmem_base.specs.Registers.{IsGroup, without_group}
-use Rattle.pmem_base.specs.Shape.{Shape, IsShape}
-use Rattle.pmem_base.proofs.LineSets.{length-put_lines}
-use Rattle.suite.specs.Setup.{Setup}
-use Rattle.board.proofs.CountLemmas.{RisesBy-then, RisesBy-once}
-use Rattle.board.specs.Counts.{RisesBy}
-use Rattle.board.specs.Device.{Device, AreLinesOf, AreToldLines}
-use Rattle.board.specs.Steps.{HasLatched, Tells}
-use Rattle.commit_regs.specs.Groups.{HasFinished, IsInterrupted, RisesAtMost, redone, redone_told, finishing_latches}
-use Rattle.commit_regs.proofs.GroupLemmas.{redone-nil}
-use Rattle.pmem_engine.proofs.Laws.AnchoredLatches.{IsGroup-nil}
-use Rattle.pmem_engine.specs.Outcomes.{cut_short}
-use Rattle.pmem_engine.proofs.CallEnds.CallChains.{power_chained}
-use Rattle.pmem_engine.proofs.CallEnds.ToldLines.{any_told}
-use Rattle.counter_tree.specs.declared.nodes.Node.{Node}
-use Rattle.counter_tree.specs.declared.watch.LineSeal.{LineSeal}
-use Rattle.counter_tree.specs.Layout.{tree_lines, tree_slots, tree_size, line_of_node, line_of_slot}
-use Rattle.counter_tree.specs.Slots.{slot_of, slot_line}
-use Rattle.counter_tree.specs.Nodes.{total}
-use Rattle.counter_tree.specs.Trees.{node_at}
-use Rattle.counter_tree.specs.Watch.{WatchState}
+use Rattle.asit_shadow.proofs.Common.{Option, Ok, Err, IfSome, IsSome, slice_set, slice_index_or, cases_eq, true≢false, false_from_ne_true, length-set, length-map, get_or-set_same, get_or-set_other, Line, Regs, HasRisen, line_at, IsGroup, without_group, Shape, IsShape, length-put_lines, Setup, RisesBy-then, RisesBy-once, RisesBy, Device, AreLinesOf, AreToldLines, HasLatched, Tells, HasFinished, IsInterrupted, RisesAtMost, redone, redone_told, finishing_latches, redone-nil, IsGroup-nil, cut_short, power_chained, any_told, Node, LineSeal, tree_lines, tree_slots, tree_size, line_of_node, line_of_slot, slot_of, slot_line, total, node_at, WatchState, IsTreeEngine, IsTreeAnchored, IsTreeDurable, IsTreeSound, IsTreeSealStored, IsSlotStored, IsNodeHeld, IsNodeHeldBy, TreeEngineParts, tree_lines_redone, AreTreeTrusted, AreTreeSound, IsWatchReady, HoldsTreeSeal, HoldsSlot, IsTreeArmed, IsTreeEmptied, IsPathAccepted, IsUsedUp, spilled_nodes, IsCutInGroup, IsNodePathFetched, HasWrittenUp, IsWriteMade, IsWriteTold, slot_entries}
 use Rattle.asit_shadow.specs.declared.fault.TreeFault.TheVariants as Fail
-use Rattle.asit_shadow.specs.State.{IsTreeEngine}
-use Rattle.asit_shadow.specs.Invariants.{IsTreeAnchored, IsTreeDurable, IsTreeSound, IsTreeSealStored, IsSlotStored}
-use Rattle.asit_shadow.specs.Places.{IsNodeHeld, IsNodeHeldBy}
-use Rattle.asit_shadow.specs.Parts.{TreeEngineParts, tree_lines_redone, AreTreeTrusted, AreTreeSound, IsWatchReady, HoldsTreeSeal, HoldsSlot}
-use Rattle.asit_shadow.specs.Steps.{IsTreeArmed, IsTreeEmptied}
-use Rattle.asit_shadow.specs.Calls.{IsPathAccepted, IsUsedUp}
-use Rattle.asit_shadow.specs.Work.{spilled_nodes, IsCutInGroup}
-use Rattle.asit_shadow.specs.Fetching.{IsNodePathFetched}
-use Rattle.asit_shadow.specs.Writing.{HasWrittenUp, IsWriteMade, IsWriteTold, slot_entries}
 use Rattle.asit_shadow.proofs.ArmLaws.{armed-made, IsAnchored-armed, IsDurable-armed, IsTrusted-written, IsSound-written}
 use Rattle.asit_shadow.proofs.GroupLaws.{IsDurable-again}
 use Rattle.asit_shadow.proofs.RegisterLaws.{others-same, finished-emptied}

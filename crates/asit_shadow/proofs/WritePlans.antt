@@ -1,43 +1,11 @@
 -- The plan of a write: what is raised, named and armed, level by level, and its ends.
 use Rattle.std.proofs.Common.{ℕ, suc, ◌≡◌, ◌<◌, ◌+◌, ◌-◌, ◌^◌, ◌%◌, ◌++◌, ◌∷◌, [], true, false, List, Result, Ok, Err, length, take, get_or, refl, sym, ap, subst, ◌∙◌, arith}
-use Rattle.std.specs.Prelude.{Option, ◌==◌, ◌≤◌, slice_set, All}
-use Rattle.std.proofs.lemmas.List.{length-set, take_more}
-use Rattle.pmem_base.specs.declared.faults.Cut.{Cut}
-use Rattle.pmem_base.specs.declared.lines.Line.{Line}
-use Rattle.pmem_base.specs.declared.registers.Regs.{Regs}
-use Rattle.pmem_base.specs.Lines.{put_lines}
-use Rattle.pmem_base.specs.Layout.{meta_lines}
-use Rattle.pmem_base.specs.Shape.{Shape, IsShape}
-use Rattle.board.specs.Device.{Device}
-use Rattle.board.specs.Steps.{HasLatched, WasCut}
-use Rattle.suite.specs.Formulas.{Formulas, AreInRange}
-use Rattle.suite.specs.Setup.{Setup}
-use Rattle.call_plan.specs.Following.{Follows}
-use Rattle.call_plan.proofs.Steps.{is_stopped}
-use Rattle.call_plan.proofs.Bind.{bind_ok, bind_err, mapped_follows}
-use Rattle.commit_regs.specs.Groups.{HasFinished}
-use Rattle.commit_regs.specs.Plans.{finish_plan}
-use Rattle.pmem_engine.proofs.PlannedCalls.GroupPlans.{group_cut, group_end}
-use Rattle.counter_tree.specs.declared.nodes.Node.{Node}
-use Rattle.counter_tree.specs.declared.watch.LineSeal.{LineSeal}
-use Rattle.counter_tree.specs.Nodes.{counter, total, version_counter}
-use Rattle.counter_tree.specs.Layout.{tree_slots}
-use Rattle.counter_tree.specs.Shadow.{ChipTree, IsShadowTree, shadow_height, root_of, tree_with, tree_root_with}
+use Rattle.asit_shadow.proofs.Common.{Option, ◌==◌, ◌≤◌, slice_set, All, length-set, take_more, Cut, Line, Regs, put_lines, meta_lines, Shape, IsShape, Device, HasLatched, WasCut, Formulas, AreInRange, Setup, Follows, is_stopped, bind_ok, bind_err, mapped_follows, HasFinished, finish_plan, Node, LineSeal, counter, total, version_counter, tree_slots, ChipTree, IsShadowTree, shadow_height, root_of, tree_with, tree_root_with, shadow_height-room, slot_line-IsLine, slot_of, slot_line, WatchState, chosen, not_chosen, CachedNode, TreeFault, top_node, KeepsOtherRegisters, armed_lines, pair_at, slot_entries, IsSealMade, IsTreeNamed, IsWriteTold, TreeChip, fetch_plan, raised_pair, seal_of, named_one, write_armed, told_write, named_chip, stored_chip, seal_under_plan, raise_plan}
+use Rattle.commit_regs.proofs.GroupPlans.{group_cut, group_end}
 use Rattle.counter_tree.proofs.ChipTree.{chip-with, chip-root_with}
-use Rattle.counter_tree.proofs.HeightLemmas.{shadow_height-room}
-use Rattle.counter_tree.proofs.SlotLaws.{slot_line-IsLine}
-use Rattle.counter_tree.specs.Slots.{slot_of, slot_line}
-use Rattle.counter_tree.specs.Watch.{WatchState}
-use Rattle.counter_tree.proofs.ReadPlans.{chosen, not_chosen}
-use Rattle.asit_shadow.specs.declared.cache.CachedNode.{CachedNode}
-use Rattle.asit_shadow.specs.declared.fault.TreeFault.{TreeFault}
 use Rattle.asit_shadow.specs.declared.fault.TreeFault.TheVariants as Fail
-use Rattle.asit_shadow.specs.State.{top_node}
-use Rattle.asit_shadow.specs.Steps.{KeepsOtherRegisters}
-use Rattle.asit_shadow.specs.Writing.{armed_lines, pair_at, slot_entries, IsSealMade, IsTreeNamed, IsWriteTold}
 use Rattle.asit_shadow.proofs.SlotPlaces.{slot_of-inside}
-use Rattle.asit_shadow.specs.Plans.{TreeChip, fetch_plan}
-use Rattle.asit_shadow.specs.WritePlans.{raised_pair, raised_path, seal_of, named_one, named_all, write_armed, told_write, named_chip, stored_chip, seal_plan, seal_under_plan, raise_plan, write_line_plan}
+use Rattle.asit_shadow.specs.WritePlans.{raised_path, named_all, seal_plan, write_line_plan}
 
 -- ---- the path's nodes
 

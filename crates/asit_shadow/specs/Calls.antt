@@ -10,7 +10,7 @@ use Rattle.suite.specs.Formulas.{cipher_of}
 use Rattle.board.specs.Counts.{RisesBy}
 use Rattle.board.specs.Steps.{Tells}
 use Rattle.collision_witness.specs.Exhibits.{IsExhibit}
-use Rattle.pmem_engine.specs.Outcomes.{Outcome, going, cut_short, shown, is_going, HasPower}
+use Rattle.call_effects.specs.Outcomes.{Outcome, going, cut_short, shown, is_going, HasPower}
 use Rattle.counter_tree.specs.declared.nodes.Node.{Node}
 use Rattle.counter_tree.specs.declared.watch.LineSeal.{LineSeal}
 use Rattle.counter_tree.specs.Nodes.{total, version_counter, node_read}

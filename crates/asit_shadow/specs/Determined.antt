@@ -3,7 +3,7 @@ use Rattle.std.specs.Prelude.{ℕ, ◌≡◌, true, List, length, Some}
 use Rattle.pmem_base.specs.declared.lines.Line.{Line}
 use Rattle.board.specs.Memory.{BoardMemory}
 use Rattle.suite.specs.Setup.{Setup}
-use Rattle.pmem_engine.specs.Determined.{IsDetermined}
+use Rattle.call_plan.specs.Laws.{IsDetermined}
 use Rattle.counter_tree.specs.Layout.{tree_lines}
 use Rattle.asit_shadow.specs.State.{TreeState}
 use Rattle.asit_shadow.specs.Recovering.{Rest}

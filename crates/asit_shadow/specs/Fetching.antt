@@ -8,7 +8,7 @@ use Rattle.board.specs.Device.{Device}
 use Rattle.board.specs.Counts.{RisesBy}
 use Rattle.board.specs.Steps.{HasWritten, WasCut}
 use Rattle.bonsai_tree.specs.Positions.{level_of, counter_position}
-use Rattle.pmem_engine.specs.Outcomes.{going}
+use Rattle.call_effects.specs.Outcomes.{going}
 use Rattle.counter_tree.specs.declared.nodes.Node.{Node}
 use Rattle.counter_tree.specs.Nodes.{node_line}
 use Rattle.counter_tree.specs.Accepted.{IsNodeAccepted, IsNodeUnaccepted, IsNodeForged}

@@ -7,7 +7,7 @@ use Rattle.suite.specs.Setup.{Setup}
 use Rattle.suite.specs.declared.Suite.{Ghosts as SuiteOf}
 use Rattle.bonsai_tree.specs.Positions.{child_slot}
 use Rattle.call_plan.specs.Plans.{Plan, done, stop, write, bind, mapped, lifted, repeated, the_cut}
-use Rattle.pmem_engine.specs.Outcomes.{is_going}
+use Rattle.call_effects.specs.Outcomes.{is_going}
 use Rattle.counter_tree.specs.declared.nodes.Node.{Node}
 use Rattle.counter_tree.specs.declared.accepted.FetchFault.{FetchFault}
 use Rattle.counter_tree.specs.declared.accepted.FetchFault.TheVariants as Missed

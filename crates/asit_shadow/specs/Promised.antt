@@ -17,8 +17,8 @@ use Rattle.counter_tree.specs.declared.watch.Watch.{Ghosts as WatchOf}
 use Rattle.counter_tree.specs.Layout.{tree_lines}
 use Rattle.counter_tree.specs.Plans.{node_plan}
 use Rattle.counter_tree.specs.Shadow.{ChipTree, shadow_digests}
-use Rattle.pmem_recovery.specs.declared.faults.Work.{Work}
-use Rattle.pmem_recovery.specs.Parts.{SuiteRise, suite_at, setup_with}
+use Rattle.call_effects.specs.declared.recovery.Work.{Work}
+use Rattle.call_effects.specs.SuiteStates.{SuiteRise, suite_at, setup_with}
 use Rattle.asit_shadow.specs.declared.cache.CachedNode.{CachedNode}
 use Rattle.asit_shadow.specs.declared.fault.TreeFault.{TreeFault}
 use Rattle.asit_shadow.specs.declared.recovery.TreeRec.{TreeRec}

@@ -11,8 +11,8 @@ use Rattle.pmem_base.specs.Shape.{Shape}
 use Rattle.suite.specs.Setup.{Setup}
 use Rattle.suite.specs.declared.Suite.{Ghosts as SuiteOf}
 use Rattle.call_plan.specs.Plans.{Plan, done, stop, read, bind, mapped, repeated}
-use Rattle.pmem_recovery.specs.declared.faults.Work.{Work}
-use Rattle.pmem_recovery.specs.Plans.{redo_plan}
+use Rattle.call_effects.specs.declared.recovery.Work.{Work}
+use Rattle.commit_regs.specs.Plans.{redo_plan}
 use Rattle.counter_tree.specs.Layout.{tree_slots, line_of_slot}
 use Rattle.counter_tree.specs.Nodes.{total}
 use Rattle.counter_tree.specs.Plans.{with_exhibit, clash_of, shadow_tree}

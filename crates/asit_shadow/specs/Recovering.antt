@@ -13,8 +13,8 @@ use Rattle.board.specs.declared.device.Board.{Ghosts as BoardOf}
 use Rattle.board.specs.Steps.{Tells}
 use Rattle.collision_witness.specs.Exhibits.{IsExhibit}
 use Rattle.commit_regs.specs.Groups.{redone_told, finishing_latches, RisesAtMost}
-use Rattle.pmem_engine.specs.Outcomes.{Outcome, going, cut_short, shown, HasPower}
-use Rattle.pmem_recovery.specs.declared.faults.Work.{Work}
+use Rattle.call_effects.specs.Outcomes.{Outcome, going, cut_short, shown, HasPower}
+use Rattle.call_effects.specs.declared.recovery.Work.{Work}
 use Rattle.counter_tree.specs.Nodes.{total}
 use Rattle.counter_tree.specs.Layout.{tree_lines, tree_slots, line_of_slot}
 use Rattle.counter_tree.specs.Shadow.{ChipTree, IsChipTree, shadow_height, shadow_root, shadow_digests}

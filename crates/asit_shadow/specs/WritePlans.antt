@@ -10,7 +10,7 @@ use Rattle.bonsai_tree.specs.Positions.{child_slot}
 use Rattle.suite.specs.Formulas.{Formulas, cipher_of}
 use Rattle.suite.specs.Setup.{Setup}
 use Rattle.call_plan.specs.Plans.{Plan, stop, bind, mapped}
-use Rattle.pmem_engine.specs.Plans.{group_plan}
+use Rattle.commit_regs.specs.Plans.{group_plan}
 use Rattle.counter_tree.specs.declared.nodes.Node.{Node}
 use Rattle.counter_tree.specs.declared.watch.LineSeal.{LineSeal}
 use Rattle.counter_tree.specs.Nodes.{counter, total, version_counter, zero_node}

@@ -7,7 +7,7 @@ use Rattle.pmem_base.specs.Shape.{Shape}
 use Rattle.bonsai_tree.specs.Positions.{child_slot}
 use Rattle.suite.specs.Formulas.{Formulas, cipher_of}
 use Rattle.suite.specs.Setup.{Setup}
-use Rattle.pmem_engine.specs.Outcomes.{is_going}
+use Rattle.call_effects.specs.Outcomes.{is_going}
 use Rattle.counter_tree.specs.declared.nodes.Node.{Node}
 use Rattle.counter_tree.specs.declared.watch.LineSeal.{LineSeal}
 use Rattle.counter_tree.specs.Nodes.{counter, total, version_counter, zero_node}

@@ -1,6 +1,6 @@
 //! The engine's calls: reads and writes of data lines.
 ghost use Rattle.std.specs.Prelude.{◌≡◌, ◌<◌, ◌||◌, not};
-ghost use Rattle.pmem_engine.specs.Outcomes.{is_going};
+ghost use Rattle.call_effects.specs.Outcomes.{is_going};
 ghost use Rattle.counter_tree.specs.Layout.{tree_lines};
 ghost use Rattle.asit_shadow.specs.Parts.{IsTreeUsable, tree_parts_at};
 ghost use Rattle.asit_shadow.specs.Calls.{outcome_of_tree_fault};

@@ -12,7 +12,7 @@ ghost use Rattle.asit_shadow.specs.Work.{holds_dirty};
 ghost use Rattle.asit_shadow.specs.Plans.{node_in};
 ghost use Rattle.asit_shadow.specs.Fetching.{IsRoomMade, IsNodeTaken};
 ghost use Rattle.asit_shadow.specs.Promised.{FetchesPath, StopsFetch, FetchesNode, MissesNode, FollowsFetch, FollowsLevel, FollowsRoom, FollowsTaken};
-ghost use Rattle.pmem_recovery.specs.Parts.{setup_with};
+ghost use Rattle.call_effects.specs.SuiteStates.{setup_with};
 
 use crate::cache::CachedNode;
 use crate::engine::TreeEngine;

@@ -22,12 +22,12 @@ use crate::cache::CachedNode;
 use crate::engine::TreeEngine;
 use crate::room::take_room;
 use board::Board;
+use call_effects::Work;
 use commit_regs::finish;
 use counter_tree::{
     Node, ShadowTree, Watch, read_slot, shadow_height, slot_place, tree_slots, version,
 };
 use pmem_base::{Cut, Geo, Line, MemFault, Tag};
-use pmem_recovery::Work;
 use seal_ledger::Go;
 use std::alloc::Global;
 use suite::Suite;

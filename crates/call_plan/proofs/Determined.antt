@@ -221,3 +221,35 @@ determined_by_fuse fuse lines {plan = plan} {old = old} {a = a} {b = b} {first =
                 it.took its.took
           ])
     ]
+
+-- ---- runs that aren't cut
+
+took_alike : {E T : Type 0} (plan : Plan E T) (lines : List Line) (old a b : Device) (first second : Result T E) → old.lines ≡ Some lines
+    → a.live ≡ true → b.live ≡ true → Took plan old a first → Took plan old b second → (first ≡ second) × (a ≡ b)
+unfolding Took
+took_alike (done t) lines old a b first second told on lit it its = (it.0 ∙ sym its.0, it.1 ∙ sym its.1)
+took_alike (stop left) lines old a b first second told on lit it its = (it.0 ∙ sym its.0, it.1 ∙ sym its.1)
+took_alike {E = E} {T = T} (read left at later) lines old a b first second told on lit (inl s) (inl t) =
+    let mid : t.mid ≡ s.mid = sym (read_is_determined old s.mid t.mid at s.line t.line s.step t.step) in
+    let line : t.line ≡ s.line = sym (same_line lines old s.mid t.mid at s.line t.line told s.step t.step) in
+    took_alike (later s.line) lines s.mid a b first second (s.step.lines ∙ told) on lit s.rest
+    (subst (λ (d : Device). Took (later s.line) d b second) mid (subst (λ (l : Line). Took (later l) t.mid b second) line t.rest))
+took_alike (read left at later) lines old a b first second told on lit (inr s) its = on_and_off a.live on s.0.cut.off
+took_alike (read left at later) lines old a b first second told on lit (inl s) (inr t) = on_and_off b.live lit t.0.cut.off
+took_alike (write left at line later) lines old a b first second told on lit (inl s) (inl t) =
+    let mid : t.mid ≡ s.mid = sym (write_is_determined old s.mid t.mid at line s.step t.step) in
+    took_alike later _ s.mid a b first second (s.step.lines ∙ ap (λ o. with_line o at line) told) on lit s.rest
+    (subst (λ (d : Device). Took later d b second) mid t.rest)
+took_alike (write left at line later) lines old a b first second told on lit (inr s) its = on_and_off a.live on s.cut.off
+took_alike (write left at line later) lines old a b first second told on lit (inl s) (inr t) = on_and_off b.live lit t.cut.off
+took_alike (latch left regs later) lines old a b first second told on lit (inl s) (inl t) =
+    let mid : t.mid ≡ s.mid = sym (latch_is_determined old s.mid t.mid regs s.step t.step) in
+    took_alike later lines s.mid a b first second (s.step.lines ∙ told) on lit s.rest (subst (λ (d : Device). Took later d b second) mid t.rest)
+took_alike (latch left regs later) lines old a b first second told on lit (inr s) its = on_and_off a.live on s.cut.off
+took_alike (latch left regs later) lines old a b first second told on lit (inl s) (inr t) = on_and_off b.live lit t.cut.off
+
+-- two of them, of one plan on a board that tells its lines, are the same, whatever their fuses
+pub uncut_alike : {E T : Type 0} (lines : List Line) {plan : Plan E T} {old a b : Device} {first second : Result T E} → old.lines ≡ Some lines
+    → a.live ≡ true → b.live ≡ true → Follows plan old a first → Follows plan old b second → (first ≡ second) × (a ≡ b)
+uncut_alike lines {plan = plan} {old = old} {a = a} {b = b} {first = first} {second = second} told on lit it its =
+    took_alike plan lines old a b first second told on lit it.took its.took

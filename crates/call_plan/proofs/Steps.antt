@@ -79,3 +79,9 @@ pub last_latch : (regs : Regs) (old new : Device) (answer : Result (Unit {0}) Cu
     → OnErr answer (WasCut old new) → Follows (latch the_cut regs (done (tt {0}))) old new answer
 last_latch regs old new (Ok value) ok cut = latch_then the_cut ok (is_done (tt {0}) new)
 last_latch regs old new (Err fault) ok cut = latch_cut the_cut regs (done (tt {0})) cut
+
+-- one line of a steady board more is written
+pub written_so : (at place : ℕ) (line bytes : Line) (old new : Device) → at ≡ place → line ≡ bytes → HasWritten old at line new
+    → Follows (write the_cut place bytes (let rest : Plan Cut (Unit {0}) = done tt in rest)) old new (Ok tt)
+written_so at place line bytes old new here same was =
+    write_then the_cut (subst (λ n. HasWritten old n bytes new) here (subst (λ l. HasWritten old at l new) same was)) (is_done tt new)

@@ -23,11 +23,15 @@ RunsAreDetermined E T =
 
 -- two outcomes of one call on a watched board: the answers are the same, and so are the states beside the
 -- board, the boards, and what was taken of them
-abbrev pub CallsAreDetermined : Type 0 → Type 0 → Type 0 → Type 0
-CallsAreDetermined S A F =
-    (plan : Plan (S × F) (S × A)) (old a b : BoardMemory) (x y : Taken) (first second : Result A F) (left other : S)
+abbrev pub IsDetermined : {S A F : Type 0} → BoardMemory → Plan (S × F) (S × A) → Type 0
+IsDetermined {S = S} {A = A} {F = F} old plan =
+    (a b : BoardMemory) (x y : Taken) (first second : Result A F) (left other : S)
     → old.powered ≡ true → IsOutcome plan old a x first left → IsOutcome plan old b y second other
     → (first ≡ second) × (left ≡ other) × (a ≡ b) × (x ≡ y)
+
+-- so are those of every call that is told by a plan
+abbrev pub CallsAreDetermined : Type 0 → Type 0 → Type 0 → Type 0
+CallsAreDetermined S A F = (plan : Plan (S × F) (S × A)) (old : BoardMemory) → IsDetermined old plan
 
 -- two outcomes of calls one after another, up to the first fault
 abbrev pub ChainsAreDetermined : Type 0 → Type 0 → Type 0 → Type 0 → Type 0

@@ -1,15 +1,17 @@
 -- Writing a group, step by step and again.
-use Rattle.std.proofs.Common.{◌≡◌, ℕ, ◌<◌, List, [], ◌∷◌, Option, Some, None, set, get_or, length, refl, ap, ◌∙◌, inl, inr, arith, suc, zero}
+use Rattle.std.proofs.Common.{◌≡◌, ℕ, ◌<◌, List, [], ◌∷◌, Option, Some, None, set, get_or, length, refl, ap, ◌∙◌, inl, inr, arith, suc, zero, rules, ◌++◌, ◌≤◌}
 use Rattle.std.specs.List.{All}
 use Rattle.std.proofs.lemmas.Bool.{cases_eq}
 use Rattle.std.proofs.lemmas.List.{set-set, set_comm}
 use Rattle.std.proofs.lemmas.List.Elements.{All-head, All-tail}
+use Rattle.std.specs.Prelude.{is_some}
 use Rattle.pmem_base.specs.declared.lines.Line.{Line}
 use Rattle.pmem_base.specs.Lines.{IsLine}
-use Rattle.pmem_base.proofs.LineSets.{length-put_lines, put_lines-AreLines}
+use Rattle.pmem_base.proofs.LineSets.{length-put_lines, put_lines-AreLines, put_lines-append}
+use Rattle.pmem_base.specs.Registers.{IsGroup}
 use Rattle.board.specs.Device.{AreLinesOf}
 use Rattle.board.specs.Steps.{with_line}
-use Rattle.commit_regs.specs.Groups.{redone, redone_told, Writes}
+use Rattle.commit_regs.specs.Groups.{redone, redone_told, Writes, finishing_latches}
 
 -- what stood at a place that the group writes is lost
 pub redone-set : (group : List (ℕ × Line)) (lines : List Line) (at : ℕ) (line : Line) → Writes at group
@@ -74,3 +76,24 @@ AreLinesOf-redone size group lines good whole =
       count = length-put_lines group lines ∙ whole.count;
       each = put_lines-AreLines group lines good whole.each;
     }
+
+-- with no group armed the lines are as they stand
+pub unarmed : (group : List (ℕ × Line)) (told : Option (List Line)) → group ≡ [] → redone_told group told ≡ told
+unarmed group told none = ap (λ g. redone_told g told) none ∙ redone-nil told
+
+pub told_redone : (group : List (ℕ × Line)) (told : Option (List Line)) → is_some (redone_told group told) ≡ is_some told
+told_redone group v1 = search rules
+
+pub redone_told-append : (front back : List (ℕ × Line)) (told : Option (List Line))
+    → redone_told (front ++ back) told ≡ redone_told back (redone_told front told)
+redone_told-append front back None = refl
+redone_told-append front back (Some lines) = ap Some (put_lines-append front back lines)
+
+-- no entries are a group
+pub IsGroup-nil : (size : ℕ) → IsGroup size []
+IsGroup-nil size = search rules
+
+-- one at most
+pub one_latch : (group : List (ℕ × Line)) → finishing_latches group ≤ 1
+one_latch [] = omega arith
+one_latch (entry ∷ rest) = omega arith

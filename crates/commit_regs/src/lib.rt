@@ -7,7 +7,7 @@ ghost use Rattle.board.specs.Steps.{HasLatched, WasCut};
 ghost use Rattle.call_plan.specs.Following.{Follows};
 ghost use Rattle.commit_regs.specs.Groups.{HasRedone, HasFinished, IsInterrupted};
 ghost use Rattle.commit_regs.specs.Plans.{arm_plan, lines_plan, finish_plan};
-ghost use Rattle.commit_regs.specs.Laws.{CutGroupsAreFronts, DoneGroupsAreWritten, GroupStepsAreCounted};
+ghost use Rattle.commit_regs.specs.Laws.{CutGroupsAreFronts, DoneGroupsAreWritten, GroupStepsAreCounted, GroupsAreOneAct};
 
 use board::Board;
 use pmem_base::{Cut, Line, Regs};
@@ -81,4 +81,12 @@ pub fn groups_are_written_in_order()
     ensures cut { CutGroupsAreFronts }
     ensures done { DoneGroupsAreWritten }
     ensures steps { GroupStepsAreCounted }
+{}
+
+/// A law: an engine's group is one act, with the state beside the board that goes with it. Where power is cut before
+/// the group is armed nothing has changed; from then on the state is the next one, the registers are the armed ones,
+/// and the first of the group's lines are written, in order. A finished group has all its lines written by a line
+/// write each, and took two latches.
+pub fn groups_are_one_act<S>()
+    ensures { GroupsAreOneAct S }
 {}

@@ -12,7 +12,8 @@ use Rattle.suite.specs.Formulas.{Formulas}
 use Rattle.suite.specs.Setup.{Setup}
 use Rattle.pmem_engine.specs.declared.fault.Fault.{Fault}
 use Rattle.pmem_engine.specs.Calls.{whole_write}
-use Rattle.pmem_engine.specs.Plans.{Chip, ended_with, read_plan}
+use Rattle.commit_regs.specs.Plans.{ended_with}
+use Rattle.pmem_engine.specs.Plans.{Chip, read_plan}
 use Rattle.pmem_engine.specs.WritePlans.{write_plan}
 use Rattle.engine_lines.specs.declared.edits.Edit.{Edit}
 use Rattle.engine_lines.specs.declared.edits.Edit.TheVariants as Make

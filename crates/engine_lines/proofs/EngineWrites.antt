@@ -23,7 +23,8 @@ use Rattle.plain_model.proofs.WriteMarks.{marks_of_writes-more}
 use Rattle.pmem_engine.specs.declared.fault.Fault.{Fault}
 use Rattle.pmem_engine.specs.declared.fault.Fault.TheVariants as Fail
 use Rattle.pmem_engine.specs.Parts.{Parts, regs_of, AreTrusted, AreSound, AreDurable}
-use Rattle.pmem_engine.specs.Outcomes.{going, cut_short, is_sealed_by, OneLossEffect, TakesAtMost, TakesFewer}
+use Rattle.call_effects.specs.Outcomes.{going, cut_short}
+use Rattle.pmem_engine.specs.Outcomes.{is_sealed_by, OneLossEffect, TakesAtMost, TakesFewer}
 use Rattle.pmem_engine.specs.Calls.{IsMemory, IsPartOf, TakesOfWrite, moment_in, HasReadLine, HasWrittenLine}
 use Rattle.pmem_engine.proofs.CallEnds.StillParts.{sound_trusted}
 use Rattle.engine_lines.specs.Writes.{write_steps, read_steps}

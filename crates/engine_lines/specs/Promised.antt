@@ -11,7 +11,8 @@ use Rattle.pmem_engine.specs.declared.fault.Fault.{Fault}
 use Rattle.pmem_engine.specs.Engine.{EngineState}
 use Rattle.pmem_engine.specs.Parts.{Parts, regs_of, parts_at, setup_at}
 use Rattle.pmem_engine.specs.Calls.{IsLeftAlone, IsEngineCall}
-use Rattle.pmem_engine.specs.Plans.{chip_in, ended_with}
+use Rattle.commit_regs.specs.Plans.{ended_with}
+use Rattle.pmem_engine.specs.Plans.{chip_in}
 use Rattle.engine_lines.specs.declared.edits.Edit.{Edit}
 use Rattle.engine_lines.specs.Edits.{HasLinePut, HasEdited, AreEdited}
 use Rattle.engine_lines.specs.Plans.{ChangePlan, put_plan, edit_plan, edits_plan}

@@ -1,7 +1,8 @@
 //! Changes of data lines, made by an engine one after the other.
 ghost use Rattle.std.specs.Prelude.{◌≡◌, ◌≤◌, ◌<◌, ◌+◌, ◌*◌, false, not, length, All, IfOk};
 ghost use Rattle.pmem_base.specs.Layout.{data_lines};
-ghost use Rattle.pmem_engine.specs.Outcomes.{outcome_of, is_going};
+ghost use Rattle.call_effects.specs.Outcomes.{is_going};
+ghost use Rattle.pmem_engine.specs.Outcomes.{outcome_of};
 ghost use Rattle.pmem_engine.specs.Calls.{IsUsable};
 ghost use Rattle.engine_lines.specs.Edits.{IsEditOf};
 ghost use Rattle.engine_lines.specs.Promised.{PutsLine, EditsLine, EditsInOrder, FollowsPut, FollowsEdit, FollowsEdits, EditsAll};

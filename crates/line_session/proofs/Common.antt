@@ -43,18 +43,19 @@ pub use Rattle.pmem_engine.specs.Calls.{HasReadLine, whole_write, HasWrittenLine
 pub use Rattle.pmem_engine.specs.Engine.{ChipState, EngineState, on_chip}
 pub use Rattle.pmem_engine.specs.Invariants.{IsDurable, IsSound, IsAnchored, IsSealTagged}
 pub use Rattle.pmem_engine.specs.Mendable.{new_engine}
-pub use Rattle.pmem_engine.specs.Outcomes.{going, OneLossEffect, TakesAtMost, TakesFewer, cut_short}
+pub use Rattle.call_effects.specs.Outcomes.{going, cut_short}
+pub use Rattle.pmem_engine.specs.Outcomes.{OneLossEffect, TakesAtMost, TakesFewer}
 pub use Rattle.pmem_engine.specs.Parts.{Parts, parts_of, AreSound, AreTrusted}
 pub use Rattle.pmem_engine.specs.Plans.{Chip, chip_of, read_plan}
 pub use Rattle.pmem_engine.specs.declared.fault.Fault.{Fault}
-pub use Rattle.pmem_recovery.proofs.ResultLaws.{none_of}
+pub use Rattle.call_effects.proofs.ResultLaws.{none_of}
 pub use Rattle.pmem_recovery.specs.Formatting.{HasFormatted}
-pub use Rattle.pmem_recovery.specs.Parts.{SuiteState, suite_state}
+pub use Rattle.call_effects.specs.SuiteStates.{SuiteState, suite_state}
 pub use Rattle.pmem_recovery.specs.Plans.{suite_counts, counts_of, SuiteCounts, recover_plan}
 pub use Rattle.pmem_recovery.specs.Recovered.{HasRecovered, most_recovery_steps}
 pub use Rattle.pmem_recovery.specs.Trials.{IsTwinOfLastSeal}
 pub use Rattle.pmem_recovery.specs.declared.faults.RecFault.{RecFault}
-pub use Rattle.pmem_recovery.specs.declared.faults.Work.{Work}
+pub use Rattle.call_effects.specs.declared.recovery.Work.{Work}
 pub use Rattle.seal_ledger.specs.Ledger.{LedgerState, IsMark}
 pub use Rattle.seal_ledger.specs.View.{ledger_of}
 pub use Rattle.std.proofs.Math.Nat.{mod-eq_of_lt, pow-le-pow_right, mod-lt, mul-add-mod_self_left, div-add-mod, add-mod_left}

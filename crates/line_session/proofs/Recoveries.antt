@@ -6,7 +6,7 @@ use Rattle.pmem_base.specs.Layout as layout
 use Rattle.pmem_base.specs.Registers.{without_group}
 use Rattle.commit_regs.specs.Groups.{redone}
 use Rattle.pmem_recovery.specs.declared.faults.RecFault.TheVariants as Rec
-use Rattle.pmem_recovery.proofs.LatchLaws.{one_latch}
+use Rattle.commit_regs.proofs.GroupLemmas.{one_latch}
 use Rattle.pmem_recovery.proofs.UndecidedLaws.{undecided_line}
 
 -- its steps

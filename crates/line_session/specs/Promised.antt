@@ -19,7 +19,7 @@ use Rattle.suite.specs.declared.Suite.{Ghosts as SuiteOf}
 use Rattle.pmem_engine.specs.Calls.{IsUsable}
 use Rattle.pmem_engine.specs.Engine.{EngineState}
 use Rattle.pmem_engine.specs.Parts.{Parts, parts_of, setup_at}
-use Rattle.pmem_recovery.specs.Parts.{setup_with, suite_at}
+use Rattle.call_effects.specs.SuiteStates.{setup_with, suite_at}
 use Rattle.line_session.specs.During.{OpeningRelation, HasStartedBy}
 use Rattle.line_session.specs.declared.starts.StartFault.{StartFault}
 

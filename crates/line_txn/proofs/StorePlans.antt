@@ -10,7 +10,8 @@ use Rattle.call_plan.proofs.Bind.{bind_ok, bind_err, mapped_follows, lifted_foll
 use Rattle.suite.specs.Setup.{Setup}
 use Rattle.pmem_engine.specs.declared.fault.Fault.{Fault}
 use Rattle.pmem_engine.specs.declared.fault.Fault.TheVariants as Fail
-use Rattle.pmem_engine.specs.Plans.{Chip, ended_with, read_plan}
+use Rattle.commit_regs.specs.Plans.{ended_with}
+use Rattle.pmem_engine.specs.Plans.{Chip, read_plan}
 use Rattle.engine_lines.specs.declared.edits.Edit.{Edit}
 use Rattle.engine_lines.specs.Plans.{edits_plan}
 use Rattle.engine_lines.proofs.RegisterPlans.{done_with_regs, stopped_with_regs}

@@ -10,7 +10,8 @@ use Rattle.pmem_engine.specs.declared.fault.Fault.{Fault}
 use Rattle.pmem_engine.specs.declared.fault.Fault.TheVariants as Fail
 use Rattle.pmem_engine.specs.Engine.{EngineState}
 use Rattle.pmem_engine.specs.Parts.{Parts, AreTrusted, AreSound}
-use Rattle.pmem_engine.specs.Outcomes.{Outcome, going, outcome_of_fault, LeavesTrusted, LeavesSound}
+use Rattle.call_effects.specs.Outcomes.{Outcome, going}
+use Rattle.pmem_engine.specs.Outcomes.{outcome_of_fault, LeavesTrusted, LeavesSound}
 use Rattle.pmem_engine.specs.Calls.{HasReadLine}
 use Rattle.engine_lines.specs.Lines.{HasLines, IsUnspent, IsCutOrSpent}
 use Rattle.engine_lines.specs.Edits.{AreEdited}

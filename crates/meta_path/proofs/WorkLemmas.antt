@@ -1,21 +1,16 @@
 -- Reads, line writes and digests, one call after another.
-use Rattle.std.proofs.Common.{rules, inl, inr, ◌≡◌, ℕ, ◌+◌, Bool, true, false, List, [], ◌∷◌, ◌++◌, length, refl, sym, ap, subst, ◌∙◌, arith, Option, Some, None}
+use Rattle.std.proofs.Common.{rules, inl, inr, ◌≡◌, ℕ, ◌+◌, Bool, true, false, List, [], ◌∷◌, ◌++◌, length, sym, ap, subst, ◌∙◌, arith}
 use Rattle.std.proofs.lemmas.Bool.{cases_Bool, both_ways}
 use Rattle.std.proofs.lemmas.List.{length-append}
 use Rattle.pmem_base.specs.declared.lines.Line.{Line}
-use Rattle.pmem_base.proofs.LineSets.{put_lines-append}
 use Rattle.board.specs.Counts.{RisesBy}
 use Rattle.board.specs.Device.{Device}
 use Rattle.board.specs.Steps.{HasWritten}
 use Rattle.board.proofs.CountLemmas.{RisesBy-then, RisesBy-once}
 use Rattle.commit_regs.specs.Groups.{redone_told}
 use Rattle.commit_regs.proofs.GroupLemmas.{redone-nil}
+use Rattle.commit_regs.proofs.GroupLemmas.{redone_told-append}
 use Rattle.meta_path.specs.Work.{HasWorked}
-
-pub redone_told-append : (front back : List (ℕ × Line)) (told : Option (List Line))
-    → redone_told (front ++ back) told ≡ redone_told back (redone_told front told)
-redone_told-append front back None = refl
-redone_told-append front back (Some lines) = ap Some (put_lines-append front back lines)
 
 pub HasWorked-none : (d : Device) → HasWorked 0 [] d d
 HasWorked-none d = search (rules, redone-nil)

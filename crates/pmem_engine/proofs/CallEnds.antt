@@ -1,7 +1,6 @@
 -- How parts of a call follow one another, and how a call ends.
 pub mod CallChains
 pub mod StillParts
-pub mod ToldLines
 pub mod UnwrittenLines
 pub mod EngineCalls
 pub mod ErrorAnswers

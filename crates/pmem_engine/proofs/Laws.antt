@@ -4,7 +4,6 @@ pub mod OpenPages
 pub mod AnchoredSeals
 pub mod FreshSeals
 pub mod AnchoredBegins
-pub mod AnchoredLatches
 pub mod TrueLines
 pub mod AskedCounters
 pub mod AnchoredFormats

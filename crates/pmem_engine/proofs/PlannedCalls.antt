@@ -17,3 +17,10 @@ pub mod TreeBlocks
 pub mod KeptLines
 pub mod TurnLines
 pub mod BlockOrder
+pub mod FetchedLevels
+pub mod FetchedReads
+pub mod LowWrites
+pub mod StoppedFetches
+pub mod StoppedWrites
+pub mod NamedPaths
+pub mod OwnSeals

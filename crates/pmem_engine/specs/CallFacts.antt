@@ -39,7 +39,8 @@ use Rattle.pmem_engine.specs.declared.fault.Fault.{Fault}
 use Rattle.pmem_engine.specs.declared.fault.Fault.TheVariants as Fail
 use Rattle.pmem_engine.specs.Engine.{ChipState, EngineState}
 use Rattle.pmem_engine.specs.Parts.{Parts, regs_of, HoldsSeal, meta_line_in}
-use Rattle.pmem_engine.specs.Outcomes.{Outcome, going, cut_short, outcome_of, is_going, is_sealed_by, TakesSteps, TakesAtMost, TakesFewer}
+use Rattle.call_effects.specs.Outcomes.{Outcome, going, cut_short, is_going}
+use Rattle.pmem_engine.specs.Outcomes.{outcome_of, is_sealed_by, TakesSteps, TakesAtMost, TakesFewer}
 use Rattle.pmem_engine.specs.Faults.{IsMetaRefused, IsClashShown, IsTagRefused, IsForgedShown}
 
 -- ---- what a call asks of its parts

@@ -1,23 +1,14 @@
 -- That a call's contract leaves nothing open: two outcomes of one call, from one board with power on, are the same.
-use Rattle.std.specs.Prelude.{ℕ, ◌≡◌, true, Result}
+use Rattle.std.specs.Prelude.{ℕ}
 use Rattle.board.specs.Memory.{BoardMemory}
-use Rattle.watched_board.specs.declared.taken.Taken.{Taken}
-use Rattle.call_plan.specs.Plans.{Plan}
-use Rattle.call_plan.specs.Runs.{IsOutcome}
 use Rattle.pmem_base.specs.declared.lines.Line.{Line}
 use Rattle.pmem_base.specs.declared.commands.Posted.{Posted}
 use Rattle.suite.specs.Setup.{Setup}
+use Rattle.call_plan.specs.Laws.{IsDetermined}
 use Rattle.pmem_engine.specs.Engine.{ChipState}
 use Rattle.pmem_engine.specs.CallFacts.{whole_write}
 use Rattle.pmem_engine.specs.Plans.{Chip, read_plan, turn_plan, flush_plan, set_loss_plan}
 use Rattle.pmem_engine.specs.WritePlans.{write_plan}
-
--- the answers are the same, and so are what the call left beside the board, the boards, and what was taken of them
-abbrev pub IsDetermined : {S A F : Type 0} → BoardMemory → Plan (S × F) (S × A) → Type 0
-IsDetermined {S = S} {A = A} {F = F} old plan =
-    (a b : BoardMemory) (x y : Taken) (first second : Result A F) (left other : S)
-    → old.powered ≡ true → IsOutcome plan old a x first left → IsOutcome plan old b y second other
-    → (first ≡ second) × (left ≡ other) × (a ≡ b) × (x ≡ y)
 
 abbrev pub FlushIsDetermined : Type 0
 FlushIsDetermined = (engine : ChipState) (old : BoardMemory) → IsDetermined old (flush_plan engine)

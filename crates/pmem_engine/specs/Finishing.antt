@@ -9,7 +9,8 @@ use Rattle.plain_model.specs.State.{Memory}
 use Rattle.plain_model.specs.Bounds.{seal_count}
 use Rattle.plain_model.specs.Asked.{reseal_mark}
 use Rattle.pmem_engine.specs.Parts.{Parts, regs_of, AreTrusted, HoldsSeal}
-use Rattle.pmem_engine.specs.Outcomes.{going, is_sealed_by, OneLossEffect, TakesSteps}
+use Rattle.call_effects.specs.Outcomes.{going}
+use Rattle.pmem_engine.specs.Outcomes.{is_sealed_by, OneLossEffect, TakesSteps}
 use Rattle.pmem_engine.specs.CallFacts.{IsMemory, moment_in, AreUnderMinorZero, IsWork, reseal_work, KeepsMetaLines}
 use Rattle.pmem_engine.specs.Resealing.{register_in}
 

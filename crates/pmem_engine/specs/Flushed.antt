@@ -16,7 +16,8 @@ use Rattle.meta_path.specs.Storing.{IsCleaned}
 use Rattle.suite.specs.Setup.{Setup}
 use Rattle.pmem_engine.specs.Engine.{ChipState}
 use Rattle.pmem_engine.specs.Parts.{parts_with}
-use Rattle.pmem_engine.specs.Outcomes.{going, OneLossEffect}
+use Rattle.call_effects.specs.Outcomes.{going}
+use Rattle.pmem_engine.specs.Outcomes.{OneLossEffect}
 
 -- the engine's cache
 abbrev pub cache_of : ChipState → CacheState

@@ -26,7 +26,8 @@ use Rattle.pmem_engine.specs.declared.fault.LineFault.{LineFault}
 use Rattle.pmem_engine.specs.declared.fault.LineFault.TheVariants as AtLine
 use Rattle.pmem_engine.specs.declared.reading.Unsealed.{Unsealed}
 use Rattle.pmem_engine.specs.Parts.{Parts, regs_of, AreTrusted, AreSound, HoldsSeal}
-use Rattle.pmem_engine.specs.Outcomes.{of_path, of_line, of_cut, shown, outcome_of, OneLossEffect, TakesSteps}
+use Rattle.call_effects.specs.Outcomes.{shown}
+use Rattle.pmem_engine.specs.Outcomes.{of_path, of_line, of_cut, outcome_of, OneLossEffect, TakesSteps}
 use Rattle.pmem_engine.specs.Faults.{IsMetaRefused, IsClashShown, IsTagRefused, IsForgedShown}
 use Rattle.pmem_engine.specs.Engine.{ChipState}
 use Rattle.pmem_engine.specs.Invariants.{IsTrusted}

@@ -1,8 +1,9 @@
 -- What a read, a flush and another stop-loss number leave as it was, wherever they end; and which lines a turn writes.
-use Rattle.std.specs.Prelude.{ℕ, List, [], ◌∷◌, ◌≡◌, ◌≢◌, ◌<◌, ◌≤◌, ◌⊎◌, ◌==◌, Option, Result, Ok, Err, if◌then◌else◌}
+use Rattle.std.specs.Prelude.{ℕ, List, [], ◌∷◌, length, ◌≡◌, ◌≢◌, ◌<◌, ◌≤◌, ◌⊎◌, ◌==◌, Option, Result, Ok, Err, if◌then◌else◌}
 use Rattle.pmem_base.specs.declared.faults.Cut.{Cut}
 use Rattle.pmem_base.specs.declared.lines.Line.{Line}
 use Rattle.pmem_base.specs.declared.registers.Regs.{Regs}
+use Rattle.pmem_base.specs.Counts.{risen_times}
 use Rattle.pmem_base.specs.Layout as layout
 use Rattle.pmem_base.specs.Layout.{page_of}
 use Rattle.pmem_base.specs.Shape.{Shape}
@@ -105,9 +106,10 @@ block_entries (x ∷ xs) engine =
     (layout.meta_line engine.shape x, line_in engine.shape engine.cache engine.shape.levels x)
     ∷ block_entries xs (with_cache engine (cleaned (cache_of engine) engine.shape.levels x))
 
--- these blocks were written, in order, and are clean, and nothing else changed
+-- these blocks were written, in order, by one line write each, and are clean, and nothing else changed
 pub record AreWrittenBack (blocks : List ℕ) (engine left : ChipState) (old new : Device) : Type 0 where
   pub lines : new.lines ≡ redone_told (block_entries blocks engine) old.lines
+  pub writes : new.writes ≡ risen_times (length blocks) old.writes
   pub engine_left : left ≡ with_clean blocks engine
   pub regs : new.regs ≡ old.regs
   pub reads : new.reads ≡ old.reads

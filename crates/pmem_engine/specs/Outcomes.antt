@@ -7,7 +7,7 @@ use Rattle.pmem_base.specs.declared.answers.Mark.TheVariants.{Begin, Seal}
 use Rattle.pmem_base.specs.Shape.{Shape}
 use Rattle.pmem_base.specs.Layout as layout
 use Rattle.pmem_base.specs.Layout.{page_of}
-use Rattle.pmem_base.specs.Counts.{HasRisen, last_count}
+use Rattle.pmem_base.specs.Counts.{last_count}
 use Rattle.pmem_base.specs.Marks.{IsFresh}
 use Rattle.pmem_base.specs.Registers.{IsValidRegs}
 use Rattle.bonsai_tree.specs.Positions.{is_on_path}
@@ -16,6 +16,7 @@ use Rattle.meta_cache.specs.Banks.{is_cached_dirty}
 use Rattle.meta_path.specs.declared.faults.PathFault.{PathFault}
 use Rattle.meta_path.specs.declared.faults.PathFault.TheVariants as Path
 use Rattle.suite.specs.Setup.{Setup}
+use Rattle.call_effects.specs.Outcomes.{Outcome, going, cut_short, shown, HasPower}
 use Rattle.pmem_engine.specs.declared.fault.Fault.{Fault}
 use Rattle.pmem_engine.specs.declared.fault.Fault.TheVariants as Fail
 use Rattle.pmem_engine.specs.declared.fault.LineFault.{LineFault}
@@ -51,12 +52,6 @@ of_path answer = faulted fault_of_path answer
 abbrev pub of_line : {T : Type 0} → Result T LineFault → Result T Fault
 of_line answer = faulted fault_of_line answer
 
--- the engine goes on, or a cut or an exhibit ended it
-pub data Outcome : Type 0 where
-  going : Outcome
-  cut_short : Outcome
-  shown : Outcome
-
 abbrev pub outcome_of_fault : Fault → Outcome
 outcome_of_fault Fail.Cut = cut_short
 outcome_of_fault Fail.Shown = shown
@@ -65,11 +60,6 @@ outcome_of_fault fault = going
 abbrev pub outcome_of : {T : Type 0} → Result T Fault → Outcome
 outcome_of (Ok value) = going
 outcome_of (Err fault) = outcome_of_fault fault
-
-abbrev pub is_going : Outcome → Bool
-is_going going = true
-is_going cut_short = false
-is_going shown = false
 
 -- ---- marks
 
@@ -143,13 +133,6 @@ KeepsMetaWhere setup cut_short made old new = ⊤
 KeepsMetaWhere setup outcome made old new = KeepsMeta setup made old new
 
 -- ---- power
-
--- the board has no power after a cut, which comes only of a board that isn't steady; else it stays
--- as steady and as live as it was
-abbrev pub HasPower : Outcome → Device → Device → Type 0
-HasPower cut_short old new = (old.steady ≡ false) × (new.live ≡ false) × HasRisen old.cuts new.cuts
-HasPower outcome old new =
-    (old.steady ≡ true → new.steady ≡ true) × (old.live ≡ true → new.live ≡ true) × (new.cuts ≡ old.cuts)
 
 -- after a cut at most three lines are armed
 abbrev pub HasSmallGroup : Outcome → Parts → Type 0

@@ -1,5 +1,5 @@
 -- What the engine's calls do of the board, as plans: functions of the state beside it, and of the registers.
-use Rattle.std.specs.Prelude.{ℕ, ◌+◌, ◌-◌, ◌==◌, nat_lt, List, [], ◌∷◌, length, slice_index_or, Option, Some, None, Result, Ok, Err, if◌then◌else◌}
+use Rattle.std.specs.Prelude.{ℕ, ◌+◌, ◌-◌, ◌==◌, nat_lt, List, [], ◌∷◌, length, slice_index_or, Option, Some, None, if◌then◌else◌}
 use Rattle.pmem_base.specs.declared.faults.Cut.{Cut}
 use Rattle.pmem_base.specs.declared.lines.Line.{Line}
 use Rattle.pmem_base.specs.declared.lines.Ctr.{Ctr}
@@ -13,9 +13,8 @@ use Rattle.pmem_base.specs.Layout as layout
 use Rattle.pmem_base.specs.Layout.{page_of}
 use Rattle.pmem_base.specs.Lines.{tag_slot}
 use Rattle.pmem_base.specs.Marks.{last_seal}
-use Rattle.pmem_base.specs.Registers.{not_done, old_major, empty_progress, without_group}
+use Rattle.pmem_base.specs.Registers.{not_done, old_major, empty_progress}
 use Rattle.call_plan.specs.Plans.{Plan, done, stop, read, latch, bind, mapped, lifted, for_each, the_cut}
-use Rattle.commit_regs.specs.Plans.{finish_plan}
 use Rattle.split_counters.specs.Blocks.{unpacked, block_counter}
 use Rattle.line_seal.specs.Seals.{unsealed}
 use Rattle.page_reencrypt.specs.Registers.{registers_with_done, counter_of}
@@ -29,6 +28,7 @@ use Rattle.meta_path.specs.Blocks.{bank_dirty_count}
 use Rattle.meta_path.specs.declared.faults.PathFault.{PathFault}
 use Rattle.meta_path.specs.FetchPlans.{FetchParts, fetch_parts, fetch_plan}
 use Rattle.meta_path.specs.Plans.{naming_plan, write_back_plan, oldest_plan}
+use Rattle.commit_regs.specs.Plans.{group_plan}
 use Rattle.pmem_engine.specs.declared.fault.Fault.{Fault}
 use Rattle.pmem_engine.specs.declared.fault.LineFault.{LineFault}
 use Rattle.pmem_engine.specs.declared.fault.LineFault.TheVariants as AtLine
@@ -72,11 +72,6 @@ module _ {S A : Type 0} (suite : SuiteOf S) (audit : AuditOf A) where
 
   abbrev pub chip_at : EngineState → S → A → Chip
   chip_at engine s a = chip_with_at (on_chip engine) s a
-
--- the end of a part after which others need the registers: where it is done, with those that it leaves
-abbrev pub ended_with : {S F : Type 0} → Result (Unit {0}) F → S → Regs → Result (S × Regs) (S × F)
-ended_with (Ok value) state regs = Ok (state, regs)
-ended_with (Err fault) state regs = Err (state, fault)
 
 abbrev pub with_engine : Chip → ChipState → Chip
 with_engine chip engine = chip_with engine chip.ledger chip.tags chip.digests
@@ -186,15 +181,6 @@ read_plan setup regs at chip =
     bind (mapped (λ left. (left.0, fault_of_path left.1)) (λ end. end) (fetch_path_plan setup regs.root (page_of at) chip))
     (λ fetched. mapped (λ left. (left.0, fault_of_line left.1)) (λ end. (end.0, end.1.plain))
     (unseal_plan setup at (its_counter setup regs at fetched.0) fetched.0))
-
--- ---- a group of one mark
-
--- The registers are latched with their group, from then on the state is the next one, and the group is
--- finished. It ends with the registers that are left.
-unfoldable pub group_plan : {S : Type 0} → Regs → S → S → Plan (S × Cut) (S × Regs)
-group_plan armed before after =
-    latch (before, the_cut) armed
-    (mapped (λ cut. (after, cut)) (λ finished. (after, without_group armed)) (finish_plan armed))
 
 -- ---- a held line sealed anew
 

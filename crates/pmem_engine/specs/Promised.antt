@@ -28,7 +28,8 @@ use Rattle.pmem_engine.specs.Inner.{HasFetched, HasUnsealed, HasNamedPath}
 use Rattle.pmem_engine.specs.Resealing.{HasResealed, HasResealCommitted, IsResealCut}
 use Rattle.pmem_engine.specs.Sealing.{HasSealedNext, HasBegunPage, HasSealCommitted, IsSealCut, HasBeginCommitted, IsBeginCut}
 use Rattle.pmem_engine.specs.Writing.{HasMadePlain, HasFinishedPage, HasFinishedFor, HasBegunFor}
-use Rattle.pmem_engine.specs.Plans.{Chip, chip_with, chip_with_at, ended_with, fetch_path_plan, unseal_plan, read_plan, commit_plan, reseal_plan}
+use Rattle.commit_regs.specs.Plans.{ended_with}
+use Rattle.pmem_engine.specs.Plans.{Chip, chip_with, chip_with_at, fetch_path_plan, unseal_plan, read_plan, commit_plan, reseal_plan}
 use Rattle.pmem_engine.specs.SealPlans.{seal_next_plan, commit_seal_plan, begin_page_plan, commit_begin_plan, begin_for_plan}
 use Rattle.pmem_engine.specs.WritePlans.{plain_plan, finish_page_plan, finish_for_plan, write_plan}
 

@@ -23,7 +23,8 @@ use Rattle.pmem_engine.specs.declared.fault.LineFault.TheVariants as AtLine
 use Rattle.pmem_engine.specs.declared.resealing.HeldLine.{HeldLine}
 use Rattle.pmem_engine.specs.declared.resealing.NextSeal.{NextSeal}
 use Rattle.pmem_engine.specs.Parts.{Parts, regs_of, AreTrusted, AreSound, HoldsSeal}
-use Rattle.pmem_engine.specs.Outcomes.{of_line, shown, outcome_of, is_sealed_by, OneLossEffect, TakesSteps, TakesFewer}
+use Rattle.call_effects.specs.Outcomes.{shown}
+use Rattle.pmem_engine.specs.Outcomes.{of_line, outcome_of, is_sealed_by, OneLossEffect, TakesSteps, TakesFewer}
 use Rattle.pmem_engine.specs.Faults.{IsTagRefused, IsForgedShown}
 use Rattle.pmem_engine.specs.CallFacts.{IsMemory, IsUnrefused, IsTurnWork, AreUnderMinorZero, KeepsMetaLines, moment_in}
 use Rattle.pmem_engine.specs.Committing.{entries_of, HasLineDone, HasCommitted, IsCutArmed}

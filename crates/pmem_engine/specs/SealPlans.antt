@@ -31,7 +31,8 @@ use Rattle.pmem_engine.specs.Inner.{cached_block}
 use Rattle.pmem_engine.specs.Flushed.{cache_of}
 use Rattle.pmem_engine.specs.Committing.{next_seal_of}
 use Rattle.pmem_engine.specs.Sealing.{next_counter_of, raised_block, seal_group, begin_group}
-use Rattle.pmem_engine.specs.Plans.{Chip, chip_with, with_tags, with_cache, group_plan}
+use Rattle.commit_regs.specs.Plans.{group_plan}
+use Rattle.pmem_engine.specs.Plans.{Chip, chip_with, with_tags, with_cache}
 
 -- ---- a page's new path
 

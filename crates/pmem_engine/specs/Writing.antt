@@ -23,7 +23,8 @@ use Rattle.pmem_engine.specs.declared.fault.Fault.TheVariants as Fail
 use Rattle.pmem_engine.specs.declared.fault.LineFault.{LineFault}
 use Rattle.pmem_engine.specs.declared.fault.LineFault.TheVariants as AtLine
 use Rattle.pmem_engine.specs.Parts.{Parts, regs_of, AreTrusted, AreSound, HoldsSeal}
-use Rattle.pmem_engine.specs.Outcomes.{of_line, shown, outcome_of, is_sealed_by, OneLossEffect, TakesSteps, TakesAtMost, TakesFewer, is_seal_of}
+use Rattle.call_effects.specs.Outcomes.{shown}
+use Rattle.pmem_engine.specs.Outcomes.{of_line, outcome_of, is_sealed_by, OneLossEffect, TakesSteps, TakesAtMost, TakesFewer, is_seal_of}
 use Rattle.pmem_engine.specs.Faults.{IsTagRefused, IsForgedShown}
 use Rattle.pmem_engine.specs.CallFacts.{IsMemory, IsUnrefused, IsLeftAlone, moment_in, AreUnderMinorZero, IsWork, unseal_work, reseal_work, unsealed_count, KeepsMetaLines}
 use Rattle.pmem_engine.specs.Resealing.{register_in}

@@ -5,7 +5,8 @@ ghost use Rattle.pmem_base.specs.Geo.{shape_of};
 ghost use Rattle.pmem_base.specs.Layout.{shadow_lines};
 ghost use Rattle.pmem_base.specs.Lines.{IsLine, zero_line};
 ghost use Rattle.meta_cache.specs.Banks.{IsBanksOf};
-ghost use Rattle.meta_cache.specs.State.{empty_banks};
+ghost use Rattle.meta_cache.specs.State.{IsCacheOf, empty_banks};
+ghost use Rattle.meta_path.specs.Blocks.{AreInTheirBanks};
 ghost use Rattle.pmem_engine.specs.Engine.{ChipState, EngineState};
 
 use meta_cache::Cache;
@@ -98,9 +99,11 @@ impl Engine {
     }
 
     /// A law: the cache's slots stand in the banks, sets and ways of the engine's shape; those of a set
-    /// differ in their ways and positions, and each has a position of its set and a line.
+    /// differ in their ways and positions, and each has a position of its set and of its bank's level, and a line.
     pub fn has_banks(&self)
-        ensures { IsBanksOf self.now.shape self.now.cache }
+        ensures banks { IsBanksOf self.now.shape self.now.cache }
+        ensures cache { IsCacheOf self.now.shape self.now.cache }
+        ensures its_banks { AreInTheirBanks self.now.shape self.now.cache }
     {
         self.chip.has_banks();
     }
@@ -114,9 +117,11 @@ impl OnChip {
         &self.geo
     }
 
-    // A law: the cache's slots stand in the banks, sets and ways of its shape.
+    // A law: the cache's slots stand in the banks, sets and ways of its shape, each in the bank of its level.
     fn has_banks(&self)
-        ensures { IsBanksOf self.now.shape self.now.cache }
+        ensures banks { IsBanksOf self.now.shape self.now.cache }
+        ensures cache { IsCacheOf self.now.shape self.now.cache }
+        ensures its_banks { AreInTheirBanks self.now.shape self.now.cache }
     {
         self.cache.are_banks();
     }

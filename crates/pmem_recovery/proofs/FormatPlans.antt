@@ -1,14 +1,13 @@
 -- The plan of formatting, and the metadata lines that it writes.
 use Rattle.std.proofs.Common.{ℕ, zero, suc, ◌≡◌, ◌<◌, ◌+◌, ◌-◌, ◌*◌, List, Ok, sym, ap, subst, ◌∙◌, arith}
 use Rattle.std.proofs.lemmas.List.FromFn.{fill_by_all}
-use Rattle.pmem_base.specs.declared.faults.Cut.{Cut}
 use Rattle.pmem_base.specs.declared.lines.Line.{Line}
 use Rattle.pmem_base.specs.Shape.{IsShape}
 use Rattle.pmem_base.specs.Layout as layout
 use Rattle.pmem_base.specs.Lines.{line_at, zero_line}
 use Rattle.board.specs.Device.{Device}
 use Rattle.board.specs.Steps.{HasWritten, HasLatched}
-use Rattle.call_plan.specs.Plans.{Plan, done, write, repeated, the_cut}
+use Rattle.call_plan.specs.Plans.{done, write, repeated, the_cut}
 use Rattle.call_plan.specs.Following.{Follows}
 use Rattle.call_plan.proofs.Steps.{is_done, write_then, latch_then}
 use Rattle.call_plan.proofs.Bind.{bind_ok}
@@ -46,12 +45,6 @@ module _ (setup : Setup) (truth : List Line) (tree : IsHashTree setup.shape setu
       (level_of-IsAtLevel setup.shape x shape.at_most_six_levels inside))
 
 -- ---- the steps
-
--- one line of a steady board more is written
-pub written_so : (at place : ℕ) (line bytes : Line) (old new : Device) → at ≡ place → line ≡ bytes → HasWritten old at line new
-    → Follows (write the_cut place bytes (let rest : Plan Cut (Unit {0}) = done tt in rest)) old new (Ok tt)
-written_so at place line bytes old new here same was =
-    write_then the_cut (subst (λ n. HasWritten old n bytes new) here (subst (λ l. HasWritten old at l new) same was)) (is_done tt new)
 
 -- a line of a group, and its tag
 pub sealed_so : (setup : Setup) (group i at : ℕ) (tags next : Line) (old new : Device) → at ≡ 4 * group + i → next ≡ with_tag tags at (first_tag setup at)

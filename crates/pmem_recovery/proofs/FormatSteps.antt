@@ -12,12 +12,11 @@ use Rattle.pmem_base.specs.Lines.{line_at, tag_slot, zero_line}
 use Rattle.pmem_base.proofs.ListLaws.{range_with_len-append}
 use Rattle.board.specs.Device.{Device, AreToldLines}
 use Rattle.board.specs.Steps.{HasWritten}
-use Rattle.board.proofs.CountLemmas.{RisesBy-then, RisesBy-once}
 use Rattle.split_counters.specs.Blocks.{zero_minors, packed}
 use Rattle.bonsai_tree.specs.Positions.{child_position, counter_position}
 use Rattle.bonsai_tree.specs.Nodes.{node_over}
 use Rattle.pmem_base.proofs.LineSets.{line_at-set_same, line_at-set_other}
-use Rattle.pmem_engine.proofs.CallEnds.ToldLines.{whole_lines}
+use Rattle.call_effects.proofs.ToldLines.{whole_lines}
 use Rattle.bonsai_tree.proofs.Levels.{meta_lines-counters}
 use Rattle.bonsai_tree.proofs.NodeLaws.{node_over-same}
 use Rattle.suite.specs.Formulas.{Formulas}
@@ -27,33 +26,13 @@ use Rattle.seal_ledger.specs.Notes.{HasMeta}
 use Rattle.pmem_engine.specs.Formatted.{first_seal, first_block}
 use Rattle.pmem_recovery.specs.Parts.{IfLinesTold}
 use Rattle.pmem_recovery.specs.Writing.{IfBothLinesTold}
-use Rattle.pmem_recovery.specs.Formatting.{first_cipher, first_tag, IsFirstSealed, HasSealedFrom, StaysSteady, HasSealedGroup, HasSealedAll, HasToldMeta, HasWrittenMeta, HasClearedTables}
+use Rattle.pmem_recovery.specs.Formatting.{first_cipher, first_tag, IsFirstSealed, HasSealedFrom, HasSealedGroup, HasSealedAll, HasToldMeta, HasWrittenMeta, HasClearedTables}
 use Rattle.pmem_recovery.proofs.WriteSteps.{told_earlier}
 
 -- ---- the device
 
 pub told_long : (device : Device) (n : ℕ) → AreToldLines device.size device.lines → device.size ≡ n → (lines : List Line) → device.lines ≡ Some lines → length lines ≡ n
 told_long device n whole size lines told = (whole_lines device.size device.lines lines whole told).count ∙ size
-
-pub StaysSteady-none : (d : Device) → StaysSteady 0 d d
-StaysSteady-none d = search rules
-
-pub StaysSteady-then : (n m : ℕ) (old mid new : Device) → StaysSteady n old mid → StaysSteady m mid new → StaysSteady (n + m) old new
-StaysSteady-then n m old mid new a b =
-    record {
-      size = b.size ∙ a.size;
-      regs = b.regs ∙ a.regs;
-      steady = λ s. b.steady (a.steady s);
-      live = λ l. b.live (a.live l);
-      told = b.told ∙ a.told;
-      writes = RisesBy-then n m old.writes mid.writes new.writes a.writes b.writes;
-      reads = b.reads ∙ a.reads;
-      latches = b.latches ∙ a.latches;
-      cuts = b.cuts ∙ a.cuts;
-    }
-
-pub StaysSteady-written : (old : Device) (at : ℕ) (line : Line) (new : Device) → HasWritten old at line new → StaysSteady 1 old new
-StaysSteady-written old at line new w = search (rules, RisesBy-once)
 
 -- the lines before and after a write
 pub record IsFirstLineWritten (at : ℕ) (line : Line) (old : Device) (now : List Line) : Type 0 where

@@ -13,7 +13,7 @@ use Rattle.pmem_base.specs.Lines.{IsLine, line_at, tag_slot, zero_line}
 use Rattle.pmem_base.specs.Marks.{SealOf, last_seal}
 use Rattle.pmem_base.specs.Registers.{IsGroup}
 use Rattle.pmem_base.proofs.LineLemmas.{IsLine-zero_line}
-use Rattle.pmem_engine.proofs.CallEnds.ToldLines.{whole_lines}
+use Rattle.call_effects.proofs.ToldLines.{whole_lines}
 use Rattle.board.proofs.CountLemmas.{RisesBy-once}
 use Rattle.board.specs.Device.{Device, AreLinesOf, AreToldLines}
 use Rattle.board.specs.Counts.{RisesBy}
@@ -35,11 +35,12 @@ use Rattle.pmem_engine.specs.Formatted.{first_seal, first_block, IsFormatted}
 use Rattle.pmem_engine.specs.Invariants.{IsAnchored, IsTrusted, IsMendable, IsSound, stored_meta}
 use Rattle.pmem_engine.proofs.Laws.AnchoredFormats.{anchored-formatted, last_first}
 use Rattle.pmem_engine.proofs.Laws.MendableLaws.{IsSound-new_engine}
-use Rattle.pmem_recovery.specs.Formatting.{first_counter, first_cipher, first_tag, first_regs, IsFirstSealed, HasSealedFrom, StaysSteady, HasSealedAll, HasToldMeta, HasWrittenMeta, HasClearedTables, HasFormatted, seals_plan, metas_plan, zeros_plan}
+use Rattle.call_effects.specs.Steady.{StaysSteady}
+use Rattle.pmem_recovery.specs.Formatting.{first_counter, first_cipher, first_tag, first_regs, IsFirstSealed, HasSealedFrom, HasSealedAll, HasToldMeta, HasWrittenMeta, HasClearedTables, HasFormatted, seals_plan, metas_plan, zeros_plan}
 use Rattle.call_plan.specs.Following.{Follows}
 use Rattle.pmem_recovery.proofs.FormatPlans.{first_truth_is, format_so}
 use Rattle.pmem_recovery.proofs.AnswerLaws.{IsTrusted-fresh, IsNewEngine-fresh}
-use Rattle.pmem_recovery.proofs.FormatSteps.{StaysSteady-then}
+use Rattle.call_effects.proofs.SteadyLaws.{StaysSteady-then}
 use Rattle.pmem_recovery.proofs.WriteSteps.{told_earlier}
 
 -- the true lines that formatting made

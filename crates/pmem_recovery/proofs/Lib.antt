@@ -33,5 +33,3 @@ pub mod FormatSteps
 pub mod FormatPlans
 pub mod UncutRuns
 pub mod FormattedLaws
-pub mod LatchLaws
-pub mod ResultLaws

@@ -18,8 +18,8 @@ use Rattle.commit_regs.specs.Groups.{RisesAtMost}
 use Rattle.shadow_tables.specs.Entries.{shadow_of}
 use Rattle.suite.specs.Setup.{Setup}
 use Rattle.pmem_engine.specs.Mendable.{IsShadowZero}
-use Rattle.pmem_engine.proofs.CallEnds.ToldLines.{whole_lines}
-use Rattle.pmem_recovery.specs.declared.faults.Work.{Work}
+use Rattle.call_effects.proofs.ToldLines.{whole_lines}
+use Rattle.call_effects.specs.declared.recovery.Work.{Work}
 use Rattle.pmem_recovery.specs.declared.faults.RecFault.{RecFault}
 use Rattle.pmem_recovery.specs.declared.faults.RecFault.TheVariants as Fault
 use Rattle.pmem_recovery.specs.Reads.{all_reads, named_reads}

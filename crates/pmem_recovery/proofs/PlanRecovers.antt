@@ -16,13 +16,15 @@ use Rattle.suite.specs.Setup.{Setup}
 use Rattle.seal_ledger.specs.Ledger.{LedgerState}
 use Rattle.pmem_engine.specs.Engine.{EngineState}
 use Rattle.pmem_engine.specs.Mendable.{new_engine}
-use Rattle.pmem_engine.proofs.CallEnds.ToldLines.{whole_lines}
-use Rattle.pmem_recovery.specs.declared.faults.Work.{Work}
+use Rattle.call_effects.proofs.ToldLines.{whole_lines}
+use Rattle.call_effects.specs.declared.recovery.Work.{Work}
 use Rattle.pmem_recovery.specs.declared.faults.RecFault.{RecFault}
 use Rattle.pmem_recovery.specs.declared.faults.RecFault.TheVariants as Fault
-use Rattle.pmem_recovery.specs.Parts.{IfLinesTold, SuiteState}
+use Rattle.call_effects.specs.SuiteStates.{SuiteState}
+use Rattle.pmem_recovery.specs.Parts.{IfLinesTold}
 use Rattle.pmem_recovery.specs.Recovered.{Answer, HasRecovered}
-use Rattle.pmem_recovery.specs.Plans.{SuiteCounts, counts_of, redo_plan, fixed_block_plan, making_plan, mend_plan, after_redo, recover_plan}
+use Rattle.commit_regs.specs.Plans.{redo_plan}
+use Rattle.pmem_recovery.specs.Plans.{SuiteCounts, counts_of, fixed_block_plan, making_plan, mend_plan, after_redo, recover_plan}
 use Rattle.pmem_recovery.proofs.RedoEnds.{redo_finished, redo_interrupted}
 use Rattle.pmem_recovery.proofs.MendEnds.{IsMended, IsLeftBy, HasFollowedMending, mending_followed}
 use Rattle.pmem_recovery.proofs.RecoverLaws.{IsRecoveryRun, recovered_interrupted, recovered_fault, recovered_ok}

@@ -8,7 +8,8 @@ use Rattle.pmem_base.specs.Lines.{line_at}
 use Rattle.pmem_base.specs.Registers.{IsValidRegs, without_group}
 use Rattle.board.specs.Device.{Device, AreLinesOf, AreToldLines}
 use Rattle.pmem_base.proofs.LineSets.{length-put_lines}
-use Rattle.pmem_engine.proofs.CallEnds.ToldLines.{whole_lines, told_redone}
+use Rattle.call_effects.proofs.ToldLines.{whole_lines}
+use Rattle.commit_regs.proofs.GroupLemmas.{told_redone}
 use Rattle.commit_regs.specs.Groups.{redone, finishing_latches, RisesAtMost, HasFinished, IsInterrupted}
 use Rattle.suite.specs.Setup.{Setup}
 use Rattle.seal_ledger.specs.Ledger.{LedgerState}
@@ -17,12 +18,13 @@ use Rattle.pmem_engine.specs.Invariants.{IsAnchored, IsSealStored, IsMendable, I
 use Rattle.pmem_engine.specs.Mendable.{IsShadowZero, new_engine}
 use Rattle.pmem_engine.specs.Steps.{IsEmptied}
 use Rattle.pmem_engine.proofs.Laws.MendableLaws.{IsValidRegs-emptied, IsAnchored-emptied, IsDurable-no_group, IsMendable-emptied, IsSealStored-same, IsSound-new_engine}
-use Rattle.pmem_recovery.specs.declared.faults.Work.{Work}
+use Rattle.call_effects.specs.declared.recovery.Work.{Work}
 use Rattle.pmem_engine.specs.Outcomes.{TakesAtMost}
 use Rattle.pmem_recovery.specs.declared.faults.RecFault.{RecFault}
 use Rattle.pmem_recovery.specs.declared.faults.RecFault.TheVariants.{Memory, Cut, NoCounter, Root, Twin}
 use Rattle.pmem_recovery.specs.Writing.{differing}
-use Rattle.pmem_recovery.specs.Parts.{IfLinesTold, KeepsDevice, IsUncut, StopsBy, SuiteState, SuiteWork, IsFaultShown, IsRefusal, StoppedWork}
+use Rattle.call_effects.specs.SuiteStates.{SuiteState}
+use Rattle.pmem_recovery.specs.Parts.{IfLinesTold, KeepsDevice, IsUncut, StopsBy, SuiteWork, IsFaultShown, IsRefusal, StoppedWork}
 use Rattle.pmem_recovery.specs.Mending.{IsPartlyMended, most_reads, most_writes, HasMadeWrites, IsStoppedShort}
 use Rattle.pmem_recovery.specs.Recovered.{RegsAfter, PowerAfter, HasOnlyRedone, IsUnchanged, most_recovery_steps, StepsAfter, IsTwinValid, IsNoCounterUnmendable, IsMendedAs, PlanAfter, HasRecovered, IsUncounted}
 use Rattle.call_plan.specs.Following.{Follows}

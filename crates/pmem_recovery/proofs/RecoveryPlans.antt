@@ -1,5 +1,5 @@
 -- The plans of what is made, of mending, and of the whole recovery, at each of their ends.
-use Rattle.std.proofs.Common.{ℕ, ◌≡◌, ◌<◌, ◌+◌, ◌⊎◌, inl, inr, length, arith, false, List, [], ◌∷◌, ◌++◌, Result, Ok, Err, refl, sym, ap, subst, ◌∙◌}
+use Rattle.std.proofs.Common.{ℕ, ◌≡◌, ◌<◌, ◌+◌, ◌⊎◌, inl, inr, length, arith, false, List, [], ◌∷◌, ◌++◌, Result, Ok, Err, sym, ap, subst, ◌∙◌}
 use Rattle.std.specs.Prelude.{IsErrAnd}
 use Rattle.std.proofs.lemmas.Bool.{cases_eq}
 use Rattle.std.proofs.lemmas.List.{get_or_append_left, get_or_push}
@@ -17,14 +17,14 @@ use Rattle.call_plan.specs.Plans.{Plan, done, the_cut}
 use Rattle.call_plan.specs.Following.{Follows}
 use Rattle.call_plan.proofs.Steps.{is_done, read_then, read_cut}
 use Rattle.call_plan.proofs.Bind.{bind_ok, bind_err, mapped_follows}
-use Rattle.commit_regs.specs.Plans.{finish_plan}
 use Rattle.suite.specs.Setup.{Setup}
 use Rattle.pmem_engine.specs.Mendable.{new_engine}
 use Rattle.pmem_recovery.specs.declared.entries.MadeEntry.{MadeEntry}
-use Rattle.pmem_recovery.specs.declared.faults.Work.{Work}
+use Rattle.call_effects.specs.declared.recovery.Work.{Work}
 use Rattle.pmem_recovery.specs.declared.faults.RecFault.{RecFault}
 use Rattle.pmem_recovery.specs.declared.faults.RecFault.TheVariants as Fault
-use Rattle.pmem_recovery.specs.Plans.{SuiteCounts, RecoveryParts, recovery_parts, MadeLines, made_lines, made_end, redo_of, redo_plan, shadow_turn, shadow_plan, blocks_plan, nodes_plan, root_plan, after_nodes, after_blocks, after_shadow, making_plan, entries_plan, clear_plan, writes_plan, mend_plan, after_redo, recover_plan}
+use Rattle.commit_regs.specs.Plans.{redo_plan}
+use Rattle.pmem_recovery.specs.Plans.{SuiteCounts, RecoveryParts, recovery_parts, MadeLines, made_lines, made_end, shadow_turn, shadow_plan, blocks_plan, nodes_plan, root_plan, after_nodes, after_blocks, after_shadow, making_plan, entries_plan, clear_plan, writes_plan, mend_plan, after_redo, recover_plan}
 
 -- ---- the shadow lines
 
@@ -128,21 +128,6 @@ module _ (setup : Setup) (regs : Regs) (counts : SuiteCounts) {old mid : Device}
       pub mend_done : Follows (clear_plan setup.shape made.shadow) third new (Ok tt) → Follows (mend_plan setup regs counts) old new (Ok (after, made.work))
       unfolding mend_plan
       mend_done it = bind_ok (writes_plan setup) first (mapped_follows _ _ (bind_ok (λ written. clear_plan setup.shape made.shadow) written it))
-
--- ---- the redo
-
-module _ (regs : Regs) {old new : Device} where
-  pub redo_cut : (items : List (ℕ × Line)) → (items ≡ [] → ⊥) → ((items ≡ [] → ⊥) → Follows (finish_plan regs) old new (Err the_cut))
-      → Follows (redo_of regs items) old new (Err the_cut)
-  unfolding redo_of
-  redo_cut [] armed it = absurd (armed refl)
-  redo_cut (entry ∷ others) armed it = it armed
-
-  pub redo_done : (items : List (ℕ × Line)) → (items ≡ [] → new ≡ old) → ((items ≡ [] → ⊥) → Follows (finish_plan regs) old new (Ok tt))
-      → Follows (redo_of regs items) old new (Ok tt)
-  unfolding redo_of
-  redo_done [] idle it = subst (λ (d : Device). Follows (let plan : Plan Cut (Unit {0}) = done tt in plan) old d (Ok tt)) (sym (idle refl)) (is_done tt old)
-  redo_done (entry ∷ others) idle it = it (λ e. absurd (cc))
 
 -- ---- the whole
 

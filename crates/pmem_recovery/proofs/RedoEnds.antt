@@ -14,11 +14,10 @@ use Rattle.call_plan.specs.Following.{Took, Follows}
 use Rattle.call_plan.specs.Bounds.{Leaves}
 use Rattle.call_plan.proofs.Leaves.{leaves, leaves_bind, leaves_more, leaves_for_each}
 use Rattle.commit_regs.specs.Groups.{Writes, redone_told, finishing_latches, RisesAtMost, HasFinished, IsInterrupted}
-use Rattle.commit_regs.specs.Plans.{line_plan, lines_plan, finish_plan}
+use Rattle.commit_regs.specs.Plans.{line_plan, lines_plan, finish_plan, redo_of}
 use Rattle.commit_regs.proofs.GroupLemmas.{redone-nil, redone-redone, Writes-get_or}
 use Rattle.pmem_recovery.specs.Parts.{IsUncut}
 use Rattle.pmem_recovery.specs.Writing.{HasOnlyWritten}
-use Rattle.pmem_recovery.specs.Plans.{redo_of}
 use Rattle.pmem_recovery.proofs.PartLaws.{IsUncut-none, IsUncut-then, IsCutOff-after, IsCutOff-cut}
 use Rattle.pmem_recovery.proofs.WriteSteps.{HasOnlyWritten-none, HasOnlyWritten-then, HasOnlyWritten-one}
 

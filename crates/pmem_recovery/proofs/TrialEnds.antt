@@ -33,7 +33,8 @@ use Rattle.pmem_recovery.specs.Fixed.{fixed_block}
 use Rattle.pmem_recovery.specs.Reads.{sum_named, line_reads, page_reads, block_reads, named_reads, reads_to}
 use Rattle.pmem_recovery.specs.Parts.{IfLinesTold, decided_of, IsDecided, IsUndecided}
 use Rattle.pmem_recovery.specs.Plans.{SuiteCounts, suite_counts, after_tags, decided_plan, sealed_plan, held_or_tried, trial_plan, minor_turn, minors_plan}
-use Rattle.pmem_recovery.proofs.PartLaws.{risen_times-then, few_and_one}
+use Rattle.call_effects.proofs.SuiteLaws.{risen_times-then}
+use Rattle.pmem_recovery.proofs.PartLaws.{few_and_one}
 use Rattle.pmem_recovery.proofs.NamedLaws.{count_named-next, count_named-le, count_named-counters}
 use Rattle.pmem_recovery.proofs.ReadLaws.{RisesBy-as, page_reads-more, page_reads-le, sum_named-le}
 use Rattle.pmem_recovery.proofs.WorkLaws.{candidates-free, candidates-held, trials_of-named, trials_below-next}

@@ -14,7 +14,8 @@ use Rattle.stop_loss.specs.Windows.{window_minors}
 use Rattle.pmem_engine.specs.Invariants.{is_named}
 use Rattle.pmem_recovery.specs.declared.faults.RecFault.TheVariants.{Memory, Cut}
 use Rattle.pmem_recovery.specs.Trials.{stored_block, candidates, candidates_of, trials_of, trials_below}
-use Rattle.pmem_recovery.specs.Parts.{SuiteState, StoppedWork}
+use Rattle.call_effects.specs.SuiteStates.{SuiteState}
+use Rattle.pmem_recovery.specs.Parts.{StoppedWork}
 use Rattle.pmem_recovery.proofs.PartLaws.{SuiteWork-none}
 
 -- ---- one line

@@ -7,8 +7,8 @@ use Rattle.call_plan.specs.Runs.{AreBelowEnd}
 use Rattle.suite.specs.Setup.{Setup}
 use Rattle.seal_ledger.specs.Ledger.{LedgerState}
 use Rattle.pmem_engine.specs.Engine.{EngineState}
-use Rattle.pmem_engine.specs.Determined.{IsDetermined}
-use Rattle.pmem_recovery.specs.Parts.{SuiteState}
+use Rattle.call_plan.specs.Laws.{IsDetermined}
+use Rattle.call_effects.specs.SuiteStates.{SuiteState}
 use Rattle.pmem_recovery.specs.Plans.{SuiteCounts, recover_plan}
 use Rattle.pmem_recovery.specs.declared.faults.RecFault.TheVariants.{Memory, Cut, NoCounter, Root, Twin}
 use Rattle.pmem_recovery.specs.Formatting.{HasFormatted}

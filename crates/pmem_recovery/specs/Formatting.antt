@@ -55,18 +55,6 @@ pub record HasSealedFrom (setup : Setup) (a k : ℕ) (old new : LedgerState) : T
 
 -- ---- the device
 
--- so many lines are written; a steady device stays steady, with its registers
-pub record StaysSteady (n : ℕ) (old new : Device) : Type 0 where
-  pub size : new.size ≡ old.size
-  pub regs : new.regs ≡ old.regs
-  pub steady : old.steady ≡ true → new.steady ≡ true
-  pub live : old.live ≡ true → new.live ≡ true
-  pub told : is_some new.lines ≡ is_some old.lines
-  pub writes : RisesBy n old.writes new.writes
-  pub reads : new.reads ≡ old.reads
-  pub latches : new.latches ≡ old.latches
-  pub cuts : new.cuts ≡ old.cuts
-
 -- four lines are sealed, and all others but their tag line are as they were
 pub record HasSealedGroup (setup : Setup) (group : ℕ) (old new : Device) : Type 0 where
   pub sealed :

@@ -8,7 +8,7 @@ use Rattle.call_plan.specs.Plans.{ended}
 use Rattle.call_plan.specs.Following.{Follows}
 use Rattle.suite.specs.Setup.{Setup}
 use Rattle.seal_ledger.specs.Ledger.{LedgerState}
-use Rattle.pmem_recovery.specs.Parts.{SuiteState}
+use Rattle.call_effects.specs.SuiteStates.{SuiteState}
 use Rattle.pmem_recovery.specs.Plans.{counts_of, recover_plan}
 use Rattle.pmem_recovery.specs.Recovered.{Answer, HasRecovered}
 

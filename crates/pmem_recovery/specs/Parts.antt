@@ -1,7 +1,5 @@
 -- What the stages of recovery do to the device, to the suite's counts, and why they stop.
 use Rattle.std.specs.Prelude.{ℕ, ◌≡◌, ◌≢◌, ◌≤◌, ◌<◌, ◌+◌, ◌*◌, ◌⊎◌, true, false, List, [], ◌∷◌, Option, Some, None, length, Result, Ok, Err, ⊤}
-use Rattle.pmem_base.specs.declared.geometry.Geo.{Geo}
-use Rattle.pmem_base.specs.Geo.{shape_of}
 use Rattle.pmem_base.specs.declared.lines.Line.{Line}
 use Rattle.pmem_base.specs.declared.registers.Regs.{Regs}
 use Rattle.pmem_base.specs.declared.answers.Exhibit.TheVariants as Exhibit
@@ -11,20 +9,17 @@ use Rattle.pmem_base.specs.Layout.{page_of, level_start}
 use Rattle.pmem_base.specs.Shape.{Shape}
 use Rattle.pmem_base.specs.Lines.{line_at, tag_slot}
 use Rattle.board.specs.Device.{Device}
-use Rattle.suite.specs.declared.Suite.{Ghosts as SuiteOf}
 use Rattle.suite.specs.Formulas.{Formulas}
 use Rattle.suite.specs.Setup.{Setup}
 use Rattle.shadow_tables.specs.Entries.{shadow_of}
 use Rattle.stop_loss.specs.declared.Found.{Found}
 use Rattle.collision_witness.specs.Exhibits.{IsExhibit}
+use Rattle.call_effects.specs.SuiteStates.{SuiteState}
 use Rattle.pmem_recovery.specs.declared.faults.RecFault.{RecFault}
 use Rattle.pmem_recovery.specs.declared.faults.RecFault.TheVariants.{Memory, Cut, NoCounter, Root, Twin}
 use Rattle.pmem_recovery.specs.Named.{count_named}
 use Rattle.pmem_recovery.specs.Trials.{stored_block, tried_minors, first_undecided, trials_below}
 use Rattle.pmem_recovery.specs.Fixed.{found_root}
-
-abbrev pub setup_of : Geo → Formulas → Setup
-setup_of geo formulas = record { shape = shape_of geo; formulas = formulas }
 
 -- what holds of the lines, where they are told
 abbrev pub IfLinesTold : Option (List Line) → (List Line → Type 0) → Type 0
@@ -61,38 +56,12 @@ StopsBy fault old new = IsUncut old new
 
 -- ---- the suite
 
--- the keys and the counts of a suite
-pub record SuiteState : Type 0 where
-  pub keys : List ℕ
-  pub pads : ℕ
-  pub tags : ℕ
-  pub digests : ℕ
-
-abbrev pub suite_state : List ℕ → ℕ → ℕ → ℕ → SuiteState
-suite_state keys pads tags digests =
-    record { keys = keys; pads = pads; tags = tags; digests = digests }
-
--- the suite, and the setup of its keys, at a moment of a call
-module _ {S : Type 0} (suite : SuiteOf S) where
-  abbrev pub suite_at : S → SuiteState
-  suite_at s = suite_state (suite.keys s) (suite.pads s) (suite.tags s) (suite.digests s)
-
-  abbrev pub setup_with : Geo → S → Setup
-  setup_with geo s = setup_of geo (suite.formulas_of (suite.keys s))
-
 -- so many tags and digests are made, and no pad
 pub record SuiteWork (n m : ℕ) (old new : SuiteState) : Type 0 where
   pub keys : new.keys ≡ old.keys
   pub pads : new.pads ≡ old.pads
   pub tags : new.tags ≡ risen_times n old.tags
   pub digests : new.digests ≡ risen_times m old.digests
-
--- so many pads, tags and digests are made
-pub record SuiteRise (pads tags digests : ℕ) (old new : SuiteState) : Type 0 where
-  pub its_keys : new.keys ≡ old.keys
-  pub its_pads : new.pads ≡ risen_times pads old.pads
-  pub its_tags : new.tags ≡ risen_times tags old.tags
-  pub its_digests : new.digests ≡ risen_times digests old.digests
 
 -- ---- what the trials of a line find
 

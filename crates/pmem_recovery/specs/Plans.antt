@@ -13,7 +13,6 @@ use Rattle.pmem_base.specs.Layout.{index_in_page, level_start}
 use Rattle.pmem_base.specs.Lines.{line_at, same_bytes, tag_slot, zero_line}
 use Rattle.pmem_base.specs.Registers.{without_group}
 use Rattle.call_plan.specs.Plans.{Plan, done, stop, read, write, bind, mapped, repeated, for_each, the_cut}
-use Rattle.commit_regs.specs.Plans.{finish_plan}
 use Rattle.split_counters.specs.declared.Block.{Block}
 use Rattle.split_counters.specs.Blocks.{packed, unpacked, with_minor}
 use Rattle.page_reencrypt.specs.Registers.{register_held}
@@ -25,13 +24,15 @@ use Rattle.stop_loss.specs.Trials.{matching_minors, found_among}
 use Rattle.stop_loss.specs.Windows.{window_minors}
 use Rattle.pmem_engine.specs.Engine.{EngineState}
 use Rattle.pmem_engine.specs.Mendable.{new_engine}
+use Rattle.commit_regs.specs.Plans.{redo_plan}
 use Rattle.pmem_recovery.specs.declared.entries.MadeEntry.{MadeEntry}
-use Rattle.pmem_recovery.specs.declared.faults.Work.{Work}
+use Rattle.call_effects.specs.declared.recovery.Work.{Work}
 use Rattle.pmem_recovery.specs.declared.faults.RecFault.{RecFault}
 use Rattle.pmem_recovery.specs.declared.faults.RecFault.TheVariants as Fault
 use Rattle.pmem_recovery.specs.Named.{names}
 use Rattle.pmem_recovery.specs.Upward.{line_made, is_other}
-use Rattle.pmem_recovery.specs.Parts.{SuiteState, decided_of}
+use Rattle.call_effects.specs.SuiteStates.{SuiteState}
+use Rattle.pmem_recovery.specs.Parts.{decided_of}
 
 -- ---- the state beside the board
 
@@ -73,16 +74,6 @@ named_positions g shadow a b = filter (λ x. names g shadow x) (range_with_len a
 -- what is made for position x, whose line was read
 abbrev pub made_over : ℕ → Line → Line → MadeEntry
 made_over x stored line = record { at = x; line = line; changed = is_other stored line }
-
--- ---- the redo
-
--- the armed group's lines are written, and the group is emptied, where there is one
-unfoldable pub redo_of : Regs → List (ℕ × Line) → Plan Cut (Unit {0})
-redo_of regs [] = done tt
-redo_of regs (entry ∷ others) = finish_plan regs
-
-abbrev pub redo_plan : Regs → Plan Cut (Unit {0})
-redo_plan regs = redo_of regs regs.group.items
 
 -- ---- the shadow lines
 

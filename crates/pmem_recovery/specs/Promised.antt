@@ -15,11 +15,12 @@ use Rattle.call_plan.specs.Plans.{Plan, ended}
 use Rattle.call_plan.specs.Following.{Follows}
 use Rattle.seal_ledger.specs.Ledger.{LedgerState}
 use Rattle.pmem_recovery.specs.declared.faults.RecFault.{RecFault}
-use Rattle.pmem_recovery.specs.declared.faults.Work.{Work}
+use Rattle.call_effects.specs.declared.recovery.Work.{Work}
 use Rattle.pmem_recovery.specs.declared.entries.MadeEntry.{MadeEntry}
 use Rattle.stop_loss.specs.Trials.{matching_minors, found_among}
 use Rattle.stop_loss.specs.Windows.{minors_within}
-use Rattle.pmem_recovery.specs.Parts.{setup_with, suite_at, SuiteRise, IsDecided, decided_of}
+use Rattle.call_effects.specs.SuiteStates.{setup_with, suite_at, SuiteRise}
+use Rattle.pmem_recovery.specs.Parts.{IsDecided, decided_of}
 use Rattle.pmem_recovery.specs.Plans.{SuiteCounts, RecoveryParts, recovery_parts, counts_at, trial_plan, minors_plan, fixed_block_plan, blocks_plan, children_plan, fixed_node_plan, fixed_level_plan, nodes_plan, root_plan, made_end, making_plan, mend_plan}
 use Rattle.pmem_recovery.specs.Recovered.{Answer, HasRecovered}
 

@@ -21,11 +21,12 @@ use Rattle.pmem_engine.specs.Engine.{EngineState, on_chip}
 use Rattle.pmem_engine.specs.Invariants.{IsAnchored, IsTrusted, IsSealStored, IsDurable, IsSound, stored_meta}
 use Rattle.pmem_engine.specs.Outcomes.{TakesAtMost, TakesFewer}
 use Rattle.pmem_engine.specs.Mendable.{IsLineMendable, IsShadowZero, new_engine}
-use Rattle.pmem_recovery.specs.declared.faults.Work.{Work}
+use Rattle.call_effects.specs.declared.recovery.Work.{Work}
 use Rattle.pmem_recovery.specs.declared.faults.RecFault.{RecFault}
 use Rattle.pmem_recovery.specs.declared.faults.RecFault.TheVariants.{Memory, Cut, NoCounter, Root, Twin}
 use Rattle.pmem_recovery.specs.Trials.{IsTwinOfLastSeal}
-use Rattle.pmem_recovery.specs.Parts.{IfLinesTold, IsUncut, IsCutOff, SuiteState, HasRoot, IsRefusal, IsAllWork, StoppedWork}
+use Rattle.call_effects.specs.SuiteStates.{SuiteState}
+use Rattle.pmem_recovery.specs.Parts.{IfLinesTold, IsUncut, IsCutOff, HasRoot, IsRefusal, IsAllWork, StoppedWork}
 use Rattle.pmem_recovery.specs.Reads.{all_reads, named_reads, IsReadUntil}
 use Rattle.pmem_recovery.specs.Writing.{IfBothLinesTold, differing}
 use Rattle.pmem_recovery.specs.Mending.{most_reads, most_writes}

@@ -6,7 +6,8 @@ ghost use Rattle.pmem_base.specs.Layout.{data_lines, meta_lines, pages, slots, d
 ghost use Rattle.bonsai_tree.specs.Positions.{counter_position};
 ghost use Rattle.split_counters.specs.Blocks.{IsBlock};
 ghost use Rattle.stop_loss.specs.Windows.{minors_within};
-ghost use Rattle.pmem_recovery.specs.Parts.{SuiteWork, decided_of, suite_at};
+ghost use Rattle.call_effects.specs.SuiteStates.{suite_at};
+ghost use Rattle.pmem_recovery.specs.Parts.{SuiteWork, decided_of};
 ghost use Rattle.call_plan.specs.Following.{Follows};
 ghost use Rattle.pmem_recovery.specs.Plans.{sealed_plan};
 ghost use Rattle.pmem_recovery.specs.Promised.{FollowsBlocks, FollowsBlock, FollowsMinors, FollowsTrial, DecidesMinor, IsMinorFound};

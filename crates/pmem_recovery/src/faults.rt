@@ -49,10 +49,3 @@ impl From<MemFault> for RecFault {
         RecFault::Memory
     }
 }
-
-/// How much a recovery tried: the minors tried and the digests made.
-#[derive(Clone, Copy, Debug, PartialEq, Eq)]
-pub struct Work {
-    pub trials: u64,
-    pub digests: u64,
-}

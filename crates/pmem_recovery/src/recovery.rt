@@ -9,12 +9,13 @@ ghost use Rattle.call_plan.specs.Following.{Follows};
 ghost use Rattle.pmem_recovery.specs.Plans.{shadow_plan};
 ghost use Rattle.pmem_recovery.specs.Promised.{FollowsMending, FollowsMaking, Recovers};
 
+use crate::RecFault;
 use crate::counters::fix_counters;
 use crate::entries::MadeEntry;
 use crate::nodes::{check_root, fix_nodes};
 use crate::writing::{clear_shadow, write_made};
-use crate::{RecFault, Work};
 use board::Board;
+use call_effects::Work;
 use commit_regs::finish;
 use meta_cache::Cache;
 use pmem_base::{Cut, Geo, Line, MemFault, Regs};

@@ -25,7 +25,8 @@ use Rattle.pmem_engine.specs.declared.fault.Fault.{Fault}
 use Rattle.pmem_engine.specs.declared.fault.Fault.TheVariants as Fail
 use Rattle.pmem_engine.specs.Engine.{EngineState}
 use Rattle.pmem_engine.specs.Parts.{Parts, AreTrusted, HoldsSeal, HoldsCounters, HoldsMeta}
-use Rattle.pmem_engine.specs.Outcomes.{Outcome, cut_short, shown, outcome_of, is_sealed_by, CallEffect, TakesFewer, is_going}
+use Rattle.call_effects.specs.Outcomes.{Outcome, cut_short, shown, is_going}
+use Rattle.pmem_engine.specs.Outcomes.{outcome_of, is_sealed_by, CallEffect, TakesFewer}
 use Rattle.pmem_engine.specs.Calls.{IsMemory, memory_after}
 use Rattle.watched_board.specs.declared.taken.Taken.{Taken}
 use Rattle.watched_board.specs.Watching.{AreInCount, FollowsOn, none_taken, steps_in, step_limit}

@@ -13,7 +13,8 @@ use Rattle.plain_model.specs.After.{after_marks, steps_with}
 use Rattle.pmem_engine.specs.declared.fault.Fault.{Fault}
 use Rattle.pmem_engine.specs.declared.fault.Fault.TheVariants as Fail
 use Rattle.pmem_engine.specs.Engine.{EngineState}
-use Rattle.pmem_engine.specs.Outcomes.{is_sealed_by, outcome_of, is_going}
+use Rattle.call_effects.specs.Outcomes.{is_going}
+use Rattle.pmem_engine.specs.Outcomes.{is_sealed_by, outcome_of}
 use Rattle.pmem_engine.specs.Calls.{HasWrittenLine}
 use Rattle.pmem_engine.specs.Plans.{chip_of}
 use Rattle.call_plan.specs.Runs.{IsOutcome}

@@ -18,9 +18,9 @@ use Rattle.suite.specs.declared.Suite.{Ghosts as SuiteOf}
 use Rattle.pmem_engine.specs.declared.fault.Fault.{Fault}
 use Rattle.pmem_engine.specs.Engine.{EngineState}
 use Rattle.pmem_engine.specs.Parts.{Parts, parts_of, setup_at}
-use Rattle.pmem_recovery.specs.declared.faults.Work.{Work}
+use Rattle.call_effects.specs.declared.recovery.Work.{Work}
 use Rattle.pmem_recovery.specs.declared.faults.RecFault.{RecFault}
-use Rattle.pmem_recovery.specs.Parts.{SuiteRise, setup_with, suite_at}
+use Rattle.call_effects.specs.SuiteStates.{SuiteRise, setup_with, suite_at}
 use Rattle.pmem_replay.specs.During.{WasFormatted, WasRecovered}
 use Rattle.pmem_replay.specs.EngineCalls.{IsLawfulCall}
 

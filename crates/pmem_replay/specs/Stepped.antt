@@ -31,18 +31,19 @@ use Rattle.plain_model.specs.Shown.{IsLegal}
 use Rattle.plain_model.specs.Fits.{Fits}
 use Rattle.pmem_engine.specs.declared.fault.Fault.{Fault}
 use Rattle.pmem_engine.specs.Engine.{EngineState}
-use Rattle.pmem_engine.specs.Outcomes.{is_sealed_by, outcome_of, is_going}
+use Rattle.call_effects.specs.Outcomes.{is_going}
+use Rattle.pmem_engine.specs.Outcomes.{is_sealed_by, outcome_of}
 use Rattle.pmem_engine.specs.Parts.{Parts}
 use Rattle.pmem_engine.specs.Plans.{chip_of}
 use Rattle.pmem_engine.specs.Invariants.{IsSealStored}
 use Rattle.pmem_engine.specs.Mendable.{new_engine}
 use Rattle.pmem_engine.specs.Calls.{HasReadLine, HasWrittenLine, HasTurned, HasFlushed, HasSetLoss}
-use Rattle.pmem_recovery.specs.declared.faults.Work.{Work}
+use Rattle.call_effects.specs.declared.recovery.Work.{Work}
 use Rattle.pmem_recovery.specs.declared.faults.RecFault.{RecFault}
 use Rattle.pmem_recovery.specs.declared.faults.RecFault.TheVariants as Stop
 use Rattle.pmem_recovery.specs.Trials.{first_undecided, tried_minors}
 use Rattle.pmem_recovery.specs.Fixed.{found_root}
-use Rattle.pmem_recovery.specs.Parts.{SuiteState}
+use Rattle.call_effects.specs.SuiteStates.{SuiteState}
 use Rattle.pmem_recovery.specs.Plans.{counts_of, recover_plan}
 use Rattle.pmem_recovery.specs.Formatting.{HasFormatted}
 use Rattle.pmem_recovery.specs.Recovered.{HasRecovered}

@@ -15,7 +15,8 @@ ghost use Rattle.seal_ledger.specs.Notes.{HasRoom};
 ghost use Rattle.seal_ledger.specs.View.{capacity_of, ledger_of};
 ghost use Rattle.pmem_engine.specs.declared.fault.Fault.{Fault};
 ghost use Rattle.pmem_engine.specs.Parts.{Parts};
-ghost use Rattle.pmem_engine.specs.Outcomes.{outcome_of, is_going};
+ghost use Rattle.call_effects.specs.Outcomes.{is_going};
+ghost use Rattle.pmem_engine.specs.Outcomes.{outcome_of};
 ghost use Rattle.pmem_engine.specs.Calls.{IsUsable};
 ghost use Rattle.watched_board.specs.Watching.{IsWatched, device_during, none_taken};
 ghost use Rattle.access_log.specs.Traced.{GoesOn};
@@ -26,9 +27,10 @@ ghost use Rattle.pmem_replay.specs.Promised.{IsMade, IsCalled, IsFormatted, HasF
 
 use access_log::AccessLog;
 use board::{Board, MemBoard};
+use call_effects::Work;
 use pmem_base::{Ctr, Geo, Line, MemFault, Posted};
 use pmem_engine::{Engine, Fault};
-use pmem_recovery::{RecFault, Work};
+use pmem_recovery::RecFault;
 use seal_ledger::Ledger;
 use std::alloc::Global;
 use std::marker::Brand;

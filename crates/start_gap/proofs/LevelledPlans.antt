@@ -13,7 +13,8 @@ use Rattle.suite.specs.Setup.{Setup}
 use Rattle.pmem_engine.specs.declared.fault.Fault.{Fault}
 use Rattle.pmem_engine.specs.declared.fault.Fault.TheVariants as Fail
 use Rattle.pmem_engine.specs.Calls.{whole_write}
-use Rattle.pmem_engine.specs.Plans.{Chip, ended_with, read_plan}
+use Rattle.commit_regs.specs.Plans.{ended_with}
+use Rattle.pmem_engine.specs.Plans.{Chip, read_plan}
 use Rattle.pmem_engine.specs.WritePlans as engine
 use Rattle.engine_lines.specs.Plans.{put_plan, edits_plan}
 use Rattle.engine_lines.proofs.EditPlans.{put_follows}

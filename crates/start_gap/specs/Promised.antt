@@ -14,7 +14,8 @@ use Rattle.pmem_engine.specs.Engine.{EngineState, up_engine}
 use Rattle.pmem_engine.specs.Parts.{Parts, regs_of, parts_at, setup_at, AreTrusted, AreSound}
 use Rattle.pmem_engine.specs.Outcomes.{LeavesTrusted, LeavesSound}
 use Rattle.pmem_engine.specs.Calls.{HasReadLine, IsGuarded, IsEngineCall}
-use Rattle.pmem_engine.specs.Plans.{chip_in, ended_with}
+use Rattle.commit_regs.specs.Plans.{ended_with}
+use Rattle.pmem_engine.specs.Plans.{chip_in}
 use Rattle.engine_lines.specs.Lines.{HasLines}
 use Rattle.engine_lines.specs.Edits.{AreEdited}
 use Rattle.engine_lines.specs.Plans.{edits_plan}

@@ -2,7 +2,8 @@
 ghost use Rattle.std.specs.Prelude.{◌≡◌, ◌≤◌, ◌<◌, ◌+◌, ◌^◌, false, not, IfOk};
 ghost use Rattle.pmem_base.specs.Layout.{data_lines};
 ghost use Rattle.pmem_engine.specs.Engine.{EngineState};
-ghost use Rattle.pmem_engine.specs.Outcomes.{outcome_of, is_going};
+ghost use Rattle.call_effects.specs.Outcomes.{is_going};
+ghost use Rattle.pmem_engine.specs.Outcomes.{outcome_of};
 ghost use Rattle.pmem_engine.specs.Calls.{IsUsable};
 ghost use Rattle.start_gap.specs.Wear.{IsWear};
 ghost use Rattle.start_gap.specs.Logical.{move_edits};

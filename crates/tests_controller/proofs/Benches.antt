@@ -15,7 +15,7 @@ use Rattle.seal_ledger.specs.Ledger.{LedgerState}
 use Rattle.page_reencrypt.proofs.Holding.{begun-IsProgress}
 use Rattle.pmem_engine.specs.Engine.{EngineState}
 use Rattle.pmem_engine.specs.Calls.{IsUsable}
-use Rattle.pmem_engine.proofs.Laws.AnchoredLatches.{IsGroup-nil}
+use Rattle.commit_regs.proofs.GroupLemmas.{IsGroup-nil}
 
 zero_major : (unpacked zero_line).major ≡ 0
 unfolding unpacked zero_line

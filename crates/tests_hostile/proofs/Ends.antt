@@ -11,7 +11,8 @@ use Rattle.board.specs.MemBoard.{memory_of}
 use Rattle.pmem_base.specs.Shape.{Shape}
 use Rattle.pmem_engine.specs.Engine.{ChipState}
 use Rattle.pmem_engine.specs.Invariants.{IsDurable, IsSound}
-use Rattle.pmem_engine.specs.Outcomes.{Outcome, going, cut_short, shown, LeavesSound}
+use Rattle.call_effects.specs.Outcomes.{Outcome, going, cut_short, shown}
+use Rattle.pmem_engine.specs.Outcomes.{LeavesSound}
 use Rattle.board.specs.Device.{Device}
 use Rattle.pmem_engine.specs.Parts.{parts_with}
 use Rattle.pmem_recovery.specs.declared.faults.RecFault.TheVariants.{Memory, Cut, NoCounter, Root, Twin}

@@ -1,7 +1,7 @@
 -- The names that most proofs of this session cite, passed on from one place. Declares nothing.
 pub use Rattle.access_log.proofs.TraceLemmas.{goes_on-between}
 pub use Rattle.access_log.specs.Traced.{traced_of}
-pub use Rattle.asit_shadow.proofs.Chains.{going-unshown, cut-unshown}
+pub use Rattle.call_effects.proofs.PowerLaws.{going_unshown, cut_unshown}
 pub use Rattle.asit_shadow.proofs.FormatLaws.{replicate-default}
 pub use Rattle.asit_shadow.proofs.PlaceLaws.{powered_off-place, line-place, slots-place, poked-elsewhere}
 pub use Rattle.asit_shadow.proofs.RecoverLaws.{lines-equal, length-slots_read, line_at-slots_read}
@@ -50,9 +50,9 @@ pub use Rattle.pmem_base.specs.declared.answers.Exhibit.{Exhibit}
 pub use Rattle.pmem_base.specs.declared.answers.Exhibit.TheVariants.{Forged, Clash}
 pub use Rattle.pmem_base.specs.declared.lines.Line.{Line}
 pub use Rattle.pmem_base.specs.declared.registers.Regs.{Regs}
-pub use Rattle.pmem_engine.specs.Outcomes.{Outcome, going, cut_short, shown, is_going}
-pub use Rattle.pmem_recovery.proofs.ResultLaws.{none_of, from_no_error}
-pub use Rattle.pmem_recovery.specs.declared.faults.Work.{Work}
+pub use Rattle.call_effects.specs.Outcomes.{Outcome, going, cut_short, shown, is_going}
+pub use Rattle.call_effects.proofs.ResultLaws.{none_of, from_no_error}
+pub use Rattle.call_effects.specs.declared.recovery.Work.{Work}
 pub use Rattle.std.proofs.lemmas.Bool.{cases_lt, le-ltb, false≢true, lt-ltb, true≢false, cases_Bool, cases_eq, and_parts, not-true, or_left, or_right, eq-eqb}
 pub use Rattle.std.proofs.lemmas.List.{length-replicate, length-set, ext_get_or, length-map, get_or-set_other, set-get_or, map-set, get_or-map, get_or_past, set_past, get_or-set_same}
 pub use Rattle.std.proofs.lemmas.List.FromFn.{length-map-range_with_len, get_or-map-range_with_len}

@@ -1,6 +1,6 @@
 -- A read: what is left of the session, and what is answered.
 use Rattle.std.proofs.Common.{ℕ, ◌≡◌, ◌≢◌, ◌<◌, ◌≤◌, ◌⊎◌, false, inl, inr, List, Option, Some, None, Ok, Err, refl, sym, ap, subst, ◌∙◌, arith}
-use Rattle.tree_session.proofs.Common.{Result, IfSome, slice_index_or, Line, Regs, Exhibit, same_Some, LineSeal, line_at, tag_slot, IsExhibit, AreSmallMinors, redone, going, cut_short, shown, tree_lines, line_of_tag, version_counter, line_counter, last_seal_of, steps_in, step_limit, TreeFault, TreeState, with_board, read_plan, IsTreeSealStored, HoldsTreeSeal, HasReadTreeLine, IsLineRead, line-place, going-unshown, cut-unshown, TreeAnswer, IsTreeCalled, read_said, plain_of_parts, state_of, IsTreeWorld, IsTreeAnswered, IsRooted, IsEngineShown, IsBoardSpilled, SaysOfRead, AnswersWith, IsDataAccepted, IsDataRefusal, IsDataExhibit, IsNodeExhibit, IsNodeRefusal}
+use Rattle.tree_session.proofs.Common.{Result, IfSome, slice_index_or, Line, Regs, Exhibit, same_Some, LineSeal, line_at, tag_slot, IsExhibit, AreSmallMinors, redone, going, cut_short, shown, tree_lines, line_of_tag, version_counter, line_counter, last_seal_of, steps_in, step_limit, TreeFault, TreeState, with_board, read_plan, IsTreeSealStored, HoldsTreeSeal, HasReadTreeLine, IsLineRead, line-place, going_unshown, cut_unshown, TreeAnswer, IsTreeCalled, read_said, plain_of_parts, state_of, IsTreeWorld, IsTreeAnswered, IsRooted, IsEngineShown, IsBoardSpilled, SaysOfRead, AnswersWith, IsDataAccepted, IsDataRefusal, IsDataExhibit, IsNodeExhibit, IsNodeRefusal}
 use Rattle.asit_shadow.specs.declared.fault.TreeFault.TheVariants as Fail
 use Rattle.asit_shadow.specs.Calls as told
 use Rattle.tree_session.specs.declared.commands.TreeCommand.TheVariants as Do
@@ -49,7 +49,7 @@ module _ (c : TreeEngineCall) (a : ℕ) (within : a < tree_lines c.setup.shape) 
         let plain = kept_plain c going (left c (Some c.after) c.parts.hurt) done.watch refl refl refl in
         let accepted = (done.answered (trusted_from c)).2 in
         answered (Say.Got line (steps_in c.taken)) (Ok line) (Some c.after) refl it.follows (done.watch.setup ∙ c.world.its_watch.its_setup) (lit_left c (done.effect.power.1 (powered_from c)))
-        (done.watch.exhibit going-unshown ∙ c.none) (rooted_still c done.effect) plain (
+        (done.watch.exhibit going_unshown ∙ c.none) (rooted_still c done.effect) plain (
           (done.answered (trusted_from c)).0 ∙ sym ((plain_is c.setup c.parts c.parts.board.regs c.world.whole_shape (trusted_from c).anchored).memory a within),
           goes_on c.parts.board c.board c.taken c.watched (done.effect.power.1 (powered_from c)),
           few_steps c a c.setup.shape.levels done.work.fetched,
@@ -72,7 +72,7 @@ module _ (c : TreeEngineCall) (a : ℕ) (within : a < tree_lines c.setup.shape) 
         let levels = c.world.whole_shape.at_most_six_levels in
         let few : steps_in c.taken < step_limit = omega (arith, below, levels) in
         let plain = kept_plain c cut_short (left c None c.parts.hurt) cut.watch refl refl refl in
-        answered (Say.Cut (steps_in c.taken)) (Err Fail.Cut) None refl it.follows (cut.watch.setup ∙ c.world.its_watch.its_setup) (dark_left c cut.effect.power.1 few) (cut.watch.exhibit cut-unshown ∙ c.none)
+        answered (Say.Cut (steps_in c.taken)) (Err Fail.Cut) None refl it.follows (cut.watch.setup ∙ c.world.its_watch.its_setup) (dark_left c cut.effect.power.1 few) (cut.watch.exhibit cut_unshown ∙ c.none)
         (cut_rooted_still c cut.effect cut.regs) plain (
           cut_off c.parts.board c.board c.taken c.watched cut.effect.power.1 few,
           below,
@@ -90,7 +90,7 @@ module _ (c : TreeEngineCall) (a : ℕ) (within : a < tree_lines c.setup.shape) 
     node_done =
         let plain = kept_plain c going (left c (Some c.after) c.parts.hurt) node.watch refl refl refl in
         answered (Say.RefusedNode x (steps_in c.taken)) (Err (Fail.Node x)) (Some c.after) refl it.follows (node.watch.setup ∙ c.world.its_watch.its_setup) (lit_left c (node.effect.power.1 (powered_from c)))
-        (node.watch.exhibit going-unshown ∙ c.none) (rooted_still c node.effect) plain (
+        (node.watch.exhibit going_unshown ∙ c.none) (rooted_still c node.effect) plain (
           subst (λ s. IsNodeRefusal c.setup s a x) (sym plain) (refused_node c a within c.board refl x (node.answered (trusted_from c))),
           goes_on c.parts.board c.board c.taken c.watched (node.effect.power.1 (powered_from c)),
           few_steps c a node.work.levels node.work.fetched,
@@ -135,7 +135,7 @@ module _ (c : TreeEngineCall) (a : ℕ) (within : a < tree_lines c.setup.shape) 
     tag_done =
         let plain = kept_plain c going (left c (Some c.after) c.parts.hurt) tag.watch refl refl refl in
         answered (Say.RefusedData t (steps_in c.taken)) (Err (Fail.Tag t)) (Some c.after) refl it.follows (tag.watch.setup ∙ c.world.its_watch.its_setup) (lit_left c (tag.effect.power.1 (powered_from c)))
-        (tag.watch.exhibit going-unshown ∙ c.none) (rooted_still c tag.effect) plain (
+        (tag.watch.exhibit going_unshown ∙ c.none) (rooted_still c tag.effect) plain (
           ((it.read.done (trusted_from c).not_down).answered (trusted_from c)).0,
           subst (λ s. IsDataRefusal c.setup s a) (sym plain)
               (data-refused c.setup c.parts c.parts.board.regs c.board c.world.whole_shape c.world.whole_formulas (trusted_from c).anchored a why.cipher why.tags within

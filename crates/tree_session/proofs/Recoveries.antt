@@ -2,7 +2,7 @@
 use Rattle.std.proofs.Common.{ℕ, zero, suc, ◌≡◌, ◌≢◌, ◌<◌, ◌≤◌, ◌+◌, true, false, Bool, inl, inr, ◌⊎◌, List, [], ◌∷◌, length, Option, Some, None, Ok, Err, refl, sym, ap, subst, ◌∙◌, arith}
 use Rattle.tree_session.proofs.Common.{Result, IfSome, All, slice_index_or, cases_Bool, cases_eq, true≢false, same_Some, Line, Regs, IsLine, Setup, AreLinesOf, BoardMemory, device_of, redone, finishing_latches, Follows, Work, tree_slots, tree_size, line_of_slot, shadow_root, WatchState, Taken, steps_in, step_limit, device_during, none_taken, IsWatched, TreeRec, TreeState, IsTreeAnchored, IsTreeTrusted, IsSlotStored, slots_read, Rest, rest_of, rest_redone, HasTreeRecovered, IsGroupFinished, IsGroupBegun, AreSlotsRead, KeepsRestPlaces, KeepsRestNode, recover_parts, tree_recover_plan, IsNodeHeld, with_board, slots-place, lines-equal, length-slots_read, line_at-slots_read, TreeAnswer, HasTreeStarted, IsTreeCalled, on_said, board_resting, engine_made, watch_in, TreeParts, plain_of_parts, state_of, IsTreeWorld, IsTreeOff, IsTreeOpen, IsTreeAnswered, IsRooted, IsTreeMemoryWanted, SaysOfOn, HasTrueSlots, AnswersWith, IsSlotTampered, IsShadowRefusal, IsGroupDone, group_steps, board_redone, tree_recovery_bound}
 use Rattle.call_plan.specs.Plans as plans
-use Rattle.pmem_recovery.proofs.LatchLaws.{one_latch}
+use Rattle.commit_regs.proofs.GroupLemmas.{one_latch}
 use Rattle.asit_shadow.specs.declared.recovery.TreeRec.TheVariants as Fail
 use Rattle.tree_session.specs.declared.commands.TreeCommand.TheVariants as Do
 use Rattle.tree_session.specs.declared.answers.TreeAnswer.TheVariants as Say

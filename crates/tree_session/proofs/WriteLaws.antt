@@ -1,6 +1,6 @@
 -- A write: what is left of the session, and what is answered.
 use Rattle.std.proofs.Common.{ℕ, ◌≡◌, ◌<◌, ◌≤◌, ◌+◌, ◌/◌, ◌⊎◌, false, Bool, inl, inr, List, length, Some, None, Ok, Err, refl, sym, ap, subst, ◌∙◌, arith}
-use Rattle.tree_session.proofs.Common.{Option, Result, IfSome, slice_index_or, slice_set, if◌then◌else◌, cases_eq, le-ltb, lt-ltb, length-set, length-map, get_or-set_other, Line, Regs, Exhibit, IsLine, Shape, Device, IsExhibit, AreSmallMinors, Outcome, going, cut_short, shown, Node, LineSeal, tree_lines, line_of_slot, slot_of, slot_line, node_at, WatchState, steps_in, step_limit, device_during, none_taken, TreeFault, TreeState, write_plan, IsTreeAnchored, line_path, TreeEngineParts, HoldsTreeSeal, TreeCallEffect, HasWrittenTreeLine, IsLineWritten, spilled_nodes, IsCutInNodeFetch, IsCutInGroup, HasFetchedPath, writes_made, with_board, going-unshown, TreeAnswer, IsTreeCalled, plain_said, write_said, plain_of_parts, state_of, IsTreeWorld, IsTreeAnswered, IsRooted, IsEngineShown, SaysOfWrite, AnswersWith, IsNodeExhibit, IsNodeRefusal, AllAreMade, tree_write_bound, IsBoardSpilled}
+use Rattle.tree_session.proofs.Common.{Option, Result, IfSome, slice_index_or, slice_set, if◌then◌else◌, cases_eq, le-ltb, lt-ltb, length-set, length-map, get_or-set_other, Line, Regs, Exhibit, IsLine, Shape, Device, IsExhibit, AreSmallMinors, Outcome, going, cut_short, shown, Node, LineSeal, tree_lines, line_of_slot, slot_of, slot_line, node_at, WatchState, steps_in, step_limit, device_during, none_taken, TreeFault, TreeState, write_plan, IsTreeAnchored, line_path, TreeEngineParts, HoldsTreeSeal, TreeCallEffect, HasWrittenTreeLine, IsLineWritten, spilled_nodes, IsCutInNodeFetch, IsCutInGroup, HasFetchedPath, writes_made, with_board, going_unshown, TreeAnswer, IsTreeCalled, plain_said, write_said, plain_of_parts, state_of, IsTreeWorld, IsTreeAnswered, IsRooted, IsEngineShown, SaysOfWrite, AnswersWith, IsNodeExhibit, IsNodeRefusal, AllAreMade, tree_write_bound, IsBoardSpilled}
 use Rattle.bonsai_tree.proofs.PathPositions.{length-path_of}
 use Rattle.asit_shadow.specs.declared.fault.TreeFault.TheVariants as Fail
 use Rattle.asit_shadow.specs.Paths.{write_group}
@@ -253,7 +253,7 @@ module _ (c : TreeEngineCall) (a : ℕ) (within : a < tree_lines c.setup.shape) 
         let keeps = node.watch tt in
         let plain = kept_plain c going (left c (Some c.after) c.parts.hurt) keeps refl refl refl in
         answered (Say.RefusedNode x (steps_in c.taken)) (Err (Fail.Node x)) (Some c.after) c.parts.hurt refl it.follows (keeps.setup ∙ c.world.its_watch.its_setup)
-        (lit_left c (node.effect.power.1 (powered_from c))) (keeps.exhibit going-unshown ∙ c.none) (rooted_still c node.effect) plain (
+        (lit_left c (node.effect.power.1 (powered_from c))) (keeps.exhibit going_unshown ∙ c.none) (rooted_still c node.effect) plain (
           unused (node.answered (trusted_from c)).0,
           subst (λ s. IsNodeRefusal c.setup s a x) (sym plain) (refused_node c a within c.board refl x (node.answered (trusted_from c)).1),
           goes_on c.parts.board c.board c.taken c.watched (node.effect.power.1 (powered_from c)),
@@ -276,7 +276,7 @@ module _ (c : TreeEngineCall) (a : ℕ) (within : a < tree_lines c.setup.shape) 
         let latches : c.taken.latches ≡ 0 = ap (λ (d : Device). d.latches) same in
         let plain = kept_plain c going (left c (Some c.after) c.parts.hurt) keeps refl refl refl in
         answered (Say.Spent (steps_in c.taken)) (Err Fail.Spent) (Some c.after) c.parts.hurt refl it.follows (keeps.setup ∙ c.world.its_watch.its_setup)
-        (lit_left c (spent.effect.power.1 (powered_from c))) (keeps.exhibit going-unshown ∙ c.none) (rooted_still c spent.effect) plain (
+        (lit_left c (spent.effect.power.1 (powered_from c))) (keeps.exhibit going_unshown ∙ c.none) (rooted_still c spent.effect) plain (
           made-is ∙ (spent.answered (trusted_from c)).0,
           omega (arith, writes, latches),
           plain

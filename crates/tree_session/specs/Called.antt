@@ -7,7 +7,7 @@ use Rattle.board.specs.Memory.{BoardMemory}
 use Rattle.suite.specs.Setup.{Setup}
 use Rattle.call_plan.specs.Plans.{Plan}
 use Rattle.call_plan.specs.Runs.{IsOutcome}
-use Rattle.pmem_recovery.specs.declared.faults.Work.{Work}
+use Rattle.call_effects.specs.declared.recovery.Work.{Work}
 use Rattle.watched_board.specs.declared.taken.Taken.{Taken}
 use Rattle.watched_board.specs.Watching.{steps_in}
 use Rattle.asit_shadow.specs.declared.fault.TreeFault.{TreeFault}

@@ -14,8 +14,8 @@ use Rattle.watched_call.specs.Seen.{as_found}
 use Rattle.call_plan.specs.Plans.{ended}
 use Rattle.call_plan.specs.Following.{Follows}
 use Rattle.counter_tree.specs.declared.watch.Watch.{Ghosts as WatchOf}
-use Rattle.pmem_recovery.specs.declared.faults.Work.{Work}
-use Rattle.pmem_recovery.specs.Parts.{setup_with}
+use Rattle.call_effects.specs.declared.recovery.Work.{Work}
+use Rattle.call_effects.specs.SuiteStates.{setup_with}
 use Rattle.asit_shadow.specs.declared.fault.TreeFault.{TreeFault}
 use Rattle.asit_shadow.specs.declared.recovery.TreeRec.{TreeRec}
 use Rattle.asit_shadow.specs.declared.recovery.TreeRec.TheVariants as Stop

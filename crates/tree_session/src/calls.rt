@@ -17,9 +17,9 @@ ghost use Rattle.tree_session.specs.Promised.{ReadsLineOver, FollowsReadOver, Re
 use access_log::AccessLog;
 use asit_shadow::{TreeEngine, TreeFault, TreeRec, tree_format, tree_recover};
 use board::{Board, MemBoard};
+use call_effects::Work;
 use counter_tree::Watch;
 use pmem_base::{Geo, Line, MemFault};
-use pmem_recovery::Work;
 use std::alloc::Global;
 use std::marker::Brand;
 use suite::Suite;

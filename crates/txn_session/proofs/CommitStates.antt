@@ -8,7 +8,7 @@ use Rattle.txn_session.proofs.WriteLists.{posted_commit, length-commit_writes}
 use Rattle.txn_session.proofs.Stages.{commit_edits, IsAtStage, at_stage}
 use Rattle.txn_session.proofs.CommitEnds.{commit_queue, CommitEndsAt, CommitServes, commit_serves, commit_ends_at}
 use Rattle.pmem_engine.specs.Engine.{on_chip}
-use Rattle.pmem_engine.specs.Outcomes.{is_going}
+use Rattle.call_effects.specs.Outcomes.{is_going}
 use Rattle.line_txn.specs.Store.{commit_outcome_by}
 use Rattle.std.specs.Prelude.{◌||◌, not, Bool}
 

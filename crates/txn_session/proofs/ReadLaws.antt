@@ -8,7 +8,8 @@ use Rattle.txn_session.specs.declared.answers.TxnAnswer.TheVariants as Say
 use Rattle.txn_session.proofs.Worlds.{IsOpenTxn, on_in, lines_are, on_after, off_after}
 use Rattle.txn_session.proofs.AnswerClauses.{read_undecided, served, seen_from, held_under}
 use Rattle.pmem_engine.specs.Engine.{on_chip}
-use Rattle.pmem_engine.specs.Outcomes.{outcome_of, is_going}
+use Rattle.call_effects.specs.Outcomes.{is_going}
+use Rattle.pmem_engine.specs.Outcomes.{outcome_of}
 use Rattle.std.specs.Prelude.{◌||◌, not, Bool}
 
 -- the session's parts as the read finds them, what it leaves and answers

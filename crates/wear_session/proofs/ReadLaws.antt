@@ -8,7 +8,8 @@ use Rattle.pmem_engine.specs.declared.fault.Fault.TheVariants as Fail
 use Rattle.wear_session.specs.declared.answers.WearAnswer.TheVariants as Say
 use Rattle.wear_session.specs.declared.commands.WearCommand.TheVariants as Do
 use Rattle.pmem_engine.specs.Engine.{on_chip}
-use Rattle.pmem_engine.specs.Outcomes.{outcome_of, is_going}
+use Rattle.call_effects.specs.Outcomes.{is_going}
+use Rattle.pmem_engine.specs.Outcomes.{outcome_of}
 use Rattle.std.specs.Prelude.{◌||◌, not, Bool}
 
 -- the session's parts as the read finds them, what it leaves and answers

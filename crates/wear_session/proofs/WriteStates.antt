@@ -9,7 +9,7 @@ use Rattle.wear_session.proofs.AnswerClauses.{of_line_is, held_under}
 use Rattle.wear_session.proofs.WriteEnds.{writes_of, most_of, EndsWearAt, WearsAs, write_ends_at, wears_as}
 use Rattle.wear_session.proofs.WriteLaws.{stage_of, lines_done, levelled_done, memory_by, wear_by, wear_after, memory_after, levelled_after, with_writes_is}
 use Rattle.pmem_engine.specs.Engine.{on_chip}
-use Rattle.pmem_engine.specs.Outcomes.{is_going}
+use Rattle.call_effects.specs.Outcomes.{is_going}
 use Rattle.start_gap.specs.Gapped.{write_outcome_by}
 use Rattle.std.specs.Prelude.{◌||◌}
 

@@ -21,7 +21,8 @@ use Rattle.meta_path.proofs.PathFacts.{its_bank_of}
 use Rattle.meta_path.proofs.WriteLemmas.{dirty_at, dirty_on_tree}
 use Rattle.pmem_engine.specs.Engine.{ChipState}
 use Rattle.pmem_engine.specs.Parts.{Parts, parts_with}
-use Rattle.pmem_engine.specs.Outcomes.{of_cut, fault_of_cut, going, cut_short, outcome_of, OneLossEffect}
+use Rattle.call_effects.specs.Outcomes.{going, cut_short}
+use Rattle.pmem_engine.specs.Outcomes.{of_cut, fault_of_cut, outcome_of, OneLossEffect}
 use Rattle.pmem_engine.specs.CallFacts.{AnswersFlush, IsFlushWork}
 use Rattle.pmem_engine.specs.Calls.{HasFlushed}
 use Rattle.call_plan.specs.Plans.{ended}

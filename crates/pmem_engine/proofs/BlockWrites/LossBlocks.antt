@@ -12,7 +12,7 @@ use Rattle.meta_path.specs.Blocks.{line_in, bank_dirty_count}
 use Rattle.meta_path.specs.Storing.{IsCleaned}
 use Rattle.pmem_engine.specs.Engine.{ChipState}
 use Rattle.pmem_engine.specs.Parts.{parts_with}
-use Rattle.pmem_engine.specs.Outcomes.{going}
+use Rattle.call_effects.specs.Outcomes.{going}
 use Rattle.pmem_engine.specs.Flushed.{HasWrittenBack, HasWrittenBlocks}
 use Rattle.pmem_engine.proofs.CheckedReads.FetchCalls.{of_states}
 use Rattle.pmem_engine.proofs.CallEnds.CallChains.{done_chained}

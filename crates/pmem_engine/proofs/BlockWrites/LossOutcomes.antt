@@ -27,7 +27,8 @@ use Rattle.pmem_engine.specs.Invariants.{IsSound, IsCounterStored, stored_meta}
 use Rattle.pmem_engine.specs.Steps.{HasLossSet}
 use Rattle.pmem_engine.specs.Recached.{IsTrueOrDirty}
 use Rattle.pmem_engine.specs.Parts.{Parts, parts_with, AreTrusted, AreSound, HoldsCounters, HoldsMeta, lines_redone}
-use Rattle.pmem_engine.specs.Outcomes.{of_cut, going, cut_short, outcome_of, KeepsPlaces, KeepsMeta, CallEffect, TakesSteps, fault_of_cut}
+use Rattle.call_effects.specs.Outcomes.{going, cut_short}
+use Rattle.pmem_engine.specs.Outcomes.{of_cut, outcome_of, KeepsPlaces, KeepsMeta, CallEffect, TakesSteps, fault_of_cut}
 use Rattle.pmem_engine.specs.CallFacts.{AnswersLoss}
 use Rattle.pmem_engine.specs.Calls.{HasSetLoss}
 use Rattle.call_plan.specs.Plans.{ended}
@@ -36,7 +37,7 @@ use Rattle.pmem_engine.specs.Plans.{latch_loss_plan}
 use Rattle.pmem_engine.proofs.PlannedCalls.CachePlans.{faulted_end}
 use Rattle.pmem_engine.specs.Flushed.{HasWrittenBlocks, HasMadeWay, HasChangedLoss, with_loss, IsBankClean}
 use Rattle.pmem_engine.proofs.CallEnds.ErrorAnswers.{cut_not_down}
-use Rattle.pmem_engine.proofs.CallEnds.ToldLines.{told_surely}
+use Rattle.call_effects.proofs.ToldLines.{told_surely}
 use Rattle.pmem_engine.proofs.Laws.CounterBlocks.{IsCounterStored-true}
 use Rattle.pmem_engine.proofs.Laws.MendableLaws.{IsMendable-no_group}
 use Rattle.pmem_engine.proofs.Laws.CacheLaws.{IsTrueOrDirty-sound}

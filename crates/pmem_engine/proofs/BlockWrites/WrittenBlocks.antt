@@ -24,9 +24,11 @@ use Rattle.pmem_engine.specs.Invariants.{IsTrusted, IsSound, IsCounterStored, st
 use Rattle.pmem_engine.specs.Steps.{with_true_line}
 use Rattle.pmem_engine.specs.Recached.{IsRecached, IsTrueOrDirty, WasCleaned}
 use Rattle.pmem_engine.specs.Parts.{Parts, parts_with, AreTrusted, AreSound, HoldsCounters, HoldsMeta, meta_line_in, lines_redone}
-use Rattle.pmem_engine.specs.Outcomes.{going, KeepsPlaces, KeepsMeta, OneLossEffect}
+use Rattle.call_effects.specs.Outcomes.{going}
+use Rattle.pmem_engine.specs.Outcomes.{KeepsPlaces, KeepsMeta, OneLossEffect}
 use Rattle.pmem_engine.specs.Flushed.{HasWrittenBack}
-use Rattle.pmem_engine.proofs.CallEnds.ToldLines.{told_cases, told_surely, any_told, told_same, unarmed, whole_lines}
+use Rattle.call_effects.proofs.ToldLines.{told_cases, told_surely, any_told, told_same, whole_lines}
+use Rattle.commit_regs.proofs.GroupLemmas.{unarmed}
 use Rattle.pmem_engine.proofs.CheckedReads.LineCounters.{cached_true}
 use Rattle.pmem_engine.proofs.Laws.DeviceRegions.{stored_meta-set_other}
 use Rattle.pmem_engine.proofs.Laws.CounterBlocks.{IsCounterStored-written_back}

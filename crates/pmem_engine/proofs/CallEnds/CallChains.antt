@@ -1,15 +1,15 @@
 -- Two parts of a call, one after the other, are one part: what holds of each holds of both.
 use Rattle.std.proofs.lemmas.Grind.{common_steps}
-use Rattle.std.proofs.Common.{rules, ℕ, ◌≡◌, ◌≢◌, ◌++◌, ◌⊎◌, Bool, false, List, [], IsTrue, refl, sym, ap, subst, ◌∙◌, arith}
-use Rattle.std.proofs.lemmas.Bool.{or_cases, true≢false}
+use Rattle.std.proofs.Common.{rules, ℕ, ◌≡◌, ◌++◌, ◌⊎◌, List, [], IsTrue, sym, ap, ◌∙◌, arith}
+use Rattle.std.proofs.lemmas.Bool.{or_cases}
 use Rattle.std.proofs.lemmas.List.{append_assoc, length-append}
 use Rattle.std.proofs.lemmas.List.Folds.{list_any-append}
 use Rattle.pmem_base.specs.declared.answers.Mark.{Mark}
-use Rattle.pmem_base.specs.Counts.{HasRisen}
-use Rattle.board.specs.Device.{Device}
 use Rattle.suite.specs.Setup.{Setup}
+use Rattle.call_effects.proofs.PowerLaws.{power_chained, going_uncut, going_unshown}
 use Rattle.pmem_engine.specs.Parts.{Parts, regs_of}
-use Rattle.pmem_engine.specs.Outcomes.{Outcome, going, cut_short, shown, is_going, is_sealed_by, is_seal_of, KeepsPlaces, KeepsMeta, KeepsMetaWhere, HasPower, CallEffect, OneLossEffect, KeepsCounters, NeverFalls}
+use Rattle.call_effects.specs.Outcomes.{Outcome, going}
+use Rattle.pmem_engine.specs.Outcomes.{is_sealed_by, is_seal_of, KeepsPlaces, KeepsMeta, KeepsMetaWhere, CallEffect, OneLossEffect, KeepsCounters, NeverFalls}
 
 -- ---- marks of both
 
@@ -32,24 +32,6 @@ metadata_where : (setup : Setup) (outcome : Outcome) (made more : List Mark) (ol
     → KeepsMeta setup made old mid → KeepsMetaWhere setup outcome more mid new
     → KeepsMetaWhere setup outcome (made ++ more) old new
 metadata_where setup outcome made more old mid new first second = search (rules, metadata_chained)
-
-pub power_chained : (outcome : Outcome) (old mid new : Device) → HasPower going old mid → HasPower outcome mid new
-    → HasPower outcome old new
-power_chained going old mid new first second =
-    (λ was. second.0 (first.0 was), λ was. second.1 (first.1 was), second.2 ∙ first.2)
-power_chained shown old mid new first second =
-    (λ was. second.0 (first.0 was), λ was. second.1 (first.1 was), second.2 ∙ first.2)
-power_chained cut_short old mid new first second =
-    (unsteady old.steady refl, second.1, subst (λ n. HasRisen n new.cuts) first.2 second.2)
-  where
-    unsteady : (b : Bool) → old.steady ≡ b → old.steady ≡ false
-    unsteady v0 it = search rules
-
-pub going_uncut : going ≢ cut_short
-going_uncut e = absurd (true≢false (ap is_going e))
-
-pub going_unshown : going ≢ shown
-going_unshown e = absurd (true≢false (ap is_going e))
 
 -- ---- counts
 

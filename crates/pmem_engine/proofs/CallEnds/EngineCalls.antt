@@ -5,7 +5,8 @@ use Rattle.std.proofs.lemmas.Bool.{true≢false}
 use Rattle.pmem_engine.specs.declared.fault.Fault.{Fault}
 use Rattle.pmem_engine.specs.declared.fault.Fault.TheVariants as Fail
 use Rattle.pmem_engine.specs.Parts.{Parts}
-use Rattle.pmem_engine.specs.Outcomes.{Outcome, outcome_of, is_going}
+use Rattle.call_effects.specs.Outcomes.{Outcome, is_going}
+use Rattle.pmem_engine.specs.Outcomes.{outcome_of}
 use Rattle.pmem_engine.specs.CallFacts.{IsGuarded, IsEngineCall}
 use Rattle.pmem_engine.proofs.CallEnds.StillParts.{left_alone}
 

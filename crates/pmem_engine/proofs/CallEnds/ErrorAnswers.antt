@@ -1,16 +1,12 @@
 -- What a `?` hands on, and what a part's answer says of the engine's.
-use Rattle.std.proofs.Common.{rules, ◌≡◌, Err}
-use Rattle.std.specs.Prelude.{Result, IfOk, IsOk, IsErrAnd}
+use Rattle.std.proofs.Common.{rules, Err}
+use Rattle.std.specs.Prelude.{Result, IfOk, IsOk}
 use Rattle.pmem_base.specs.declared.faults.Cut.{Cut}
 use Rattle.meta_path.specs.declared.faults.PathFault.{PathFault}
 use Rattle.pmem_engine.specs.declared.fault.Fault.{Fault}
 use Rattle.pmem_engine.specs.declared.fault.LineFault.{LineFault}
 use Rattle.pmem_engine.specs.Outcomes.{fault_of_path, fault_of_line, faulted, of_cut}
 use Rattle.pmem_engine.specs.CallFacts.{IsDownAnswer, IsUnrefused}
-
--- an error of this value
-pub is_err_of : {T E : Type 0} (r : Result T E) (e : E) → IsErrAnd r (λ (x : E). x ≡ e) → r ≡ Err e
-is_err_of v0 e it = search rules
 
 -- a part's value is the engine's, ..
 pub ok_faulted : {T E : Type 0} (its_fault : E → Fault) (r : Result T E) (P : T → Type 0) → IfOk r P → IfOk (faulted its_fault r) P

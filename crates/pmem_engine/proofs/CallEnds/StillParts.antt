@@ -4,7 +4,8 @@ use Rattle.std.proofs.lemmas.Grind.{common_steps}
 use Rattle.board.specs.Device.{Device}
 use Rattle.suite.specs.Setup.{Setup}
 use Rattle.pmem_engine.specs.Parts.{Parts, AreTrusted, AreSound}
-use Rattle.pmem_engine.specs.Outcomes.{going, OneLossEffect, TakesSteps, TakesAtMost}
+use Rattle.call_effects.specs.Outcomes.{going}
+use Rattle.pmem_engine.specs.Outcomes.{OneLossEffect, TakesSteps, TakesAtMost}
 use Rattle.pmem_engine.specs.CallFacts.{IsLeftAlone}
 use Rattle.pmem_engine.specs.Still.{HasOnlyRead}
 

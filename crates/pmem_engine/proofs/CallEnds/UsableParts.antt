@@ -9,7 +9,8 @@ use Rattle.pmem_base.specs.Lines.{zero_line}
 use Rattle.suite.specs.Setup.{Setup}
 use Rattle.seal_ledger.specs.Ledger.{LedgerState}
 use Rattle.pmem_engine.specs.Parts.{Parts}
-use Rattle.pmem_engine.specs.Outcomes.{Outcome, going, cut_short, shown, is_going, CallEffect}
+use Rattle.call_effects.specs.Outcomes.{Outcome, going, cut_short, shown, is_going}
+use Rattle.pmem_engine.specs.Outcomes.{CallEffect}
 use Rattle.pmem_engine.specs.CallFacts.{IsReadyWith, IsUsableWith}
 
 -- a line that was sealed still is, whatever marks follow

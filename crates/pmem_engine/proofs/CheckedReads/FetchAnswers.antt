@@ -27,7 +27,7 @@ use Rattle.pmem_engine.specs.Parts.{Parts, parts_with, AreTrusted, AreSound}
 use Rattle.pmem_engine.specs.Faults.{IsFetchedLine, IsClashShown}
 use Rattle.pmem_engine.specs.CallFacts.{IsForgedExhibit, IsPastFetch}
 use Rattle.pmem_engine.specs.Inner.{HasFetched}
-use Rattle.pmem_engine.proofs.CallEnds.ToldLines.{told_gives}
+use Rattle.call_effects.proofs.ToldLines.{told_gives}
 use Rattle.pmem_engine.proofs.CheckedReads.PathCosts.{length_spilled}
 use Rattle.pmem_engine.proofs.CheckedReads.FetchEnds.{IsFetchOver, done_going, done_cut, done_shown, few_steps, dirty_steps, fewer_dirty_steps, read_is_true, read_was_there}
 

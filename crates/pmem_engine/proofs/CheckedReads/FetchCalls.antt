@@ -18,7 +18,7 @@ use Rattle.pmem_engine.specs.Engine.{ChipState}
 use Rattle.pmem_engine.specs.Outcomes.{NeverFalls}
 use Rattle.pmem_engine.specs.Parts.{parts_with}
 use Rattle.pmem_engine.specs.Inner.{HasFetched}
-use Rattle.pmem_engine.proofs.CallEnds.ToldLines.{told_redone}
+use Rattle.commit_regs.proofs.GroupLemmas.{told_redone}
 use Rattle.pmem_engine.proofs.CheckedReads.FetchEnds.{IsFetchOver}
 use Rattle.pmem_engine.proofs.Seals.NextPaths.{times_never_fall}
 use Rattle.pmem_engine.proofs.CheckedReads.FetchAnswers.{fetched_ok, fetched_cut, fetched_meta, fetched_shown}

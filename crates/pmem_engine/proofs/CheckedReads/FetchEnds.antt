@@ -23,8 +23,9 @@ use Rattle.suite.specs.Setup.{Setup}
 use Rattle.pmem_engine.specs.Engine.{ChipState}
 use Rattle.pmem_engine.specs.Invariants.{IsAnchored, IsTrusted, IsDurable, IsSound, stored_meta}
 use Rattle.pmem_engine.specs.Parts.{Parts, parts_with, AreTrusted, AreSound, HoldsCounters}
-use Rattle.pmem_engine.specs.Outcomes.{Outcome, going, cut_short, shown, NeverFalls, HasPower, HasSmallGroup, LeavesTrusted, LeavesSound, KeepsPlaces, KeepsMetaWhere, CallEffect, OneLossEffect, TakesAtMost, TakesFewer}
-use Rattle.pmem_engine.proofs.CallEnds.ToldLines.{told_surely}
+use Rattle.call_effects.specs.Outcomes.{Outcome, going, cut_short, shown, HasPower}
+use Rattle.pmem_engine.specs.Outcomes.{NeverFalls, HasSmallGroup, LeavesTrusted, LeavesSound, KeepsPlaces, KeepsMetaWhere, CallEffect, OneLossEffect, TakesAtMost, TakesFewer}
+use Rattle.call_effects.proofs.ToldLines.{told_surely}
 use Rattle.pmem_engine.proofs.CheckedReads.FetchedPaths.{trusted_after, sound_lines, places, counters, metadata, meta_same_or_true, own_slot}
 
 -- ---- counts

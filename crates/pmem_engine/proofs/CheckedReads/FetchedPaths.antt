@@ -22,7 +22,7 @@ use Rattle.pmem_engine.specs.Invariants.{IsTrueSlot, IsTrusted, IsSound, stored_
 use Rattle.pmem_engine.specs.Recached.{IsRecached, IsNewlyCached, IsTrueOrDirty, WasCleaned}
 use Rattle.pmem_engine.specs.Parts.{Parts, parts_with, lines_redone, meta_line_in, HoldsCounters, HoldsMeta}
 use Rattle.pmem_engine.specs.Outcomes.{KeepsPlaces, KeepsMeta}
-use Rattle.pmem_engine.proofs.CallEnds.ToldLines.{unarmed}
+use Rattle.commit_regs.proofs.GroupLemmas.{unarmed}
 use Rattle.pmem_engine.proofs.Laws.CounterBlocks.{IsCounterStored-same, IsCounterStored-true}
 use Rattle.pmem_engine.proofs.Laws.MendableLaws.{IsMendable-no_group, IsDurable-no_group, IsMendingOf, IsMendable-mending, shadow_of-same, IsSealStored-same}
 use Rattle.pmem_engine.proofs.Laws.CacheLaws.{IsTrusted-recached, IsSound-recached}

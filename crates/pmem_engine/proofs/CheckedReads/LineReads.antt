@@ -20,7 +20,8 @@ use Rattle.pmem_engine.specs.declared.fault.LineFault.TheVariants as AtLine
 use Rattle.pmem_engine.specs.declared.reading.Unsealed.{Unsealed}
 use Rattle.pmem_engine.specs.Engine.{ChipState}
 use Rattle.pmem_engine.specs.Parts.{Parts, regs_of, AreTrusted, AreSound}
-use Rattle.pmem_engine.specs.Outcomes.{fault_of_path, fault_of_line, of_line, Outcome, going, cut_short, shown, outcome_of_fault, outcome_of, OneLossEffect, TakesSteps, TakesAtMost}
+use Rattle.call_effects.specs.Outcomes.{Outcome, going, cut_short, shown}
+use Rattle.pmem_engine.specs.Outcomes.{fault_of_path, fault_of_line, of_line, outcome_of_fault, outcome_of, OneLossEffect, TakesSteps, TakesAtMost}
 use Rattle.pmem_engine.specs.CallFacts.{IsDownAnswer, IsUnrefused, TakesWithin, TakesWithinOfLive, fetch_state, fetch_work, unseal_work, IsPathFetched, IsPastFetch, IsAnswerOfRead, IsReadWork, AnswersRead}
 use Rattle.pmem_engine.specs.Inner.{HasFetched, HasUnsealed, AnswersFetch, IsLastCounter, AnswersUnseal}
 use Rattle.call_plan.specs.Plans.{ended}

@@ -18,12 +18,14 @@ use Rattle.plain_model.specs.Asked.{reseal_mark, seal_mark}
 use Rattle.pmem_engine.specs.declared.fault.LineFault.{LineFault}
 use Rattle.pmem_engine.specs.Sealed.{sealed_counter}
 use Rattle.pmem_engine.specs.Parts.{Parts, regs_of, AreTrusted, HoldsSeal}
-use Rattle.pmem_engine.specs.Outcomes.{going, is_sealed_by, OneLossEffect, TakesSteps}
+use Rattle.call_effects.specs.Outcomes.{going}
+use Rattle.pmem_engine.specs.Outcomes.{is_sealed_by, OneLossEffect, TakesSteps}
 use Rattle.pmem_engine.specs.CallFacts.{IsUsableWith, IsMemory, moment_in, IsWork, reseal_work, IsUnderMinorZero}
 use Rattle.pmem_engine.specs.Resealing.{register_in, line_of_page, HasResealed}
 use Rattle.pmem_engine.specs.Writing.{reseals_of, HasFinishedPage}
 use Rattle.pmem_engine.specs.Finishing.{IsStillOpen, IsClosed, HasPlacesLeft, HasResealedFirst}
-use Rattle.pmem_engine.proofs.CallEnds.CallChains.{done_chained, sealed_by_either, going_unshown}
+use Rattle.call_effects.proofs.PowerLaws.{going_unshown}
+use Rattle.pmem_engine.proofs.CallEnds.CallChains.{done_chained, sealed_by_either}
 use Rattle.pmem_engine.proofs.CallEnds.StillParts.{nothing_done, left_alone}
 use Rattle.pmem_engine.proofs.CallEnds.ExactWork.{work_then, work_alone, reseal_more}
 use Rattle.pmem_engine.proofs.Laws.AskedCounters.{asked-held}

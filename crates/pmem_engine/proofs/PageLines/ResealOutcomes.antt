@@ -35,7 +35,8 @@ use Rattle.pmem_engine.specs.declared.resealing.HeldLine.{HeldLine}
 use Rattle.pmem_engine.specs.declared.resealing.NextSeal.{NextSeal}
 use Rattle.pmem_engine.specs.Engine.{ChipState}
 use Rattle.pmem_engine.specs.Parts.{Parts, parts_with, AreTrusted, HoldsSeal}
-use Rattle.pmem_engine.specs.Outcomes.{going, cut_short, is_going, is_sealed_by, NeverFalls, TakesSteps, TakesFewer}
+use Rattle.call_effects.specs.Outcomes.{going, cut_short, is_going}
+use Rattle.pmem_engine.specs.Outcomes.{is_sealed_by, NeverFalls, TakesSteps, TakesFewer}
 use Rattle.pmem_engine.specs.CallFacts.{IsUsableWith, IsMemory, moment_in, IsUnderMinorZero}
 use Rattle.pmem_engine.specs.Inner.{HasUnsealed, IsLastCounter}
 use Rattle.pmem_engine.specs.Committing.{next_seal_of, entries_of}

@@ -23,9 +23,11 @@ use Rattle.suite.specs.Setup.{Setup}
 use Rattle.pmem_engine.specs.Engine.{ChipState}
 use Rattle.pmem_engine.specs.Invariants.{IsSound, IsDurable, IsSealStored, IsCounterStored}
 use Rattle.pmem_engine.specs.Parts.{Parts, parts_with, AreTrusted, AreSound, HoldsCounters, lines_redone, meta_line_in}
-use Rattle.pmem_engine.specs.Outcomes.{Outcome, going, cut_short, KeepsPlaces, KeepsMeta, CallEffect, OneLossEffect, HasPower, HasSmallGroup, LeavesTrusted, LeavesSound, KeepsMetaWhere}
+use Rattle.call_effects.specs.Outcomes.{Outcome, going, cut_short, HasPower}
+use Rattle.pmem_engine.specs.Outcomes.{KeepsPlaces, KeepsMeta, CallEffect, OneLossEffect, HasSmallGroup, LeavesTrusted, LeavesSound, KeepsMetaWhere}
 use Rattle.pmem_engine.specs.Inner.{HasNamedPath}
-use Rattle.pmem_engine.proofs.CallEnds.ToldLines.{unarmed, whole_lines}
+use Rattle.call_effects.proofs.ToldLines.{whole_lines}
+use Rattle.commit_regs.proofs.GroupLemmas.{unarmed}
 use Rattle.pmem_engine.proofs.CallEnds.ExactWork.{still_rise}
 use Rattle.pmem_engine.proofs.CallEnds.MetaLines.{named_off_meta}
 use Rattle.pmem_engine.proofs.Laws.CounterBlocks.{IsCounterStored-same}

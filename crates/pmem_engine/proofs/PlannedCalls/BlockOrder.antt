@@ -1,9 +1,11 @@
 -- The dirty counter blocks are written the oldest first: wherever that ends, the first of them are written and clean.
-use Rattle.std.proofs.Common.{ℕ, ◌≡◌, ◌∷◌, ◌++◌, [], List, Option, Some, None, Result, Ok, Err, refl, sym, ap, subst, ◌∙◌}
-use Rattle.std.proofs.lemmas.List.{append-nil, append_assoc}
+use Rattle.std.proofs.Common.{ℕ, ◌≡◌, ◌∷◌, ◌++◌, [], List, Option, Some, None, Result, Ok, Err, length, refl, sym, ap, subst, ◌∙◌}
+use Rattle.std.proofs.lemmas.List.{append-nil, append_assoc, length-append}
 use Rattle.pmem_base.specs.declared.faults.Cut.{Cut}
 use Rattle.pmem_base.specs.declared.lines.Line.{Line}
+use Rattle.pmem_base.specs.Counts.{risen, risen_times}
 use Rattle.pmem_base.specs.Layout as layout
+use Rattle.pmem_base.proofs.CountLemmas.{risen_times-add}
 use Rattle.pmem_base.proofs.LineSets.{put_lines-append}
 use Rattle.board.specs.Device.{Device}
 use Rattle.board.specs.Steps.{HasWritten, WasCut, with_line}
@@ -31,7 +33,7 @@ entries-more (y ∷ front) x engine =
     ap (λ (entries : List (ℕ × Line)). (layout.meta_line engine.shape y, line_in engine.shape engine.cache engine.shape.levels y) ∷ entries)
     (entries-more front x (with_cache engine (cleaned (cache_of engine) engine.shape.levels y)))
 
-redone-more : (front : List (ℕ × Line)) (entry : ℕ × Line) (told : Option (List Line))
+pub redone-more : (front : List (ℕ × Line)) (entry : ℕ × Line) (told : Option (List Line))
     → redone_told (front ++ entry ∷ []) told ≡ with_line (redone_told front told) entry.0 entry.1
 redone-more front entry None = refl
 redone-more front entry (Some lines) = ap Some (put_lines-append front (entry ∷ []) lines)
@@ -55,6 +57,7 @@ module _ (first : ChipState) (old : Device) where
     record { later = later; all_of = left.both },
     record {
       lines = was.lines ∙ left.written.lines;
+      writes = was.writes ∙ left.written.writes;
       engine_left = left.written.engine_left;
       regs = was.regs ∙ left.written.regs;
       reads = was.reads ∙ left.written.reads;
@@ -76,6 +79,9 @@ module _ (first : ChipState) (old : Device) where
                   (line_in e.shape e.cache e.shape.levels x)) left.written.engine_left
                   ∙ sym (redone-more (block_entries left.front first) _ old.lines)
                   ∙ ap (λ entries. redone_told entries old.lines) (sym (entries-more left.front x first));
+              writes =
+                  was.writes.is_risen ∙ ap risen left.written.writes ∙ sym (risen_times-add (length left.front) 1 old.writes)
+                  ∙ ap (λ n. risen_times n old.writes) (sym (length-append left.front (x ∷ [])));
               engine_left =
                   ap (λ (e : ChipState). with_cache e (cleaned (cache_of e) e.shape.levels x)) left.written.engine_left
                   ∙ sym (clean-more left.front x first);
@@ -96,7 +102,7 @@ module _ (first : ChipState) (old : Device) where
       record {
         front = [];
         both = refl;
-        written = record { lines = sym (redone-nil old.lines); engine_left = refl; regs = refl; reads = refl };
+        written = record { lines = sym (redone-nil old.lines); writes = refl; engine_left = refl; regs = refl; reads = refl };
       }
 
   in_order : Leaves (counter_blocks_plan first) (λ end d. AreWrittenBack blocks first end.0 old d) (λ left d. IsCut left d) old

@@ -7,8 +7,9 @@ use Rattle.call_plan.specs.Plans.{Plan}
 use Rattle.call_plan.specs.Following.{Follows}
 use Rattle.seal_ledger.specs.Ledger.{LedgerState}
 use Rattle.pmem_engine.specs.Engine.{ChipState}
-use Rattle.pmem_engine.specs.Plans.{chip_with, ended_with}
-use Rattle.pmem_engine.proofs.CallEnds.ErrorAnswers.{is_err_of}
+use Rattle.commit_regs.specs.Plans.{ended_with}
+use Rattle.pmem_engine.specs.Plans.{chip_with}
+use Rattle.call_effects.proofs.ResultLaws.{is_err_of}
 
 pub same_chip : (engine : ChipState) {ledger other : LedgerState} {tags other_tags digests other_digests : ℕ} → ledger ≡ other → tags ≡ other_tags
     → digests ≡ other_digests → chip_with engine ledger tags digests ≡ chip_with engine other other_tags other_digests

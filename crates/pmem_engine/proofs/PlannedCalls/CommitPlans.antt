@@ -15,7 +15,8 @@ use Rattle.seal_ledger.specs.Ledger.{LedgerState}
 use Rattle.pmem_engine.specs.declared.resealing.NextSeal.{NextSeal}
 use Rattle.pmem_engine.specs.Committing.{entries_of, HasLineDone}
 use Rattle.pmem_engine.specs.Plans.{armed, with_seal, commit_plan}
-use Rattle.pmem_engine.proofs.PlannedCalls.GroupPlans.{same_regs, group_cut, group_end}
+use Rattle.commit_regs.proofs.GroupPlans.{group_cut, group_end}
+use Rattle.pmem_engine.proofs.PlannedCalls.GroupPlans.{same_regs}
 
 -- the registers that a seal arms, by their parts
 pub armed_is : (g : Shape) (next : NextSeal) (old new : Regs) → HasLineDone next.at old new → new.group.items ≡ entries_of g next

@@ -24,7 +24,7 @@ use Rattle.pmem_engine.specs.Resealing.{HasResealed, register_in, line_of_page}
 use Rattle.pmem_engine.specs.Writing.{register_to_finish}
 use Rattle.pmem_engine.specs.Plans.{Chip, its_counter, unseal_plan, register_at, reseal_plan}
 use Rattle.pmem_engine.specs.WritePlans.{plain_plan, with_next_done, finish_turn, finish_page_plan, finish_found_plan, finish_for_plan}
-use Rattle.pmem_engine.proofs.CallEnds.CallChains.{going_uncut}
+use Rattle.call_effects.proofs.PowerLaws.{going_uncut}
 
 -- ---- the plain line
 

@@ -16,7 +16,7 @@ use Rattle.pmem_base.specs.Shape.{Shape}
 use Rattle.call_plan.specs.Plans.{Plan, done, stop, read, write, latch, bind, mapped, repeated}
 use Rattle.call_plan.specs.Bounds.{IsOrder, Ascends, IsFront, state_at}
 use Rattle.call_plan.proofs.Ascents.{ends_above, cut_is_below, ascends_from, ascends_bind, ascends_mapped, ascends_repeated, fronts}
-use Rattle.commit_regs.specs.Plans.{finish_plan}
+use Rattle.commit_regs.specs.Plans.{finish_plan, group_plan}
 use Rattle.line_seal.specs.Seals.{unsealed}
 use Rattle.suite.specs.Formulas.{Formulas}
 use Rattle.suite.specs.Setup.{Setup}
@@ -31,7 +31,7 @@ use Rattle.pmem_engine.specs.declared.resealing.NextSeal.{NextSeal}
 use Rattle.pmem_engine.specs.Inner.{cached_block}
 use Rattle.pmem_engine.specs.Committing.{next_seal_of}
 use Rattle.pmem_engine.specs.Writing.{overflow_of, register_to_finish}
-use Rattle.pmem_engine.specs.Plans.{Chip, with_tags, fetch_parts_of, its_counter, register_at, held_of, armed, with_seal, group_plan, commit_plan, opened_plan, unseal_plan, fetch_path_plan, seal_anew_plan, reseal_plan, oldest_page_plan, turn_plan, name_plan}
+use Rattle.pmem_engine.specs.Plans.{Chip, with_tags, fetch_parts_of, its_counter, register_at, held_of, armed, with_seal, commit_plan, opened_plan, unseal_plan, fetch_path_plan, seal_anew_plan, reseal_plan, oldest_page_plan, turn_plan, name_plan}
 use Rattle.pmem_engine.specs.SealPlans.{begin_page_plan, begin_for_plan, seal_next_plan}
 use Rattle.pmem_engine.specs.WritePlans.{overflow_end, overflow_plan, plain_plan, finish_turn, finish_page_plan, finish_found_plan, finish_for_plan, write_plan}
 use Rattle.pmem_engine.specs.MarkLaws.{marks_at, CutMakesAFront, KeepsMarks, CutWritesMakeFronts, CutTurnsMakeFronts, WritesKeepMarks, TurnsKeepMarks}

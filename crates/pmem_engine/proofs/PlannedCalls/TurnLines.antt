@@ -26,7 +26,8 @@ use Rattle.pmem_engine.specs.declared.reading.Unsealed.{Unsealed}
 use Rattle.pmem_engine.specs.declared.resealing.HeldLine.{HeldLine}
 use Rattle.pmem_engine.specs.declared.resealing.NextSeal.{NextSeal}
 use Rattle.pmem_engine.specs.Committing.{next_seal_of}
-use Rattle.pmem_engine.specs.Plans.{Chip, with_tags, with_ledger, opened_plan, unseal_plan, group_plan, commit_plan, register_at, held_of, seal_anew_plan, reseal_plan, oldest_page_plan, turn_plan}
+use Rattle.commit_regs.specs.Plans.{group_plan}
+use Rattle.pmem_engine.specs.Plans.{Chip, with_tags, with_ledger, opened_plan, unseal_plan, commit_plan, register_at, held_of, seal_anew_plan, reseal_plan, oldest_page_plan, turn_plan}
 use Rattle.pmem_engine.specs.KeptLaws.{KeepsMirror, TurnsWriteTheirLine, TurnsKeepMirror}
 
 module _ (setup : Setup) (held : HeldLine) where
@@ -91,7 +92,7 @@ turn_writes setup regs chip old new end it at apart other =
 -- ---- the engine
 
 -- what holds of whatever an end may be
-of_all : {E T : Type 0} (ok : T → Device → Type 0) (err : E → Device → Type 0) → ((t : T) (d : Device) → ok t d) → ((left : E) (d : Device) → err left d)
+pub of_all : {E T : Type 0} (ok : T → Device → Type 0) (err : E → Device → Type 0) → ((t : T) (d : Device) → ok t d) → ((left : E) (d : Device) → err left d)
     → (plan : Plan E T) (d : Device) → Leaves plan ok err d
 unfolding Leaves
 of_all ok err oks errs (done t) d = oks t d

@@ -23,7 +23,8 @@ use Rattle.pmem_engine.specs.declared.fault.Fault.{Fault}
 use Rattle.pmem_engine.specs.declared.fault.Fault.TheVariants as Fail
 use Rattle.pmem_engine.specs.declared.fault.LineFault.{LineFault}
 use Rattle.pmem_engine.specs.Parts.{Parts, regs_of, AreTrusted}
-use Rattle.pmem_engine.specs.Outcomes.{fault_of_line, of_cut, going, cut_short, is_going, outcome_of_fault, TakesSteps, TakesAtMost}
+use Rattle.call_effects.specs.Outcomes.{going, cut_short, is_going}
+use Rattle.pmem_engine.specs.Outcomes.{fault_of_line, of_cut, outcome_of_fault, TakesSteps, TakesAtMost}
 use Rattle.pmem_engine.specs.CallFacts.{IsMemory, moment_in, AreMarksOfWrite, AnswersWrite, write_bound, TakesSpent, TakesOfWrite, IsUnderMinorZero}
 use Rattle.pmem_engine.specs.Inner.{cached_block, HasFetched, HasNamedPath}
 use Rattle.pmem_engine.specs.Sealing.{next_counter_of, HasSealedNext}

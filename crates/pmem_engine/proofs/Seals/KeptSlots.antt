@@ -40,7 +40,7 @@ masked_mark (slot ∷ slots) x dirty = ap₂ (λ s ss. s ∷ ss) (by (slot.posit
         ∙ sym (cond-true (slot.position == x) (record slot { line = zero_line; dirty = false }) slot is)
     by false is = ap (masked x) (cond-false (slot.position == x) (slot_marked slot dirty) slot is)
 
-masked_stored : (slots : List Slot) (x : ℕ) (line : Line) (dirty : Bool)
+pub masked_stored : (slots : List Slot) (x : ℕ) (line : Line) (dirty : Bool)
     → map (masked x) (stored_set slots x line dirty) ≡ map (masked x) slots
 masked_stored slots x line dirty = masked_mark (with_slot_line slots x line) x dirty ∙ masked_line slots x line
 

@@ -31,7 +31,8 @@ use Rattle.pmem_engine.specs.declared.resealing.NextSeal.{NextSeal}
 use Rattle.pmem_engine.specs.Engine.{ChipState}
 use Rattle.pmem_engine.specs.Invariants.{IsTrusted}
 use Rattle.pmem_engine.specs.Parts.{Parts, parts_with, lines_redone, AreTrusted}
-use Rattle.pmem_engine.specs.Outcomes.{going, cut_short, is_sealed_by, NeverFalls, OneLossEffect}
+use Rattle.call_effects.specs.Outcomes.{going, cut_short}
+use Rattle.pmem_engine.specs.Outcomes.{is_sealed_by, NeverFalls, OneLossEffect}
 use Rattle.pmem_engine.specs.CallFacts.{IsUsableWith, IsPathNamedInMirror}
 use Rattle.pmem_engine.specs.Committing.{next_seal_of, HasCommitted, IsCutArmed}
 use Rattle.pmem_engine.specs.Inner.{cached_block}

@@ -13,7 +13,8 @@ use Rattle.plain_model.specs.Answers.{decided_answer}
 use Rattle.pmem_engine.specs.declared.fault.Fault.{Fault}
 use Rattle.pmem_engine.specs.declared.fault.Fault.TheVariants as Fail
 use Rattle.pmem_engine.specs.Engine.{ChipState, EngineState}
-use Rattle.pmem_engine.specs.Outcomes.{going, cut_short, outcome_of, OneLossEffect}
+use Rattle.call_effects.specs.Outcomes.{going, cut_short}
+use Rattle.pmem_engine.specs.Outcomes.{outcome_of, OneLossEffect}
 use Rattle.pmem_engine.specs.Calls.{HasFlushed, AnswersFlush}
 use Rattle.watched_board.specs.Watching.{none_taken, steps_in}
 use Rattle.pmem_replay.specs.During.{parts_in}

@@ -9,7 +9,8 @@ use Rattle.pmem_base.specs.Shape.{is_loss}
 use Rattle.plain_model.specs.Answers.{decided_answer}
 use Rattle.pmem_engine.specs.declared.fault.Fault.{Fault}
 use Rattle.pmem_engine.specs.declared.fault.Fault.TheVariants as Fail
-use Rattle.pmem_engine.specs.Outcomes.{going, cut_short, outcome_of, CallEffect}
+use Rattle.call_effects.specs.Outcomes.{going, cut_short}
+use Rattle.pmem_engine.specs.Outcomes.{outcome_of, CallEffect}
 use Rattle.pmem_engine.specs.Calls.{HasSetLoss, AnswersLoss}
 use Rattle.watched_board.specs.Watching.{none_taken, steps_in}
 use Rattle.pmem_replay.specs.During.{parts_in}

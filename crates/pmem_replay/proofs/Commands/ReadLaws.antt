@@ -28,7 +28,8 @@ use Rattle.pmem_engine.specs.declared.fault.Fault.{Fault}
 use Rattle.pmem_engine.specs.declared.fault.Fault.TheVariants as Fail
 use Rattle.pmem_engine.specs.Engine.{EngineState}
 use Rattle.pmem_engine.specs.Invariants.{IsSealStored}
-use Rattle.pmem_engine.specs.Outcomes.{going, outcome_of, OneLossEffect, KeepsPlaces}
+use Rattle.call_effects.specs.Outcomes.{going}
+use Rattle.pmem_engine.specs.Outcomes.{outcome_of, OneLossEffect, KeepsPlaces}
 use Rattle.pmem_engine.specs.Faults.{IsClashShown, IsForgedShown}
 use Rattle.pmem_engine.specs.Calls.{HasReadLine}
 use Rattle.pmem_replay.specs.World.{WorldState, IsOn, view_in, lines_in}

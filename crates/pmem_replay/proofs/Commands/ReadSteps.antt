@@ -19,7 +19,8 @@ use Rattle.plain_model.specs.After.{state_after, steps_of, is_cut}
 use Rattle.plain_model.specs.Answers.{decided_answer, is_shown, is_covered}
 use Rattle.pmem_engine.specs.declared.fault.Fault.{Fault}
 use Rattle.pmem_engine.specs.declared.fault.Fault.TheVariants as Fail
-use Rattle.pmem_engine.specs.Outcomes.{Outcome, going, outcome_of, OneLossEffect}
+use Rattle.call_effects.specs.Outcomes.{Outcome, going}
+use Rattle.pmem_engine.specs.Outcomes.{outcome_of, OneLossEffect}
 use Rattle.pmem_engine.specs.Invariants.{IsSealStored}
 use Rattle.pmem_engine.specs.Calls.{HasReadLine}
 use Rattle.watched_board.specs.Watching.{none_taken, steps_in}

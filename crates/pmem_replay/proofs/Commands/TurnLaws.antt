@@ -17,7 +17,8 @@ use Rattle.plain_model.specs.Shown.{IsShown}
 use Rattle.plain_model.specs.Fits.{IsTurnMark, oldest_page}
 use Rattle.pmem_engine.specs.declared.fault.Fault.TheVariants as Fail
 use Rattle.pmem_engine.specs.Engine.{EngineState}
-use Rattle.pmem_engine.specs.Outcomes.{going, shown, OneLossEffect, KeepsPlaces}
+use Rattle.call_effects.specs.Outcomes.{going, shown}
+use Rattle.pmem_engine.specs.Outcomes.{OneLossEffect, KeepsPlaces}
 use Rattle.pmem_engine.specs.Calls.{HasTurned}
 use Rattle.pmem_replay.specs.World.{WorldState, IsOn, view_in}
 use Rattle.watched_board.specs.declared.taken.Taken.{Taken}

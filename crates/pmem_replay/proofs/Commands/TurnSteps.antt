@@ -14,7 +14,8 @@ use Rattle.plain_model.specs.After.{state_after, steps_of, is_cut}
 use Rattle.plain_model.specs.Answers.{is_shown}
 use Rattle.pmem_engine.specs.declared.fault.Fault.{Fault}
 use Rattle.pmem_engine.specs.declared.fault.Fault.TheVariants as Fail
-use Rattle.pmem_engine.specs.Outcomes.{Outcome, going, outcome_of, OneLossEffect, KeepsPlaces}
+use Rattle.call_effects.specs.Outcomes.{Outcome, going}
+use Rattle.pmem_engine.specs.Outcomes.{outcome_of, OneLossEffect, KeepsPlaces}
 use Rattle.pmem_engine.specs.Calls.{HasTurned, AreMarksOfTurn, moment_in}
 use Rattle.watched_board.specs.Watching.{none_taken, steps_in}
 use Rattle.pmem_replay.specs.During.{parts_in}

@@ -21,7 +21,8 @@ use Rattle.plain_model.specs.After.{state_after, after_marks, steps_of, is_cut}
 use Rattle.plain_model.specs.Answers.{decided_answer, is_shown}
 use Rattle.pmem_engine.specs.declared.fault.Fault.{Fault}
 use Rattle.pmem_engine.specs.declared.fault.Fault.TheVariants as Fail
-use Rattle.pmem_engine.specs.Outcomes.{going, outcome_of}
+use Rattle.call_effects.specs.Outcomes.{going}
+use Rattle.pmem_engine.specs.Outcomes.{outcome_of}
 use Rattle.pmem_replay.specs.World.{WorldState, IsWorld, view_in, setup_of_world}
 use Rattle.watched_board.specs.declared.taken.Taken.{Taken}
 use Rattle.watched_board.specs.Watching.{steps_in}

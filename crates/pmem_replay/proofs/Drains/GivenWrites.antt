@@ -17,7 +17,8 @@ use Rattle.plain_model.specs.State.{PlainState, memory_with, without_flag}
 use Rattle.plain_model.specs.After.{after_marks, steps_of, steps_with}
 use Rattle.pmem_engine.specs.declared.fault.Fault.{Fault}
 use Rattle.pmem_engine.specs.declared.fault.Fault.TheVariants as Fail
-use Rattle.pmem_engine.specs.Outcomes.{Outcome, going, cut_short, outcome_of, is_sealed_by, OneLossEffect}
+use Rattle.call_effects.specs.Outcomes.{Outcome, going, cut_short}
+use Rattle.pmem_engine.specs.Outcomes.{outcome_of, is_sealed_by, OneLossEffect}
 use Rattle.watched_board.specs.declared.taken.Taken.{Taken}
 use Rattle.watched_board.specs.Watching.{none_taken, steps_in}
 use Rattle.pmem_replay.specs.During.{parts_in}

@@ -21,7 +21,8 @@ use Rattle.plain_model.specs.After.{state_after, after_marks, steps_of, is_cut}
 use Rattle.plain_model.specs.Answers.{is_shown}
 use Rattle.pmem_engine.specs.declared.fault.Fault.{Fault}
 use Rattle.pmem_engine.specs.declared.fault.Fault.TheVariants as Fail
-use Rattle.pmem_engine.specs.Outcomes.{going, outcome_of, is_sealed_by}
+use Rattle.call_effects.specs.Outcomes.{going}
+use Rattle.pmem_engine.specs.Outcomes.{outcome_of, is_sealed_by}
 use Rattle.pmem_engine.specs.Calls.{IsPartOf}
 use Rattle.pmem_replay.specs.World.{WorldState, IsOn, IsWorld, view_in}
 use Rattle.watched_board.specs.declared.taken.Taken.{Taken}

@@ -32,7 +32,8 @@ use Rattle.plain_model.specs.Fits.{IsStopped, IsSpentNext, IsPlaceInFlight}
 use Rattle.pmem_engine.specs.declared.fault.Fault.{Fault}
 use Rattle.pmem_engine.specs.declared.fault.Fault.TheVariants as Fail
 use Rattle.pmem_engine.specs.Engine.{EngineState}
-use Rattle.pmem_engine.specs.Outcomes.{going, outcome_of, is_sealed_by, OneLossEffect, KeepsPlaces}
+use Rattle.call_effects.specs.Outcomes.{going}
+use Rattle.pmem_engine.specs.Outcomes.{outcome_of, is_sealed_by, OneLossEffect, KeepsPlaces}
 use Rattle.pmem_engine.specs.Faults.{IsClashShown}
 use Rattle.pmem_engine.specs.Calls.{HasWrittenLine, IsPartOf, IsRefusedLine, TakesOfWrite, TakesSpent, write_bound, IsForgedInWrite}
 use Rattle.pmem_engine.proofs.Laws.TrueLines.{true_line-is}

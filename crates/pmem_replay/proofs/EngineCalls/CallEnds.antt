@@ -18,7 +18,8 @@ use Rattle.plain_model.proofs.PlainMemory.{memory_is}
 use Rattle.pmem_engine.specs.declared.fault.Fault.{Fault}
 use Rattle.pmem_engine.specs.Engine.{EngineState}
 use Rattle.pmem_engine.specs.Parts.{Parts, parts_of}
-use Rattle.pmem_engine.specs.Outcomes.{Outcome, going, cut_short, shown, outcome_of, LeavesTrusted, HasPower, is_going}
+use Rattle.call_effects.specs.Outcomes.{Outcome, going, cut_short, shown, HasPower, is_going}
+use Rattle.pmem_engine.specs.Outcomes.{outcome_of, LeavesTrusted}
 use Rattle.watched_board.specs.declared.taken.Taken.{Taken}
 use Rattle.watched_board.specs.Watching.{none_taken, steps_in, device_during}
 use Rattle.pmem_replay.specs.During.{parts_in}

@@ -18,7 +18,8 @@ use Rattle.plain_model.specs.Answers.{decided_answer, is_shown}
 use Rattle.pmem_engine.specs.declared.fault.Fault.{Fault}
 use Rattle.pmem_engine.specs.declared.fault.Fault.TheVariants as Fail
 use Rattle.pmem_engine.specs.Parts.{Parts}
-use Rattle.pmem_engine.specs.Outcomes.{Outcome, going, cut_short, shown, outcome_of, HasPower}
+use Rattle.call_effects.specs.Outcomes.{Outcome, going, cut_short, shown, HasPower}
+use Rattle.pmem_engine.specs.Outcomes.{outcome_of}
 use Rattle.watched_board.specs.declared.taken.Taken.{Taken}
 use Rattle.watched_board.specs.Watching.{none_taken, steps_in, step_limit, device_during}
 use Rattle.watched_board.proofs.StepLaws.{fewer}

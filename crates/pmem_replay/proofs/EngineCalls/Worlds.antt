@@ -19,7 +19,8 @@ use Rattle.plain_model.specs.Bounds.{can_be_dirty}
 use Rattle.plain_model.specs.View.{IsMemoryOf}
 use Rattle.pmem_engine.specs.Engine.{EngineState}
 use Rattle.pmem_engine.specs.Parts.{HoldsSeal, HoldsCounters, HoldsMeta}
-use Rattle.pmem_engine.specs.Outcomes.{Outcome, going, cut_short, shown, is_sealed_by, CallEffect, is_going}
+use Rattle.call_effects.specs.Outcomes.{Outcome, going, cut_short, shown, is_going}
+use Rattle.pmem_engine.specs.Outcomes.{is_sealed_by, CallEffect}
 use Rattle.pmem_engine.specs.Calls.{IsMemory}
 use Rattle.pmem_replay.specs.Flagged.{healed_flags}
 use Rattle.pmem_replay.specs.World.{WorldState, HasFlags, HasQueues, IsOn, IsWorld, lines_in}

@@ -27,12 +27,12 @@ use Rattle.plain_model.specs.Bounds.{recovery_bound, path_length}
 use Rattle.pmem_engine.specs.Engine.{EngineState, on_chip}
 use Rattle.pmem_engine.specs.Invariants.{IsTrusted, IsSound, IsDurable, IsSealStored}
 use Rattle.meta_path.proofs.PathFacts.{set_of-empty_banks}
-use Rattle.pmem_recovery.specs.declared.faults.Work.{Work}
+use Rattle.call_effects.specs.declared.recovery.Work.{Work}
 use Rattle.pmem_recovery.specs.declared.faults.RecFault.{RecFault}
 use Rattle.pmem_recovery.specs.declared.faults.RecFault.TheVariants as Fail
-use Rattle.pmem_recovery.specs.Parts.{SuiteState}
+use Rattle.call_effects.specs.SuiteStates.{SuiteState}
 use Rattle.pmem_recovery.specs.Recovered.{HasRecovered, HasMended}
-use Rattle.pmem_recovery.proofs.LatchLaws.{one_latch}
+use Rattle.commit_regs.proofs.GroupLemmas.{one_latch}
 use Rattle.pmem_replay.specs.World.{WorldState, AreKept, HasSteps, IsOn, IsOff, IsWorld, IsPowered, IsOtherCipher}
 use Rattle.watched_board.specs.declared.taken.Taken.{Taken}
 use Rattle.watched_board.specs.Watching.{AreInCount, none_taken, steps_in, device_during, FollowsOn}

@@ -29,15 +29,16 @@ use Rattle.plain_model.specs.After.{after_clean, after_loosening, state_after, s
 use Rattle.plain_model.specs.Bounds.{recovery_bound}
 use Rattle.plain_model.specs.Answers.{decided_answer, is_shown}
 use Rattle.pmem_engine.specs.Engine.{EngineState}
-use Rattle.pmem_recovery.specs.declared.faults.Work.{Work}
+use Rattle.call_effects.specs.declared.recovery.Work.{Work}
 use Rattle.pmem_recovery.specs.declared.faults.RecFault.{RecFault}
 use Rattle.pmem_recovery.specs.declared.faults.RecFault.TheVariants as Fail
-use Rattle.pmem_recovery.specs.Parts.{SuiteState, IsRefusal, suite_state}
+use Rattle.call_effects.specs.SuiteStates.{SuiteState, suite_state}
+use Rattle.pmem_recovery.specs.Parts.{IsRefusal}
 use Rattle.pmem_recovery.specs.Trials.{first_undecided, tried_minors}
 use Rattle.pmem_recovery.specs.Fixed.{found_root}
 use Rattle.pmem_recovery.specs.Plans.{suite_counts, recover_plan}
 use Rattle.pmem_recovery.specs.Recovered.{HasRecovered, HasOnlyRedone}
-use Rattle.pmem_recovery.proofs.LatchLaws.{one_latch}
+use Rattle.commit_regs.proofs.GroupLemmas.{one_latch}
 use Rattle.pmem_recovery.proofs.UndecidedLaws.{undecided_line}
 use Rattle.pmem_replay.specs.Flagged.{Tampering, Dirtying, HasDirtyingOf, with_tampering, with_dirtying}
 use Rattle.pmem_replay.specs.World.{WorldState, WorldParts, IsOff, IsWorld, state_in, world_of, lines_in}

@@ -10,9 +10,9 @@ use Rattle.meta_cache.specs.State.{empty_banks}
 use Rattle.suite.specs.Setup.{Setup}
 use Rattle.plain_model.specs.After.{steps_with}
 use Rattle.pmem_engine.specs.Engine.{EngineState}
-use Rattle.pmem_recovery.specs.declared.faults.Work.{Work}
+use Rattle.call_effects.specs.declared.recovery.Work.{Work}
 use Rattle.pmem_recovery.specs.declared.faults.RecFault.{RecFault}
-use Rattle.pmem_recovery.specs.Parts.{suite_state}
+use Rattle.call_effects.specs.SuiteStates.{suite_state}
 use Rattle.meta_path.proofs.PathFacts.{set_of-empty_banks}
 use Rattle.pmem_replay.specs.World.{WorldState, WorldParts, world_of}
 use Rattle.watched_board.specs.declared.taken.Taken.{Taken}

@@ -32,7 +32,7 @@ use Rattle.pmem_recovery.specs.declared.faults.RecFault.{RecFault}
 use Rattle.pmem_recovery.specs.declared.faults.RecFault.TheVariants as Fail
 use Rattle.pmem_recovery.specs.Trials.{IsTwinOfLastSeal}
 use Rattle.pmem_recovery.specs.Recovered.{HasOnlyRedone}
-use Rattle.pmem_recovery.proofs.LatchLaws.{one_latch}
+use Rattle.commit_regs.proofs.GroupLemmas.{one_latch}
 use Rattle.pmem_recovery.proofs.UndecidedLaws.{undecided_line}
 use Rattle.pmem_replay.specs.World.{WorldState, AreKept, IsOff, IsWorld, view_in, lines_in}
 use Rattle.watched_board.specs.declared.taken.Taken.{Taken}

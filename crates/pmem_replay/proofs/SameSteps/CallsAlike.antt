@@ -16,7 +16,8 @@ use Rattle.plain_model.specs.After.{is_cut}
 use Rattle.pmem_engine.specs.declared.fault.Fault.{Fault}
 use Rattle.pmem_engine.specs.declared.fault.Fault.TheVariants as Fail
 use Rattle.pmem_engine.specs.Engine.{EngineState, ChipState, on_chip}
-use Rattle.pmem_engine.specs.Outcomes.{is_sealed_by, outcome_of, is_going}
+use Rattle.call_effects.specs.Outcomes.{is_going}
+use Rattle.pmem_engine.specs.Outcomes.{is_sealed_by, outcome_of}
 use Rattle.pmem_engine.specs.Parts.{Parts}
 use Rattle.pmem_engine.specs.Plans.{Chip, chip_of}
 use Rattle.pmem_replay.specs.Planned.{CallPlan}

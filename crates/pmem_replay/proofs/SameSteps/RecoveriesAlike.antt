@@ -9,7 +9,7 @@ use Rattle.call_plan.specs.Runs.{IsOutcome}
 use Rattle.call_plan.proofs.DeterminedCalls.{call_is_determined}
 use Rattle.suite.specs.Setup.{Setup}
 use Rattle.pmem_engine.specs.Engine.{EngineState}
-use Rattle.pmem_recovery.specs.declared.faults.Work.{Work}
+use Rattle.call_effects.specs.declared.recovery.Work.{Work}
 use Rattle.pmem_recovery.specs.declared.faults.RecFault.{RecFault}
 use Rattle.pmem_recovery.specs.declared.faults.RecFault.TheVariants as Stop
 use Rattle.pmem_recovery.specs.Plans.{SuiteCounts, suite_counts, counts_of, recover_plan}

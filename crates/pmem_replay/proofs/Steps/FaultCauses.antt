@@ -28,7 +28,8 @@ use Rattle.plain_model.specs.Legal.{MayDiffer}
 use Rattle.plain_model.specs.View.{IsMemoryOf}
 use Rattle.pmem_engine.specs.Engine.{EngineState, on_chip}
 use Rattle.pmem_engine.specs.Invariants.{IsAnchored, IsTrusted, IsSealStored, IsSealTagged, stored_meta}
-use Rattle.pmem_engine.specs.Outcomes.{Outcome, going, cut_short, shown, is_sealed_by, KeepsPlaces, CallEffect}
+use Rattle.call_effects.specs.Outcomes.{Outcome, going, cut_short, shown}
+use Rattle.pmem_engine.specs.Outcomes.{is_sealed_by, KeepsPlaces, CallEffect}
 use Rattle.pmem_engine.specs.Faults.{IsFetchedLine, IsTagRefused, IsForgedShown}
 use Rattle.pmem_replay.specs.World.{WorldState, AreKept, IsOn, lines_in}
 use Rattle.watched_board.specs.declared.taken.Taken.{Taken}

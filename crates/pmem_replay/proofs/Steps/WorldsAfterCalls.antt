@@ -21,7 +21,8 @@ use Rattle.plain_model.specs.View.{IsMemoryOf}
 use Rattle.pmem_engine.specs.Engine.{EngineState}
 use Rattle.pmem_engine.specs.Invariants.{IsCounterStored}
 use Rattle.pmem_engine.specs.Parts.{Parts}
-use Rattle.pmem_engine.specs.Outcomes.{going, cut_short, is_going, is_sealed_by, KeepsPlaces, CallEffect}
+use Rattle.call_effects.specs.Outcomes.{going, cut_short, is_going}
+use Rattle.pmem_engine.specs.Outcomes.{is_sealed_by, KeepsPlaces, CallEffect}
 use Rattle.pmem_replay.specs.World.{WorldState, AreKept, HasFlags, HasQueues, HasBoard, HasSteps, IsOn, IsOff, IsWorld, IsPowered, IsOtherCipher, lines_in}
 use Rattle.watched_board.specs.declared.taken.Taken.{Taken}
 use Rattle.watched_board.specs.Watching.{none_taken, steps_in, step_limit, counted, AreInCount, FollowsOn}

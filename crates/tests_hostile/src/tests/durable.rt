@@ -3,9 +3,10 @@ ghost use Rattle.pmem_engine.specs.Calls.{IsUnrefused};
 ghost use Rattle.tests_hostile.specs.Ends.{IsUnrefusedRecovery};
 
 use board::{Board, MemBoard, Tripped};
+use call_effects::Work;
 use pmem_base::{Ctr, Geo, Line};
 use pmem_engine::{Engine, Fault};
-use pmem_recovery::{RecFault, Work, format, recover};
+use pmem_recovery::{RecFault, format, recover};
 use seal_ledger::{Audit, Ledger};
 use std::alloc::Global;
 use std::test::Fail;

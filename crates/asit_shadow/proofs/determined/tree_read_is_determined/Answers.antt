@@ -1,4 +1,4 @@
-use Rattle.call_plan.proofs.DeterminedCalls.{call_is_determined}
+use Rattle.asit_shadow.proofs.Common.{call_is_determined}
 use Rattle.asit_shadow.proofs.determined.tree_read_is_determined.Goals as goal
 
 pub returns : goal.returns

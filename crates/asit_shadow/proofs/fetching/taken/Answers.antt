@@ -1,7 +1,6 @@
 -- The plan of a node's reading, in the words of a call.
 use Rattle.std.proofs.Common.{ap}
-use Rattle.call_plan.proofs.Bind.{mapped_follows}
-use Rattle.asit_shadow.specs.Plans.{with_read, fault_of_node}
+use Rattle.asit_shadow.proofs.Common.{mapped_follows, with_read, fault_of_node}
 use Rattle.asit_shadow.proofs.FetchPlans.{lifted_err}
 use Rattle.asit_shadow.proofs.fetching.taken.Goals as goal
 

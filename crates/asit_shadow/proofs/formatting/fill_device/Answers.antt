@@ -1,18 +1,6 @@
 -- All lines are written and told, and the root is latched.
 use Rattle.std.proofs.Common.{ℕ, suc, ◌≡◌, ◌≤◌, ◌+◌, ◌^◌, List, length, sym, ap, subst, ◌∙◌, arith}
-use Rattle.std.specs.Prelude.{Ok, option_map}
-use Rattle.pmem_base.specs.declared.lines.Line.{Line}
-use Rattle.pmem_base.specs.Geo.{shape_of}
-use Rattle.pmem_base.specs.Layout.{level_start, meta_lines}
-use Rattle.counter_tree.specs.Layout.{tree_lines, tree_slots}
-use Rattle.counter_tree.specs.Shadow.{IsShadowTree, root_of, shadow_digests, shadow_height}
-use Rattle.pmem_base.specs.Counts.{risen_times}
-use Rattle.call_plan.specs.Following.{Follows}
-use Rattle.pmem_recovery.specs.Parts.{suite_state, SuiteRise}
-use Rattle.counter_tree.proofs.HeightLemmas.{shadow_height-room}
-use Rattle.pmem_recovery.proofs.PartLaws.{SuiteRise-then, SuiteRise-as}
-use Rattle.asit_shadow.specs.Recovering.{rest_of}
-use Rattle.asit_shadow.specs.Formatting.{nodes_plan, naming_plan, node_lines_written, slot_lines_written, AreSlotsTold}
+use Rattle.asit_shadow.proofs.Common.{Ok, option_map, Line, shape_of, level_start, meta_lines, tree_lines, tree_slots, IsShadowTree, root_of, shadow_digests, shadow_height, risen_times, Follows, suite_state, SuiteRise, shadow_height-room, SuiteRise-then, SuiteRise-as, rest_of, nodes_plan, naming_plan, node_lines_written, slot_lines_written, AreSlotsTold}
 use Rattle.asit_shadow.proofs.FormatSteps.{first_slots-count}
 use Rattle.asit_shadow.proofs.FormatEnds.{device-formatted}
 use Rattle.asit_shadow.proofs.formatting.fill_device.Goals as goal

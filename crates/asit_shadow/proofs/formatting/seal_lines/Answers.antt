@@ -1,18 +1,6 @@
 -- A line sealed more.
 use Rattle.std.proofs.Common.{ℕ, ◌≡◌, ◌+◌, ◌*◌, List, length, Some, ap, subst, ◌∙◌, arith}
-use Rattle.std.specs.Prelude.{Option, Ok, option_map}
-use Rattle.pmem_base.specs.Geo.{shape_of}
-use Rattle.board.specs.Steps.{with_line}
-use Rattle.counter_tree.specs.declared.watch.LineSeal.{LineSeal}
-use Rattle.counter_tree.specs.Layout.{tree_lines, line_of_tag}
-use Rattle.counter_tree.specs.Watch.{HasSealNoted}
-use Rattle.call_plan.specs.Following.{Follows}
-use Rattle.call_plan.proofs.Loops.{turn_ok, turns_end}
-use Rattle.pmem_recovery.specs.Formatting.{StaysSteady}
-use Rattle.pmem_recovery.proofs.FormatSteps.{StaysSteady-then}
-use Rattle.pmem_recovery.proofs.PartLaws.{SuiteRise-then, SuiteRise-as}
-use Rattle.asit_shadow.specs.Paths.{tag_only}
-use Rattle.asit_shadow.specs.Formatting.{sealing_turn, first_tree_seal, tree_sealed_lines, AreSealsTold}
+use Rattle.asit_shadow.proofs.Common.{Option, Ok, option_map, shape_of, with_line, LineSeal, tree_lines, line_of_tag, HasSealNoted, Follows, turn_ok, turns_end, StaysSteady, StaysSteady-then, SuiteRise-then, SuiteRise-as, tag_only, sealing_turn, first_tree_seal, tree_sealed_lines, AreSealsTold}
 use Rattle.asit_shadow.proofs.FormatSteps.{length-set_first, sealed-more, seals-more}
 use Rattle.asit_shadow.proofs.formatting.seal_lines.Goals as goal
 

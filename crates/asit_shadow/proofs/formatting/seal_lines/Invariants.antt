@@ -1,12 +1,6 @@
 -- The lines sealed so far.
 use Rattle.std.proofs.Common.{◌≡◌, ◌*◌}
-use Rattle.std.specs.Prelude.{option_map}
-use Rattle.pmem_base.specs.Geo.{shape_of}
-use Rattle.call_plan.proofs.Loops.{AreTurnsLeft}
-use Rattle.counter_tree.specs.Layout.{tree_lines}
-use Rattle.pmem_recovery.specs.Formatting.{StaysSteady}
-use Rattle.pmem_recovery.specs.Parts.{suite_state, SuiteRise}
-use Rattle.asit_shadow.specs.Formatting.{sealing_turn, sealing_plan, tree_sealed_lines, AreSealsTold}
+use Rattle.asit_shadow.proofs.Common.{option_map, shape_of, AreTurnsLeft, tree_lines, StaysSteady, suite_state, SuiteRise, sealing_turn, sealing_plan, tree_sealed_lines, AreSealsTold}
 use Rattle.asit_shadow.proofs.formatting.seal_lines.Given as goal
 
 abbrev pub invariant-lines : goal.invariant-lines

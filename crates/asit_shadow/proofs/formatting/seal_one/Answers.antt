@@ -1,18 +1,6 @@
 -- A data line and its tag line are written.
 use Rattle.std.proofs.Common.{◌≡◌, ap, subst, ◌∙◌}
-use Rattle.pmem_base.specs.declared.lines.Line.{Line}
-use Rattle.pmem_base.specs.Geo.{shape_of}
-use Rattle.board.specs.Steps.{HasWritten, with_line}
-use Rattle.call_plan.specs.Plans.{the_cut}
-use Rattle.call_plan.proofs.Steps.{write_then}
-use Rattle.counter_tree.specs.declared.watch.LineSeal.{LineSeal}
-use Rattle.counter_tree.specs.Layout.{line_of_tag}
-use Rattle.counter_tree.specs.Watch.{HasSealNoted}
-use Rattle.pmem_recovery.proofs.FormatPlans.{written_so}
-use Rattle.pmem_recovery.proofs.FormatSteps.{StaysSteady-then, StaysSteady-written}
-use Rattle.asit_shadow.specs.Paths.{tag_only}
-use Rattle.asit_shadow.specs.Writing.{IsSealMade}
-use Rattle.asit_shadow.specs.Formatting.{first_tree_seal}
+use Rattle.asit_shadow.proofs.Common.{Line, shape_of, HasWritten, with_line, the_cut, write_then, LineSeal, line_of_tag, HasSealNoted, written_so, StaysSteady-then, StaysSteady-written, tag_only, IsSealMade, first_tree_seal}
 use Rattle.asit_shadow.proofs.FormatSteps.{first-made}
 use Rattle.asit_shadow.proofs.formatting.seal_one.Goals as goal
 

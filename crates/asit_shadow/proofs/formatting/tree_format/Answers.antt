@@ -1,16 +1,7 @@
 -- The engine over a formatted device.
 use Rattle.std.proofs.Common.{◌≡◌, List, Some, replicate, refl, sym, ap, subst, ◌∙◌}
-use Rattle.std.specs.Prelude.{Option, slice_set, false}
-use Rattle.pmem_base.specs.declared.lines.Line.{Line}
-use Rattle.pmem_base.specs.Geo.{shape_of}
+use Rattle.asit_shadow.proofs.Common.{Option, slice_set, false, Line, shape_of, tree_slots, IsChipTree, CachedNode, TreeState, IsTreeEngine, tree_parts_of, IsTreeUsable, rest_of, first_held, first_cache, HasTreeFormatted}
 use Rattle.pmem_base.specs.Lines.{zero_line}
-use Rattle.counter_tree.specs.Layout.{tree_slots}
-use Rattle.counter_tree.specs.Shadow.{IsChipTree}
-use Rattle.asit_shadow.specs.declared.cache.CachedNode.{CachedNode}
-use Rattle.asit_shadow.specs.State.{TreeState, IsTreeEngine}
-use Rattle.asit_shadow.specs.Parts.{tree_parts_of, IsTreeUsable}
-use Rattle.asit_shadow.specs.Recovering.{rest_of}
-use Rattle.asit_shadow.specs.Formatting.{first_held, first_cache, HasTreeFormatted}
 use Rattle.asit_shadow.proofs.FormatEnds.{first-engine, tree-formatted, formatted-usable}
 use Rattle.asit_shadow.proofs.formatting.tree_format.Given.{Over}
 use Rattle.asit_shadow.proofs.formatting.tree_format.Goals.{After-fill_device}

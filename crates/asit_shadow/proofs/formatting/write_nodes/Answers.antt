@@ -1,18 +1,6 @@
 -- A node written more.
 use Rattle.std.proofs.Common.{ℕ, ◌≡◌, List, length, ap, subst, ◌∙◌, arith}
-use Rattle.std.specs.Prelude.{option_map}
-use Rattle.pmem_base.specs.Geo.{shape_of}
-use Rattle.pmem_base.specs.Layout.{meta_lines}
-use Rattle.board.specs.Steps.{with_line}
-use Rattle.counter_tree.specs.declared.nodes.Node.{Node}
-use Rattle.counter_tree.specs.Layout.{line_of_node}
-use Rattle.counter_tree.specs.Nodes.{node_line, zero_node}
-use Rattle.pmem_recovery.specs.Formatting.{StaysSteady}
-use Rattle.call_plan.proofs.Loops.{turn_ok, turns_end}
-use Rattle.pmem_recovery.proofs.FormatPlans.{written_so}
-use Rattle.pmem_recovery.proofs.FormatSteps.{StaysSteady-then, StaysSteady-written}
-use Rattle.pmem_recovery.proofs.PartLaws.{SuiteRise-then, SuiteRise-as}
-use Rattle.asit_shadow.specs.Formatting.{node_lines_written, AreNodesTold}
+use Rattle.asit_shadow.proofs.Common.{option_map, shape_of, meta_lines, with_line, Node, line_of_node, node_line, zero_node, StaysSteady, turn_ok, turns_end, written_so, StaysSteady-then, StaysSteady-written, SuiteRise-then, SuiteRise-as, node_lines_written, AreNodesTold}
 use Rattle.asit_shadow.proofs.FormatSteps.{length-set_first, written-more, nodes-more}
 use Rattle.asit_shadow.proofs.formatting.write_nodes.Goals as goal
 

@@ -1,12 +1,6 @@
 -- The nodes written so far.
 use Rattle.std.proofs.Common.{◌≡◌}
-use Rattle.std.specs.Prelude.{option_map}
-use Rattle.pmem_base.specs.Geo.{shape_of}
-use Rattle.pmem_base.specs.Layout.{meta_lines}
-use Rattle.call_plan.proofs.Loops.{AreTurnsLeft}
-use Rattle.pmem_recovery.specs.Formatting.{StaysSteady}
-use Rattle.pmem_recovery.specs.Parts.{suite_state, SuiteRise}
-use Rattle.asit_shadow.specs.Formatting.{node_turn, nodes_plan, node_lines_written, AreNodesTold}
+use Rattle.asit_shadow.proofs.Common.{option_map, shape_of, meta_lines, AreTurnsLeft, StaysSteady, suite_state, SuiteRise, node_turn, nodes_plan, node_lines_written, AreNodesTold}
 use Rattle.asit_shadow.proofs.formatting.write_nodes.Given as goal
 
 abbrev pub invariant-nodes : goal.invariant-nodes

@@ -1,17 +1,7 @@
 -- A slot line written more.
 use Rattle.std.proofs.Common.{◌≡◌, List, [], length, get_or, ap, subst, ◌∙◌, arith}
-use Rattle.std.specs.Prelude.{option_map}
-use Rattle.std.proofs.lemmas.List.{get_or_default}
-use Rattle.pmem_base.specs.Geo.{shape_of}
-use Rattle.pmem_base.specs.declared.lines.Line.{Line}
-use Rattle.pmem_base.specs.Lines.{line_at, zero_line}
-use Rattle.board.specs.Steps.{with_line}
-use Rattle.counter_tree.specs.Layout.{tree_slots, line_of_slot}
-use Rattle.pmem_recovery.specs.Formatting.{StaysSteady}
-use Rattle.call_plan.proofs.Loops.{turn_ok, turns_end}
-use Rattle.pmem_recovery.proofs.FormatPlans.{written_so}
-use Rattle.pmem_recovery.proofs.FormatSteps.{StaysSteady-then, StaysSteady-written}
-use Rattle.asit_shadow.specs.Formatting.{slot_lines_written, AreSlotsTold}
+use Rattle.asit_shadow.proofs.Common.{option_map, get_or_default, shape_of, Line, line_at, with_line, tree_slots, line_of_slot, StaysSteady, turn_ok, turns_end, written_so, StaysSteady-then, StaysSteady-written, slot_lines_written, AreSlotsTold}
+use Rattle.pmem_base.specs.Lines.{zero_line}
 use Rattle.asit_shadow.proofs.FormatSteps.{length-set_first, written-more, slots-told_more}
 use Rattle.asit_shadow.proofs.formatting.write_slots.Goals as goal
 

@@ -1,11 +1,6 @@
 -- The slot lines written so far.
 use Rattle.std.proofs.Common.{◌≡◌}
-use Rattle.std.specs.Prelude.{option_map}
-use Rattle.pmem_base.specs.Geo.{shape_of}
-use Rattle.call_plan.proofs.Loops.{AreTurnsLeft}
-use Rattle.counter_tree.specs.Layout.{tree_slots}
-use Rattle.pmem_recovery.specs.Formatting.{StaysSteady}
-use Rattle.asit_shadow.specs.Formatting.{naming_turn, naming_plan, slot_lines_written, AreSlotsTold}
+use Rattle.asit_shadow.proofs.Common.{option_map, shape_of, AreTurnsLeft, tree_slots, StaysSteady, naming_turn, naming_plan, slot_lines_written, AreSlotsTold}
 use Rattle.asit_shadow.proofs.formatting.write_slots.Given as goal
 
 abbrev pub invariant-slots : goal.invariant-slots

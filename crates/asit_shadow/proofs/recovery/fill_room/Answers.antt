@@ -1,28 +1,11 @@
 -- The ends of a recovery before an engine is made.
 use Rattle.std.proofs.Common.{ℕ, suc, false, Result, Ok, Err, ◌≡◌, ◌≢◌, ◌<◌, ◌≤◌, ◌^◌, length, List, refl, sym, ap, subst, ◌∙◌, arith}
-use Rattle.std.proofs.lemmas.Bool.{true≢false}
-use Rattle.pmem_base.specs.declared.lines.Line.{Line}
-use Rattle.pmem_base.specs.declared.registers.Regs.{Regs}
-use Rattle.pmem_base.specs.Counts.{risen_times}
-use Rattle.pmem_base.specs.Geo.{shape_of}
-use Rattle.pmem_base.specs.Layout.{level_start}
-use Rattle.std.specs.Prelude.{Option}
-use Rattle.suite.specs.Setup.{Setup}
-use Rattle.call_plan.specs.Following.{Follows}
-use Rattle.pmem_recovery.specs.declared.faults.Work.{Work}
-use Rattle.pmem_recovery.proofs.RecoveryPlans.{redo_cut, redo_done}
-use Rattle.counter_tree.specs.Plans.{with_exhibit}
-use Rattle.counter_tree.proofs.ReadPlans.{watch_shown}
-use Rattle.counter_tree.proofs.SlotPlans.{clash-is, chip-tree-is}
-use Rattle.asit_shadow.specs.declared.cache.CachedNode.{CachedNode}
-use Rattle.asit_shadow.specs.declared.recovery.TreeRec.{TreeRec}
+use Rattle.asit_shadow.proofs.Common.{true≢false, Line, Regs, risen_times, shape_of, level_start, Option, Setup, Follows, Work, with_exhibit, watch_shown, clash-is, chip-tree-is, CachedNode, TreeRec, TreeState, RecoverParts, recover_parts, recovery_work, recover_parts_at, IsShadowTree, shadow_digests, shadow_height, shadow_height-room, rest_of, AreSlotsRead, IsReadFinished}
+use Rattle.commit_regs.proofs.GroupPlans.{redo_cut, redo_done}
 use Rattle.asit_shadow.specs.declared.recovery.TreeRec.TheVariants as Fail
-use Rattle.asit_shadow.specs.State.{TreeState}
-use Rattle.asit_shadow.specs.RecoverPlans.{RecoverParts, recover_parts, recovery_work, root_plan, fill_plan, recover_parts_at}
+use Rattle.asit_shadow.specs.RecoverPlans.{root_plan, fill_plan}
 use Rattle.asit_shadow.proofs.RecoverPlans.{fill_cut, fill_unread, fill_read, root_refused, slots_accepted, slots_shown}
-use Rattle.counter_tree.specs.Shadow.{IsShadowTree, shadow_digests, shadow_height, shadow_root}
-use Rattle.counter_tree.proofs.HeightLemmas.{shadow_height-room}
-use Rattle.asit_shadow.specs.Recovering.{rest_of, AreSlotsRead, IsReadFinished}
+use Rattle.counter_tree.specs.Shadow.{shadow_root}
 use Rattle.asit_shadow.proofs.RecoverEnds.{read_finished, slots-read, root-is, interrupted_end, unread_end, refused_end, shown_end, shown_usable}
 use Rattle.asit_shadow.proofs.recovery.fill_room.Given.{Over}
 use Rattle.asit_shadow.proofs.recovery.fill_room.Goals.{After-regs}

@@ -1,16 +1,7 @@
 -- One slot more.
 use Rattle.std.proofs.Common.{◌≡◌, ◌<◌, [], length, Some, sym, subst, ◌∙◌, inl, inr, arith}
-use Rattle.std.proofs.lemmas.List.{get_or_default}
-use Rattle.pmem_base.specs.declared.lines.Line.{Line}
-use Rattle.std.proofs.lemmas.Bool.{cases_lt}
-use Rattle.pmem_base.specs.Geo.{shape_of}
-use Rattle.pmem_base.specs.Lines.{line_at, zero_line}
-use Rattle.counter_tree.specs.Slots.{slot_read}
-use Rattle.asit_shadow.specs.declared.cache.CachedNode.{CachedNode}
-use Rattle.asit_shadow.specs.State.{IsHeldNode}
-use Rattle.asit_shadow.specs.Steps.{held_of}
-use Rattle.asit_shadow.specs.Recovering.{IsNameable}
-use Rattle.asit_shadow.specs.RecoverPlans.{cached_named}
+use Rattle.asit_shadow.proofs.Common.{get_or_default, Line, cases_lt, shape_of, line_at, slot_read, CachedNode, IsHeldNode, held_of, IsNameable, cached_named}
+use Rattle.pmem_base.specs.Lines.{zero_line}
 use Rattle.asit_shadow.proofs.RecoverPlans.{cache_named-is}
 use Rattle.asit_shadow.proofs.EngineLemmas.{set-below, of-some, held-past}
 use Rattle.asit_shadow.proofs.recovery.put_named.Goals as goal

@@ -1,13 +1,6 @@
 -- The slots so far.
 use Rattle.std.proofs.Common.{ℕ, ◌≡◌, ◌<◌, Some}
-use Rattle.pmem_base.specs.Geo.{shape_of}
-use Rattle.pmem_base.specs.Lines.{line_at}
-use Rattle.counter_tree.specs.Slots.{slot_read}
-use Rattle.asit_shadow.specs.declared.cache.CachedNode.{CachedNode}
-use Rattle.asit_shadow.specs.State.{cache_at, IsHeldNode}
-use Rattle.asit_shadow.specs.Steps.{held_of}
-use Rattle.asit_shadow.specs.Recovering.{IsNameable}
-use Rattle.asit_shadow.specs.RecoverPlans.{cached_named}
+use Rattle.asit_shadow.proofs.Common.{shape_of, line_at, slot_read, CachedNode, cache_at, IsHeldNode, held_of, IsNameable, cached_named}
 use Rattle.asit_shadow.proofs.recovery.put_named.Given as goal
 
 abbrev pub invariant-slots : goal.invariant-slots

@@ -1,13 +1,7 @@
 -- The slot lines' plan, line by line.
 use Rattle.std.proofs.Common.{rules, Result, sym, subst, arith}
-use Rattle.pmem_base.specs.declared.faults.Cut.{Cut}
-use Rattle.pmem_base.specs.Geo.{shape_of}
-use Rattle.board.specs.Steps.{HasRead}
-use Rattle.call_plan.specs.Following.{Follows}
-use Rattle.call_plan.proofs.Loops.{turns_start, turn_ok, turn_err, turns_end}
-use Rattle.pmem_engine.proofs.CallEnds.ErrorAnswers.{is_err_of}
-use Rattle.counter_tree.specs.Layout.{tree_slots}
-use Rattle.asit_shadow.specs.RecoverPlans.{slot_turn, slots_plan, slots_end}
+use Rattle.asit_shadow.proofs.Common.{Cut, shape_of, HasRead, Follows, turns_start, turn_ok, turn_err, turns_end, is_err_of, tree_slots, slots_plan, slots_end}
+use Rattle.asit_shadow.specs.RecoverPlans.{slot_turn}
 use Rattle.asit_shadow.proofs.RecoverPlans.{slot_was_read, slot_unread}
 use Rattle.asit_shadow.proofs.recovery.read_slots.Goals as goal
 

@@ -1,13 +1,7 @@
 -- The slot lines so far.
 use Rattle.std.proofs.Common.{ℕ, ◌<◌}
-use Rattle.std.specs.Prelude.{All}
-use Rattle.pmem_base.specs.Geo.{shape_of}
-use Rattle.pmem_base.specs.Lines.{IsLine, line_at}
-use Rattle.board.specs.Steps.{Tells}
-use Rattle.counter_tree.specs.Layout.{tree_slots, line_of_slot}
-use Rattle.call_plan.proofs.Loops.{AreTurnsLeft}
-use Rattle.asit_shadow.specs.Recovering.{HasOnlyReadLines}
-use Rattle.asit_shadow.specs.RecoverPlans.{RecoverParts, slot_turn, slots_plan}
+use Rattle.asit_shadow.proofs.Common.{All, shape_of, IsLine, line_at, Tells, tree_slots, line_of_slot, AreTurnsLeft, HasOnlyReadLines, RecoverParts, slots_plan}
+use Rattle.asit_shadow.specs.RecoverPlans.{slot_turn}
 use Rattle.asit_shadow.proofs.recovery.read_slots.Given as goal
 
 abbrev pub invariant-slots : goal.invariant-slots

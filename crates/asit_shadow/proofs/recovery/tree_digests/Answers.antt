@@ -1,7 +1,6 @@
 -- Powers of 4 that are small.
 use Rattle.std.proofs.Common.{◌+◌, arith}
-use Rattle.std.proofs.Math.Nat.{one-le-pow}
-use Rattle.pmem_base.proofs.LayoutLemmas.{pages-most}
+use Rattle.asit_shadow.proofs.Common.{one-le-pow, pages-most}
 use Rattle.asit_shadow.proofs.recovery.tree_digests.Goals as goal
 
 pub pow-requires : goal.pow-requires

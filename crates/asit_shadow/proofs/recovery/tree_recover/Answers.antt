@@ -1,22 +1,9 @@
 -- The engine that recovery makes.
 use Rattle.std.proofs.Common.{ℕ, ◌≡◌, ◌++◌, List, replicate, Result, Err, take, drop, length, refl, sym, ap, subst, ◌∙◌, arith}
-use Rattle.std.specs.Prelude.{Option, All, Ok}
-use Rattle.std.proofs.lemmas.List.Elements.{All-replicate}
 use Rattle.std.proofs.lemmas.Result.{err_from_is_err_and}
-use Rattle.pmem_base.specs.declared.lines.Line.{Line}
-use Rattle.pmem_base.specs.Geo.{shape_of}
-use Rattle.board.specs.Device.{Device}
-use Rattle.call_plan.specs.Plans.{Plan}
-use Rattle.call_plan.specs.Following.{Follows}
-use Rattle.pmem_recovery.specs.declared.faults.Work.{Work}
-use Rattle.asit_shadow.specs.declared.recovery.TreeRec.{TreeRec}
-use Rattle.asit_shadow.specs.RecoverPlans.{RecoverParts, fill_plan, recover_parts_at}
-use Rattle.pmem_base.specs.Lines.{IsLine, zero_line}
-use Rattle.pmem_base.proofs.LineLemmas.{IsLine-zero_line}
-use Rattle.counter_tree.specs.Layout.{tree_slots}
-use Rattle.asit_shadow.specs.declared.cache.CachedNode.{CachedNode}
-use Rattle.asit_shadow.specs.State.{TreeState, IsTreeEngine}
-use Rattle.asit_shadow.specs.Recovering.{rest_of, HasTreeRecovered}
+use Rattle.asit_shadow.proofs.Common.{Option, All, Ok, All-replicate, Line, shape_of, Device, Plan, Follows, Work, TreeRec, RecoverParts, recover_parts_at, IsLine, IsLine-zero_line, tree_slots, CachedNode, TreeState, IsTreeEngine, rest_of, HasTreeRecovered}
+use Rattle.asit_shadow.specs.RecoverPlans.{fill_plan}
+use Rattle.pmem_base.specs.Lines.{zero_line}
 use Rattle.asit_shadow.proofs.RecoverEnds.{filled-engine, filled-end, written-whole}
 use Rattle.asit_shadow.proofs.recovery.tree_recover.Given.{Over}
 use Rattle.asit_shadow.proofs.recovery.tree_recover.Goals.{After-fill_room}

@@ -1,10 +1,6 @@
 -- A seal's parts are in range.
 use Rattle.std.proofs.Common.{ℕ, ◌<◌, ◌^◌, List, refl, sym, ap, subst, ◌∙◌, arith}
-use Rattle.pmem_base.specs.declared.lines.Line.{Line}
-use Rattle.pmem_base.specs.Lines.{IsCtr, IsLine, IsTag}
-use Rattle.suite.specs.Formulas.{cipher_of}
-use Rattle.suite.proofs.CipherLemmas.{cipher_of-IsLine}
-use Rattle.counter_tree.specs.Nodes.{version_counter}
+use Rattle.asit_shadow.proofs.Common.{Line, IsCtr, IsLine, IsTag, cipher_of, cipher_of-IsLine, version_counter}
 use Rattle.asit_shadow.proofs.seals.sealed.Goals as goal
 
 pub returns-clause-made : goal.returns-clause-made

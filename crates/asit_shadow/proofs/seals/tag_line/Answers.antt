@@ -1,9 +1,8 @@
 -- A tag line has the tag, and zeros.
 use Rattle.std.proofs.Common.{ℕ, ◌≡◌, ◌+◌, ◌*◌, ◌%◌, ◌++◌, List, length, drop, replicate, ap, ◌∙◌, arith}
-use Rattle.pmem_base.specs.declared.lines.Line.{Line}
-use Rattle.pmem_base.specs.Lines.{line_of, zero_line}
+use Rattle.asit_shadow.proofs.Common.{Line, line_of, tag_only}
+use Rattle.pmem_base.specs.Lines.{zero_line}
 use Rattle.line_seal.specs.Seals.{with_tag}
-use Rattle.asit_shadow.specs.Paths.{tag_only}
 use Rattle.asit_shadow.proofs.seals.tag_line.Goals as goal
 
 tags-of : (tag : List ℕ) → length tag ≡ 16 → with_tag zero_line 0 tag ≡ tag_only tag

@@ -1,7 +1,6 @@
 -- The path has a position for each level.
 use Rattle.std.proofs.Common.{ℕ, ◌/◌, List, length, ap, ◌∙◌, arith}
-use Rattle.pmem_base.specs.Geo.{shape_of}
-use Rattle.bonsai_tree.proofs.PathPositions.{length-path_of}
+use Rattle.asit_shadow.proofs.Common.{shape_of, length-path_of}
 use Rattle.asit_shadow.proofs.writing.position_below.Goals as goal
 
 pub bounds-as_slice-from : goal.bounds-as_slice-from

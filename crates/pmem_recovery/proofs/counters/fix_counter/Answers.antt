@@ -1,4 +1,4 @@
-use Rattle.pmem_recovery.specs.Parts.{setup_with}
+use Rattle.call_effects.specs.SuiteStates.{setup_with}
 use Rattle.board.specs.Steps.{HasRead}
 use Rattle.pmem_base.specs.Layout.{meta_line}
 use Rattle.call_plan.proofs.Steps.{ended_err}

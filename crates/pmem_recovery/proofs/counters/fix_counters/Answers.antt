@@ -7,7 +7,7 @@ use Rattle.pmem_base.specs.Layout.{meta_lines, slots, level_start}
 use Rattle.bonsai_tree.proofs.Levels.{meta_lines-counters}
 use Rattle.stop_loss.proofs.Windows.{is_loss_cases}
 use Rattle.pmem_recovery.specs.Named.{names, count_named, IsNextAt}
-use Rattle.pmem_recovery.specs.Parts.{setup_with}
+use Rattle.call_effects.specs.SuiteStates.{setup_with}
 use Rattle.pmem_recovery.proofs.PartLaws.{IsShape-geo, slots-small, few_and_one}
 use Rattle.pmem_recovery.proofs.NamedLaws.{count_named-gap, count_named-next, count_named-le, count_named-counters}
 use Rattle.call_plan.specs.Plans.{for_each}

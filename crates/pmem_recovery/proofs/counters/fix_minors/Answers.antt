@@ -2,7 +2,7 @@ use Rattle.std.proofs.Common.{◌≡◌, ◌≤◌, ◌+◌, ◌*◌, ap, refl, 
 use Rattle.std.proofs.lemmas.List.Elements.{All-set}
 use Rattle.pmem_base.specs.Geo.{shape_of}
 use Rattle.pmem_base.proofs.LayoutLemmas.{pages-most}
-use Rattle.pmem_recovery.specs.Parts.{setup_with}
+use Rattle.call_effects.specs.SuiteStates.{setup_with}
 use Rattle.call_plan.proofs.Steps.{ended_err}
 use Rattle.call_plan.proofs.Loops.{turns_start, turn_ok, turn_err, turns_end}
 use Rattle.split_counters.specs.Blocks.{with_minor}

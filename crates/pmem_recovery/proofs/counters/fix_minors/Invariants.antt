@@ -1,5 +1,5 @@
 use Rattle.std.proofs.Common.{◌≡◌, ◌≤◌, ◌*◌, All}
-use Rattle.pmem_recovery.specs.Parts.{setup_with}
+use Rattle.call_effects.specs.SuiteStates.{setup_with}
 use Rattle.call_plan.proofs.Loops.{AreTurnsLeft}
 use Rattle.pmem_recovery.specs.Plans.{counts_at, minor_turn, minors_plan}
 use Rattle.pmem_recovery.proofs.counters.fix_minors.Given as goal

@@ -2,7 +2,7 @@ use Rattle.std.proofs.Common.{ℕ, ◌≡◌, ◌+◌, ◌-◌, length, sym, ◌
 use Rattle.std.proofs.lemmas.List.FromFn.{length-range_with_len}
 use Rattle.page_reencrypt.specs.Registers.{register_held}
 use Rattle.stop_loss.specs.Windows.{minors_within}
-use Rattle.pmem_recovery.specs.Parts.{setup_with}
+use Rattle.call_effects.specs.SuiteStates.{setup_with}
 use Rattle.pmem_recovery.proofs.TryLaws.{none_left}
 use Rattle.call_plan.proofs.Steps.{ended_err}
 use Rattle.pmem_recovery.specs.Plans.{counts_at}

@@ -8,7 +8,7 @@ use Rattle.call_plan.proofs.Determined.{determined_by_fuse}
 use Rattle.call_plan.proofs.Keeping.{Grows, follows_grows, on_and_off}
 use Rattle.suite.specs.Setup.{Setup}
 use Rattle.pmem_recovery.specs.declared.faults.RecFault.TheVariants.{Memory, Cut, NoCounter, Root, Twin}
-use Rattle.pmem_recovery.specs.Parts.{SuiteState}
+use Rattle.call_effects.specs.SuiteStates.{SuiteState}
 use Rattle.pmem_recovery.specs.Plans.{counts_of, recover_plan}
 use Rattle.pmem_recovery.specs.Recovered.{Answer, PowerAfter, PlanAfter}
 use Rattle.pmem_recovery.specs.Determined.{IsGoneThrough}

@@ -1,8 +1,9 @@
 use Rattle.std.proofs.Common.{◌<◌, arith}
 use Rattle.pmem_base.specs.Geo.{shape_of}
 use Rattle.call_plan.proofs.Loops.{turn_ok, turns_end}
-use Rattle.pmem_recovery.proofs.FormatSteps.{StaysSteady-then, StaysSteady-written, HasClearedTables-more}
-use Rattle.pmem_recovery.proofs.FormatPlans.{written_so}
+use Rattle.call_effects.proofs.SteadyLaws.{StaysSteady-then, StaysSteady-written}
+use Rattle.pmem_recovery.proofs.FormatSteps.{HasClearedTables-more}
+use Rattle.call_plan.proofs.Steps.{written_so}
 use Rattle.pmem_base.specs.Layout.{shadow_lines}
 use Rattle.pmem_recovery.proofs.formatting.clear_tables.Goals as goal
 

@@ -1,7 +1,8 @@
 use Rattle.pmem_base.specs.Geo.{shape_of}
 use Rattle.pmem_base.specs.Layout.{shadow_lines}
 use Rattle.call_plan.proofs.Loops.{AreTurnsLeft}
-use Rattle.pmem_recovery.specs.Formatting.{StaysSteady, HasClearedTables, zero_turn, zeros_plan}
+use Rattle.call_effects.specs.Steady.{StaysSteady}
+use Rattle.pmem_recovery.specs.Formatting.{HasClearedTables, zero_turn, zeros_plan}
 use Rattle.pmem_recovery.proofs.formatting.clear_tables.Given as goal
 
 abbrev pub invariant-lines : goal.invariant-lines

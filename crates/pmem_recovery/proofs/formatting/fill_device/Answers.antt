@@ -11,9 +11,10 @@ use Rattle.board.specs.Steps.{HasLatched}
 use Rattle.suite.specs.Formulas.{Formulas}
 use Rattle.pmem_base.specs.Lines.{line_at, zero_line}
 use Rattle.pmem_engine.specs.Mendable.{new_engine}
-use Rattle.pmem_recovery.specs.Parts.{setup_of}
+use Rattle.call_effects.specs.SuiteStates.{setup_of}
 use Rattle.pmem_recovery.specs.Formatting.{first_regs}
-use Rattle.pmem_recovery.proofs.PartLaws.{IsShape-geo, SuiteRise-then, SuiteRise-as}
+use Rattle.call_effects.proofs.SuiteLaws.{SuiteRise-then, SuiteRise-as}
+use Rattle.pmem_recovery.proofs.PartLaws.{IsShape-geo}
 use Rattle.pmem_recovery.proofs.FormattedLaws.{HasFormatted-of}
 use Rattle.pmem_recovery.proofs.formatting.fill_device.Goals as goal
 

@@ -7,7 +7,7 @@ use Rattle.bonsai_tree.specs.Nodes.{node_over}
 use Rattle.bonsai_tree.proofs.Levels.{meta_lines-counters, level_start-pow}
 use Rattle.pmem_base.proofs.LineSets.{line_at-set_other}
 use Rattle.suite.specs.Formulas.{Formulas}
-use Rattle.pmem_recovery.proofs.PartLaws.{SuiteRise-as, SuiteRise-then}
+use Rattle.call_effects.proofs.SuiteLaws.{SuiteRise-as, SuiteRise-then}
 use Rattle.pmem_recovery.proofs.FormatSteps.{nodes_more}
 use Rattle.pmem_recovery.proofs.formatting.grow_nodes.Goals as goal
 

@@ -3,7 +3,7 @@ use Rattle.pmem_base.specs.Geo.{shape_of}
 use Rattle.pmem_base.specs.Lines.{IsLine, line_at}
 use Rattle.pmem_base.specs.Layout.{level_start}
 use Rattle.bonsai_tree.specs.Nodes.{node_over}
-use Rattle.pmem_recovery.specs.Parts.{suite_state, SuiteRise}
+use Rattle.call_effects.specs.SuiteStates.{suite_state, SuiteRise}
 use Rattle.pmem_recovery.proofs.formatting.grow_nodes.Given as goal
 
 abbrev pub invariant-nodes : goal.invariant-nodes

@@ -1,7 +1,7 @@
 use Rattle.std.proofs.Common.{ℕ, ◌≡◌, ◌<◌, [], length, get_or}
 use Rattle.pmem_base.specs.Lines.{line_at}
 use Rattle.bonsai_tree.specs.Nodes.{child_digest_over}
-use Rattle.pmem_recovery.specs.Parts.{suite_state, SuiteRise}
+use Rattle.call_effects.specs.SuiteStates.{suite_state, SuiteRise}
 use Rattle.pmem_recovery.proofs.formatting.node_above.Given as goal
 
 abbrev pub invariant-children : goal.invariant-children

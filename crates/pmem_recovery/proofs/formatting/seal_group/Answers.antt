@@ -4,18 +4,19 @@ use Rattle.pmem_base.proofs.LayoutLemmas.{pages-most}
 use Rattle.pmem_base.specs.Lines.{tag_slot}
 use Rattle.board.specs.Steps.{HasWritten}
 use Rattle.suite.specs.Formulas.{Formulas}
-use Rattle.pmem_recovery.specs.Parts.{setup_of, setup_with}
-use Rattle.pmem_recovery.specs.Formatting.{first_cipher, first_tag, HasSealedFrom, StaysSteady}
-use Rattle.pmem_recovery.proofs.PartLaws.{SuiteRise-then, SuiteRise-as}
-use Rattle.pmem_recovery.proofs.FormatSteps.{IsGroupTo, StaysSteady-then, StaysSteady-written, HasSealedFrom-then, sealed_count, IsGroupTo-more, HasSealedGroup-written, slots-more}
+use Rattle.call_effects.specs.SuiteStates.{setup_of, setup_with}
+use Rattle.call_effects.specs.Steady.{StaysSteady}
+use Rattle.pmem_recovery.specs.Formatting.{first_cipher, first_tag, HasSealedFrom}
+use Rattle.call_effects.proofs.SuiteLaws.{SuiteRise-then, SuiteRise-as, SuiteRise-none}
+use Rattle.call_effects.proofs.SteadyLaws.{StaysSteady-then, StaysSteady-written, StaysSteady-none}
+use Rattle.pmem_recovery.proofs.FormatSteps.{IsGroupTo, HasSealedFrom-then, sealed_count, IsGroupTo-more, HasSealedGroup-written, slots-more}
 use Rattle.pmem_base.specs.declared.lines.Line.{Line}
 use Rattle.pmem_base.specs.Lines.{zero_line}
 use Rattle.line_seal.specs.Seals.{with_tag}
 use Rattle.call_plan.specs.Plans.{repeated}
 use Rattle.call_plan.proofs.Loops.{AreTurnsLeft, turns_start, turn_ok, turns_end}
 use Rattle.pmem_recovery.specs.Formatting.{seal_turn}
-use Rattle.pmem_recovery.proofs.PartLaws.{SuiteRise-none}
-use Rattle.pmem_recovery.proofs.FormatSteps.{StaysSteady-none, HasSealedFrom-none, IsGroupTo-none}
+use Rattle.pmem_recovery.proofs.FormatSteps.{HasSealedFrom-none, IsGroupTo-none}
 use Rattle.pmem_recovery.proofs.FormatPlans.{sealed_so, group_so}
 use Rattle.pmem_recovery.proofs.formatting.seal_group.Goals as goal
 

@@ -1,10 +1,11 @@
 use Rattle.std.proofs.Common.{ℕ, ◌≡◌, ◌<◌, ◌+◌, ◌*◌}
 use Rattle.pmem_base.specs.Lines.{tag_slot}
-use Rattle.pmem_recovery.specs.Parts.{setup_of, suite_state, SuiteRise}
+use Rattle.call_effects.specs.SuiteStates.{setup_of, suite_state, SuiteRise}
 use Rattle.pmem_base.specs.Lines.{zero_line}
 use Rattle.call_plan.specs.Plans.{repeated}
 use Rattle.call_plan.proofs.Loops.{AreTurnsLeft}
-use Rattle.pmem_recovery.specs.Formatting.{first_tag, HasSealedFrom, StaysSteady, seal_turn}
+use Rattle.call_effects.specs.Steady.{StaysSteady}
+use Rattle.pmem_recovery.specs.Formatting.{first_tag, HasSealedFrom, seal_turn}
 use Rattle.pmem_recovery.proofs.FormatSteps.{IsGroupTo}
 use Rattle.pmem_recovery.proofs.formatting.seal_group.Given as goal
 

@@ -2,15 +2,16 @@ use Rattle.std.proofs.Common.{ℕ, ◌≡◌, ◌+◌, ◌*◌, List, Ok, refl, 
 use Rattle.pmem_base.specs.Geo.{shape_of}
 use Rattle.pmem_base.specs.Layout.{data_lines, pages}
 use Rattle.suite.specs.Formulas.{Formulas}
-use Rattle.pmem_recovery.specs.Parts.{setup_of, setup_with}
-use Rattle.pmem_recovery.specs.Formatting.{HasSealedFrom, HasSealedGroup, StaysSteady}
-use Rattle.pmem_recovery.proofs.PartLaws.{SuiteRise-as, SuiteRise-then}
-use Rattle.pmem_recovery.proofs.FormatSteps.{told_long, StaysSteady-then, HasSealedFrom-then, HasSealedAll-more, sealed_count}
+use Rattle.call_effects.specs.SuiteStates.{setup_of, setup_with}
+use Rattle.call_effects.specs.Steady.{StaysSteady}
+use Rattle.pmem_recovery.specs.Formatting.{HasSealedFrom, HasSealedGroup}
+use Rattle.call_effects.proofs.SuiteLaws.{SuiteRise-as, SuiteRise-then, SuiteRise-none}
+use Rattle.call_effects.proofs.SteadyLaws.{StaysSteady-then, StaysSteady-none}
+use Rattle.pmem_recovery.proofs.FormatSteps.{told_long, HasSealedFrom-then, HasSealedAll-more, sealed_count}
 use Rattle.call_plan.specs.Following.{Follows}
 use Rattle.call_plan.proofs.Loops.{turns_start, turn_ok, turns_end}
 use Rattle.pmem_recovery.specs.Formatting.{group_plan, group_turn}
-use Rattle.pmem_recovery.proofs.PartLaws.{SuiteRise-none}
-use Rattle.pmem_recovery.proofs.FormatSteps.{StaysSteady-none, HasSealedFrom-none}
+use Rattle.pmem_recovery.proofs.FormatSteps.{HasSealedFrom-none}
 use Rattle.pmem_recovery.proofs.formatting.seal_lines.Goals as goal
 
 pub groups-init : goal.groups-init

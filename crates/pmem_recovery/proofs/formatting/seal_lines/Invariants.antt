@@ -1,9 +1,10 @@
 use Rattle.std.proofs.Common.{◌≡◌, ◌*◌}
-use Rattle.pmem_recovery.specs.Parts.{setup_of, suite_state, SuiteRise}
+use Rattle.call_effects.specs.SuiteStates.{setup_of, suite_state, SuiteRise}
 use Rattle.pmem_base.specs.Geo.{shape_of}
 use Rattle.pmem_base.specs.Layout.{pages}
 use Rattle.call_plan.proofs.Loops.{AreTurnsLeft}
-use Rattle.pmem_recovery.specs.Formatting.{HasSealedFrom, HasSealedAll, StaysSteady, group_turn, seals_plan}
+use Rattle.call_effects.specs.Steady.{StaysSteady}
+use Rattle.pmem_recovery.specs.Formatting.{HasSealedFrom, HasSealedAll, group_turn, seals_plan}
 use Rattle.pmem_recovery.proofs.formatting.seal_lines.Given as goal
 
 abbrev pub invariant-groups : goal.invariant-groups

@@ -5,8 +5,9 @@ use Rattle.pmem_base.specs.Geo.{shape_of}
 use Rattle.pmem_base.specs.Layout.{meta_lines}
 use Rattle.pmem_base.specs.Lines.{line_at, zero_line}
 use Rattle.call_plan.proofs.Loops.{turn_ok, turns_end}
-use Rattle.pmem_recovery.proofs.FormatSteps.{StaysSteady-then, StaysSteady-written, HasToldMeta-more, HasWrittenMeta-more}
-use Rattle.pmem_recovery.proofs.FormatPlans.{written_so}
+use Rattle.call_effects.proofs.SteadyLaws.{StaysSteady-then, StaysSteady-written}
+use Rattle.pmem_recovery.proofs.FormatSteps.{HasToldMeta-more, HasWrittenMeta-more}
+use Rattle.call_plan.proofs.Steps.{written_so}
 use Rattle.pmem_recovery.proofs.formatting.write_metadata.Goals as goal
 
 pub lines-preserved : goal.lines-preserved

@@ -2,7 +2,8 @@ use Rattle.std.proofs.Common.{◌≡◌}
 use Rattle.pmem_base.specs.Geo.{shape_of}
 use Rattle.pmem_base.specs.Layout.{meta_lines}
 use Rattle.call_plan.proofs.Loops.{AreTurnsLeft}
-use Rattle.pmem_recovery.specs.Formatting.{StaysSteady, HasToldMeta, HasWrittenMeta, meta_turn, metas_plan}
+use Rattle.call_effects.specs.Steady.{StaysSteady}
+use Rattle.pmem_recovery.specs.Formatting.{HasToldMeta, HasWrittenMeta, meta_turn, metas_plan}
 use Rattle.pmem_recovery.proofs.formatting.write_metadata.Given as goal
 
 abbrev pub invariant-lines : goal.invariant-lines

@@ -1,6 +1,6 @@
 use Rattle.std.proofs.Common.{◌+◌, arith}
 use Rattle.pmem_base.specs.Geo.{shape_of}
-use Rattle.pmem_recovery.specs.Parts.{setup_with}
+use Rattle.call_effects.specs.SuiteStates.{setup_with}
 use Rattle.bonsai_tree.proofs.Levels.{level_start-le}
 use Rattle.call_plan.proofs.Steps.{ended_err}
 use Rattle.pmem_recovery.specs.Plans.{counts_at}

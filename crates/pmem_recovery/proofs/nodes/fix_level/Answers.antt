@@ -6,7 +6,7 @@ use Rattle.pmem_base.specs.Shape.{Shape}
 use Rattle.pmem_base.specs.Layout.{level_start}
 use Rattle.bonsai_tree.proofs.Levels.{level_start-le}
 use Rattle.pmem_recovery.specs.Named.{names, count_named, IsNextAt}
-use Rattle.pmem_recovery.specs.Parts.{setup_with}
+use Rattle.call_effects.specs.SuiteStates.{setup_with}
 use Rattle.pmem_recovery.proofs.PartLaws.{IsShape-geo}
 use Rattle.pmem_recovery.proofs.NamedLaws.{count_named-next, count_named-last, count_named-le, count_named-small}
 use Rattle.call_plan.proofs.Steps.{ended_err}

@@ -2,7 +2,7 @@ use Rattle.std.proofs.Common.{◌≡◌, suc, ◌≤◌, ◌+◌, ◌-◌, ◌*�
 use Rattle.pmem_base.specs.Geo.{shape_of}
 use Rattle.pmem_base.specs.Layout.{level_start}
 use Rattle.pmem_recovery.specs.Named.{count_named}
-use Rattle.pmem_recovery.specs.Parts.{setup_with}
+use Rattle.call_effects.specs.SuiteStates.{setup_with}
 use Rattle.call_plan.specs.Plans.{for_each}
 use Rattle.call_plan.proofs.Loops.{HasReached}
 use Rattle.pmem_recovery.specs.Plans.{recovery_parts, counts_at, named_positions, node_turn, fixed_level_plan}

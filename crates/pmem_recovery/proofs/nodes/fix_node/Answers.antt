@@ -3,7 +3,7 @@ use Rattle.board.specs.Steps.{HasRead}
 use Rattle.pmem_base.specs.Layout.{meta_line}
 use Rattle.call_plan.proofs.Steps.{ended_err}
 use Rattle.suite.specs.Setup.{Setup}
-use Rattle.pmem_recovery.specs.Parts.{setup_with}
+use Rattle.call_effects.specs.SuiteStates.{setup_with}
 use Rattle.pmem_recovery.specs.Plans.{RecoveryParts, recovery_parts, counts_at}
 use Rattle.pmem_recovery.proofs.NodePlans.{same_made, node_unread, node_stopped, node_made_so}
 use Rattle.pmem_recovery.proofs.nodes.fix_node.Given.{Over}

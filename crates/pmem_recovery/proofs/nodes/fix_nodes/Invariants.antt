@@ -2,7 +2,7 @@ use Rattle.std.proofs.Common.{◌≡◌, ◌≤◌, ◌+◌, ◌-◌, ◌*◌, l
 use Rattle.pmem_base.specs.Geo.{shape_of}
 use Rattle.pmem_base.specs.Layout.{level_start}
 use Rattle.pmem_recovery.specs.Named.{count_named}
-use Rattle.pmem_recovery.specs.Parts.{setup_with}
+use Rattle.call_effects.specs.SuiteStates.{setup_with}
 use Rattle.call_plan.proofs.Loops.{AreTurnsLeft}
 use Rattle.pmem_recovery.specs.Plans.{recovery_parts, counts_at, level_turn, nodes_plan}
 use Rattle.pmem_recovery.proofs.nodes.fix_nodes.Given as goal

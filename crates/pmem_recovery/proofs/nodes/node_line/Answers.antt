@@ -3,7 +3,7 @@ use Rattle.std.proofs.lemmas.List.{take_more_set, take_all}
 use Rattle.bonsai_tree.specs.Nodes.{node_of}
 use Rattle.call_plan.proofs.Steps.{ended_err}
 use Rattle.call_plan.proofs.Loops.{turns_start, turn_ok, turn_err, turns_end}
-use Rattle.pmem_recovery.specs.Parts.{setup_with}
+use Rattle.call_effects.specs.SuiteStates.{setup_with}
 use Rattle.pmem_recovery.specs.Plans.{counts_at, child_turn}
 use Rattle.pmem_recovery.proofs.NodePlans.{same_counts, child_made, child_cut, children_made, children_cut}
 use Rattle.pmem_base.specs.Geo.{shape_of}

@@ -2,7 +2,7 @@ use Rattle.std.proofs.Common.{◌≡◌, [], length, take}
 use Rattle.call_plan.specs.Plans.{repeated}
 use Rattle.call_plan.proofs.Loops.{AreTurnsLeft}
 use Rattle.pmem_recovery.specs.Plans.{counts_at, child_turn}
-use Rattle.pmem_recovery.specs.Parts.{setup_with}
+use Rattle.call_effects.specs.SuiteStates.{setup_with}
 use Rattle.pmem_recovery.proofs.nodes.node_line.Given as goal
 
 abbrev pub invariant-children : goal.invariant-children

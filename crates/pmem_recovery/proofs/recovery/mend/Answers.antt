@@ -1,7 +1,7 @@
 use Rattle.std.proofs.Common.{◌≡◌, ◌<◌, All, length, ap, ◌∙◌}
 use Rattle.pmem_base.specs.Geo.{shape_of}
 use Rattle.pmem_base.specs.Layout.{shadow_lines, meta_lines, device_lines}
-use Rattle.pmem_recovery.specs.Parts.{setup_with}
+use Rattle.call_effects.specs.SuiteStates.{setup_with}
 use Rattle.call_plan.proofs.Keeping.{follows_size}
 use Rattle.call_plan.proofs.Steps.{ended_err}
 use Rattle.pmem_recovery.specs.Plans.{MadeLines, counts_at}

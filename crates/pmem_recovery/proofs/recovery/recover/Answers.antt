@@ -7,7 +7,7 @@ use Rattle.seal_ledger.specs.Ledger.{LedgerState}
 use Rattle.pmem_engine.specs.Engine.{EngineState}
 use Rattle.pmem_recovery.specs.declared.faults.RecFault.{RecFault}
 use Rattle.pmem_recovery.specs.declared.faults.RecFault.TheVariants.{Memory, Cut}
-use Rattle.pmem_recovery.specs.Parts.{setup_of, SuiteState, suite_state, setup_with}
+use Rattle.call_effects.specs.SuiteStates.{setup_of, SuiteState, suite_state, setup_with}
 use Rattle.pmem_recovery.specs.Recovered.{Answer, HasRecovered}
 use Rattle.pmem_recovery.proofs.PartLaws.{IsShape-geo}
 use Rattle.pmem_recovery.proofs.RecoverLaws.{recovered_memory}
@@ -15,8 +15,10 @@ use Rattle.pmem_recovery.proofs.PlanRecovers.{plan_recovers}
 use Rattle.pmem_engine.specs.Mendable.{new_engine}
 use Rattle.call_plan.specs.Plans.{ended}
 use Rattle.call_plan.specs.Following.{Follows}
-use Rattle.pmem_recovery.specs.Plans.{counts_at, counts_of, redo_plan, recover_plan}
-use Rattle.pmem_recovery.proofs.RecoveryPlans.{redo_cut, redo_done, recover_cut, recover_stopped, recover_done}
+use Rattle.commit_regs.specs.Plans.{redo_plan}
+use Rattle.pmem_recovery.specs.Plans.{counts_at, counts_of, recover_plan}
+use Rattle.commit_regs.proofs.GroupPlans.{redo_cut, redo_done}
+use Rattle.pmem_recovery.proofs.RecoveryPlans.{recover_cut, recover_stopped, recover_done}
 use Rattle.pmem_recovery.proofs.recovery.recover.Given.{Over}
 use Rattle.pmem_recovery.proofs.recovery.recover.Goals.{After-mend}
 use Rattle.pmem_recovery.proofs.recovery.recover.Goals as goal

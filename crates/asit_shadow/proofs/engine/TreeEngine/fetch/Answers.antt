@@ -1,21 +1,6 @@
 -- The levels so far and the next one, whether it is had or not.
 use Rattle.std.proofs.Common.{ℕ, suc, ◌≡◌, ◌<◌, ◌+◌, List, Result, refl, sym, ap, subst, subst₂, ◌∙◌, arith}
-use Rattle.std.specs.Prelude.{slice_index}
-use Rattle.pmem_base.specs.Geo.{shape_of}
-use Rattle.pmem_base.specs.Shape.{Shape}
-use Rattle.board.specs.Device.{Device}
-use Rattle.suite.specs.Setup.{Setup}
-use Rattle.call_plan.specs.Following.{Follows}
-use Rattle.call_plan.proofs.Loops.{AreTurnsLeft, turns_start, turn_ok, turn_err, turns_end}
-use Rattle.counter_tree.specs.declared.nodes.Node.{Node}
-use Rattle.bonsai_tree.specs.Positions.{child_slot}
-use Rattle.counter_tree.specs.Nodes.{counter}
-use Rattle.asit_shadow.specs.State.{IsCachedAs, top_node}
-use Rattle.asit_shadow.specs.Parts.{AreTreeTrusted, tree_parts_at, tree_setup_at}
-use Rattle.asit_shadow.specs.Paths.{line_path}
-use Rattle.asit_shadow.specs.declared.fault.TreeFault.{TreeFault}
-use Rattle.asit_shadow.specs.Plans.{TreeChip, level_plan, fetch_turn, fetch_plan, tree_chip_at}
-use Rattle.asit_shadow.specs.Fetching.{HasFetchedNode, HasNoNode, IsPathFetchedTo}
+use Rattle.asit_shadow.proofs.Common.{slice_index, shape_of, Shape, Device, Setup, Follows, AreTurnsLeft, turns_start, turn_ok, turn_err, turns_end, Node, child_slot, counter, IsCachedAs, top_node, AreTreeTrusted, tree_parts_at, tree_setup_at, line_path, TreeFault, TreeChip, level_plan, fetch_turn, fetch_plan, tree_chip_at, HasFetchedNode, HasNoNode, IsPathFetchedTo}
 use Rattle.asit_shadow.proofs.PathSteps.{IsFetchReady, IsNextLevel, path-start, last-start, last-end, place-is, version-is, next-low, path-next, had-in}
 use Rattle.asit_shadow.proofs.FetchStops.{fetch-stopped}
 use Rattle.asit_shadow.proofs.engine.TreeEngine.fetch.Given.{Over}

@@ -1,12 +1,6 @@
 -- The path to a level.
 use Rattle.std.proofs.Common.{◌≡◌}
-use Rattle.std.specs.Prelude.{slice_index}
-use Rattle.asit_shadow.specs.State.{IsCachedAs}
-use Rattle.asit_shadow.specs.Parts.{tree_parts_of, AreTreeTrusted}
-use Rattle.asit_shadow.specs.Paths.{line_path}
-use Rattle.asit_shadow.specs.Fetching.{IsPathFetchedTo}
-use Rattle.call_plan.proofs.Loops.{AreTurnsLeft}
-use Rattle.asit_shadow.specs.Plans.{tree_chip_of, fetch_turn, fetch_plan}
+use Rattle.asit_shadow.proofs.Common.{slice_index, IsCachedAs, tree_parts_of, AreTreeTrusted, line_path, IsPathFetchedTo, AreTurnsLeft, tree_chip_of, fetch_turn, fetch_plan}
 use Rattle.asit_shadow.proofs.engine.TreeEngine.fetch.Given as goal
 
 abbrev pub invariant-levels : goal.invariant-levels

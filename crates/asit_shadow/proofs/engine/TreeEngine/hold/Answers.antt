@@ -1,9 +1,6 @@
 -- One slot holds another node.
 use Rattle.std.proofs.Common.{◌<◌, Some, length, sym, subst, ◌∙◌, arith}
-use Rattle.std.proofs.lemmas.List.{length-set}
-use Rattle.pmem_base.specs.Geo.{shape_of}
-use Rattle.counter_tree.specs.Layout.{tree_slots}
-use Rattle.asit_shadow.specs.State.{TreeState, IsHeldNode}
+use Rattle.asit_shadow.proofs.Common.{length-set, shape_of, tree_slots, TreeState, IsHeldNode}
 use Rattle.asit_shadow.proofs.EngineLemmas.{held-set}
 use Rattle.asit_shadow.proofs.engine.TreeEngine.hold.Goals as goal
 

@@ -1,10 +1,6 @@
 -- A held node's position is below 5461; and the plan of making room, at each end.
 use Rattle.std.proofs.Common.{sym, ap, ◌∙◌, arith}
-use Rattle.pmem_base.specs.Shape.{Shape}
-use Rattle.pmem_base.proofs.LayoutLemmas.{meta_lines-most}
-use Rattle.counter_tree.specs.Layout.{line_of_node}
-use Rattle.counter_tree.proofs.ReadPlans.{leaving}
-use Rattle.asit_shadow.specs.State.{cache_at}
+use Rattle.asit_shadow.proofs.Common.{Shape, meta_lines-most, line_of_node, leaving, cache_at}
 use Rattle.asit_shadow.proofs.FetchPlans.{room_none, room_clean, room_end}
 use Rattle.asit_shadow.proofs.engine.TreeEngine.make_room.Goals as goal
 

@@ -1,9 +1,6 @@
 -- One line of the shadow tree is another.
 use Rattle.std.proofs.Common.{◌<◌, ◌^◌, sym, subst, ◌∙◌, arith}
-use Rattle.pmem_base.specs.Geo.{shape_of}
-use Rattle.counter_tree.specs.Shadow.{shadow_height}
-use Rattle.counter_tree.proofs.HeightLemmas.{shadow_height-room}
-use Rattle.asit_shadow.specs.State.{TreeState}
+use Rattle.asit_shadow.proofs.Common.{shape_of, shadow_height, shadow_height-room, TreeState}
 use Rattle.asit_shadow.proofs.engine.TreeEngine.name.Goals as goal
 
 pub put-root-requires : goal.put-root-requires

@@ -1,16 +1,6 @@
 -- A node named more.
 use Rattle.std.proofs.Common.{ℕ, suc, ◌≡◌, ◌<◌, ◌≤◌, ◌*◌, List, [], length, get_or, refl, sym, ap, subst, ◌∙◌, arith}
-use Rattle.std.proofs.lemmas.List.{take_all}
-use Rattle.pmem_base.specs.declared.registers.Regs.{Regs}
-use Rattle.pmem_base.specs.Shape.{Shape}
-use Rattle.pmem_base.specs.Counts.{risen_times}
-use Rattle.counter_tree.specs.declared.nodes.Node.{Node}
-use Rattle.counter_tree.specs.Layout.{line_of_slot, line_of_tag}
-use Rattle.counter_tree.specs.Shadow.{tree_with, tree_root_with}
-use Rattle.counter_tree.specs.Slots.{slot_of}
-use Rattle.pmem_base.specs.Layout.{meta_lines}
-use Rattle.pmem_base.proofs.LayoutLemmas.{meta_lines-most}
-use Rattle.asit_shadow.specs.Writing.{armed_lines}
+use Rattle.asit_shadow.proofs.Common.{take_all, Regs, Shape, risen_times, Node, line_of_slot, line_of_tag, tree_with, tree_root_with, slot_of, meta_lines, meta_lines-most, armed_lines}
 use Rattle.asit_shadow.specs.WritePlans.{named_all}
 use Rattle.asit_shadow.proofs.WritePlans.{named-none, named-step}
 use Rattle.asit_shadow.proofs.RegisterLaws.{others-emptied, others-then}

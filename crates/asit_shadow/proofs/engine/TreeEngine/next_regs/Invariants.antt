@@ -1,8 +1,6 @@
 -- The nodes named so far.
 use Rattle.std.proofs.Common.{suc, ◌*◌, ◌≡◌, take}
-use Rattle.pmem_base.specs.Counts.{risen_times}
-use Rattle.asit_shadow.specs.Steps.{KeepsOtherRegisters}
-use Rattle.asit_shadow.specs.Writing.{armed_lines}
+use Rattle.asit_shadow.proofs.Common.{risen_times, KeepsOtherRegisters, armed_lines}
 use Rattle.asit_shadow.specs.WritePlans.{named_all}
 use Rattle.asit_shadow.proofs.engine.TreeEngine.next_regs.Given as goal
 

@@ -1,8 +1,6 @@
 -- A held node has a version.
 use Rattle.std.proofs.Common.{◌<◌, ◌^◌, sym, subst}
-use Rattle.counter_tree.specs.declared.nodes.Node.{Node}
-use Rattle.counter_tree.specs.Nodes.{total}
-use Rattle.counter_tree.specs.Slots.{slot_of}
+use Rattle.asit_shadow.proofs.Common.{Node, total, slot_of}
 use Rattle.asit_shadow.proofs.engine.TreeEngine.node.Goals as goal
 
 pub returns-in-Some-clause-version : goal.returns-in-Some-clause-version

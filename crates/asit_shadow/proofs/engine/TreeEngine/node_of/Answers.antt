@@ -1,25 +1,8 @@
 -- Why a node wasn't had; and the node's plan at each end.
 use Rattle.std.proofs.Common.{false, ℕ, ◌≡◌, List, Some, None, Result, Ok, Err, sym, ap, subst, subst₂, ◌∙◌}
-use Rattle.std.specs.Prelude.{IfErr, slice_set}
-use Rattle.pmem_base.specs.declared.faults.Cut.{Cut}
-use Rattle.pmem_base.specs.Geo.{shape_of}
-use Rattle.board.specs.Device.{Device}
-use Rattle.suite.specs.Setup.{Setup}
-use Rattle.call_plan.specs.Plans.{lifted, the_cut}
-use Rattle.call_plan.specs.Following.{Follows}
-use Rattle.call_plan.proofs.Steps.{ended_err}
-use Rattle.counter_tree.specs.declared.nodes.Node.{Node}
-use Rattle.counter_tree.specs.Plans.{read_parts, node_plan}
-use Rattle.counter_tree.proofs.ReadPlans.{leaving}
-use Rattle.pmem_base.specs.Shape.{Shape}
-use Rattle.counter_tree.specs.Slots.{slot_of}
-use Rattle.asit_shadow.specs.declared.fault.TreeFault.{TreeFault}
+use Rattle.asit_shadow.proofs.Common.{IfErr, slice_set, Cut, shape_of, Device, Setup, lifted, the_cut, Follows, ended_err, Node, read_parts, node_plan, leaving, Shape, slot_of, TreeFault, cache_at, TreeChip, tree_chip_of, read_parts_of, with_read, with_clean, fault_of_node, node_in, is_err_of, TreeEngineParts, tree_parts_of, IsNodeTaken, HasNoNode}
 use Rattle.asit_shadow.specs.declared.fault.TreeFault.TheVariants as Fail
-use Rattle.asit_shadow.specs.State.{cache_at}
-use Rattle.asit_shadow.specs.Plans.{TreeChip, tree_chip_of, read_parts_of, with_read, with_clean, fault_of_node, node_in, room_plan}
-use Rattle.pmem_engine.proofs.CallEnds.ErrorAnswers.{is_err_of}
-use Rattle.asit_shadow.specs.Parts.{TreeEngineParts, tree_parts_of}
-use Rattle.asit_shadow.specs.Fetching.{IsNodeTaken, HasNoNode}
+use Rattle.asit_shadow.specs.Plans.{room_plan}
 use Rattle.asit_shadow.proofs.FetchPlans.{not_taken, level_cached, level_missed, level_placed, same_engine}
 use Rattle.asit_shadow.proofs.engine.TreeEngine.node_of.Given.{Over}
 use Rattle.asit_shadow.proofs.engine.TreeEngine.node_of.Goals.{After-slot_of-i}

@@ -1,15 +1,7 @@
 -- A level raised more.
 use Rattle.std.proofs.Common.{rules, ℕ, ◌≡◌, ◌<◌, ◌≤◌, ◌+◌, ◌/◌, List, [], sym, ap, subst, ◌∙◌, arith}
-use Rattle.std.specs.Prelude.{slice_index}
-use Rattle.pmem_base.specs.Layout.{meta_lines}
-use Rattle.pmem_base.specs.Shape.{Shape, IsShape}
-use Rattle.bonsai_tree.specs.Positions.{child_slot, path_of}
-use Rattle.bonsai_tree.proofs.PathPositions.{path_of-on_path}
-use Rattle.counter_tree.specs.declared.nodes.Node.{Node}
-use Rattle.counter_tree.specs.Trees.{raised}
-use Rattle.asit_shadow.specs.Paths.{path_node}
-use Rattle.asit_shadow.specs.Writing.{position_below, IsRaisedTo}
-use Rattle.asit_shadow.specs.WritePlans.{cached_node, raised_node, raised_pair, raised_path}
+use Rattle.asit_shadow.proofs.Common.{slice_index, meta_lines, Shape, IsShape, child_slot, path_of, path_of-on_path, Node, raised, path_node, position_below, IsRaisedTo, cached_node, raised_node, raised_pair}
+use Rattle.asit_shadow.specs.WritePlans.{raised_path}
 use Rattle.asit_shadow.proofs.WritePlans.{raised-first, raised-step}
 use Rattle.asit_shadow.proofs.SlotPlaces.{on_path-inside}
 use Rattle.asit_shadow.proofs.RaisedPaths.{raised-none, raised-more, raised-all, node-raised, below-low}

@@ -1,6 +1,6 @@
 -- The levels so far.
 use Rattle.std.proofs.Common.{◌≡◌}
-use Rattle.asit_shadow.specs.Writing.{IsRaisedTo}
+use Rattle.asit_shadow.proofs.Common.{IsRaisedTo}
 use Rattle.asit_shadow.specs.WritePlans.{raised_path}
 use Rattle.asit_shadow.proofs.engine.TreeEngine.raised.Given as goal
 

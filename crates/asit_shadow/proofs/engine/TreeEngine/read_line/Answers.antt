@@ -1,21 +1,10 @@
 -- The line is read after its path.
 use Rattle.std.proofs.Common.{ℕ, ◌≡◌, ◌%◌, List, refl, sym, ap, subst, subst₂, ◌∙◌}
-use Rattle.std.specs.Prelude.{Result, Ok, Err, IsSome, slice_index}
-use Rattle.pmem_base.specs.declared.lines.Line.{Line}
-use Rattle.pmem_base.specs.Geo.{shape_of}
-use Rattle.pmem_base.specs.Shape.{Shape}
-use Rattle.call_plan.specs.Following.{Follows}
-use Rattle.counter_tree.specs.Plans.{ReadParts, read_parts, line_plan}
-use Rattle.counter_tree.proofs.ReadPlans.{leaving}
-use Rattle.counter_tree.specs.declared.accepted.FetchFault.{FetchFault}
+use Rattle.asit_shadow.proofs.Common.{Result, Ok, Err, IsSome, slice_index, Line, shape_of, Shape, Follows, ReadParts, read_parts, line_plan, leaving, FetchFault, IsLineFetched, WatchState, last_seal_of, TreeFault, TreeChip, tree_chip_of, read_parts_of, fault_of_line, tree_chip_at, tree_parts_at, tree_setup_at}
 use Rattle.counter_tree.specs.declared.accepted.FetchFault.TheVariants as Missed
-use Rattle.counter_tree.specs.Accepted.{IsLineFetched}
-use Rattle.counter_tree.specs.Watch.{WatchState, last_seal_of}
-use Rattle.asit_shadow.specs.declared.fault.TreeFault.{TreeFault}
 use Rattle.asit_shadow.specs.declared.fault.TreeFault.TheVariants as Fail
-use Rattle.asit_shadow.specs.Plans.{TreeChip, tree_chip_of, read_parts_of, fault_of_line, read_line_plan, tree_chip_at}
+use Rattle.asit_shadow.specs.Plans.{read_line_plan}
 use Rattle.asit_shadow.proofs.CalledPlans.{unfetched_read, fetched_read, refused_read}
-use Rattle.asit_shadow.specs.Parts.{tree_parts_at, tree_setup_at}
 use Rattle.asit_shadow.proofs.ReadEnds.{IsPathHad, line_counter-is, read-ok, read-cut, read-refused, read-shown}
 use Rattle.asit_shadow.proofs.engine.TreeEngine.read_line.Given.{Over}
 use Rattle.asit_shadow.proofs.engine.TreeEngine.read_line.Goals.{After-fetch_line}

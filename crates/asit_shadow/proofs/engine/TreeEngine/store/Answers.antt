@@ -1,11 +1,6 @@
 -- A node stored more.
 use Rattle.std.proofs.Common.{ℕ, ◌≡◌, ◌<◌, ◌≤◌, List, [], length, get_or, true, sym, ap, subst, ◌∙◌}
-use Rattle.std.proofs.lemmas.List.{take_all}
-use Rattle.pmem_base.specs.Shape.{Shape}
-use Rattle.counter_tree.specs.declared.nodes.Node.{Node}
-use Rattle.counter_tree.specs.Slots.{slot_of}
-use Rattle.asit_shadow.specs.State.{IsHeldNode}
-use Rattle.asit_shadow.specs.Writing.{set_pairs, dirty_entries}
+use Rattle.asit_shadow.proofs.Common.{take_all, Shape, Node, slot_of, IsHeldNode, set_pairs, dirty_entries}
 use Rattle.asit_shadow.proofs.WriteLoops.{stored-next}
 use Rattle.asit_shadow.proofs.engine.TreeEngine.store.Goals as goal
 

@@ -1,6 +1,6 @@
 -- The nodes stored so far.
 use Rattle.std.proofs.Common.{◌≡◌, take}
-use Rattle.asit_shadow.specs.Writing.{set_pairs, dirty_entries}
+use Rattle.asit_shadow.proofs.Common.{set_pairs, dirty_entries}
 use Rattle.asit_shadow.proofs.engine.TreeEngine.store.Given as goal
 
 abbrev pub invariant-levels : goal.invariant-levels

@@ -1,14 +1,6 @@
 -- A node told more.
 use Rattle.std.proofs.Common.{ℕ, ◌<◌, ◌≤◌, List, [], length, take, get_or, sym, ap, subst, ◌∙◌, arith}
-use Rattle.std.proofs.lemmas.List.{take_all}
-use Rattle.pmem_base.specs.declared.lines.Line.{Line}
-use Rattle.pmem_base.specs.Layout.{meta_lines}
-use Rattle.pmem_base.specs.Shape.{Shape}
-use Rattle.pmem_base.proofs.LineSets.{length-put_lines}
-use Rattle.counter_tree.specs.Layout.{tree_slots}
-use Rattle.counter_tree.specs.declared.nodes.Node.{Node}
-use Rattle.counter_tree.specs.Slots.{slot_of}
-use Rattle.asit_shadow.specs.Writing.{slot_entries, IsWriteTold}
+use Rattle.asit_shadow.proofs.Common.{take_all, Line, meta_lines, Shape, length-put_lines, tree_slots, Node, slot_of, slot_entries, IsWriteTold}
 use Rattle.asit_shadow.proofs.PairSets.{length-set_pairs}
 use Rattle.asit_shadow.proofs.WriteLoops.{told-none, told-next}
 use Rattle.asit_shadow.proofs.engine.TreeEngine.tell.Goals as goal

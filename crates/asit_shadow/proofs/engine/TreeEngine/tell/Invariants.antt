@@ -1,6 +1,6 @@
 -- The nodes told so far.
 use Rattle.std.proofs.Common.{take}
-use Rattle.asit_shadow.specs.Writing.{IsWriteTold}
+use Rattle.asit_shadow.proofs.Common.{IsWriteTold}
 use Rattle.asit_shadow.proofs.engine.TreeEngine.tell.Given as goal
 
 abbrev pub invariant-levels : goal.invariant-levels

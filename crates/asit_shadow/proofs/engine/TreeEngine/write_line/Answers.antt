@@ -1,36 +1,10 @@
 -- A write: spent, stopped as its path is fetched, cut at the arming latch, cut after it, or done.
 use Rattle.std.proofs.Common.{ℕ, suc, ◌≡◌, ◌≢◌, ◌<◌, ◌+◌, ◌-◌, ◌*◌, ◌%◌, ◌^◌, List, [], length, refl, sym, ap, subst, subst₂, ◌∙◌, arith}
-use Rattle.std.specs.Prelude.{All, ◌==◌, true, false, slice_index_or, Result, Ok, Err}
-use Rattle.pmem_base.specs.declared.faults.Cut.{Cut}
-use Rattle.call_plan.specs.Following.{Follows}
-use Rattle.commit_regs.specs.Plans.{finish_plan}
-use Rattle.counter_tree.proofs.ReadPlans.{leaving}
-use Rattle.std.proofs.lemmas.Bool.{eqb-true, eqb-false}
-use Rattle.pmem_base.specs.declared.lines.Line.{Line}
-use Rattle.pmem_base.specs.declared.registers.Regs.{Regs}
-use Rattle.pmem_base.specs.Shape.{Shape}
-use Rattle.pmem_base.specs.Layout.{meta_lines}
-use Rattle.pmem_base.specs.Registers.{IsGroup}
-use Rattle.pmem_base.specs.Counts.{risen_times}
-use Rattle.board.specs.Device.{Device, AreToldLines}
-use Rattle.board.specs.Steps.{HasLatched}
-use Rattle.suite.specs.Setup.{Setup}
-use Rattle.counter_tree.specs.declared.nodes.Node.{Node}
-use Rattle.counter_tree.specs.Layout.{tree_slots, tree_size}
-use Rattle.counter_tree.specs.Nodes.{counter, total}
-use Rattle.counter_tree.specs.Shadow.{ChipTree, IsShadowTree, shadow_height}
-use Rattle.counter_tree.specs.Watch.{WatchState}
-use Rattle.asit_shadow.specs.State.{TreeState, IsHeldNode, top_node}
-use Rattle.asit_shadow.specs.Parts.{TreeEngineParts, tree_parts_of, AreTreeTrusted, IsWatchReady, tree_parts_at, tree_setup_at}
-use Rattle.asit_shadow.specs.declared.fault.TreeFault.{TreeFault}
+use Rattle.asit_shadow.proofs.Common.{All, ◌==◌, true, false, slice_index_or, Result, Ok, Err, Cut, Follows, finish_plan, leaving, eqb-true, eqb-false, Line, Regs, Shape, meta_lines, IsGroup, risen_times, Device, AreToldLines, HasLatched, Setup, Node, tree_slots, tree_size, counter, total, ChipTree, IsShadowTree, shadow_height, WatchState, TreeState, IsHeldNode, top_node, TreeEngineParts, tree_parts_of, AreTreeTrusted, IsWatchReady, tree_parts_at, tree_setup_at, TreeFault, TreeChip, tree_chip_of, tree_chip_at, seal_of, write_armed, with_tree, with_stored, named_chip, stored_chip, IsUsedUp, KeepsOtherRegisters, armed_lines, dirty_entries, pair_at, set_pairs, IsPathRaised, IsSealMade, IsTreeNamed, IsWriteTold, IsWriteMade}
 use Rattle.asit_shadow.specs.declared.fault.TreeFault.TheVariants as Fail
-use Rattle.asit_shadow.specs.Plans.{TreeChip, tree_chip_of, tree_chip_at}
-use Rattle.asit_shadow.specs.WritePlans.{raised_path, seal_of, named_all, write_armed, with_tree, with_stored, named_chip, stored_chip, seal_plan, write_line_plan}
+use Rattle.asit_shadow.specs.WritePlans.{raised_path, named_all, seal_plan, write_line_plan}
 use Rattle.asit_shadow.proofs.FetchPlans.{same_engine}
 use Rattle.asit_shadow.proofs.WritePlans.{tree-named, seal_is, told_is, armed_is, seal_cut, seal_kept, seal_done, write_spent, unfetched_write, fetched_write}
-use Rattle.asit_shadow.specs.Calls.{IsUsedUp}
-use Rattle.asit_shadow.specs.Steps.{KeepsOtherRegisters}
-use Rattle.asit_shadow.specs.Writing.{armed_lines, dirty_entries, pair_at, set_pairs, IsPathRaised, IsSealMade, IsTreeNamed, IsWriteTold, IsWriteMade}
 use Rattle.asit_shadow.proofs.PairSets.{pairs-count}
 use Rattle.asit_shadow.proofs.WriteCalls.{top-used_up, fetch-unspent, armed-IsGroup}
 use Rattle.asit_shadow.proofs.WriteEnds.{write-spent, write-stopped, write-lost}

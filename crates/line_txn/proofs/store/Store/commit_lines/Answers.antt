@@ -8,7 +8,8 @@ use Rattle.pmem_engine.specs.declared.fault.Fault.TheVariants as Fail
 use Rattle.pmem_engine.specs.Engine.{EngineState}
 use Rattle.pmem_engine.specs.Parts.{Parts, parts_of}
 use Rattle.pmem_engine.specs.Plans.{Chip, chip_of}
-use Rattle.pmem_engine.specs.Outcomes.{outcome_of_fault, is_going}
+use Rattle.call_effects.specs.Outcomes.{is_going}
+use Rattle.pmem_engine.specs.Outcomes.{outcome_of_fault}
 use Rattle.pmem_engine.proofs.CallEnds.EngineCalls.{down_after, up_after}
 use Rattle.engine_lines.proofs.EditPlans.{edits_as, edits_follow_under}
 use Rattle.line_txn.specs.declared.store.Committed.TheVariants as Do

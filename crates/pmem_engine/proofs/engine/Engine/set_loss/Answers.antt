@@ -7,12 +7,13 @@ use Rattle.seal_ledger.specs.Ledger.{LedgerState}
 use Rattle.pmem_engine.specs.declared.fault.Fault.{Fault}
 use Rattle.pmem_engine.specs.Engine.{ChipState, EngineState}
 use Rattle.pmem_engine.specs.Parts.{Parts, parts_with, parts_of}
-use Rattle.pmem_engine.specs.Outcomes.{of_cut, outcome_of, is_going}
+use Rattle.call_effects.specs.Outcomes.{is_going}
+use Rattle.pmem_engine.specs.Outcomes.{of_cut, outcome_of}
 use Rattle.pmem_engine.specs.CallFacts.{IsReadyWith}
 use Rattle.pmem_engine.specs.Calls.{HasSetLoss}
 use Rattle.pmem_engine.proofs.BlockWrites.LossOutcomes.{loss_set}
 use Rattle.pmem_engine.proofs.CallEnds.EngineCalls.{was_up, was_down}
-use Rattle.pmem_engine.proofs.CallEnds.ErrorAnswers.{is_err_of}
+use Rattle.call_effects.proofs.ResultLaws.{is_err_of}
 use Rattle.pmem_engine.proofs.CallEnds.UsableParts.{some_setup, some_ledger, ready_after}
 use Rattle.pmem_engine.proofs.engine.Engine.set_loss.Given.{Over}
 use Rattle.pmem_engine.proofs.engine.Engine.set_loss.Goals.{After-ended_or_cut}

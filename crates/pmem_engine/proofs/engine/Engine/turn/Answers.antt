@@ -6,13 +6,14 @@ use Rattle.suite.specs.Setup.{Setup}
 use Rattle.pmem_engine.specs.declared.fault.Fault.{Fault}
 use Rattle.pmem_engine.specs.Engine.{ChipState, EngineState, on_chip}
 use Rattle.pmem_engine.specs.Parts.{Parts, parts_at, setup_at}
-use Rattle.pmem_engine.specs.Outcomes.{outcome_of, is_going}
+use Rattle.call_effects.specs.Outcomes.{is_going}
+use Rattle.pmem_engine.specs.Outcomes.{outcome_of}
 use Rattle.pmem_engine.specs.CallFacts.{IsUsableWith, IsEngineCall}
 use Rattle.pmem_engine.specs.Calls.{HasTurned}
 use Rattle.pmem_engine.specs.Plans.{chip_in}
 use Rattle.pmem_engine.proofs.PlannedCalls.TurnPlans.{turn_idle, turn_end}
 use Rattle.pmem_engine.proofs.CallEnds.EngineCalls.{was_up, was_down}
-use Rattle.pmem_engine.proofs.CallEnds.ErrorAnswers.{is_err_of}
+use Rattle.call_effects.proofs.ResultLaws.{is_err_of}
 use Rattle.pmem_engine.proofs.PageLines.TurnOutcomes.{turned_of, turned_by_fault, turned_by_seal, turned_idle, turned, turned_outcome, none_from_length}
 use Rattle.pmem_engine.proofs.CallEnds.UsableParts.{usable_after}
 use Rattle.pmem_engine.proofs.engine.Engine.turn.Given.{Over}

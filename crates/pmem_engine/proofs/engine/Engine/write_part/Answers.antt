@@ -5,12 +5,13 @@ use Rattle.pmem_base.specs.declared.lines.Ctr.{Ctr}
 use Rattle.pmem_engine.specs.declared.fault.Fault.{Fault}
 use Rattle.pmem_engine.specs.Engine.{ChipState, EngineState}
 use Rattle.pmem_engine.specs.Parts.{parts_with_at, parts_at, setup_at}
-use Rattle.pmem_engine.specs.Outcomes.{outcome_of, is_going}
+use Rattle.call_effects.specs.Outcomes.{is_going}
+use Rattle.pmem_engine.specs.Outcomes.{outcome_of}
 use Rattle.pmem_engine.specs.CallFacts.{IsUsableWith}
 use Rattle.pmem_engine.specs.Calls.{HasWrittenLine}
 use Rattle.pmem_engine.proofs.CallEnds.EngineCalls.{was_up, was_down}
 use Rattle.pmem_engine.proofs.CallEnds.UsableParts.{usable_after}
-use Rattle.pmem_engine.proofs.CallEnds.ErrorAnswers.{is_err_of}
+use Rattle.call_effects.proofs.ResultLaws.{is_err_of}
 use Rattle.pmem_engine.proofs.engine.Engine.write_part.Given.{Over}
 use Rattle.pmem_engine.proofs.engine.Engine.write_part.Goals.{After-ended}
 use Rattle.pmem_engine.proofs.engine.Engine.write_part.Goals as goal

@@ -25,7 +25,7 @@ use Rattle.pmem_engine.specs.Engine.{ChipState}
 use Rattle.pmem_engine.specs.Parts.{Parts, parts_with}
 use Rattle.pmem_engine.specs.Inner.{cached_block}
 use Rattle.pmem_engine.specs.Sealing.{HasBeginCommitted, IsBeginCut, HasBegunPage}
-use Rattle.pmem_engine.proofs.CallEnds.ErrorAnswers.{is_err_of}
+use Rattle.call_effects.proofs.ResultLaws.{is_err_of}
 use Rattle.pmem_engine.proofs.Seals.NextPaths.{rolled-next}
 use Rattle.pmem_engine.proofs.Seals.BegunBlocks.{rolled_block}
 use Rattle.pmem_engine.proofs.Seals.BeginOutcomes.{page_exits}

@@ -7,7 +7,8 @@ use Rattle.seal_ledger.specs.Ledger.{LedgerState}
 use Rattle.pmem_engine.specs.Plans.{Chip, chip_with}
 use Rattle.pmem_engine.specs.SealPlans.{begin_armed, with_marked_path}
 use Rattle.pmem_engine.proofs.PlannedCalls.Chips.{ended_with_err}
-use Rattle.pmem_engine.proofs.PlannedCalls.GroupPlans.{begin_armed_is, marked_path_is, group_cut, group_end}
+use Rattle.commit_regs.proofs.GroupPlans.{group_cut, group_end}
+use Rattle.pmem_engine.proofs.PlannedCalls.GroupPlans.{begin_armed_is, marked_path_is}
 use Rattle.pmem_engine.proofs.engine.OnChip.commit_begin.Goals as goal
 
 pub returns-in_err-arm-clause-plan : goal.returns-in_err-arm-clause-plan

@@ -10,7 +10,8 @@ use Rattle.pmem_engine.specs.declared.resealing.NextSeal.{NextSeal}
 use Rattle.pmem_engine.specs.Plans.{Chip, chip_with}
 use Rattle.pmem_engine.specs.SealPlans.{seal_armed, with_marked_path}
 use Rattle.pmem_engine.proofs.PlannedCalls.Chips.{ended_with_err}
-use Rattle.pmem_engine.proofs.PlannedCalls.GroupPlans.{seal_armed_is, marked_path_is, group_cut, group_end}
+use Rattle.commit_regs.proofs.GroupPlans.{group_cut, group_end}
+use Rattle.pmem_engine.proofs.PlannedCalls.GroupPlans.{seal_armed_is, marked_path_is}
 use Rattle.pmem_engine.proofs.engine.OnChip.commit_seal.Goals as goal
 
 abbrev mark_of : NextSeal → Mark

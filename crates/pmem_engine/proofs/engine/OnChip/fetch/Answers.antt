@@ -13,7 +13,7 @@ use Rattle.meta_path.specs.declared.faults.PathFault.{PathFault}
 use Rattle.pmem_engine.specs.Engine.{ChipState}
 use Rattle.pmem_engine.specs.Parts.{parts_with}
 use Rattle.pmem_engine.specs.Inner.{HasFetched}
-use Rattle.pmem_engine.proofs.CallEnds.ErrorAnswers.{is_err_of}
+use Rattle.call_effects.proofs.ResultLaws.{is_err_of}
 use Rattle.pmem_engine.proofs.CheckedReads.FetchCalls.{of_states, fetch_ok, fetch_err}
 use Rattle.meta_path.specs.FetchPlans.{fetch_parts}
 use Rattle.call_plan.specs.Following.{Follows}

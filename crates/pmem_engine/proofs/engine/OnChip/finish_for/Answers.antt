@@ -7,7 +7,8 @@ use Rattle.pmem_engine.proofs.PageLines.FinishedFirst.{on_ok, closed_for}
 use Rattle.pmem_base.specs.declared.registers.Regs.{Regs}
 use Rattle.board.specs.Device.{Device}
 use Rattle.call_plan.specs.Following.{Follows}
-use Rattle.pmem_engine.specs.Plans.{Chip, chip_with_at, ended_with}
+use Rattle.commit_regs.specs.Plans.{ended_with}
+use Rattle.pmem_engine.specs.Plans.{Chip, chip_with_at}
 use Rattle.pmem_engine.specs.WritePlans.{finish_for_plan}
 use Rattle.pmem_engine.proofs.PlannedCalls.FinishPlans.{none_finished, found_finished, one_found, none_found}
 use Rattle.pmem_engine.proofs.engine.OnChip.finish_for.Goals as goal

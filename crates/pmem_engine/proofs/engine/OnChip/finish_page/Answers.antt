@@ -7,7 +7,7 @@ use Rattle.suite.specs.Setup.{Setup}
 use Rattle.pmem_engine.specs.Parts.{Parts, parts_with, setup_with_at}
 use Rattle.pmem_engine.specs.Resealing.{register_in, HasResealed}
 use Rattle.pmem_engine.specs.Writing.{HasFinishedPage}
-use Rattle.pmem_engine.proofs.CallEnds.ErrorAnswers.{is_err_of}
+use Rattle.call_effects.proofs.ResultLaws.{is_err_of}
 use Rattle.pmem_engine.proofs.PageLines.PageFinishes.{first_none, first_more, finished, still_usable}
 use Rattle.pmem_engine.proofs.PageLines.PageStops.{unfinished}
 use Rattle.pmem_engine.proofs.PostedWrites.WritePremises.{few_left}

@@ -5,7 +5,7 @@ use Rattle.suite.specs.Setup.{Setup}
 use Rattle.pmem_engine.specs.declared.fault.LineFault.{LineFault}
 use Rattle.pmem_engine.specs.Parts.{Parts, parts_with_at, setup_with_at}
 use Rattle.pmem_engine.specs.Writing.{HasMadePlain}
-use Rattle.pmem_engine.proofs.CallEnds.ErrorAnswers.{is_err_of}
+use Rattle.call_effects.proofs.ResultLaws.{is_err_of}
 use Rattle.pmem_engine.proofs.PostedWrites.PlainMakings.{plain_whole, plain_unsealed}
 use Rattle.call_plan.proofs.Steps.{ended_err}
 use Rattle.pmem_engine.specs.Plans.{chip_with_at}

@@ -22,7 +22,7 @@ use Rattle.pmem_engine.specs.Resealing.{IsNextHeld, IsResealCut, HasResealCommit
 use Rattle.pmem_engine.specs.Plans.{Chip, chip_with, chip_with_at, held_of, register_at, unseal_plan, commit_plan, reseal_plan}
 use Rattle.pmem_engine.proofs.PlannedCalls.Chips.{same_chip}
 use Rattle.pmem_engine.proofs.PlannedCalls.ResealPlans.{held_is, reseal_unopened, reseal_cut, reseal_done}
-use Rattle.pmem_engine.proofs.CallEnds.ErrorAnswers.{is_err_of}
+use Rattle.call_effects.proofs.ResultLaws.{is_err_of}
 use Rattle.pmem_engine.proofs.PageLines.ResealOutcomes.{not_unsealed, resealing_exits}
 use Rattle.pmem_engine.proofs.engine.OnChip.reseal.Given.{Over}
 use Rattle.pmem_engine.proofs.engine.OnChip.reseal.Goals.{After-held_line-held, After-commit_reseal}

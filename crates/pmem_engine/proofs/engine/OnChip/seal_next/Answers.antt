@@ -30,7 +30,7 @@ use Rattle.pmem_engine.specs.Plans.{Chip, chip_with, chip_with_at, with_tags}
 use Rattle.pmem_engine.specs.SealPlans.{commit_seal_plan, seal_next_plan, with_path_digests}
 use Rattle.pmem_engine.specs.Committing.{next_seal_of}
 use Rattle.pmem_engine.specs.Sealing.{next_counter_of, raised_block, HasSealCommitted, IsSealCut, HasSealedNext}
-use Rattle.pmem_engine.proofs.CallEnds.ErrorAnswers.{is_err_of}
+use Rattle.call_effects.proofs.ResultLaws.{is_err_of}
 use Rattle.pmem_engine.proofs.Seals.NextPaths.{times_never_fall}
 use Rattle.pmem_engine.proofs.Seals.SealOutcomes.{seal_unread, some_steps, seal_exits}
 use Rattle.pmem_engine.proofs.PlannedCalls.Chips.{same_chip}

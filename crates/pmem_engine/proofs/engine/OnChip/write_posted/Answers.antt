@@ -16,7 +16,7 @@ use Rattle.pmem_engine.specs.CallFacts.{IsPathNamedInMirror}
 use Rattle.pmem_engine.specs.Inner.{cached_block}
 use Rattle.pmem_engine.specs.Sealing.{HasSealedNext}
 use Rattle.pmem_engine.specs.Writing.{overflow_of, HasMadePlain, HasFinishedFor, HasBegunFor}
-use Rattle.pmem_engine.proofs.CallEnds.ErrorAnswers.{is_err_of}
+use Rattle.call_effects.proofs.ResultLaws.{is_err_of}
 use Rattle.pmem_engine.proofs.PlannedCalls.PostedPlans.{isnt_fetched, is_spent, isnt_made, isnt_finished, is_named, isnt_named, is_begun, isnt_begun, is_sealed, isnt_sealed}
 use Rattle.pmem_engine.proofs.PostedWrites.WritePremises.{usable_here, minor_below, room_begun, cached_begun, named_begun, same_unbegun}
 use Rattle.pmem_engine.proofs.PostedWrites.WriteOutcomes.{written_spent, written_unplain, written_unfinished, written_unnamed, written_unbegun, written_sealed}

@@ -126,7 +126,7 @@ invariant_of-self-2 g c =
     ∙ ap (λ k. healed (written_line (g.C.Call.write c.args.call.now)) (drop k (ledger_of c.make-done.new.ledger).marks) (p g at).tampering) n)
     (subst (λ k. (s : PlainState) → with_dirtying s c.note_since.new.self
     ≡ after_marks (shape_of c.self.inside.geo) (with_dirtying s (p g at).dirtying) (drop k (ledger_of c.make-done.new.ledger).marks)) n c.note_since.ensures)
-    c.has_banks.ensures).holds
+    c.has_banks.ensures.banks).holds
 
 pub returns-clause-called : goal.returns-clause-called
 returns-clause-called g c =
@@ -144,4 +144,4 @@ returns-clause-called g c =
     ∙ ap (λ k. healed (written_line (g.C.Call.write c.args.call.now)) (drop k (ledger_of c.make-done.new.ledger).marks) (p g at).tampering) n)
     (subst (λ k. (s : PlainState) → with_dirtying s c.note_since.new.self
     ≡ after_marks (shape_of c.self.inside.geo) (with_dirtying s (p g at).dirtying) (drop k (ledger_of c.make-done.new.ledger).marks)) n c.note_since.ensures)
-    c.has_banks.ensures)
+    c.has_banks.ensures.banks)

@@ -5,7 +5,7 @@ use Rattle.pmem_base.specs.Geo.{shape_of}
 use Rattle.board.specs.MemBoard.{memory_of}
 use Rattle.board.specs.Memory.{BoardMemory}
 use Rattle.seal_ledger.specs.View.{capacity_of, ledger_of}
-use Rattle.pmem_recovery.specs.Parts.{suite_state}
+use Rattle.call_effects.specs.SuiteStates.{suite_state}
 use Rattle.pmem_replay.specs.World.{WorldParts, WorldState, IsWorld, world_of}
 use Rattle.watched_board.specs.Watching.{none_taken, device_during, IsWatched}
 use Rattle.pmem_replay.specs.During.{WasRecovered}

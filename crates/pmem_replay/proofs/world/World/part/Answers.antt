@@ -4,7 +4,7 @@ use Rattle.std.specs.Prelude.{slice_set, IsErr}
 use Rattle.pmem_base.specs.declared.commands.Posted.{Posted}
 use Rattle.pmem_base.specs.Ranges.{IsPosted}
 use Rattle.pmem_replay.proofs.Table.TableChanges.{part-ok}
-use Rattle.pmem_recovery.proofs.ResultLaws.{from_no_error}
+use Rattle.call_effects.proofs.ResultLaws.{from_no_error}
 use Rattle.pmem_replay.proofs.Steps.PartsOfWorld.{engine_some}
 use Rattle.pmem_base.specs.Geo.{shape_of}
 use Rattle.board.specs.MemBoard.{memory_of}

@@ -5,10 +5,12 @@ use Rattle.call_plan.specs.Following.{Follows}
 use Rattle.suite.specs.Setup.{Setup}
 use Rattle.pmem_engine.specs.declared.fault.Fault.{Fault}
 use Rattle.pmem_engine.specs.Parts.{Parts, parts_at, setup_at}
-use Rattle.pmem_engine.specs.Outcomes.{outcome_of, is_going}
-use Rattle.pmem_engine.specs.Plans.{chip_in, ended_with}
+use Rattle.call_effects.specs.Outcomes.{is_going}
+use Rattle.pmem_engine.specs.Outcomes.{outcome_of}
+use Rattle.commit_regs.specs.Plans.{ended_with}
+use Rattle.pmem_engine.specs.Plans.{chip_in}
 use Rattle.pmem_engine.proofs.CallEnds.EngineCalls.{down_after}
-use Rattle.pmem_engine.proofs.CallEnds.ErrorAnswers.{is_err_of}
+use Rattle.call_effects.proofs.ResultLaws.{is_err_of}
 use Rattle.engine_lines.specs.declared.edits.Edit.{Edit}
 use Rattle.engine_lines.specs.Edits.{AreEdited, IsEditOf}
 use Rattle.engine_lines.specs.Plans.{edits_plan}

@@ -4,7 +4,7 @@ use Rattle.suite.specs.Setup.{Setup}
 use Rattle.pmem_engine.specs.Engine.{EngineState}
 use Rattle.pmem_engine.specs.Parts.{Parts, parts_of}
 use Rattle.pmem_engine.specs.Plans.{Chip, chip_of}
-use Rattle.pmem_engine.specs.Outcomes.{is_going}
+use Rattle.call_effects.specs.Outcomes.{is_going}
 use Rattle.pmem_engine.proofs.CallEnds.EngineCalls.{down_after, up_after}
 use Rattle.engine_lines.proofs.EngineLines.{few_marks}
 use Rattle.engine_lines.proofs.EditPlans.{edits_follow_under}

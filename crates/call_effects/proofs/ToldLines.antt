@@ -1,10 +1,8 @@
 -- Lines that a board may not tell: what holds of them where they are told.
-use Rattle.std.proofs.Common.{rules, ℕ, ◌≡◌, List, [], Option, Some, None, ap, ◌∙◌}
+use Rattle.std.proofs.Common.{rules, ℕ, ◌≡◌, List, Option, Some, None}
 use Rattle.std.specs.Prelude.{MatchOption, IfSome, option_map, is_some}
 use Rattle.pmem_base.specs.declared.lines.Line.{Line}
-use Rattle.commit_regs.proofs.GroupLemmas.{redone-nil}
 use Rattle.board.specs.Device.{AreLinesOf, AreToldLines}
-use Rattle.commit_regs.specs.Groups.{redone_told}
 
 -- where both are told or neither is, what holds of the ones gives what holds of the others
 pub told_cases : (P Q : List Line → Type 0) (old new : Option (List Line)) → is_some new ≡ is_some old
@@ -33,13 +31,6 @@ pub told_same : {A : Type 0} (f : List Line → A) (old new : Option (List Line)
     → ((lines lines_now : List Line) → old ≡ Some lines → new ≡ Some lines_now → f lines_now ≡ f lines)
     → option_map f new ≡ option_map f old
 told_same f v1 v2 same give = search rules
-
--- with no group armed the lines are as they stand
-pub unarmed : (group : List (ℕ × Line)) (told : Option (List Line)) → group ≡ [] → redone_told group told ≡ told
-unarmed group told none = ap (λ g. redone_told g told) none ∙ redone-nil told
-
-pub told_redone : (group : List (ℕ × Line)) (told : Option (List Line)) → is_some (redone_told group told) ≡ is_some told
-told_redone group v1 = search rules
 
 -- the lines that a board tells are as many as its size
 pub whole_lines : (size : ℕ) (told : Option (List Line)) (lines : List Line) → AreToldLines size told → told ≡ Some lines

@@ -1,7 +1,11 @@
--- What holds of an answer that is no error, and of what isn't there.
-use Rattle.std.proofs.Common.{◌≡◌, Bool, false, Option, Some, None, refl, sym, ◌∙◌}
-use Rattle.std.specs.Prelude.{Result, Ok, Err, IsErr, OnOk, is_some}
+-- What holds of an answer that is an error, or none, and of what isn't there.
+use Rattle.std.proofs.Common.{rules, ◌≡◌, Err, Bool, false, Option, Some, None, refl, sym, ◌∙◌}
+use Rattle.std.specs.Prelude.{Result, IsErrAnd, Ok, IsErr, OnOk, is_some}
 use Rattle.std.proofs.lemmas.Bool.{true≢false}
+
+-- an error of this value
+pub is_err_of : {T E : Type 0} (r : Result T E) (e : E) → IsErrAnd r (λ (x : E). x ≡ e) → r ≡ Err e
+is_err_of v0 e it = search rules
 
 pub from_no_error : {T E P : Type 0} (answer : Result T E) → (IsErr answer → ⊥) → OnOk answer P → P
 from_no_error (Ok value) fine holds = holds

@@ -1,0 +1,5 @@
+pub mod PowerLaws
+pub mod ToldLines
+pub mod ResultLaws
+pub mod SteadyLaws
+pub mod SuiteLaws

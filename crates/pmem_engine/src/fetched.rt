@@ -1,0 +1,40 @@
+//! Laws of how a read and a write fetch the page's path and name it, and of what a write leaves that doesn't end well,
+//! from their plans alone.
+ghost use Rattle.pmem_engine.specs.FetchLaws.{ReadsFetchFirst, CachedReadsTakeNoStep, StoppedWritesAreTold, BlocksAreWrittenWhereDue};
+ghost use Rattle.pmem_engine.specs.NameLaws.{PathsAreNamedInOrder};
+
+/// A law: wherever a read ends, the path's first levels were fetched, by the cache as it was, and of the lines those of
+/// the dirty blocks that gave way were written, and no other: all levels where the line was unsealed or its tag refused,
+/// and those above a line that was refused or clashes, which is of a level that wasn't cached. Power that is on is cut
+/// only where the next level isn't cached and a dirty block has to give way to it.
+pub fn reads_fetch_their_path()
+    ensures { ReadsFetchFirst }
+{}
+
+/// A law: a read whose path is cached writes and latches nothing and makes no digest, whatever it answers, and power
+/// that is on isn't cut.
+pub fn cached_reads_take_no_step()
+    ensures { CachedReadsTakeNoStep }
+{}
+
+/// A law: what a write leaves that is refused, shown or cut. Where the path is refused or the counter is used up, the
+/// fetch's write-backs were written and nothing else, and no mark was made. Where a tag is refused or a seal is a forged
+/// one, the whole path was fetched, of the metadata lines no other was written, and no block is named. A cut comes in the
+/// fetch, where no mark is made yet and no block named, or once the whole path was fetched and the counter isn't used up,
+/// and no block came in or gave way since.
+pub fn stopped_writes_leave_their_fetch()
+    ensures { StoppedWritesAreTold }
+{}
+
+/// A law: wherever a write ends, its page's counter block stands on the device as it did, where told, unless a page was
+/// begun or the line was sealed under a minor that the stop-loss number divides.
+pub fn counter_blocks_are_written_where_due()
+    ensures { BlocksAreWrittenWhereDue }
+{}
+
+/// A law: a write names the blocks of its page's path from the top down, by one line write for each that isn't named yet.
+/// Where power is cut the first of them are named in the engine's copy of the shadow lines, and on the device one fewer.
+/// Nothing else changes.
+pub fn paths_are_named_in_order()
+    ensures { PathsAreNamedInOrder }
+{}
