@@ -10,7 +10,7 @@
         print(traced.command.number, [step.text for step in traced.steps])
     for cut in session.cuts():
         print(cut)
-    for row in explorer.compare_designs(["examples/database.trace"], ["run", "tree"], sets=[1, 4]):
+    for row in explorer.compare_designs(["examples/power_cut.trace"], ["run", "tree"], sets=[1, 4]):
         print(row["design"], row["sets"], row["write_steps"], row["recovery_tags_mean"])
 
 What is wrong (a file, a line of the trace, no program) is an `ExploreError`, whose text says it in one line. The program is

@@ -102,8 +102,8 @@ class LoggedRecording(Recording):
         self.program = program
         self.settings = settings
         self.trace = trace
-        self.commands = trace.commands
         output = known or self.first_run()
+        self.commands = trace.commands
         program.check(output, settings)
         self.entries = entries_of(output.data, program.path)
         self.replies = [entry.reply for entry in self.entries]

@@ -214,6 +214,12 @@ class Program:
                            + (f", its last line: {shown_line(last.encode())}" if last else ""))
 
 
+def check_length(trace: Trace) -> None:
+    """That the program takes so many lines."""
+    if trace.line_count > MOST_LINES:
+        raise ExploreError(f"{trace.name} has {trace.line_count} lines, and a trace at most {MOST_LINES:,}")
+
+
 class Recording:
     """A trace with the program's replies to it, which can be run again up to any command and then asked."""
 
@@ -223,8 +229,8 @@ class Recording:
         self.program = program
         self.settings = settings
         self.trace = trace
-        self.commands = trace.commands
         output = known or self.first_run()
+        self.commands = trace.commands
         self.replies = replies_of(output.lines)
         self.check_replies(output)
         self.script = b"".join(command.text + b"\n" for command in self.commands)
@@ -234,8 +240,7 @@ class Recording:
 
     def first_run(self) -> Output:
         """The run of the trace as it stands."""
-        if self.trace.line_count > MOST_LINES:
-            raise ExploreError(f"{self.trace.name} has {self.trace.line_count} lines, and a trace at most {MOST_LINES:,}")
+        check_length(self.trace)
         try:
             return self.program.run(self.trace.data, self.settings)
         except StopLine as stop:

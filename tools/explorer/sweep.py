@@ -9,7 +9,7 @@ from .errors import ExploreError
 from .layout import COUNTERS, NODES, PARTS, Parts, layout_of
 from .logged import Entry, entries_of
 from .output import csv_text, json_text, latex_text, table_text
-from .program import MOST_LINES, Counts, Output, Recording, Reply, Run, counts_of, first_word, replies_of, text_of
+from .program import MOST_LINES, Counts, Output, Recording, Reply, Run, check_length, counts_of, first_word, replies_of, text_of
 from .settings import Settings
 from .together import Together
 from .trace import Command, Trace
@@ -190,11 +190,12 @@ def trace_sweep(trace: Trace, settings: Sequence[Settings], together: Together) 
     """What a trace costs under each setting. The first run stands alone: it tells what is wrong with the trace."""
     for each in settings:
         each.check()
-    commands = Recording(together.program, settings[0], trace).commands
-    count = len(script_of(settings[0], commands))
+    check_length(trace)
+    count = len(script_of(settings[0], trace.commands))
     if count > MOST_LINES:
-        raise ExploreError(f"{trace.name} has {len(commands)} commands: with what a sweep asks besides that is {count} lines, and "
+        raise ExploreError(f"{trace.name} has {len(trace.commands)} commands: with what a sweep asks besides that is {count} lines, and "
                            f"a trace has at most {MOST_LINES:,}")
+    commands = Recording(together.program, settings[0], trace).commands
     runs = [Run(text_of(script_of(each, commands)), each) for each in settings]
     logged_by: Optional[str] = None
     if not settings[0].machine.has_counts and together.program.logged(b"", settings[0]) is not None:

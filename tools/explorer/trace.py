@@ -1,7 +1,7 @@
 """Reading a trace: which of its lines are commands. The program alone judges what they say."""
 import sys
 from dataclasses import dataclass
-from functools import lru_cache
+from functools import cached_property, lru_cache
 from typing import List, Optional, Tuple
 
 from .errors import ExploreError, reason_of
@@ -35,11 +35,15 @@ class Command:
 
 @dataclass(frozen=True)
 class Trace:
-    """A trace: its name, its bytes, and the commands among its lines."""
+    """A trace: its name, its bytes, and the commands among its lines, which are found once they are asked for."""
 
     name: str
     data: bytes
-    commands: Tuple[Command, ...]
+
+    @cached_property
+    def commands(self) -> Tuple[Command, ...]:
+        """Its commands, in their order."""
+        return tuple(commands_of(self.data))
 
     @property
     def line_count(self) -> int:
@@ -122,7 +126,7 @@ def shown_name(name: str) -> str:
 
 def trace_of(name: str, data: bytes) -> Trace:
     """The trace that these bytes spell."""
-    return Trace(shown_name(name), data, tuple(commands_of(data)))
+    return Trace(shown_name(name), data)
 
 
 def read_trace(name: str) -> Trace:

@@ -7,7 +7,7 @@ import tempfile
 import unittest
 from functools import lru_cache
 from pathlib import Path
-from typing import Any, List, Optional
+from typing import Any, Dict, List, Optional, Tuple
 
 from .starter import EXPLORE as EXPLORE, TOOLS as TOOLS, starter
 
@@ -18,6 +18,19 @@ WRITE = f"post 0 0 {ONES}\ndrain 0\n"
 TWO_WRITES = WRITE + f"post 1 70 {'22' * 64}\npart 1 70 3 aabb\nfence 1\n"
 FORGED = "flip 5 0\nflip 5 8\nread 0 5\n"
 TWIN = f"post 0 0 {ONES}\ncut 5\ndrain 0\non\n"
+# Where neither the ciphers nor the memory's size play a part: these take a fraction of the time.
+QUICK: Dict[str, Any] = {"suite": "weak"}
+SMALL: Dict[str, Any] = {**QUICK, "levels": 1}
+
+
+def small_example(name: str) -> str:
+    """The trace of an example for a memory of one level, in which the last two lines of `wear` are 252 and 253."""
+    return (EXAMPLES / f"{name}.trace").read_text().replace("place 1020\n", "place 252\n").replace("place 1021\n", "place 253\n")
+
+
+def words_of(settings: Dict[str, Any]) -> List[str]:
+    """Settings as options."""
+    return [word for name, value in settings.items() for word in (f"--{name}", str(value))]
 
 
 def program_path() -> str:
@@ -42,7 +55,9 @@ def library_folder() -> Path:
 
 
 class ExploreTest(unittest.TestCase):
-    """A test with a directory of its own."""
+    """A test with a directory of its own. `explore` is run by a process that has its modules, and these besides."""
+
+    modules: Tuple[str, ...] = ()
 
     def setUp(self) -> None:
         directory = tempfile.TemporaryDirectory()
@@ -85,7 +100,7 @@ exec '{os.path.abspath(program_path())}' "$@"
     def explore(self, *words: str, text: Optional[str] = None, **variables: str) -> "subprocess.CompletedProcess[str]":
         """Runs `explore` on these words, with text on its standard input. Where variables are given, Python is started with them."""
         if not variables:
-            return starter().run(words, text or "", dict(os.environ))
+            return starter(*self.modules).run(words, text or "", dict(os.environ))
         return subprocess.run([sys.executable, str(EXPLORE), *words], input=text or "", stdout=subprocess.PIPE,
                               stderr=subprocess.PIPE, universal_newlines=True, env={**os.environ, **variables},
                               check=False)

@@ -33,10 +33,10 @@ def receive(file: IO[bytes]) -> Any:
 
 
 class Starter:
-    """The process that forks."""
+    """The process that forks. It has these modules besides."""
 
-    def __init__(self) -> None:
-        words = [sys.executable, "-c", f"import sys; sys.path[0] = {str(TOOLS)!r}; from tests import starter; starter.serve()"]
+    def __init__(self, modules: Sequence[str]) -> None:
+        words = [sys.executable, "-c", f"import sys; sys.path[0] = {str(TOOLS)!r}; from tests import starter; starter.serve(sys.argv[1:])", *modules]
         self.process = subprocess.Popen(words, stdin=subprocess.PIPE, stdout=subprocess.PIPE)
         atexit.register(self.close)
 
@@ -53,14 +53,15 @@ class Starter:
 
 
 @lru_cache(maxsize=None)
-def starter() -> Starter:
-    """The one of this process."""
-    return Starter()
+def starter(*modules: str) -> Starter:
+    """The one of this process that has these modules."""
+    return Starter(modules)
 
 
-def serve() -> None:
+def serve(modules: Sequence[str]) -> None:
     """Does what is asked, until no more is. A child comes back from here as well, and then Python ends."""
-    importlib.import_module("explorer.command_line")
+    for name in ("explorer.command_line", *modules):
+        importlib.import_module(name)
     asked, answers = sys.stdin.buffer, os.fdopen(os.dup(1), "wb")
     while True:
         question = receive(asked)

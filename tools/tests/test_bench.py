@@ -3,6 +3,7 @@ import os
 import subprocess
 import sys
 import unittest
+from pathlib import Path
 from typing import Dict, List
 
 from .helpers import TOOLS, ExploreTest, program_path
@@ -14,9 +15,11 @@ SMALL = ("--commands", "0", "--pages", "1", "--reads", "2")
 # A program that does nothing, in place of the one that makes ciphers.
 NOTHING = "import sys\nassert sys.argv[1] in ('hash', 'encrypt') and int(sys.argv[2]) >= 0\n"
 
-# A program that answers each `stat` by other counts: tags rise by 7 and digests by 5.
+# A program that answers each `stat` by other counts: tags rise by 7 and digests by 5. It notes its words.
 COUNTING = """\
-import sys
+import os, sys
+with open(os.path.join(os.path.dirname(sys.argv[0]), "words"), "a") as words:
+    print(*sys.argv[1:], file=words)
 if sys.argv[1] == "make":
     print("on\\nread 0 0\\nstat")
 asked = 0
@@ -48,22 +51,22 @@ class BenchTest(ExploreTest):
         return {line[:10].rstrip(): line[10:].split() for line in lines[1:-1]}
 
     def test_ciphers_of_formatting_and_recovery(self) -> None:
-        # A write makes a tag, and fetches a path of seven and makes it anew. A recovery tries 16 minors of each of
-        # a page's 64 lines, the second one 15 of the line that was written; its digests are four for each of six
+        # A write makes a tag, and fetches a path of five and makes it anew. A recovery tries 16 minors of each of
+        # a page's 64 lines, the second one 15 of the line that was written; its digests are four for each of four
         # nodes, and one.
-        tags, digests = 1 + 1024 + 1 + 1023, 2 * (7 + 7 + 25)
+        tags, digests = 1 + 1024 + 1 + 1023, 2 * (5 + 5 + 17)
         program = os.environ.get("PMEM_PROGRAM") or str(TOOLS.parent / "crates" / "pmem" / "out" / "pmem")
         if not os.access(program, os.X_OK):
             program = program_path()
-        rows = self.rows("--program", program, *SMALL)
-        self.assertEqual(list(rows), ["sample", "defaults", "six levels", "weak", "recovery", "empty", "reads", "python", "cat"])
+        rows = self.rows("--program", program, "--levels", "4", *SMALL)
+        self.assertEqual(list(rows), ["sample", "defaults", "4 levels", "weak", "recovery", "empty", "reads", "python", "cat"])
         compressions = {name: [int(word) for word in words[2:4]] for name, words in rows.items() if len(words) > 2}
-        two, six = [3 * 1024 + 2 * 21 + 2, 4 * 1024], [3 * 262_144 + 2 * 5461 + 2, 4 * 262_144]
+        two, four = [3 * 1024 + 2 * 21 + 2, 4 * 1024], [3 * 16_384 + 2 * 341 + 2, 4 * 16_384]
         self.assertEqual(compressions["sample"], two)
         self.assertEqual(compressions["defaults"], two)
-        self.assertEqual(compressions["six levels"], six)
-        self.assertEqual(compressions["empty"], six)
-        self.assertEqual(compressions["recovery"], [six[0] + 3 * tags + 2 * digests, six[1] + 2 * 4])
+        self.assertEqual(compressions["4 levels"], four)
+        self.assertEqual(compressions["empty"], four)
+        self.assertEqual(compressions["recovery"], [four[0] + 3 * tags + 2 * digests, four[1] + 2 * 4])
         for name, words in rows.items():
             self.assertEqual(len(words), 2 if name in ("weak", "reads", "python", "cat") else 6, name)
 
@@ -72,6 +75,12 @@ class BenchTest(ExploreTest):
         # The `stat` behind the trace is the fourth: one on either side of the `on`, and the trace's own.
         tags, digests, trials = 1024 + 4 * 7, 21 + 4 * 5, 7
         self.assertEqual(rows["defaults"][2:4], [str(3 * tags + 2 * digests + 2), str(4 * (tags - trials))])
+        # The large memories have six levels, and a program asked so answers the same here.
+        tags, digests = tags + 262_144 - 1024, digests + 5461 - 21
+        self.assertEqual(rows["six levels"][2:4], [str(3 * tags + 2 * digests + 2), str(4 * (tags - trials))])
+        asked = Path(self.path("words")).read_text().splitlines()
+        for words in ("run", "run --levels 6", "run --levels 6 --sets 64 --ways 8 --loss 16", "run --suite weak"):
+            self.assertIn(words, asked)
 
     def test_failures(self) -> None:
         for script, text in (
@@ -87,7 +96,7 @@ class BenchTest(ExploreTest):
         self.assertIn("can't be run: No such file or directory\n", result.stderr)
 
     def test_words(self) -> None:
-        for words in (["--pages", "513"], ["--commands", "x"], ["--repeat"], ["--repeat", "0"], ["all"]):
+        for words in (["--pages", "513"], ["--levels", "7"], ["--commands", "x"], ["--repeat"], ["--repeat", "0"], ["all"]):
             self.assertEqual(self.bench(*words).returncode, 2)
 
 

@@ -10,12 +10,15 @@ from typing import Dict, List, Tuple
 
 from .helpers import TOOLS, WRITE, ExploreTest
 from .test_compare import FIGURES, SMALL
+from .test_draw import MATPLOTLIB
 
 HAS_MATPLOTLIB = importlib.util.find_spec("matplotlib") is not None
 
 
 @unittest.skipUnless(HAS_MATPLOTLIB, "matplotlib is not installed")
 class ChartTest(ExploreTest):
+    modules = MATPLOTLIB
+
     def draw(self, name: str, text: str, *words: str) -> bytes:
         """A picture."""
         self.assertEqual(self.output("draw", "-", "-o", self.path(name), *words, text=text), "")

@@ -11,8 +11,10 @@ import unittest
 from pathlib import Path
 from typing import List, Optional
 
-from .helpers import EXAMPLES, EXPLORE, ONES, ExploreTest, program_path
+from .helpers import EXAMPLES, EXPLORE, ONES, QUICK, ExploreTest, program_path, words_of
 
+# The ciphers play no part in what is shared out.
+WEAK = words_of(QUICK)
 SWEEP = ("--sets", "1,2,4,8", "--loss", "1,2,4,16")
 
 
@@ -117,11 +119,11 @@ class ClusterTest(ExploreTest):
     def same_as_here(self) -> None:
         """What a cluster prints is what this machine does."""
         trace = str(EXAMPLES / "power_cut.trace")
-        self.assert_same("cuts", trace, "--json", "--twice")
-        self.assert_same("sweep", trace, "--json", *SWEEP)
-        self.assert_same("cuts", str(EXAMPLES / "txn.trace"), "--as", "txn", "--distinct")
+        self.assert_same("cuts", trace, "--json", "--twice", *WEAK)
+        self.assert_same("sweep", trace, "--json", *SWEEP, *WEAK)
+        self.assert_same("cuts", str(EXAMPLES / "txn.trace"), "--as", "txn", "--distinct", *WEAK)
         small = self.file("small.trace", f"post 0 0 {ONES}\ndrain 0\nread 0 0\npost 0 9 {ONES}\nfence 0\n")
-        self.assert_same("compare", small, "--designs", "run", "--loss", "1,4", "--cuts", "0", "--json")
+        self.assert_same("compare", small, "--designs", "run", "--loss", "1,4", "--cuts", "0", "--json", *WEAK)
         result = self.on_cluster("sweep", "/dev/null/none")
         self.assertEqual((result.returncode, result.stdout), (1, ""))
         files = [path for number in range(2) for path in Path(self.path(f"worker{number}")).rglob("pmem-*/pmem")]
@@ -130,12 +132,12 @@ class ClusterTest(ExploreTest):
     def a_worker_is_killed(self) -> None:
         """The other one does its tasks again."""
         trace = self.file("a.trace", (EXAMPLES / "power_cut.trace").read_text() + "post 0 3 " + "33" * 64 + "\ndrain 0\n" * 2)
-        self.assert_same("cuts", trace, "--json", "--twice", meanwhile="worker")
+        self.assert_same("cuts", trace, "--json", "--twice", *WEAK, meanwhile="worker")
 
     def the_scheduler_is_killed(self) -> None:
         """It is told in one line."""
         self.workers[0] = self.workers[1]
-        result = self.on_cluster("cuts", str(EXAMPLES / "database.trace"), "--lines", "1-2000", meanwhile="scheduler")
+        result = self.on_cluster("cuts", str(EXAMPLES / "database.trace"), "--lines", "1-2000", *WEAK, meanwhile="scheduler")
         self.assertEqual((result.returncode, result.stdout), (1, ""))
         self.assertIn(f"explore: the cluster at {self.address} doesn't answer, or is gone\n", result.stderr)
         self.assertNotIn("Traceback", result.stderr)

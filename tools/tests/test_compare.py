@@ -6,7 +6,7 @@ import math
 from pathlib import Path
 from typing import Any, Dict, List
 
-from .helpers import EXAMPLES, ONES, TOOLS, ExploreTest, need_log, program_path
+from .helpers import EXAMPLES, ONES, QUICK, TOOLS, ExploreTest, need_log, program_path, words_of
 
 import explorer
 from explorer import compare
@@ -211,7 +211,7 @@ class WorkloadTest(CompareCase):
     def test_one_database_on_all(self) -> None:
         need_log("wear", "txn", "tree")
         trace = str(EXAMPLES / "database.trace")
-        result = self.explore("compare", trace, "--json", "--cuts", "2")
+        result = self.explore("compare", trace, "--json", "--cuts", "2", *words_of(QUICK))
         self.assertEqual(result.returncode, 0, result.stderr)
         self.assertIn("left out of all, as txn with 2 levels has the lines 0 to 1007 alone", result.stderr)
         rows = json.loads(result.stdout)["designs"]

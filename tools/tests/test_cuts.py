@@ -1,7 +1,7 @@
 """`explore cuts`: what a cut at each persist step leaves."""
 import subprocess
 
-from .helpers import EXAMPLES, FORGED, ONES, TOOLS, TWIN, TWO_WRITES, WRITE, ExploreTest
+from .helpers import EXAMPLES, FORGED, ONES, QUICK, TOOLS, TWIN, TWO_WRITES, WRITE, ExploreTest, words_of
 
 
 class CutsTest(ExploreTest):
@@ -87,16 +87,16 @@ class CutsTest(ExploreTest):
         text = (EXAMPLES / "power_cut.trace").read_text() + TWO_WRITES + f"flip 5 0\nread 0 5\n{WRITE}"
         for words in ((), ("--twice", "--lines", "5-20"), ("--all-lines", "--levels", "1", "--lines", "10")):
             with self.subTest(words):
-                self.assertEqual(self.output("cuts", "-", *words, "--check-rows", "9", text=text),
-                                 self.output("cuts", "-", *words, "--from-start", text=text))
+                words = ("cuts", "-", *words_of(QUICK), *words)
+                self.assertEqual(self.output(*words, "--check-rows", "9", text=text), self.output(*words, "--from-start", text=text))
 
     def test_lines_that_are_not_read_read_as_before(self) -> None:
         (lesson,) = EXAMPLES.parent.glob("lessons/07-*/trace")
         text = lesson.read_text()
         count = len(text.splitlines())
-        found = self.output("cuts", "-", "--lines", f"{count - 18}-{count}", text=text)
-        self.assertEqual(found, self.output("cuts", "-", "--lines", f"{count - 18}-{count}", "--named-lines", "--from-start",
-                                            text=text))
+        words = ("cuts", "-", *words_of(QUICK), "--lines", f"{count - 18}-{count}")
+        found = self.output(*words, text=text)
+        self.assertEqual(found, self.output(*words, "--named-lines", "--from-start", text=text))
         self.assertIn("  turn  ", found)
         self.assertGreater(len(found.splitlines()), 25)
 

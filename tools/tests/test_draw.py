@@ -6,12 +6,16 @@ import xml.etree.ElementTree
 
 from .helpers import EXAMPLES, FORGED, ONES, TWO_WRITES, WRITE, ExploreTest
 
+# What a picture takes, which is loaded late, and takes longer than the picture.
+MATPLOTLIB = ("matplotlib.pyplot", "matplotlib.backends.backend_agg", "matplotlib.backends.backend_svg", "matplotlib.backends.backend_pdf")
 HAS_MATPLOTLIB = importlib.util.find_spec("matplotlib") is not None
 PNG = b"\x89PNG\r\n\x1a\n"
 
 
 @unittest.skipUnless(HAS_MATPLOTLIB, "matplotlib is not installed")
 class PictureTest(ExploreTest):
+    modules = MATPLOTLIB
+
     def draw(self, name: str, *words: str, text: str) -> bytes:
         """The picture of a trace."""
         self.assertEqual(self.output("draw", "-", "-o", self.path(name), *words, text=text), "")

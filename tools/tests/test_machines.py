@@ -6,7 +6,7 @@ import sys
 from pathlib import Path
 from typing import List, Tuple
 
-from .helpers import EXAMPLES, EXPLORE, ONES, TOOLS, WRITE, ExploreTest
+from .helpers import EXAMPLES, EXPLORE, ONES, QUICK, SMALL, TOOLS, WRITE, ExploreTest, small_example, words_of
 
 DOCS = TOOLS.parent / "docs"
 ONES_TWOS_THREES = [f"{byte}" * 64 for byte in ("11", "22", "33")]
@@ -39,7 +39,7 @@ class PagesTest(ExploreTest):
     def test_no_other_lines_are_changed_where_recovery_is_cut_too(self) -> None:
         for machine, (trace, words, line, lines) in (("wear", WEAR), ("txn", TXN), ("tree", TREE)):
             with self.subTest(machine):
-                cuts = self.json("cuts", "-", "--as", machine, *words, "--lines", str(line), "--twice",
+                cuts = self.json("cuts", "-", "--as", machine, *words_of(QUICK), *words, "--lines", str(line), "--twice",
                                  text=trace.format(*ONES_TWOS_THREES))
                 for cut in cuts:
                     written = lines if cut["answer"].startswith("cut kept") else []
@@ -78,16 +78,18 @@ class MachinesTest(ExploreTest):
             self.assert_fails(self.explore("cuts", "-", *words, text=""), 2, "not allowed with")
 
     def test_cuts_of_each_example(self) -> None:
-        for name, words, names in (("wear", ("--every", "1"), ("start", "gap", "steps")), ("txn", (), ("redone", "steps")),
-                                   ("tree", (), ("digests", "steps"))):
+        small = words_of(SMALL)
+        for name, words, text, names in (("wear", (*small, "--every=1"), small_example("wear"), ("start", "gap", "steps")),
+                                         ("txn", (*small,), small_example("txn"), ("redone", "steps")),
+                                         ("tree", (), self.example("tree"), ("digests", "steps"))):
             with self.subTest(name):
-                cuts = self.json("cuts", "-", "--as", name, *words, text=self.example(name))
+                cuts = self.json("cuts", "-", "--as", name, *words, text=text)
                 self.assertGreater(len(cuts), 10)
                 for cut in cuts:
                     if cut["recovery"].startswith("on "):
                         self.assertEqual([cut[each] for each in names], list(map(int, cut["recovery"].split(" ")[1:])))
-                self.assertEqual(self.output("cuts", "-", "--as", name, *words, text=self.example(name)),
-                                 self.output("cuts", "-", "--as", name, *words, "--from-start", text=self.example(name)))
+                self.assertEqual(self.output("cuts", "-", "--as", name, *words, text=text),
+                                 self.output("cuts", "-", "--as", name, *words, "--from-start", text=text))
 
     def test_an_open_transaction_is_lost(self) -> None:
         text = f"begin\nput 0 {ONES}\nput 5 {ONES}\nput 0 {'22' * 64}\n"

@@ -4,7 +4,10 @@ import sys
 import xml.etree.ElementTree
 from pathlib import Path
 
-from .helpers import EXAMPLES, ONES, TWIN, WRITE, ExploreTest, program_path
+from .helpers import EXAMPLES, ONES, QUICK, TWIN, WRITE, ExploreTest, program_path, words_of
+
+# Which outcomes there are, the ciphers have no part in.
+WEAK = words_of(QUICK)
 
 # A log: entry n at line 64 + n, the number of entries in line 64. The last head is stored before its entry.
 BUG = """op,address,size,data
@@ -56,7 +59,7 @@ class OutcomesTest(ExploreTest):
         made = subprocess.run([program_path(), "make", "3", "520"], stdout=subprocess.PIPE, universal_newlines=True, check=True).stdout
         drains = [number for number, line in enumerate(made.splitlines(), 1) if line.startswith("drain")]
         lines = ("--lines", f"{drains[-40]}-{drains[-20]}")
-        for words, text in (((), (EXAMPLES / "power_cut.trace").read_text()), (("--suite", "blur", "--loss", "2"), TWIN),
+        for words, text in (((*WEAK,), (EXAMPLES / "power_cut.trace").read_text()), (("--suite", "blur", "--loss", "2"), TWIN),
                             (("--suite", "weak", *lines), made), (("--suite", "weak", "--lines", "505-520"), made),
                             (("--suite", "weak", "--twice", "--lines", "505-520"), made)):
             with self.subTest(words):
@@ -64,9 +67,9 @@ class OutcomesTest(ExploreTest):
                 self.assertEqual(self.json(*words, text=text), self.json(*words, "--named-lines", text=text))
 
     def test_outcomes_with_second_cuts(self) -> None:
-        outcomes = self.json("cuts", "-", "--distinct", "--twice", "--lines", "2", text=WRITE)
+        outcomes = self.json("cuts", "-", *WEAK, "--distinct", "--twice", "--lines", "2", text=WRITE)
         self.assertEqual(len(outcomes), 2)
-        cuts = self.json("cuts", "-", "--twice", "--lines", "2", text=WRITE)
+        cuts = self.json("cuts", "-", *WEAK, "--twice", "--lines", "2", text=WRITE)
         self.assertEqual(sum(outcome["cuts"] for outcome in outcomes),
                          sum(1 + len(cut.get("cuts_of_recovery", [])) for cut in cuts))
 
@@ -120,22 +123,22 @@ class OutcomesTest(ExploreTest):
 
     def test_the_bound_of_orders_is_told(self) -> None:
         posts = "".join(f"post 0 {line} {ONES}\n" for line in range(10))
-        text = self.output("cuts", "-", "--orders", "50", text=posts + "fence 0\n")
+        text = self.output("cuts", "-", *WEAK, "--orders", "50", text=posts + "fence 0\n")
         self.assertIn("50 of 1024 outcomes tried\n", text)
-        text = self.output("cuts", "-", "--orders", "2000", text=posts + "drain 0\nfence 0\n")
+        text = self.output("cuts", "-", *WEAK, "--orders", "2000", text=posts + "drain 0\nfence 0\n")
         self.assertIn("1024 of 1024 outcomes tried\n", text)
 
     def test_writes_of_one_line_stay_in_their_order(self) -> None:
         text = f"post 0 5 {ONES}\npost 0 5 {'22' * 64}\npost 1 6 {ONES}\nfence 0\nfence 1\n"
-        outcomes = self.json("cuts", "-", "--orders", "100", "--distinct", text=text)
+        outcomes = self.json("cuts", "-", *WEAK, "--orders", "100", "--distinct", text=text)
         lines = {tuple(write["trace_line"] for write in outcome["first"].get("written", [])) for outcome in outcomes}
         self.assertNotIn((2,), lines)
         self.assertIn((3,), lines)
-        self.assertIn("6 of 6 outcomes tried\n", self.output("cuts", "-", "--orders", "100", text=text))
+        self.assertIn("6 of 6 outcomes tried\n", self.output("cuts", "-", *WEAK, "--orders", "100", text=text))
 
     def test_a_fence_of_another_port_makes_nothing_sure(self) -> None:
         text = f"post 0 5 {ONES}\npost 1 6 {ONES}\nfence 1\npost 1 7 {ONES}\nfence 0\nfence 1\n"
-        self.assertIn("8 of 8 outcomes tried\n", self.output("cuts", "-", "--orders", "100", text=text))
+        self.assertIn("8 of 8 outcomes tried\n", self.output("cuts", "-", *WEAK, "--orders", "100", text=text))
 
     def test_symbols_of_a_program(self) -> None:
         source = self.file("a.c", "long table[20] __attribute__((aligned(64))) = {1}; int main(void) { return 0; }\n")

@@ -5,6 +5,7 @@ import shutil
 import subprocess
 import sys
 import unittest
+from functools import lru_cache
 from typing import Any, List, Tuple
 
 from . import browser
@@ -25,10 +26,16 @@ COUNTED = "const before = pmem.program.runs; CALL; return pmem.program.runs - be
 ANSWER = "const said = pmem.program.engine.answer(arguments[0], arguments[1]); return [said.text, said.status]"
 
 
-def program(words: List[str], text: str) -> Tuple[str, int]:
-    """What the program prints, and its status."""
+@lru_cache(maxsize=None)
+def printed(words: Tuple[str, ...], text: str) -> Tuple[str, int]:
+    """What the program prints, and its status: asked once, for each browser."""
     ran = subprocess.run([program_path(), *words], input=text.encode(), stdout=subprocess.PIPE, check=False)
     return ran.stdout.decode(), ran.returncode
+
+
+def program(words: List[str], text: str) -> Tuple[str, int]:
+    """What the program prints, and its status."""
+    return printed(tuple(words), text)
 
 
 def given_runs() -> List[Tuple[str, List[str], str]]:

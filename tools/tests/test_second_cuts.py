@@ -3,7 +3,7 @@ import unittest
 from dataclasses import replace
 from typing import Any, Dict, List, Sequence, Tuple
 
-from .helpers import EXAMPLES, ExploreTest
+from .helpers import SMALL, ExploreTest, small_example
 from .test_shared import AGAIN, TWICE, WRITES, Noting
 from explorer.cuts import Cut, CutFinder, Recovery
 from explorer.errors import ExploreError
@@ -67,9 +67,9 @@ class SecondCutsTest(ExploreTest):
         self.need_logs()
         cases: List[Tuple[str, bytes, Dict[str, Any]]] = [("run", (text + WRITES).encode(), {"suite": "weak"}) for text in (
             TWICE, WRITES + AGAIN, WRITES + "read 3 64\nflush\n" + AGAIN, WRITES + "flip 1285 3\n" + AGAIN, WRITES + "off\non\nloss 2\n" + AGAIN)]
-        for name in ("wear", "txn", "tree"):
-            text = b"\n".join((EXAMPLES / f"{name}.trace").read_bytes().split(b"\n")[:12]) + b"\n"
-            cases.append((name, text, {"every": 1} if name == "wear" else {}))
+        for machine in ("wear", "txn", "tree"):
+            trace = "".join(small_example(machine).splitlines(True)[:12])
+            cases.append((machine, trace.encode(), {**SMALL, "every": 1} if machine == "wear" else SMALL))
         for name, text, settings in cases:
             noting = Noting()
             found = self.rows(name, text, noting, **settings)

@@ -3,7 +3,7 @@ import unittest
 from dataclasses import replace
 from typing import Any, Dict, Iterable, Iterator, List, Sequence, Tuple
 
-from .helpers import EXAMPLES, ONES, ExploreTest, program_path
+from .helpers import EXAMPLES, ONES, QUICK, SMALL, ExploreTest, program_path, small_example
 from explorer.cuts import NO_CUT, Cut, CutFinder, Recovery
 from explorer.errors import ExploreError
 from explorer.logged import LoggedProgram
@@ -140,8 +140,10 @@ class SharedTest(ExploreTest):
     def test_rows_are_those_of_a_recovery_each(self) -> None:
         self.need_logs()
         cases: List[Tuple[str, bytes, Dict[str, Any]]] = [("run", TWICE.encode(), {"suite": "weak"})]
-        for name, example in (("run", "power_cut"), ("wear", "wear"), ("txn", "txn"), ("tree", "tree")):
-            cases.append((name, (EXAMPLES / f"{example}.trace").read_bytes(), {"every": 1} if name == "wear" else {}))
+        cases.append(("run", (EXAMPLES / "power_cut.trace").read_bytes(), QUICK))
+        cases.append(("wear", small_example("wear").encode(), {**SMALL, "every": 1}))
+        cases.append(("txn", small_example("txn").encode(), SMALL))
+        cases.append(("tree", (EXAMPLES / "tree.trace").read_bytes(), {}))
         for name, text, settings in cases:
             noting = Noting()
             found = self.rows(name, text, noting, **settings)

@@ -5,7 +5,8 @@ import subprocess
 import sys
 from typing import Any, Dict, List, Optional, Sequence
 
-from .helpers import EXAMPLES, EXPLORE, FORGED, ONES, TOOLS, TWIN, TWO_WRITES, WRITE, ExploreTest, lesson_words, program_path
+from .helpers import EXAMPLES, EXPLORE, FORGED, ONES, QUICK, TOOLS, TWIN, TWO_WRITES, WRITE, ExploreTest, lesson_words, program_path, words_of
+from explorer.trace import TAMPERING_WORDS
 
 TWO_PAGES = f"post 0 324 {'f0' * 64}\npost 1 372 {'eb' * 64}\ndrain 1\ndrain 0\n"
 SAME_BYTES = TWO_PAGES + "read 0 0\nread 0 256\nread 0 512\nread 0 768\n"
@@ -171,15 +172,22 @@ class LogTest(ExploreTest):
         self.assertEqual(told, found)
         return [command["steps"] for command in told]
 
+    def quick(self, words: Sequence[str], text: str) -> List[str]:
+        """The words with the quick ciphers where they play no part in which steps there are: where nobody tampers."""
+        is_free = "--suite" not in words and TAMPERING_WORDS.isdisjoint(word for line in text.splitlines() for word in line.split()[:1])
+        return [*words, *words_of(QUICK)] if is_free else list(words)
+
     def test_steps_are_those_that_cuts_find(self) -> None:
         for name, *words in (("first",), ("attack",), ("power_cut",), ("forged_tag", "--suite", "weak")):
             with self.subTest(name):
-                self.same_steps(words, (EXAMPLES / f"{name}.trace").read_text())
+                text = (EXAMPLES / f"{name}.trace").read_text()
+                self.same_steps(self.quick(words, text), text)
         for trace in sorted((TOOLS.parent / "lessons").glob("[0-9]*/trace")):
             machine, *words = lesson_words(trace.parent)
             if machine == "run":
                 with self.subTest(trace.parent.name):
-                    self.assertTrue(any(self.same_steps(words, trace.read_text())))
+                    text = trace.read_text()
+                    self.assertTrue(any(self.same_steps(self.quick(words, text), text)))
 
     def test_steps_of_a_sample_with_a_small_cache(self) -> None:
         """There are lines that a command writes twice, and lines that are written with the bytes that they had."""
