@@ -1,6 +1,6 @@
 -- A write is armed: the registers and the watch stay anchored, the device stays durable, and once the
 -- group is written and emptied the engine is sound.
-use Rattle.std.proofs.Common.{ℕ, ◌≡◌, ◌≢◌, ◌<◌, List, [], length, true, false, Some, None, refl, sym, ap, subst, inl, inr, ◌∙◌, arith}
+use Rattle.std.proofs.Common.{ℕ, ◌≡◌, ◌≢◌, ◌<◌, List, length, true, false, Some, refl, sym, ap, subst, inl, inr, ◌∙◌, arith, rules}
 use Rattle.asit_shadow.proofs.Common.{All, IsNone, slice_set, Option, cases_Bool, cases_eq, false≢true, false_from_ne_true, length-set, get_or-set_same, get_or-set_other, same_Some, Line, Regs, line_at, tag_slot, IsGroup, IsShape, Setup, redone, AreLinesOf-redone, node_line, tree_lines, tree_size, node_at, IsRaised, is_on_line_path, slot_of, slot_line, WatchState, last_seal_of, LineSeal, raised_nodes-IsRaised, TreeState, cache_at, IsCachedDirty, CachedNode, IsTrueSeal, IsTrueTreeSlot, IsTreeAnchored, IsTrueCached, IsTreeTrusted, IsTreeSealStored, IsNamed, IsSlotStored, IsTreeMendable, IsTreeDurable, IsTreeSound, is_path_slot, HasPathNamed, IsNodePathCached, HasPathCached, IsTreeArmed, HasPathStored, IsTreeEmptied}
 use Rattle.asit_shadow.proofs.SlotPlaces.{on_path-inside, top_on_path, path_slot-of, path_slot-from}
 use Rattle.asit_shadow.proofs.PutLaws.{write_group-IsGroup, write_group-made, IsGroupMade, tag_slot-tag_only}
@@ -14,14 +14,10 @@ armed-IsRaised setup a seal old_regs new_regs old new shape anchored armed =
 -- ---- the seals
 
 pub last_here : (watch new : WatchState) (a : ℕ) (seal : LineSeal) → new.seals ≡ slice_set watch.seals a (Some seal) → a < length watch.seals → last_seal_of new a ≡ Some seal
-last_here watch new a seal e inside =
-    ap (λ (seals : List (Option LineSeal)). Rattle.std.specs.Prelude.slice_index_or seals a None) e
-    ∙ get_or-set_same watch.seals a (Some seal) None inside
+last_here watch new a seal e inside = search (rules, get_or-set_same)
 
 pub last_else : (watch new : WatchState) (a b : ℕ) (seal : LineSeal) → new.seals ≡ slice_set watch.seals a (Some seal) → b ≢ a → last_seal_of new b ≡ last_seal_of watch b
-last_else watch new a b seal e apart =
-    ap (λ (seals : List (Option LineSeal)). Rattle.std.specs.Prelude.slice_index_or seals b None) e
-    ∙ get_or-set_other watch.seals a b (Some seal) None apart
+last_else watch new a b seal e apart = search (rules, get_or-set_other)
 
 -- ---- anchored
 
@@ -186,36 +182,12 @@ armed-made setup a seal lines old_regs new_regs old new shape size armed =
 
 -- the law: over a sound engine with the path cached, the device is durable from the latch on
 pub IsDurable-armed : (setup : Setup) (a : ℕ) (seal : LineSeal) (engine : TreeState) (lines : List Line) (old_regs new_regs : Regs) (old new : WatchState) → IsShape setup.shape → IsTreeSound setup engine lines old_regs old → IsNodePathCached setup.shape a engine.cache → IsTreeArmed setup a seal old_regs new_regs old new → IsTreeDurable setup lines new_regs new
-IsDurable-armed setup a seal engine lines old_regs new_regs old new shape sound cached armed =
-    record {
-      device_whole = sound.durable.device_whole;
-      mendable =
-          armed-mendable setup a seal engine lines (redone new_regs.group.items lines) old_regs new_regs old new shape sound cached armed
-          (armed-made setup a seal lines old_regs new_regs old new shape sound.durable.device_whole.count armed);
-    }
+IsDurable-armed setup a seal engine lines old_regs new_regs old new shape sound cached armed = search (rules, armed-mendable, armed-made)
 
 -- ---- the group is written and emptied
 
 pub IsAnchored-emptied : (setup : Setup) (old new : Regs) (watch : WatchState) → IsTreeEmptied old new → IsTreeAnchored setup old watch → IsTreeAnchored setup new watch
-IsAnchored-emptied setup old new watch emptied anchored =
-    record {
-      of_setup = anchored.of_setup;
-      tree = anchored.tree;
-      seals = anchored.seals;
-      slots = anchored.slots;
-      top_named = anchored.top_named;
-      root = emptied.root ∙ anchored.root;
-      group = subst (IsGroup (tree_size setup.shape)) (sym emptied.no_group) (empty_group (tree_size setup.shape));
-      no_exhibit = anchored.no_exhibit;
-    }
-  where
-    empty_group : (n : ℕ) → IsGroup n []
-    empty_group n =
-        record {
-          distinct = λ i j d less within. absurd (omega (arith, within));
-          on_device = λ i d within. absurd (omega (arith, within));
-          lines_range = λ i d within. absurd (omega (arith, within));
-        }
+IsAnchored-emptied setup old new watch emptied anchored = search rules
 
 -- the cached nodes are true after the write
 stored-true : (setup : Setup) (a i : ℕ) (held : CachedNode) (engine : TreeState) (regs : Regs) (old new : WatchState) (cache : List (Option CachedNode)) → IsShape setup.shape → a < tree_lines setup.shape → IsTreeTrusted setup engine regs old → IsRaised setup.shape a old.nodes new.nodes → HasPathNamed setup.shape a new.nodes old.slots new.slots

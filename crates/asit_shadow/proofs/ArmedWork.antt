@@ -1,6 +1,6 @@
 -- What a write that was armed did, exactly.
-use Rattle.std.proofs.Common.{ℕ, ◌≡◌, ◌<◌, List, length, Some, None, sym, ap, subst, ◌∙◌, arith}
-use Rattle.asit_shadow.proofs.Common.{Option, slice_index_or, false≢true, get_or-set_same, Line, Regs, Shape, IsShape, Setup, RisesBy, redone_told, Node, LineSeal, tree_lines, tree_slots, WatchState, CachedNode, TreeEngineParts, IsWatchReady, tree_lines_redone, is_path_slot, HasPathCached, KeepsOtherRegisters, absent_nodes, HasSlotsFetched, HasArmedPath, IsPathFetchedTo, IsWriteMade}
+use Rattle.std.proofs.Common.{ℕ, ◌≡◌, ◌<◌, List, length, Some, None, sym, ap, subst, ◌∙◌, arith, rules}
+use Rattle.asit_shadow.proofs.Common.{Option, slice_index_or, false≢true, get_or-set_same, Line, Regs, Shape, IsShape, Setup, RisesBy, redone_told, Node, LineSeal, tree_lines, tree_slots, WatchState, CachedNode, TreeEngineParts, IsWatchReady, tree_lines_redone, HasPathCached, KeepsOtherRegisters, absent_nodes, HasSlotsFetched, HasArmedPath, IsPathFetchedTo, IsWriteMade}
 use Rattle.asit_shadow.specs.Paths.{write_group}
 use Rattle.asit_shadow.proofs.RegisterLaws.{others-then}
 use Rattle.asit_shadow.proofs.SlotPlaces.{path_slot-of}
@@ -9,16 +9,7 @@ use Rattle.asit_shadow.proofs.PairSets.{IsPairing, pairs-are, lines-are, cache-i
 
 -- the path's slots are all set, so it doesn't matter what was fetched into them
 cached-over : (g : Shape) (nodes after : List Node) (a n : ℕ) (old mid new : List (Option CachedNode)) → HasSlotsFetched g nodes a n old mid → HasPathCached g a after mid new → HasPathCached g a after old new
-cached-over g nodes after a n old mid new fetched it =
-    record {
-      count = it.count ∙ fetched.count;
-      on_path = it.on_path;
-      others =
-          λ i off.
-          it.others i off
-          ∙ fetched.elsewhere i
-          (λ x on low high same. false≢true (sym off ∙ (ap (is_path_slot g a) same ∙ path_slot-of g a x on)));
-    }
+cached-over g nodes after a n old mid new fetched it = search (rules, false≢true, path_slot-of)
 
 -- what is known of it
 pub record IsArmedOver (setup : Setup) (a : ℕ) (plain : Line) (seal : LineSeal) (pairs : List (ℕ × Node)) (regs : Regs) (old mid new : TreeEngineParts) : Type 0 where
@@ -30,10 +21,7 @@ pub record IsArmedOver (setup : Setup) (a : ℕ) (plain : Line) (seal : LineSeal
   pub made : IsWriteMade setup a plain seal pairs regs mid new
 
 pairing : (setup : Setup) (a : ℕ) (plain : Line) (seal : LineSeal) (pairs : List (ℕ × Node)) (regs : Regs) (old mid new : TreeEngineParts) → IsArmedOver setup a plain seal pairs regs old mid new → IsPairing setup.shape a pairs new.watch.nodes
-pairing setup a plain seal pairs regs old mid new it =
-    subst (IsPairing setup.shape a pairs) (sym it.made.told.nodes)
-    (pairs-are setup.shape a pairs mid.watch.nodes it.shape it.inside it.made.raised.positions
-    (ap (λ (w : WatchState). length w.nodes) it.path.watch ∙ it.ready.node_count))
+pairing setup a plain seal pairs regs old mid new it = search (rules, IsPairing, pairs-are)
 
 pub armed-group : (setup : Setup) (a : ℕ) (plain : Line) (seal : LineSeal) (pairs : List (ℕ × Node)) (regs : Regs) (old mid new : TreeEngineParts) → IsArmedOver setup a plain seal pairs regs old mid new → regs.group.items ≡ write_group setup.shape a seal new.watch.nodes
 armed-group setup a plain seal pairs regs old mid new it =

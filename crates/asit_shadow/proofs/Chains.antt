@@ -1,6 +1,6 @@
 -- One part of a call after another: what holds of both.
-use Rattle.std.proofs.Common.{◌≡◌, List, [], sym, subst, ◌∙◌}
-use Rattle.asit_shadow.proofs.Common.{Option, Some, IfSome, is_some, Line, Setup, Outcome, going, cut_short, shown, power_chained, told_cases, unarmed, TreeEngineParts, tree_lines_redone, KeepsNodes, KeepsTreePlaces, TreeCallEffect}
+use Rattle.std.proofs.Common.{◌≡◌, List, [], ◌∙◌, rules}
+use Rattle.asit_shadow.proofs.Common.{Some, IfSome, is_some, Line, Setup, Outcome, going, cut_short, shown, power_chained, told_cases, unarmed, TreeEngineParts, tree_lines_redone, KeepsNodes, KeepsTreePlaces, TreeCallEffect}
 
 nodes-then : (setup : Setup) (outcome : Outcome) (old mid new : TreeEngineParts) → KeepsNodes setup going old mid → KeepsNodes setup outcome mid new → KeepsNodes setup outcome old new
 nodes-then setup going old mid new first second = λ x inside it. second x inside (first x inside it)
@@ -8,12 +8,7 @@ nodes-then setup cut_short old mid new first second = λ x inside it. second x i
 nodes-then setup shown old mid new first second = second
 
 pub places-then : (setup : Setup) (outcome : Outcome) (old mid new : TreeEngineParts) → KeepsTreePlaces setup going old mid → KeepsTreePlaces setup outcome mid new → KeepsTreePlaces setup outcome old new
-places-then setup outcome old mid new first second =
-    record {
-      seals = λ a inside it. second.seals a inside (first.seals a inside it);
-      slots = λ i inside it. second.slots i inside (first.slots i inside it);
-      nodes = nodes-then setup outcome old mid new first.nodes second.nodes;
-    }
+places-then setup outcome old mid new first second = search (rules, nodes-then)
 
 pub effect-then : (setup : Setup) (outcome : Outcome) (old mid new : TreeEngineParts) → TreeCallEffect setup going old mid → TreeCallEffect setup outcome mid new → TreeCallEffect setup outcome old new
 effect-then setup outcome old mid new first second =
@@ -30,11 +25,7 @@ effect-then setup outcome old mid new first second =
 -- that are told then
 pub held-told : (P Q : List Line → Type 0) (old new : TreeEngineParts) → old.device.regs.group.items ≡ [] → new.device.regs.group.items ≡ [] → is_some new.device.lines ≡ is_some old.device.lines
     → ((lines then : List Line) → old.device.lines ≡ Some lines → new.device.lines ≡ Some then → P lines → Q then) → IfSome (tree_lines_redone old) P → IfSome (tree_lines_redone new) Q
-held-told P Q old new before after same give it =
-    subst (λ (o : Option (List Line)). IfSome o Q) (sym (unarmed new.device.regs.group.items new.device.lines after))
-    (told_cases P Q old.device.lines new.device.lines same give
-    (subst (λ (o : Option (List Line)). IfSome o P) (unarmed old.device.regs.group.items old.device.lines before) it))
+held-told P Q old new before after same give it = search (rules, unarmed, told_cases)
 
 pub told-of : (P : List Line → Type 0) (parts : TreeEngineParts) → parts.device.regs.group.items ≡ [] → IfSome (tree_lines_redone parts) P → IfSome parts.device.lines P
-told-of P parts none it =
-    subst (λ (o : Option (List Line)). IfSome o P) (unarmed parts.device.regs.group.items parts.device.lines none) it
+told-of P parts none it = search (rules, unarmed)

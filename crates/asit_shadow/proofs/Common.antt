@@ -9,11 +9,11 @@ pub use Rattle.asit_shadow.specs.Places.{IsNodeHeld, IsNodeHeldBy, ArePlacesKept
 pub use Rattle.asit_shadow.specs.Plain.{PlainTree, writes_below, node_above_lines, true_count, slot_naming, names_with, named_at, after_tree_write, IsPlainOf, true_version, writes_made}
 pub use Rattle.asit_shadow.specs.Plans.{TreeChip, read_parts_of, with_engine, with_read, fault_of_line, fetch_plan, ended_engine, fault_of_node, with_clean, node_in, level_plan, fetch_turn, tree_chip_at, tree_chip_of, data_plan, with_tags}
 pub use Rattle.asit_shadow.specs.RecoverPlans.{RecoverParts, recover_parts, slots_plan, cached_named, recovery_work, recover_parts_at, recovered_engine, same_lines, slots_end}
-pub use Rattle.asit_shadow.specs.Recovering.{Rest, rest_of, HasOnlyReadLines, AreSlotsRead, IsReadFinished, HasTreeRecovered, IsNameable, IsRestUsable, rest_redone, IsRestAnchored, IsRestDurable, IsTreeWork, IsGroupBegun, IsRoomFilled}
+pub use Rattle.asit_shadow.specs.Recovering.{Rest, rest_of, HasOnlyReadLines, AreSlotsRead, IsReadFinished, HasTreeRecovered, IsNameable, IsRestUsable, rest_redone, IsRestAnchored, IsRestDurable, IsTreeWork, IsRoomFilled}
 pub use Rattle.asit_shadow.specs.State.{TreeState, cache_at, IsCached, IsCachedAs, IsTreeEngine, IsHeldNode, top_node, IsCachedDirty}
 pub use Rattle.asit_shadow.specs.Steps.{IsTreeArmed, HasPathStored, IsTreeEmptied, KeepsOtherRegisters, IsFetched, GivesWay, IsTreeRecovered, slots_read, tree_plain_line, held_of, tree_plain_of, MadeSeal, IsHistory}
-pub use Rattle.asit_shadow.specs.Work.{absent_nodes, HasSlotsFetched, spilled_nodes, HasFetchedNodes, is_node_cached, IsCutInNodeFetch, HasFetchedPath, HasArmedPath, holds_dirty, HasStoppedAt, IsNodeShownAt, holds_node, write_back, node_level_write, node_level_reads, slot_fetched, IsLineShownAt, IsCutInGroup}
-pub use Rattle.asit_shadow.specs.WritePlans.{raised_pair, seal_of, write_armed, named_chip, stored_chip, named_one, told_write, seal_under_plan, raise_plan, cached_node, raised_node, with_tree, with_stored}
+pub use Rattle.asit_shadow.specs.Work.{absent_nodes, HasSlotsFetched, spilled_nodes, HasFetchedNodes, is_node_cached, IsCutInNodeFetch, HasFetchedPath, HasArmedPath, holds_dirty, HasStoppedAt, IsNodeShownAt, write_back, node_level_write, node_level_reads, slot_fetched, IsLineShownAt, IsCutInGroup}
+pub use Rattle.asit_shadow.specs.WritePlans.{raised_pair, seal_of, write_armed, named_chip, stored_chip, named_one, told_write, raise_plan, cached_node, raised_node, with_tree, with_stored}
 pub use Rattle.asit_shadow.specs.Writing.{IsWriteMade, set_pairs, slot_entries, position_below, IsSealMade, pair_at, dirty_entries, armed_lines, IsPathRaised, IsRaisedTo, HasWrittenUp, IsWriteTold, IsTreeNamed}
 pub use Rattle.asit_shadow.specs.declared.cache.CachedNode.{CachedNode}
 pub use Rattle.asit_shadow.specs.declared.fault.TreeFault.{TreeFault}
@@ -46,9 +46,9 @@ pub use Rattle.counter_tree.proofs.SlotPlans.{chip-tree-is, clash-is}
 pub use Rattle.counter_tree.proofs.TreeLaws.{raised_nodes-IsRaised, tree-IsNode, tree-version, lines-are_children, line_position-parent, raised-same, versions_down, node_at-set_same, node_at-set_other, line_position-IsAtLevel, raised_up-deep}
 pub use Rattle.counter_tree.specs.Accepted.{IsNodeForged, IsCutReading, IsNodeUnaccepted, HasLineRead, IsLineAccepted, IsLineUnaccepted, IsLineForged, IsLineFetched}
 pub use Rattle.counter_tree.specs.Layout.{tree_lines, tree_size, tree_slots, line_of_node, line_of_slot, line_of_tag}
-pub use Rattle.counter_tree.specs.Nodes.{node_line, counter, total, node_read, stored_node, version_counter, zero_node, wrapped_version, node_place, without_tag}
+pub use Rattle.counter_tree.specs.Nodes.{node_line, counter, total, node_read, stored_node, version_counter, zero_node}
 pub use Rattle.counter_tree.specs.Plans.{ReadParts, line_plan, node_plan, with_exhibit, read_parts, clash_of}
-pub use Rattle.counter_tree.specs.Shadow.{IsShadowTree, root_of, shadow_height, ChipTree, IsChipTree, shadow_digests, tree_with, tree_root_with, up, shadow_tree_line}
+pub use Rattle.counter_tree.specs.Shadow.{IsShadowTree, root_of, shadow_height, ChipTree, IsChipTree, shadow_digests, tree_with, tree_root_with, up}
 pub use Rattle.counter_tree.specs.Slots.{slot_of, slot_line, slot_read}
 pub use Rattle.counter_tree.specs.Trees.{node_at, IsRaised, is_on_line_path, line_position, raised, entry_for, IsCounterTree, line_counter, with_raised, raised_up}
 pub use Rattle.counter_tree.specs.Watch.{WatchState, last_seal_of, forged_node, HasShown, IsLineSeal, HasSealNoted, HasNodeNoted, HasSlotNoted, IsSlotClash, first_shown}
@@ -74,7 +74,7 @@ pub use Rattle.call_effects.proofs.ResultLaws.{is_err_of}
 pub use Rattle.call_effects.proofs.ToldLines.{told_cases, told_surely, whole_lines, any_told}
 pub use Rattle.call_effects.specs.Outcomes.{Outcome, is_going, going, cut_short, shown, HasPower}
 pub use Rattle.call_effects.proofs.SteadyLaws.{StaysSteady-then, StaysSteady-written}
-pub use Rattle.call_effects.proofs.SuiteLaws.{SuiteRise-then, SuiteRise-as, risen_times-then}
+pub use Rattle.call_effects.proofs.SuiteLaws.{SuiteRise-then, SuiteRise-as}
 pub use Rattle.call_effects.specs.Steady.{StaysSteady}
 pub use Rattle.call_effects.specs.SuiteStates.{suite_state, SuiteRise}
 pub use Rattle.call_effects.specs.declared.recovery.Work.{Work}

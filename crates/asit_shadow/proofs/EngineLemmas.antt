@@ -1,5 +1,5 @@
 -- What is true of every engine, after a change of its cache.
-use Rattle.std.proofs.Common.{ℕ, ◌≡◌, ◌<◌, ◌≤◌, ◌+◌, arith, List, length, Some, None, sym, ap, subst, inl, inr, ◌∙◌}
+use Rattle.std.proofs.Common.{ℕ, ◌≡◌, ◌<◌, ◌≤◌, ◌+◌, List, length, Some, None, sym, ap, subst, inl, inr, ◌∙◌, rules}
 use Rattle.asit_shadow.proofs.Common.{Option, IfSome, slice_set, cases_eq, get_or-set_same, get_or-set_other, get_or_past, same_Some, none-some, Shape, CachedNode, cache_at, IsHeldNode}
 
 pub held-set : (g : Shape) (cache : List (Option CachedNode)) (i : ℕ) (held : CachedNode) → i < length cache → IsHeldNode g held → ((j : ℕ) (one : CachedNode) → cache_at cache j ≡ Some one → IsHeldNode g one)
@@ -17,14 +17,7 @@ held-set g cache i held room good each j one here =
 -- a fact of each slot so far, one slot more
 pub set-below : (Q : ℕ → Option CachedNode → Type 0) (cache : List (Option CachedNode)) (i : ℕ) (it : Option CachedNode) → i < length cache → Q i it → ((j : ℕ) → j < i → Q j (cache_at cache j))
     → (j : ℕ) → j < i + 1 → Q j (cache_at (slice_set cache i it) j)
-set-below Q cache i it room here before j less =
-    elim (cases_eq j i) [
-      | inl same ↦
-          subst (λ n. Q n (cache_at (slice_set cache i it) n)) (sym same)
-          (subst (Q i) (sym (get_or-set_same cache i it None room)) here)
-      | inr other ↦
-          subst (Q j) (sym (get_or-set_other cache i j it None other)) (before j (omega (arith, less, other)))
-    ]
+set-below Q cache i it room here before j less = search (rules, cases_eq, get_or-set_same, get_or-set_other)
 
 -- what is said of a slot's holder, of the slot
 pub of-some : (P : CachedNode → Type 0) (it : Option CachedNode) → IfSome it P → (one : CachedNode) → it ≡ Some one → P one

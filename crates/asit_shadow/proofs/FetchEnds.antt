@@ -1,6 +1,6 @@
 -- How a fetch ends: with its path, or with a cut, a refused node or an exhibit.
-use Rattle.std.proofs.Common.{ℕ, ◌≡◌, ◌≢◌, Bool, true, false, List, Some, None, refl, sym, ap, subst, ◌∙◌, arith}
-use Rattle.asit_shadow.proofs.Common.{Option, All, IsNone, IsSome, IfSome, MatchOption, if◌then◌else◌, true≢false, same_Some, none-some, Line, Regs, Exhibit, HasRisen, line_at, Shape, Setup, HasRisen-once, Device, HasRead, Tells, IsExhibit, redone, redone_told, Outcome, going, cut_short, shown, HasPower, node_read, line_of_node, node_at, entry_for, WatchState, first_shown, forged_node, IsNodeForged, TreeState, IsCached, IsTreeAnchored, IsTreeTrusted, IsTreeDurable, IsTreeSound, IsTreeSealStored, IsSlotStored, IsNodeHeld, IsNodeHeldBy, TreeEngineParts, AreTreeTrusted, AreTreeSound, HoldsTreeSeal, HoldsSlot, HoldsNode, tree_lines_redone, TreeCallEffect, KeepsWatch, spilled_nodes, HasFetchedNodes, IsNodeCutOff}
+use Rattle.std.proofs.Common.{ℕ, ◌≡◌, ◌≢◌, Bool, true, false, List, Some, None, refl, sym, ap, subst, ◌∙◌, arith, rules}
+use Rattle.asit_shadow.proofs.Common.{Option, All, IsNone, IsSome, IfSome, MatchOption, if◌then◌else◌, true≢false, same_Some, none-some, Line, Regs, Exhibit, Shape, Setup, HasRisen-once, Device, HasRead, Tells, IsExhibit, redone, redone_told, Outcome, going, cut_short, shown, HasPower, node_read, line_of_node, node_at, entry_for, WatchState, first_shown, forged_node, IsNodeForged, TreeState, IsCached, IsTreeAnchored, IsTreeTrusted, IsTreeDurable, IsTreeSound, IsNodeHeld, IsNodeHeldBy, TreeEngineParts, AreTreeTrusted, AreTreeSound, HoldsTreeSeal, HoldsSlot, HoldsNode, tree_lines_redone, TreeCallEffect, KeepsWatch, spilled_nodes, HasFetchedNodes, IsNodeCutOff}
 use Rattle.asit_shadow.proofs.Chains.{told-of}
 use Rattle.asit_shadow.proofs.FetchLaws.{forged_node-holds, node_read-sound}
 use Rattle.asit_shadow.proofs.PlaceLaws.{powered_off-place, node_read-place}
@@ -18,53 +18,26 @@ pub record AreUnwritten (old new : Device) : Type 0 where
   pub latches : new.latches ≡ old.latches
 
 pub read-unwritten : (old new : Device) (at : ℕ) (line : Line) → HasRead old at line new → AreUnwritten old new
-read-unwritten old new at line read =
-    record { lines = read.lines; regs = read.regs; size = read.size; writes = read.writes; latches = read.latches }
+read-unwritten old new at line read = search rules
 
 pub cut-unwritten : (g : Shape) (x : ℕ) (old new : TreeEngineParts) → IsNodeCutOff g x old new → AreUnwritten old.device new.device
-cut-unwritten g x old new cut =
-    record {
-      lines = cut.cut.lines ∙ cut.lines;
-      regs = cut.cut.regs ∙ cut.regs;
-      size = cut.cut.size ∙ cut.size;
-      writes = cut.cut.writes ∙ cut.writes;
-      latches = cut.cut.latches ∙ cut.latches;
-    }
+cut-unwritten g x old new cut = search rules
 
 pub same_redone : (old new : TreeEngineParts) → AreUnwritten old.device new.device → tree_lines_redone new ≡ tree_lines_redone old
-same_redone old new same =
-    ap (λ (r : Regs). redone_told r.group.items new.device.lines) same.regs
-    ∙ ap (λ (o : Option (List Line)). redone_told old.device.regs.group.items o) same.lines
+same_redone old new same = search rules
 
 pub some_map : (P Q : List Line → Type 0) (told : Option (List Line)) → ((lines : List Line) → P lines → Q lines) → IfSome told P → IfSome told Q
 some_map P Q None give it = tt
 some_map P Q (Some lines) give it = give lines it
 
 pub same-seals : (setup : Setup) (old new : TreeEngineParts) (a : ℕ) → AreUnwritten old.device new.device → new.watch.seals ≡ old.watch.seals → HoldsTreeSeal setup.shape old a → HoldsTreeSeal setup.shape new a
-same-seals setup old new a same watch it =
-    subst (λ (o : Option (List Line)). IfSome o (λ lines. IsTreeSealStored setup.shape lines new.watch a)) (sym (same_redone old new same))
-    (some_map (λ lines. IsTreeSealStored setup.shape lines old.watch a) (λ lines. IsTreeSealStored setup.shape lines new.watch a) (tree_lines_redone old)
-    (λ lines stored.
-    record {
-      seal = stored.seal;
-      last = ap (λ (seals : List (Option Rattle.counter_tree.specs.declared.watch.LineSeal.LineSeal)). Rattle.std.specs.Prelude.slice_index_or seals a None) watch ∙ stored.last;
-      cipher = stored.cipher;
-      tag = stored.tag;
-    })
-    it)
+same-seals setup old new a same watch it = search (rules, same_redone, some_map)
 
 pub same-slots : (setup : Setup) (old new : TreeEngineParts) (i : ℕ) → AreUnwritten old.device new.device → new.watch.slots ≡ old.watch.slots → HoldsSlot setup.shape old i → HoldsSlot setup.shape new i
-same-slots setup old new i same watch it =
-    subst (λ (o : Option (List Line)). IfSome o (λ lines. IsSlotStored setup.shape lines new.watch i)) (sym (same_redone old new same))
-    (some_map (λ lines. IsSlotStored setup.shape lines old.watch i) (λ lines. IsSlotStored setup.shape lines new.watch i) (tree_lines_redone old)
-    (λ lines stored. stored ∙ ap (λ slots. line_at slots i) (sym watch))
-    it)
+same-slots setup old new i same watch it = search (rules, same_redone, some_map)
 
 same-nodes : (setup : Setup) (old new : TreeEngineParts) (x : ℕ) → AreUnwritten old.device new.device → new.engine ≡ old.engine → new.watch ≡ old.watch → HoldsNode setup old x → HoldsNode setup new x
-same-nodes setup old new x same engine watch it =
-    subst (λ (o : Option (List Line)). IfSome o (λ lines. IsNodeHeldBy setup new.engine lines new.watch x)) (sym (same_redone old new same))
-    (subst (λ (e : TreeState). IfSome (tree_lines_redone old) (λ lines. IsNodeHeldBy setup e lines new.watch x)) (sym engine)
-    (subst (λ (w : WatchState). IfSome (tree_lines_redone old) (λ lines. IsNodeHeldBy setup old.engine lines w x)) (sym watch) it))
+same-nodes setup old new x same engine watch it = search (rules, same_redone)
 
 -- ---- a refused node
 
@@ -75,28 +48,10 @@ same-trusted setup old new same engine watch trusted =
     (subst (λ (w : WatchState). IsTreeTrusted setup old.engine old.device.regs w) (sym watch) trusted))
 
 same-sound : (setup : Setup) (old new : TreeEngineParts) → AreUnwritten old.device new.device → new.engine ≡ old.engine → new.watch ≡ old.watch → AreTreeSound setup old → AreTreeSound setup new
-same-sound setup old new same engine watch sound =
-    subst (λ (o : Option (List Line)). MatchOption o ⊥ (λ lines. IsTreeSound setup new.engine lines new.device.regs new.watch)) (sym same.lines)
-    (subst (λ (e : TreeState). MatchOption old.device.lines ⊥ (λ lines. IsTreeSound setup e lines new.device.regs new.watch)) (sym engine)
-    (subst (λ (r : Regs). MatchOption old.device.lines ⊥ (λ lines. IsTreeSound setup old.engine lines r new.watch)) (sym same.regs)
-    (subst (λ (w : WatchState). MatchOption old.device.lines ⊥ (λ lines. IsTreeSound setup old.engine lines old.device.regs w)) (sym watch) sound)))
+same-sound setup old new same engine watch sound = search rules
 
 pub refused-effect : (setup : Setup) (old new : TreeEngineParts) → AreUnwritten old.device new.device → HasPower going old.device new.device → new.engine ≡ old.engine → new.watch ≡ old.watch → TreeCallEffect setup going old new
-refused-effect setup old new same power engine watch =
-    record {
-      shape = ap (λ (e : TreeState). e.shape) engine;
-      size = same.size;
-      power = power;
-      trusted = same-trusted setup old new same engine watch;
-      sound = same-sound setup old new same engine watch;
-      places =
-          λ trusted.
-          record {
-            seals = λ a inside it. same-seals setup old new a same (ap (λ (w : WatchState). w.seals) watch) it;
-            slots = λ i inside it. same-slots setup old new i same (ap (λ (w : WatchState). w.slots) watch) it;
-            nodes = λ x inside it. same-nodes setup old new x same engine watch it;
-          };
-    }
+refused-effect setup old new same power engine watch = search (rules, same-trusted, same-sound, same-seals, same-slots, same-nodes)
 
 -- ---- a cut
 
@@ -139,11 +94,7 @@ cut-effect setup old new same power shape watch =
     durable_of (Some lines) it = it.durable
 
 pub cut-power : (g : Shape) (x : ℕ) (old new : TreeEngineParts) → IsNodeCutOff g x old new → HasPower cut_short old.device new.device
-cut-power g x old new cut = (
-  still-steady old.device.steady cut.between.steady cut.steady cut.cut.unsteady,
-  cut.cut.off,
-  subst (λ n. HasRisen n new.device.cuts) cut.cuts (HasRisen-once cut.cut.cuts),
-)
+cut-power g x old new cut = search (rules, still-steady, HasRisen-once)
 
 -- ---- an exhibit
 
@@ -221,15 +172,7 @@ held-read setup a j x version line old now next uncached tells trusted lines are
 -- ---- a level that wasn't had ends the fetch
 
 pub kept-watch : (outcome : Outcome) (old new : WatchState) → outcome ≢ shown → new ≡ old → KeepsWatch outcome old new
-kept-watch outcome old new other same =
-    record {
-      setup = ap (λ (w : WatchState). w.setup) same;
-      seals = ap (λ (w : WatchState). w.seals) same;
-      nodes = ap (λ (w : WatchState). w.nodes) same;
-      slots = ap (λ (w : WatchState). w.slots) same;
-      exhibit = λ _. ap (λ (w : WatchState). w.exhibit) same;
-      stopped = λ is. absurd (other is);
-    }
+kept-watch outcome old new other same = search rules
 
 pub unwritten-levels : (setup : Setup) (a n : ℕ) (old mid new : TreeEngineParts) → new.engine.cache ≡ mid.engine.cache → AreUnwritten mid.device new.device → HasFetchedNodes setup a n old mid → HasFetchedNodes setup a n old new
 unwritten-levels setup a n old mid new cache same = levels-kept setup a n old mid new cache same.lines same.writes same.latches same.regs

@@ -1,19 +1,14 @@
 -- A node is fetched under its version: what the watch stops is a forged node, what goes on is true, and
 -- over a sound engine nothing is refused.
-use Rattle.std.proofs.Common.{ℕ, ◌≡◌, ◌≢◌, ◌<◌, ◌≤◌, ◌^◌, List, length, false, Some, None, sym, ap, subst, inl, inr, ◌∙◌, arith}
-use Rattle.asit_shadow.proofs.Common.{slice_set, Option, cases_eq, false≢true, length-set, get_or-set_same, get_or-set_other, same_Some, mod-eq_of_lt, Line, Regs, line_at, tag_slot, IsShape, meta_lines, line_at-set_same, line_at-set_other, AreInRange, Setup, AreLinesOf-set, IsExhibit, redone, Node, wrapped_version, total, node_line, node_read, stored_node, node_place, version_counter, without_tag, tree_size, line_of_node, line_of_slot, line_of_tag, node_at, entry_for, slot_of, WatchState, forged_node, node_read-node_line, node_read-IsReadNode, stored_node-node_line, node_line-IsLine, tree-IsNode, tree-version, TreeState, cache_at, IsCached, CachedNode, IsTreeAnchored, IsTrueCached, IsTreeTrusted, IsNodeStored, IsTreeMendable, IsTreeSound, IsTreeOver, IsFetched, GivesWay}
+use Rattle.std.proofs.Common.{ℕ, ◌≡◌, ◌≢◌, ◌<◌, ◌≤◌, List, length, false, Some, None, sym, ap, subst, inl, inr, ◌∙◌, arith, rules}
+use Rattle.asit_shadow.proofs.Common.{slice_set, Option, cases_eq, false≢true, length-set, get_or-set_same, get_or-set_other, same_Some, mod-eq_of_lt, Line, Regs, line_at, tag_slot, IsShape, meta_lines, line_at-set_same, line_at-set_other, AreInRange, Setup, AreLinesOf-set, IsExhibit, redone, Node, total, node_line, node_read, stored_node, tree_size, line_of_node, line_of_slot, line_of_tag, node_at, entry_for, slot_of, WatchState, forged_node, node_read-node_line, node_read-IsReadNode, stored_node-node_line, node_line-IsLine, tree-IsNode, tree-version, TreeState, cache_at, IsCached, CachedNode, IsTreeAnchored, IsTrueCached, IsTreeTrusted, IsNodeStored, IsTreeMendable, IsTreeSound, IsTreeOver, IsFetched, GivesWay}
 use Rattle.asit_shadow.proofs.SlotPlaces.{slot_of-below, slot_of-inside}
 
 -- ---- any board
 
 -- what was accepted under the version, but isn't the true node, is an exhibit that holds
 pub forged_node-holds : (setup : Setup) (regs : Regs) (watch : WatchState) (x : ℕ) (line : Line) (node : Node) → IsTreeAnchored setup regs watch → 1 ≤ x → x < meta_lines setup.shape → node_read setup.formulas x line (entry_for watch.nodes x) ≡ Some node → IsExhibit setup.formulas (forged_node watch x line)
-forged_node-holds setup regs watch x line node anchored low inside accepted =
-    let read = node_read-IsReadNode setup.formulas x line (entry_for watch.nodes x) node accepted in
-    let small : total (node_at watch.nodes x) < 2 ^ 64 = tree-version setup.shape watch.nodes x anchored.tree inside in
-    let version : wrapped_version (node_at watch.nodes x) ≡ entry_for watch.nodes x =
-    mod-eq_of_lt small ∙ anchored.tree.versions x low inside in
-    ap (λ v. setup.formulas.tag_of (node_place x) (version_counter v) (without_tag line)) version ∙ read.tagged
+forged_node-holds setup regs watch x line node anchored low inside accepted = search (rules, node_read-IsReadNode, tree-version, mod-eq_of_lt)
 
 -- the law: the engine stays trusted
 pub IsTrusted-fetched : (setup : Setup) (x : ℕ) (line : Line) (node : Node) (old new : TreeState) (regs : Regs) (watch : WatchState) → IsShape setup.shape → IsTreeTrusted setup old regs watch → IsFetched setup x line node old new watch → IsTreeTrusted setup new regs watch
@@ -139,8 +134,7 @@ IsSound-written_back setup engine lines regs watch x shape in_range sound inside
 
 -- after it that node is true on the device
 pub written_back-stored : (setup : Setup) (lines : List Line) (watch : WatchState) (x : ℕ) → x < meta_lines setup.shape → length lines ≡ tree_size setup.shape → IsNodeStored setup (slice_set lines (line_of_node setup.shape x) (node_line setup.formulas x (node_at watch.nodes x))) watch x
-written_back-stored setup lines watch x inside size =
-    line_at-set_same lines (line_of_node setup.shape x) (node_line setup.formulas x (node_at watch.nodes x)) (omega (arith, inside, size))
+written_back-stored setup lines watch x inside size = search (rules, line_at-set_same)
 
 -- the law: a fetched node takes the place of one that is clean or true on the device
 pub IsSound-fetched : (setup : Setup) (x : ℕ) (line : Line) (node : Node) (old new : TreeState) (lines : List Line) (regs : Regs) (watch : WatchState) → IsShape setup.shape → IsTreeSound setup old lines regs watch → IsFetched setup x line node old new watch → GivesWay setup old lines watch (slot_of setup.shape x) → IsTreeSound setup new lines regs watch

@@ -1,6 +1,6 @@
 -- The plans of a fetch, at each of their ends.
-use Rattle.std.proofs.Common.{refl, ◌∙◌, ◌≡◌, ℕ, true, false, Option, Some, None, Result, Ok, Err, sym, subst, subst₂}
-use Rattle.asit_shadow.proofs.Common.{OnOk, OnErr, false≢true, Cut, Line, risen, Device, HasWritten, WasCut, Setup, Plan, done, lifted, mapped_end, ended, the_cut, Follows, is_done, write_then, write_cut, bind_ok, bind_err, mapped_follows, lifted_follows, Node, line_of_node, node_line, node_plan, slot_of, chosen, not_chosen, CachedNode, TreeFault, WatchState, TreeState, cache_at, IsCached, tree_parts_of, IsNodeTaken, HasNoNode, TreeChip, read_parts_of, with_engine, with_tags, with_read, fault_of_node, with_clean, node_in, level_plan}
+use Rattle.std.proofs.Common.{refl, ◌≡◌, ℕ, true, false, Option, Some, None, Result, Ok, Err, sym, subst, subst₂, rules}
+use Rattle.asit_shadow.proofs.Common.{OnOk, OnErr, false≢true, Cut, Line, risen, Device, HasWritten, WasCut, Setup, Plan, lifted, mapped_end, ended, the_cut, Follows, is_done, write_then, write_cut, bind_ok, bind_err, mapped_follows, lifted_follows, Node, line_of_node, node_line, node_plan, slot_of, chosen, not_chosen, CachedNode, TreeFault, WatchState, TreeState, cache_at, IsCached, tree_parts_of, IsNodeTaken, HasNoNode, TreeChip, read_parts_of, with_engine, with_tags, with_read, fault_of_node, with_clean, node_in, level_plan}
 use Rattle.asit_shadow.specs.declared.fault.TreeFault.TheVariants as Fail
 use Rattle.asit_shadow.specs.Plans.{room_plan, place_plan, level_of}
 
@@ -34,9 +34,7 @@ module _ (setup : Setup) (slot : Option CachedNode) (tags : ℕ) where
 
       pub room_cut : WasCut old new → Follows (room_plan setup slot tags) old new (Err (risen tags, the_cut))
       unfolding room_plan
-      room_cut was =
-          by_held (chosen _ dirty (write_cut (risen tags, the_cut) (line_of_node setup.shape held.x) (node_line setup.formulas held.x held.node)
-          (done (risen tags, tt)) was))
+      room_cut was = search (rules, by_held, chosen, write_cut)
 
     -- as the write answers it
     pub room_end : (place : ℕ) (line : Line) (old new : Device) (answer : Result (Unit {0}) Cut) → held.dirty ≡ true → place ≡ line_of_node setup.shape held.x
@@ -57,8 +55,7 @@ module _ (setup : Setup) (x version : ℕ) (chip : TreeChip) where
 
   by_slot : (found : Option Node) {old new : Device} {end : Result (TreeChip × Node) (TreeChip × TreeFault)} → node_in slot x ≡ found
       → Follows (level_of setup x version chip found) old new end → Follows (level_plan setup x version chip) old new end
-  by_slot found {old = old} {new = new} {end = end} is it =
-      subst (λ f. Follows (level_of setup x version chip f) old new end) (sym is) it
+  by_slot found {old = old} {new = new} {end = end} is it = search rules
 
   pub level_cached : (d : Device) (node : Node) → node_in slot x ≡ Some node → Follows (level_plan setup x version chip) d d (Ok (chip, node))
   unfolding level_of
@@ -87,24 +84,7 @@ same_engine a b shape cache tree down = λ i. record { shape = shape i; cache = 
 pub not_taken : (setup : Setup) (x version : ℕ) (engine : TreeState) (old new : Device) (watch after : WatchState) (fault : TreeFault)
     → (IsCached setup.shape engine.cache x → ⊥) → IsNodeTaken setup x version old new watch after (Err fault)
     → HasNoNode setup x version (tree_parts_of engine old watch) (tree_parts_of engine new after) fault
-not_taken setup x version engine old new watch after Fail.Cut none it =
-    let on : old.live ≡ true → ⊥ = λ live. false≢true (sym it.1 ∙ live) in
-    record {
-      uncached = none;
-      victim = λ live. absurd (on live);
-      one_read = λ live. absurd (on live);
-      between = old;
-      cut = it.0;
-      lines = refl;
-      regs = refl;
-      size = refl;
-      writes = refl;
-      latches = refl;
-      cuts = refl;
-      steady = λ steady. steady;
-      engine = refl;
-      watch = it.2;
-    }
+not_taken setup x version engine old new watch after Fail.Cut none it = search (rules, false≢true)
 not_taken setup x version engine old new watch after Fail.Down none it = absurd it
 not_taken setup x version engine old new watch after (Fail.Node y) none it = (it.0, none, refl, it.1)
 not_taken setup x version engine old new watch after (Fail.Tag b) none it = absurd it

@@ -1,6 +1,6 @@
 -- What formatting leaves.
-use Rattle.std.proofs.Common.{ℕ, ◌≡◌, ◌<◌, ◌+◌, ◌*◌, List, [], length, Some, None, refl, sym, ap, subst, ◌∙◌, arith, lit<, replicate}
-use Rattle.asit_shadow.proofs.Common.{Option, Ok, All, IfSome, IsNone, IsSome, option_map, true, false, length-replicate, length-set, none-some, Line, Regs, Exhibit, LineSeal, meta_lines, IsLine, IsGroup, empty_regs, Shape, IsShape, RisesBy-once, RisesBy, Device, AreToldLines, HasLatched, the_cut, Follows, is_done, latch_then, bind_ok, AreInRange, Setup, IsGroup-nil, StaysSteady, StaysSteady-then, Node, zero_node, tree_lines, tree_slots, tree_size, IsNode-zero_node, meta_lines-level, level_start-suc, ChipTree, IsChipTree, IsShadowTree, root_of, shadow_height, WatchState, CachedNode, TreeState, IsHeldNode, IsTreeEngine, IsTreeSound, tree_parts_of, IsTreeUsable, Rest, sealing_plan, nodes_plan, naming_plan, after_sealing, after_nodes, after_naming, first_held, first_cache, first_slots, tree_sealed_lines, node_lines_written, slot_lines_written, AreSealsTold, AreNodesTold, AreSlotsTold, IsChipFormatted, IsFirstEngine, AreLinesFormatted, HasDeviceFormatted, HasTreeFormatted}
+use Rattle.std.proofs.Common.{ℕ, ◌≡◌, ◌+◌, ◌*◌, List, length, Some, None, sym, ap, subst, ◌∙◌, rules}
+use Rattle.asit_shadow.proofs.Common.{Option, Ok, All, IfSome, IsNone, option_map, true, false, length-replicate, length-set, none-some, Line, Exhibit, meta_lines, IsLine, empty_regs, Shape, IsShape, RisesBy-once, RisesBy, Device, AreToldLines, HasLatched, the_cut, Follows, is_done, latch_then, bind_ok, AreInRange, Setup, IsGroup-nil, StaysSteady, StaysSteady-then, Node, zero_node, tree_lines, tree_slots, tree_size, IsNode-zero_node, meta_lines-level, level_start-suc, ChipTree, IsChipTree, IsShadowTree, root_of, shadow_height, WatchState, TreeState, IsTreeEngine, IsTreeSound, tree_parts_of, IsTreeUsable, Rest, sealing_plan, nodes_plan, naming_plan, after_sealing, after_nodes, after_naming, first_cache, first_slots, tree_sealed_lines, node_lines_written, slot_lines_written, AreSealsTold, AreNodesTold, AreSlotsTold, IsChipFormatted, IsFirstEngine, AreLinesFormatted, HasDeviceFormatted, HasTreeFormatted}
 use Rattle.counter_tree.specs.Shadow.{shadow_root}
 use Rattle.asit_shadow.specs.Formatting.{tree_format_plan}
 use Rattle.asit_shadow.proofs.FormatLaws.{replicate-default, IsTrusted-formatted, IsSound-formatted}
@@ -34,9 +34,7 @@ pub record IsFilled (setup : Setup) (old new : Rest) (sealed noded slotted : Dev
 lines-written : (setup : Setup) (old sealed noded slotted : Option (List Line)) → sealed ≡ option_map (tree_sealed_lines setup (tree_lines setup.shape)) old → noded ≡ option_map (node_lines_written setup (meta_lines setup.shape)) sealed
     → slotted ≡ option_map (slot_lines_written setup.shape (first_slots setup.shape) (tree_slots setup.shape)) noded → slotted ≡ option_map (lines_formatted setup) old
 unfolding lines_formatted
-lines-written setup old sealed noded slotted first second third =
-    mapped-then (λ lines. node_lines_written setup (meta_lines setup.shape) (tree_sealed_lines setup (tree_lines setup.shape) lines)) (slot_lines_written setup.shape (first_slots setup.shape) (tree_slots setup.shape)) (lines_formatted setup) old noded slotted
-    (mapped-then (tree_sealed_lines setup (tree_lines setup.shape)) (node_lines_written setup (meta_lines setup.shape)) (λ lines. node_lines_written setup (meta_lines setup.shape) (tree_sealed_lines setup (tree_lines setup.shape) lines)) old sealed noded first second (λ lines. refl)) third (λ lines. refl)
+lines-written setup old sealed noded slotted first second third = search (rules, mapped-then, lines_formatted)
 
 pub device-formatted : (setup : Setup) (old new : Rest) (sealed noded slotted : Device) (sealing noding : WatchState) (root : List ℕ) (tree : ChipTree) → IsFilled setup old new sealed noded slotted sealing noding root → tree.height ≡ shadow_height setup.shape → IsShadowTree setup.formulas (shadow_height setup.shape) (first_slots setup.shape) tree.lines
     → HasDeviceFormatted setup old new tree
@@ -106,35 +104,8 @@ tree-formatted setup old new engine shape in_range seals whole first tree it =
 
 -- and its calls can begin
 pub formatted-usable : (setup : Setup) (old new : Rest) (engine : TreeState) → old.device.size ≡ tree_size setup.shape → length old.watch.seals ≡ tree_lines setup.shape → HasTreeFormatted setup old new engine → IsTreeUsable setup.shape (tree_parts_of engine new.device new.watch)
-formatted-usable setup old new engine size seals it =
-    let none : new.device.regs.group.items ≡ [] = ap (λ (r : Regs). r.group.items) it.device.regs in
-    record {
-      watch =
-          record {
-            seal_count = it.device.told.seal_count ∙ seals;
-            node_count = ap length it.device.told.nodes ∙ length-replicate {A = Node} (meta_lines setup.shape) zero_node;
-            slot_count = ap length it.device.told.slots ∙ first_slots-count setup.shape;
-            each_sealed = λ a inside. subst (λ (s : Option LineSeal). IsSome s) (sym (it.device.told.seals a inside)) refl;
-          };
-      board =
-          record {
-            its_size = it.device.size ∙ size;
-            group = subst (IsGroup (tree_size setup.shape)) (sym none) (IsGroup-nil (tree_size setup.shape));
-          };
-      no_group = λ up. none;
-    }
+formatted-usable setup old new engine size seals it = search (rules, length-replicate, first_slots-count, IsGroup-nil)
 
 -- the engine is whole
 pub first-engine : (g : Shape) (tree : ChipTree) → IsChipTree tree → tree.height ≡ shadow_height g → IsTreeEngine (record { shape = g; cache = first_cache g; tree = tree; down = false })
-first-engine g tree whole height =
-    let long = length-replicate {A = Option CachedNode} (tree_slots g) None in
-    let positive : 0 < meta_lines g = omega (arith, meta_lines-level g, level_start-suc g.levels) in
-    let held : IsHeldNode g first_held = record { on_tree = positive; node_whole = IsNode-zero_node; has_version = lit< tt } in
-    record {
-      slot_count = length-set (replicate (tree_slots g) None) 0 (Some first_held) ∙ long;
-      each_held =
-          held-set g (replicate (tree_slots g) None) 0 first_held (omega (arith, long)) held
-          (λ j one here. absurd (none-some one (sym (replicate-default {X = Option CachedNode} (tree_slots g) j None) ∙ here)));
-      tree_whole = whole;
-      tree_height = height;
-    }
+first-engine g tree whole height = search (rules, length-replicate, meta_lines-level, level_start-suc, IsNode-zero_node, length-set, held-set, none-some, replicate-default)

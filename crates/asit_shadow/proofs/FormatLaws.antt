@@ -1,6 +1,6 @@
 -- A formatted device, watch and engine are sound.
-use Rattle.std.proofs.Common.{ℕ, zero, suc, ◌≡◌, ◌<◌, ◌^◌, ◌≢◌, List, length, replicate, Some, None, refl, sym, ap, subst, inl, inr, ◌∙◌, arith, lit<}
-use Rattle.asit_shadow.proofs.Common.{cases_eq, Option, slice_index_or, length-replicate, length-set, get_or-set_same, get_or-set_other, same_Some, none-some, Line, Regs, line_at, tag_slot, IsGroup, Shape, IsShape, meta_lines, IsLine-zero_line, Formulas, AreInRange, cipher_of, Setup, cipher_of-IsLine, parent, child_slot, meta_lines-level, level_start-suc, redone, IsGroup-nil, Node, total, counter, zero_node, version_counter, node_line, tree_size, tree_slots, line_of_node, node_at, line_position, IsCounterTree, slot_line, WatchState, IsLineSeal, TreeState, cache_at, CachedNode, IsTrueCached, IsTreeTrusted, IsTreeMendable, IsTreeSound, IsTreeOver, first_tree_seal, first_held, IsChipFormatted, AreLinesFormatted}
+use Rattle.std.proofs.Common.{ℕ, zero, suc, ◌≡◌, ◌<◌, ◌^◌, ◌≢◌, List, length, replicate, Some, None, refl, sym, ap, subst, inl, inr, ◌∙◌, arith, lit<, rules}
+use Rattle.asit_shadow.proofs.Common.{cases_eq, Option, slice_index_or, length-replicate, length-set, get_or-set_same, get_or-set_other, same_Some, none-some, Line, Regs, line_at, tag_slot, IsGroup, Shape, IsShape, meta_lines, IsLine-zero_line, Formulas, AreInRange, cipher_of, Setup, cipher_of-IsLine, parent, child_slot, meta_lines-level, level_start-suc, redone, IsGroup-nil, Node, counter, zero_node, version_counter, node_line, tree_size, tree_slots, line_of_node, node_at, line_position, IsCounterTree, slot_line, WatchState, IsLineSeal, TreeState, cache_at, CachedNode, IsTrueCached, IsTreeTrusted, IsTreeMendable, IsTreeSound, IsTreeOver, first_tree_seal, first_held, IsChipFormatted, AreLinesFormatted}
 use Rattle.pmem_base.specs.Lines.{zero_line}
 use Rattle.counter_tree.specs.Shadow.{shadow_root}
 use Rattle.asit_shadow.proofs.PutLaws.{tag_slot-tag_only}
@@ -29,16 +29,7 @@ formatted-seal f a in_range =
     }
 
 formatted-tree : (g : Shape) (nodes : List Node) → nodes ≡ replicate (meta_lines g) zero_node → IsCounterTree g nodes
-formatted-tree g nodes e =
-    let each : (x : ℕ) → node_at nodes x ≡ zero_node = λ x. ap (λ (ns : List Node). node_at ns x) e ∙ replicate-default (meta_lines g) x zero_node in
-    record {
-      whole = ap length e ∙ length-replicate {A = Node} (meta_lines g) zero_node;
-      four = λ x inside. ap (λ (n : Node). length n.0) (each x);
-      versions =
-          λ x low inside.
-          ap total (each x) ∙ sym (ap (λ (n : Node). counter n (child_slot x)) (each (parent x)) ∙ zero_counters (child_slot x));
-      top = subst (λ (n : Node). total n < 2 ^ 64) (sym (each 0)) (lit< tt);
-    }
+formatted-tree g nodes e = search (rules, replicate-default, length-replicate, zero_counters)
 
 -- ---- the laws
 

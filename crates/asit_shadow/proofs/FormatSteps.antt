@@ -1,6 +1,6 @@
 -- The steps of formatting: what is at each place that was set.
-use Rattle.std.proofs.Common.{ℕ, zero, suc, ◌≡◌, ◌≢◌, ◌<◌, ◌≤◌, ◌+◌, ◌*◌, List, length, replicate, Some, None, refl, sym, ap, subst, inl, inr, ◌∙◌, arith}
-use Rattle.asit_shadow.proofs.Common.{Option, slice_set, slice_index_or, is_some, option_map, IfSome, cases_eq, same_Some, none-some, ext_get_or, length-set, length-replicate, get_or-replicate, get_or-set_same, get_or-set_other, Line, meta_lines, line_at, Shape, Formulas, Setup, AreLinesOf, AreToldLines, with_line, Node, LineSeal, tree_lines, tree_slots, tree_size, line_of_tag, line_of_node, line_of_slot, node_line, version_counter, zero_node, slot_line, WatchState, HasSealNoted, HasNodeNoted, HasSlotNoted, tag_only, IsSealMade, first_tree_seal, first_slots, set_first, tree_sealed_lines, node_lines_written, slot_lines_written, AreSealsTold, AreNodesTold, AreSlotsTold, AreLinesFormatted, IsFormatTold}
+use Rattle.std.proofs.Common.{ℕ, zero, suc, ◌≡◌, ◌≢◌, ◌<◌, ◌≤◌, ◌+◌, ◌*◌, List, length, replicate, Some, None, refl, sym, ap, subst, inl, inr, ◌∙◌, arith, rules}
+use Rattle.asit_shadow.proofs.Common.{Option, slice_set, slice_index_or, is_some, option_map, IfSome, cases_eq, same_Some, none-some, ext_get_or, length-set, length-replicate, get_or-replicate, get_or-set_same, get_or-set_other, Line, meta_lines, line_at, Shape, Formulas, Setup, AreLinesOf, AreToldLines, with_line, Node, LineSeal, tree_lines, tree_slots, tree_size, line_of_tag, line_of_node, line_of_slot, node_line, zero_node, WatchState, HasSealNoted, HasNodeNoted, HasSlotNoted, tag_only, IsSealMade, first_tree_seal, first_slots, set_first, tree_sealed_lines, node_lines_written, slot_lines_written, AreSealsTold, AreNodesTold, AreSlotsTold, AreLinesFormatted, IsFormatTold}
 use Rattle.pmem_base.specs.Lines.{zero_line}
 
 -- ---- places set in order
@@ -114,9 +114,7 @@ pub formatted-told : (setup : Setup) (old new : Option (List Line)) → AreToldL
 formatted-told setup None None before after e = tt
 formatted-told setup None (Some lines) before after e = absurd (none-some lines (sym e))
 formatted-told setup (Some old) None before after e = absurd (none-some (lines_formatted setup old) e)
-formatted-told setup (Some old) (Some lines) before after e =
-    let same : lines ≡ lines_formatted setup old = same_Some lines (lines_formatted setup old) e in
-    subst (AreLinesFormatted setup) (sym same) (formatted-at setup old before.count (subst (AreLinesOf (tree_size setup.shape)) same after))
+formatted-told setup (Some old) (Some lines) before after e = search (rules, same_Some, formatted-at)
 
 pub told-mapped : (F : List Line → List Line) (old new : Option (List Line)) → new ≡ option_map F old → is_some new ≡ is_some old
 told-mapped F None new e = ap is_some e
@@ -136,68 +134,29 @@ one-more n = omega arith
 
 -- a line more, of a family
 pub written-more : (place : ℕ → ℕ) (value : ℕ → Line) (n : ℕ) (old mid new : Option (List Line)) → mid ≡ option_map (set_first place value n) old → new ≡ with_line mid (place n) (value n) → new ≡ option_map (set_first place value (n + 1)) old
-written-more place value n old mid new first second =
-    subst (λ m. new ≡ option_map (set_first place value m) old) (one-more n)
-    (mapped-then (set_first place value n) (λ lines. slice_set lines (place n) (value n)) (set_first place value (suc n)) old mid new first (second ∙ mapped-line mid (place n) (value n)) (λ lines. refl))
+written-more place value n old mid new first second = search (rules, one-more, mapped-then, mapped-line)
 
 -- a sealed line more
 pub sealed-more : (setup : Setup) (n : ℕ) (old mid new : Option (List Line)) → mid ≡ option_map (tree_sealed_lines setup n) old → new ≡ with_line (with_line mid n (first_tree_seal setup.formulas n).cipher) (line_of_tag setup.shape n) (tag_only (first_tree_seal setup.formulas n).tag) → new ≡ option_map (tree_sealed_lines setup (n + 1)) old
-sealed-more setup n old mid new first second =
-    subst (λ m. new ≡ option_map (tree_sealed_lines setup m) old) (one-more n)
-    (second ∙ (ap (λ told. with_line (with_line told n (first_tree_seal setup.formulas n).cipher) (line_of_tag setup.shape n) (tag_only (first_tree_seal setup.formulas n).tag)) first ∙ sealed old))
-  where
-    sealed : (old : Option (List Line)) → with_line (with_line (option_map (tree_sealed_lines setup n) old) n (first_tree_seal setup.formulas n).cipher) (line_of_tag setup.shape n) (tag_only (first_tree_seal setup.formulas n).tag) ≡ option_map (tree_sealed_lines setup (suc n)) old
-    sealed None = refl
-    sealed (Some lines) = refl
+sealed-more setup n old mid new first second = search (rules, one-more)
 
 -- ---- what the watch is told
 
 -- zeros sealed under counter 0
 pub first-made : (f : Formulas) (a : ℕ) (seal : LineSeal) → IsSealMade f a 0 zero_line seal → seal ≡ first_tree_seal f a
-first-made f a seal it =
-    ap (λ (n : ℕ). record { counter = n; cipher = seal.cipher; tag = seal.tag }) it.its_counter
-    ∙ (ap (λ (t : List ℕ). record { counter = 0; cipher = seal.cipher; tag = t }) (sym it.tag)
-    ∙ ap (λ (l : Line). record { counter = 0; cipher = l; tag = f.tag_of a (version_counter 0) l }) it.cipher)
+first-made f a seal it = search rules
 
 pub seals-more : (f : Formulas) (n : ℕ) (old mid new : WatchState) → AreSealsTold f n old mid → HasSealNoted mid new n (first_tree_seal f n) → AreSealsTold f (n + 1) old new
-seals-more f n old mid new before it =
-    subst (λ m. AreSealsTold f m old new) (one-more n)
-    (record {
-      setup = it.setup ∙ before.setup;
-      seals = it.seals ∙ ap (λ (seals : List (Option LineSeal)). slice_set seals n (Some (first_tree_seal f n))) before.seals;
-      nodes = it.nodes ∙ before.nodes;
-      slots = it.slots ∙ before.slots;
-      exhibit = it.exhibit ∙ before.exhibit;
-    })
+seals-more f n old mid new before it = search (rules, one-more)
 
 pub nodes-more : (n : ℕ) (old mid new : WatchState) → AreNodesTold n old mid → HasNodeNoted mid new n zero_node → AreNodesTold (n + 1) old new
-nodes-more n old mid new before it =
-    subst (λ m. AreNodesTold m old new) (one-more n)
-    (record {
-      setup = it.setup ∙ before.setup;
-      seals = it.seals ∙ before.seals;
-      nodes = it.nodes ∙ ap (λ (nodes : List Node). slice_set nodes n zero_node) before.nodes;
-      slots = it.slots ∙ before.slots;
-      exhibit = it.exhibit ∙ before.exhibit;
-    })
+nodes-more n old mid new before it = search (rules, one-more)
 
 pub slots-told_more : (slots : List Line) (n : ℕ) (line : Line) (old mid new : WatchState) → line ≡ line_at slots n → AreSlotsTold slots n old mid → HasSlotNoted mid new n line → AreSlotsTold slots (n + 1) old new
-slots-told_more slots n line old mid new is before it =
-    subst (λ m. AreSlotsTold slots m old new) (one-more n)
-    (record {
-      setup = it.setup ∙ before.setup;
-      seals = it.seals ∙ before.seals;
-      nodes = it.nodes ∙ before.nodes;
-      slots =
-          it.slots
-          ∙ (ap (λ (told : List Line). slice_set told n line) before.slots
-          ∙ ap (λ l. slice_set (set_first (λ i. i) (line_at slots) n old.slots) n l) is);
-      exhibit = it.exhibit ∙ before.exhibit;
-    })
+slots-told_more slots n line old mid new is before it = search (rules, one-more)
 
 pub first_slots-count : (g : Shape) → length (first_slots g) ≡ tree_slots g
-first_slots-count g =
-    length-set (replicate (tree_slots g) zero_line) 0 (slot_line 0 zero_node) ∙ length-replicate {A = Line} (tree_slots g) zero_line
+first_slots-count g = search (rules, length-set, length-replicate)
 
 -- in three turns
 pub told-all : (setup : Setup) (old one two new : WatchState) → length old.seals ≡ tree_lines setup.shape → length old.nodes ≡ meta_lines setup.shape → length old.slots ≡ tree_slots setup.shape → AreSealsTold setup.formulas (tree_lines setup.shape) old one → AreNodesTold (meta_lines setup.shape) one two

@@ -1,7 +1,7 @@
 -- One level of a path is fetched: a node is read, the node that is dirty in its slot is written back, and it
 -- takes the slot.
-use Rattle.std.proofs.Common.{ℕ, ◌≡◌, ◌≢◌, ◌<◌, ◌≤◌, ◌⊎◌, Bool, true, false, List, [], length, Some, None, refl, sym, ap, subst, subst₂, inl, inr, ◌∙◌, arith}
-use Rattle.asit_shadow.proofs.Common.{Option, is_some, slice_set, true≢false, same_Some, Line, Regs, Shape, IsShape, meta_lines, line_at-set_other, AreInRange, Setup, RisesBy-once, RisesBy, Device, AreToldLines, HasRead, with_line, going, HasPower, told_surely, whole_lines, Node, node_line, node_read, tree_lines, tree_size, line_of_node, node_at, entry_for, is_on_line_path, slot_of, WatchState, CachedNode, TreeState, cache_at, IsTreeTrusted, IsTreeSound, IsNodeStored, IsTreeSealStored, IsSlotStored, IsNodeHeldBy, ArePlacesKept, TreeEngineParts, AreTreeTrusted, AreTreeSound, IsFetched, GivesWay, KeepsTreePlaces, TreeCallEffect, WritesWhere, IsRoomMade, IsNodeFound, KeepsPathLines}
+use Rattle.std.proofs.Common.{ℕ, ◌≡◌, ◌≢◌, ◌<◌, ◌≤◌, ◌⊎◌, Bool, true, false, List, [], length, Some, None, refl, sym, ap, subst, subst₂, inl, inr, ◌∙◌, arith, rules}
+use Rattle.asit_shadow.proofs.Common.{Option, is_some, slice_set, true≢false, same_Some, Line, Regs, Shape, IsShape, meta_lines, line_at-set_other, AreInRange, Setup, RisesBy-once, RisesBy, Device, AreToldLines, HasRead, with_line, going, HasPower, told_surely, whole_lines, Node, node_line, tree_lines, tree_size, line_of_node, node_at, entry_for, is_on_line_path, slot_of, WatchState, CachedNode, TreeState, cache_at, IsTreeTrusted, IsTreeSound, IsNodeStored, IsTreeSealStored, IsSlotStored, IsNodeHeldBy, ArePlacesKept, TreeEngineParts, AreTreeTrusted, AreTreeSound, IsFetched, GivesWay, KeepsTreePlaces, TreeCallEffect, WritesWhere, IsRoomMade, IsNodeFound, KeepsPathLines}
 use Rattle.board.proofs.StepLemmas.{is_some-with_line}
 use Rattle.asit_shadow.proofs.SlotPlaces.{path_slots-apart}
 use Rattle.asit_shadow.proofs.FetchLaws.{IsTrusted-fetched, IsSound-written_back, written_back-stored, IsSound-fetched}
@@ -37,17 +37,7 @@ no_rise : (n : ℕ) → RisesBy 0 n n
 no_rise n = record { never_falls = omega arith; exact = λ _. omega arith }
 
 still : (setup : Setup) (slot : Option CachedNode) (read : Device) → ((held : CachedNode) → slot ≡ Some held → held.dirty ≡ true → ⊥) → IsRoomStep setup slot read read
-still setup slot read clean =
-    record {
-      size = refl;
-      regs = refl;
-      latches = refl;
-      power = (λ was. was, λ was. was, refl);
-      count = 0;
-      at_most = omega arith;
-      writes = no_rise read.writes;
-      lines = inl (record { clean = clean; same = refl });
-    }
+still setup slot read clean = search (rules, no_rise)
 
 room-where : (setup : Setup) (held : CachedNode) (dirty : Bool) (old new : Device) → held.dirty ≡ dirty → WritesWhere dirty old (line_of_node setup.shape held.x) (node_line setup.formulas held.x held.node) new → IsRoomStep setup (Some held) old new
 room-where setup held true old new is made =
@@ -61,55 +51,21 @@ room-where setup held true old new is made =
       writes = RisesBy-once made.writes;
       lines = inr (record { held = held; stood = refl; dirty = is; written = made.lines });
     }
-room-where setup held false old new is made =
-    subst (IsRoomStep setup (Some held) old) (sym made)
-    (still setup (Some held) old
-    (λ one same dirty. true≢false (sym dirty ∙ (ap (λ (h : CachedNode). h.dirty) (sym (same_Some held one same)) ∙ is))))
+room-where setup held false old new is made = search (rules, still, true≢false, same_Some)
 
 pub room-step : (setup : Setup) (slot : Option CachedNode) (old new : Device) → IsRoomMade setup slot old new → IsRoomStep setup slot old new
-room-step setup None old new made =
-    subst (IsRoomStep setup None old) (sym made) (still setup None old (λ one same dirty. absurd cc))
+room-step setup None old new made = search (rules, still)
 room-step setup (Some held) old new made = room-where setup held held.dirty old new refl made
 
 -- a line was read before
 after_read : (setup : Setup) (slot : Option CachedNode) (old between new : Device) (at : ℕ) (line : Line) → HasRead old at line between → IsRoomStep setup slot between new → IsRoomStep setup slot old new
-after_read setup slot old between new at line read step =
-    record {
-      size = step.size ∙ read.size;
-      regs = step.regs ∙ read.regs;
-      latches = step.latches ∙ read.latches;
-      power = (λ was. step.power.0 (read.steady ∙ was), λ was. step.power.1 (read.live ∙ was), step.power.2 ∙ read.cuts);
-      count = step.count;
-      at_most = step.at_most;
-      writes = subst (λ n. RisesBy step.count n new.writes) read.writes step.writes;
-      lines =
-          elim step.lines [
-            | inl free ↦ inl (record { clean = free.clean; same = free.same ∙ read.lines })
-            | inr back ↦
-                inr (record {
-                  held = back.held;
-                  stood = back.stood;
-                  dirty = back.dirty;
-                  written =
-                      back.written
-                      ∙ ap (λ lines. with_line lines (line_of_node setup.shape back.held.x) (node_line setup.formulas back.held.x back.held.node)) read.lines;
-                })
-          ];
-    }
+after_read setup slot old between new at line read step = search rules
 
 pub found-step : (setup : Setup) (x version : ℕ) (node : Node) (old new : TreeEngineParts) → IsNodeFound setup x version node old new → IsRoomStep setup (cache_at old.engine.cache (slot_of setup.shape x)) old.device new.device
-found-step setup x version node old new found =
-    after_read setup (cache_at old.engine.cache (slot_of setup.shape x)) old.device found.between new.device (line_of_node setup.shape x) found.taken.line found.taken.read
-    (room-step setup (cache_at old.engine.cache (slot_of setup.shape x)) found.between new.device found.room)
+found-step setup x version node old new found = search (rules, after_read, room-step)
 
 pub step-told : (setup : Setup) (slot : Option CachedNode) (old new : Device) → IsRoomStep setup slot old new → is_some new.lines ≡ is_some old.lines
-step-told setup slot old new step =
-    elim step.lines [
-      | inl free ↦ ap is_some free.same
-      | inr back ↦
-          ap is_some back.written
-          ∙ is_some-with_line old.lines (line_of_node setup.shape back.held.x) (node_line setup.formulas back.held.x back.held.node)
-    ]
+step-told setup slot old new step = search (rules, is_some-with_line)
 
 -- ---- what the step keeps
 
@@ -124,17 +80,7 @@ pub record IsLevelReady (setup : Setup) (x version : ℕ) (old : TreeEngineParts
   pub version_true : AreTreeTrusted setup old → version ≡ entry_for old.watch.nodes x
 
 pub found-IsFetched : (setup : Setup) (x version : ℕ) (node : Node) (old new : TreeEngineParts) → IsLevelReady setup x version old → AreTreeTrusted setup old → (found : IsNodeFound setup x version node old new) → IsFetched setup x found.taken.line node old.engine new.engine old.watch
-found-IsFetched setup x version node old new ready trusted found =
-    record {
-      on_tree = ready.on_tree;
-      not_top = ready.not_top;
-      accepted = subst (λ v. node_read setup.formulas x found.taken.line v ≡ Some node) (ready.version_true trusted) found.taken.accepted;
-      seen = found.taken.seen;
-      shape = found.shape;
-      down = found.down;
-      tree = found.tree;
-      cache = found.cache;
-    }
+found-IsFetched setup x version node old new ready trusted found = search rules
 
 -- the lines that are told, before and after
 pub record IsLevelKept (setup : Setup) (old new : TreeState) (lines then : List Line) (regs : Regs) (watch : WatchState) : Type 0 where
@@ -142,12 +88,7 @@ pub record IsLevelKept (setup : Setup) (old new : TreeState) (lines then : List 
   pub places : ArePlacesKept setup old new lines then watch
 
 places-both : (setup : Setup) (old mid new : TreeState) (a b c : List Line) (watch : WatchState) → ArePlacesKept setup old mid a b watch → ArePlacesKept setup mid new b c watch → ArePlacesKept setup old new a c watch
-places-both setup old mid new a b c watch first second =
-    record {
-      seals = λ n inside it. second.seals n inside (first.seals n inside it);
-      slots = λ i it. second.slots i (first.slots i it);
-      nodes = λ x inside it. second.nodes x inside (first.nodes x inside it);
-    }
+places-both setup old mid new a b c watch first second = search rules
 
 kept-free : (setup : Setup) (x : ℕ) (line : Line) (node : Node) (old new : TreeState) (lines : List Line) (regs : Regs) (watch : WatchState) → IsShape setup.shape → IsFetched setup x line node old new watch
     → ((held : CachedNode) → cache_at old.cache (slot_of setup.shape x) ≡ Some held → held.dirty ≡ true → ⊥) → IsLevelKept setup old new lines lines regs watch
@@ -258,8 +199,7 @@ kept_lines g a (Some lines) new same = subst (KeepsPathLines g a (Some lines)) (
 
 other_line : (g : Shape) (a place : ℕ) (line : Line) (old new : Option (List Line)) → new ≡ with_line old place line → ((x : ℕ) → is_on_line_path g a x ≡ true → line_of_node g x ≢ place) → KeepsPathLines g a old new
 other_line g a place line None new written apart = written
-other_line g a place line (Some lines) new written apart =
-    subst (KeepsPathLines g a (Some lines)) (sym written) (λ x on. line_at-set_other lines place (line_of_node g x) line (apart x on))
+other_line g a place line (Some lines) new written apart = search (rules, line_at-set_other)
 
 pub found-path_lines : (setup : Setup) (a x version : ℕ) (node : Node) (old new : TreeEngineParts) → IsLevelReady setup x version old → a < tree_lines setup.shape → is_on_line_path setup.shape a x ≡ true → IsNodeFound setup x version node old new → AreTreeTrusted setup old → KeepsPathLines setup.shape a old.device.lines new.device.lines
 found-path_lines setup a x version node old new ready inside on found trusted =

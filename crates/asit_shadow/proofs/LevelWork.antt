@@ -1,6 +1,6 @@
 -- What the levels fetched so far did, exactly, and what the next one does.
-use Rattle.std.proofs.Common.{ℕ, zero, suc, ◌≡◌, ◌≢◌, ◌<◌, ◌≤◌, ◌+◌, ◌/◌, ◌⊎◌, Bool, true, false, List, [], ◌∷◌, ◌++◌, append-nil, length, Some, None, refl, sym, ap, subst, inl, inr, ◌∙◌, arith}
-use Rattle.asit_shadow.proofs.Common.{Option, cases_Bool, cases_eq, cond-true, cond-false, eq-eqb, ne_eqb, length-append, length-set, get_or-set_same, get_or-set_other, Line, Shape, IsShape, Setup, RisesBy, Device, with_line, RisesBy-then, RisesBy-once, on_path-level, path_of-on_path, path_of-level, redone_told, redone-cons, redone-nil, Node, node_line, tree_lines, line_of_node, node_at, is_on_line_path, slot_of, WatchState, CachedNode, cache_at, IsCached, TreeEngineParts, path_node, IsNodePathCached, WritesWhere, IsRoomMade, IsNodeFound, holds_node, is_node_cached, write_back, node_level_write, node_level_reads, slot_fetched, spilled_nodes, absent_nodes, HasSlotsFetched, HasFetchedNodes}
+use Rattle.std.proofs.Common.{ℕ, zero, suc, ◌≡◌, ◌≢◌, ◌<◌, ◌≤◌, ◌+◌, ◌/◌, ◌⊎◌, Bool, true, false, List, [], ◌++◌, append-nil, length, Some, None, refl, sym, ap, subst, inl, inr, ◌∙◌, arith, rules}
+use Rattle.asit_shadow.proofs.Common.{Option, cases_Bool, cases_eq, cond-true, cond-false, eq-eqb, length-append, length-set, get_or-set_same, get_or-set_other, Line, Shape, IsShape, Setup, RisesBy, Device, RisesBy-then, RisesBy-once, on_path-level, path_of-on_path, path_of-level, redone_told, redone-cons, redone-nil, Node, node_line, tree_lines, line_of_node, node_at, is_on_line_path, slot_of, WatchState, CachedNode, cache_at, IsCached, TreeEngineParts, path_node, IsNodePathCached, WritesWhere, IsRoomMade, IsNodeFound, is_node_cached, write_back, node_level_write, node_level_reads, slot_fetched, spilled_nodes, absent_nodes, HasFetchedNodes}
 use Rattle.bonsai_tree.specs.Positions.{level_of}
 use Rattle.commit_regs.proofs.GroupLemmas.{redone_told-append}
 use Rattle.asit_shadow.proofs.SlotPlaces.{page_of_line, path_slots-apart}
@@ -8,18 +8,14 @@ use Rattle.asit_shadow.proofs.SlotPlaces.{page_of_line, path_slots-apart}
 -- ---- positions
 
 pub next-on_path : (g : Shape) (a j x : ℕ) → j < g.levels → x ≡ path_node g a (suc j) → is_on_line_path g a x ≡ true
-next-on_path g a j x inside place =
-    subst (λ z. is_on_line_path g a z ≡ true) (sym place) (path_of-on_path g (a / 4) (suc j) (omega (arith, inside)))
+next-on_path g a j x inside place = search (rules, path_of-on_path)
 
 pub next-level : (g : Shape) (a j x : ℕ) → IsShape g → a < tree_lines g → j < g.levels → x ≡ path_node g a (suc j) → level_of x ≡ suc j
-next-level g a j x shape in_a inside place =
-    ap level_of place ∙ path_of-level g (a / 4) (suc j) shape.at_most_six_levels (page_of_line g a in_a) (omega (arith, inside))
+next-level g a j x shape in_a inside place = search (rules, path_of-level, page_of_line)
 
 -- a node of the path at its level is the next one
 pub at_level : (g : Shape) (a j x y : ℕ) → IsShape g → a < tree_lines g → x ≡ path_node g a (suc j) → is_on_line_path g a y ≡ true → level_of y ≡ suc j → y ≡ x
-at_level g a j x y shape in_a place on level =
-    let its = on_path-level g (a / 4) y shape.at_most_six_levels (page_of_line g a in_a) on in
-    sym its.1 ∙ (ap (path_node g a) level ∙ sym place)
+at_level g a j x y shape in_a place on level = search (rules, on_path-level, page_of_line)
 
 -- a level is one before, or the next
 pub up_to : (n j : ℕ) → n ≤ suc j → (n ≤ j) ⊎ (n ≡ suc j)
@@ -28,15 +24,10 @@ up_to n j most = elim (cases_eq n (suc j)) [ inl same ↦ inr same | inr other �
 -- ---- whether a node is cached
 
 pub is_cached-true : (g : Shape) (cache : List (Option CachedNode)) (x : ℕ) → IsCached g cache x → is_node_cached g cache x ≡ true
-is_cached-true g cache x it =
-    ap (λ (slot : Option CachedNode). holds_node slot x) it.stands ∙ eq-eqb it.held.x x it.position
+is_cached-true g cache x it = search (rules, eq-eqb)
 
 pub is_cached-false : (g : Shape) (cache : List (Option CachedNode)) (x : ℕ) → (IsCached g cache x → ⊥) → is_node_cached g cache x ≡ false
-is_cached-false g cache x none = of (cache_at cache (slot_of g x)) refl
-  where
-    of : (slot : Option CachedNode) → cache_at cache (slot_of g x) ≡ slot → holds_node slot x ≡ false
-    of None stands = refl
-    of (Some held) stands = ne_eqb held.x x (λ e. none (record { held = held; stands = stands; position = e }))
+is_cached-false g cache x none = search rules
 
 -- ---- room is made
 
@@ -49,32 +40,11 @@ pub record IsRoomWritten (setup : Setup) (slot : Option CachedNode) (old new : D
   pub reads : new.reads ≡ old.reads
 
 room_still : (setup : Setup) (slot : Option CachedNode) (old new : Device) → write_back setup slot ≡ [] → new ≡ old → IsRoomWritten setup slot old new
-room_still setup slot old new none same =
-    subst (IsRoomWritten setup slot old) (sym same)
-    (record {
-      lines = sym (ap (λ (group : List (ℕ × Line)). redone_told group old.lines) none ∙ redone-nil old.lines);
-      writes =
-          subst (λ (group : List (ℕ × Line)). RisesBy (length group) old.writes old.writes) (sym none)
-          (no_rise old.writes);
-      reads = refl;
-    })
+room_still setup slot old new none same = search (rules, redone-nil, no_rise)
 
 room_where : (setup : Setup) (held : CachedNode) (dirty : Bool) (old new : Device) → held.dirty ≡ dirty → WritesWhere dirty old (line_of_node setup.shape held.x) (node_line setup.formulas held.x held.node) new → IsRoomWritten setup (Some held) old new
-room_where setup held true old new is made =
-    let one : write_back setup (Some held) ≡ (line_of_node setup.shape held.x, node_line setup.formulas held.x held.node) ∷ [] =
-    cond-true held.dirty ((line_of_node setup.shape held.x, node_line setup.formulas held.x held.node) ∷ []) [] is in
-    record {
-      lines =
-          made.lines
-          ∙ (sym (redone-cons (line_of_node setup.shape held.x, node_line setup.formulas held.x held.node) [] old.lines
-          ∙ redone-nil (with_line old.lines (line_of_node setup.shape held.x) (node_line setup.formulas held.x held.node)))
-          ∙ ap (λ (group : List (ℕ × Line)). redone_told group old.lines) (sym one));
-      writes = subst (λ (group : List (ℕ × Line)). RisesBy (length group) old.writes new.writes) (sym one) (RisesBy-once made.writes);
-      reads = made.reads;
-    }
-room_where setup held false old new is made =
-    room_still setup (Some held) old new
-    (cond-false held.dirty ((line_of_node setup.shape held.x, node_line setup.formulas held.x held.node) ∷ []) [] is) made
+room_where setup held true old new is made = search (rules, cond-true, redone-cons, redone-nil, RisesBy-once)
+room_where setup held false old new is made = search (rules, room_still, cond-false)
 
 pub room-written : (setup : Setup) (slot : Option CachedNode) (old new : Device) → IsRoomMade setup slot old new → IsRoomWritten setup slot old new
 room-written setup None old new made = room_still setup None old new refl made
@@ -96,47 +66,20 @@ pub reads-start : (g : Shape) (cache : List (Option CachedNode)) (a n : ℕ) →
 reads-start g cache a n = no_rise n
 
 pub levels-start : (setup : Setup) (a : ℕ) (old : TreeEngineParts) → HasFetchedNodes setup a 0 old old
-levels-start setup a old =
-    record {
-      on_path = omega arith;
-      cache =
-          record {
-            count = refl;
-            fetched = λ x on low high. absurd (omega (arith, low, high));
-            elsewhere = λ i apart. refl;
-          };
-      lines = sym (redone-nil old.device.lines);
-      writes = no_rise old.device.writes;
-      latches = refl;
-      regs = refl;
-    }
+levels-start setup a old = search (rules, redone-nil, no_rise)
 
 -- nothing else was written since
 pub levels-kept : (setup : Setup) (a n : ℕ) (old mid new : TreeEngineParts) → new.engine.cache ≡ mid.engine.cache → new.device.lines ≡ mid.device.lines → new.device.writes ≡ mid.device.writes → new.device.latches ≡ mid.device.latches → new.device.regs ≡ mid.device.regs
     → HasFetchedNodes setup a n old mid → HasFetchedNodes setup a n old new
-levels-kept setup a n old mid new cache lines writes latches regs it =
-    record {
-      on_path = it.on_path;
-      cache = subst (HasSlotsFetched setup.shape old.watch.nodes a n old.engine.cache) (sym cache) it.cache;
-      lines = lines ∙ it.lines;
-      writes = subst (RisesBy (length (spilled_nodes setup old.engine.cache a n)) old.device.writes) (sym writes) it.writes;
-      latches = latches ∙ it.latches;
-      regs = regs ∙ it.regs;
-    }
+levels-kept setup a n old mid new cache lines writes latches regs it = search rules
 
 -- ---- the next level was cached
 
 spilled-cached : (setup : Setup) (cache : List (Option CachedNode)) (a j x : ℕ) → x ≡ path_node setup.shape a (suc j) → is_node_cached setup.shape cache x ≡ true → spilled_nodes setup cache a (suc j) ≡ spilled_nodes setup cache a j
-spilled-cached setup cache a j x place is =
-    ap (λ z. spilled_nodes setup cache a j ++ node_level_write setup cache z) (sym place)
-    ∙ (ap (λ (rest : List (ℕ × Line)). spilled_nodes setup cache a j ++ rest) (cond-true (is_node_cached setup.shape cache x) [] (write_back setup (cache_at cache (slot_of setup.shape x))) is)
-    ∙ append-nil (spilled_nodes setup cache a j))
+spilled-cached setup cache a j x place is = search (rules, cond-true, append-nil)
 
 absent-cached : (g : Shape) (cache : List (Option CachedNode)) (a j x : ℕ) → x ≡ path_node g a (suc j) → is_node_cached g cache x ≡ true → absent_nodes g cache a (suc j) ≡ absent_nodes g cache a j
-absent-cached g cache a j x place is =
-    let none : node_level_reads g cache (path_node g a (suc j)) ≡ 0 =
-    ap (node_level_reads g cache) (sym place) ∙ cond-true (is_node_cached g cache x) 0 1 is in
-    omega (arith, none)
+absent-cached g cache a j x place is = search (rules, cond-true)
 
 pub levels-cached : (setup : Setup) (a j x : ℕ) (old now : TreeEngineParts) → IsNextWork setup a j x old now → is_node_cached setup.shape old.engine.cache x ≡ true → HasFetchedNodes setup a (suc j) old now
 levels-cached setup a j x old now next is =
@@ -166,22 +109,16 @@ levels-cached setup a j x old now next is =
     }
 
 pub reads-cached : (setup : Setup) (a j x : ℕ) (old now : TreeEngineParts) → IsNextWork setup a j x old now → is_node_cached setup.shape old.engine.cache x ≡ true → RisesBy (absent_nodes setup.shape old.engine.cache a (suc j)) old.device.reads now.device.reads
-reads-cached setup a j x old now next is =
-    subst (λ n. RisesBy n old.device.reads now.device.reads) (sym (absent-cached setup.shape old.engine.cache a j x next.place is)) next.reads
+reads-cached setup a j x old now next is = search (rules, absent-cached)
 
 -- ---- the next level was found
 
 spilled-found : (setup : Setup) (cache : List (Option CachedNode)) (a j x : ℕ) → x ≡ path_node setup.shape a (suc j) → is_node_cached setup.shape cache x ≡ false
     → spilled_nodes setup cache a (suc j) ≡ spilled_nodes setup cache a j ++ write_back setup (cache_at cache (slot_of setup.shape x))
-spilled-found setup cache a j x place is =
-    ap (λ z. spilled_nodes setup cache a j ++ node_level_write setup cache z) (sym place)
-    ∙ ap (λ (rest : List (ℕ × Line)). spilled_nodes setup cache a j ++ rest) (cond-false (is_node_cached setup.shape cache x) [] (write_back setup (cache_at cache (slot_of setup.shape x))) is)
+spilled-found setup cache a j x place is = search (rules, cond-false)
 
 absent-found : (g : Shape) (cache : List (Option CachedNode)) (a j x : ℕ) → x ≡ path_node g a (suc j) → is_node_cached g cache x ≡ false → absent_nodes g cache a (suc j) ≡ absent_nodes g cache a j + 1
-absent-found g cache a j x place is =
-    let one : node_level_reads g cache (path_node g a (suc j)) ≡ 1 =
-    ap (node_level_reads g cache) (sym place) ∙ cond-false (is_node_cached g cache x) 0 1 is in
-    omega (arith, one)
+absent-found g cache a j x place is = search (rules, cond-false)
 
 pub levels-found : (setup : Setup) (a j x version : ℕ) (node : Node) (old now new : TreeEngineParts) → IsNextWork setup a j x old now → is_node_cached setup.shape old.engine.cache x ≡ false → slot_of setup.shape x < length now.engine.cache → new.device.latches ≡ now.device.latches → new.device.regs ≡ now.device.regs
     → IsNodeFound setup x version node now new → HasFetchedNodes setup a (suc j) old new
@@ -242,41 +179,16 @@ levels-found setup a j x version node old now new next is room latches regs foun
 
 pub reads-found : (setup : Setup) (a j x version : ℕ) (node : Node) (old now new : TreeEngineParts) → IsNextWork setup a j x old now → is_node_cached setup.shape old.engine.cache x ≡ false
     → IsNodeFound setup x version node now new → RisesBy (absent_nodes setup.shape old.engine.cache a (suc j)) old.device.reads new.device.reads
-reads-found setup a j x version node old now new next is found =
-    let made = room-written setup (cache_at now.engine.cache (slot_of setup.shape x)) found.between new.device found.room in
-    subst (λ n. RisesBy n old.device.reads new.device.reads) (sym (absent-found setup.shape old.engine.cache a j x next.place is))
-    (RisesBy-then (absent_nodes setup.shape old.engine.cache a j) 1 old.device.reads now.device.reads new.device.reads next.reads
-    (subst (RisesBy 1 now.device.reads) (sym made.reads) (RisesBy-once found.taken.read.reads)))
+reads-found setup a j x version node old now new next is found = search (rules, room-written, absent-found, RisesBy-then, RisesBy-once)
 
 -- ---- how much it is at most
 
 write_back-few : (setup : Setup) (slot : Option CachedNode) → length (write_back setup slot) ≤ 1
 write_back-few setup None = omega arith
-write_back-few setup (Some held) =
-    elim (cases_Bool held.dirty) [
-      | inl dirty ↦
-          let one : length (write_back setup (Some held)) ≡ 1 =
-          ap length (cond-true held.dirty ((line_of_node setup.shape held.x, node_line setup.formulas held.x held.node) ∷ []) [] dirty) in
-          omega (arith, one)
-      | inr clean ↦
-          let none : length (write_back setup (Some held)) ≡ 0 =
-          ap length (cond-false held.dirty ((line_of_node setup.shape held.x, node_line setup.formulas held.x held.node) ∷ []) [] clean) in
-          omega (arith, none)
-    ]
+write_back-few setup (Some held) = search (rules, cases_Bool, cond-true, cond-false)
 
 level-few : (setup : Setup) (cache : List (Option CachedNode)) (x : ℕ) → length (node_level_write setup cache x) ≤ node_level_reads setup.shape cache x
-level-few setup cache x =
-    elim (cases_Bool (is_node_cached setup.shape cache x)) [
-      | inl was ↦
-          let none : length (node_level_write setup cache x) ≡ 0 =
-          ap length (cond-true (is_node_cached setup.shape cache x) [] (write_back setup (cache_at cache (slot_of setup.shape x))) was) in
-          omega (arith, none)
-      | inr absent ↦
-          let back : length (node_level_write setup cache x) ≡ length (write_back setup (cache_at cache (slot_of setup.shape x))) =
-          ap length (cond-false (is_node_cached setup.shape cache x) [] (write_back setup (cache_at cache (slot_of setup.shape x))) absent) in
-          let one : node_level_reads setup.shape cache x ≡ 1 = cond-false (is_node_cached setup.shape cache x) 0 1 absent in
-          omega (arith, back, one, write_back-few setup (cache_at cache (slot_of setup.shape x)))
-    ]
+level-few setup cache x = search (rules, cases_Bool, cond-true, cond-false, write_back-few)
 
 pub spilled-few : (setup : Setup) (cache : List (Option CachedNode)) (a n : ℕ) → length (spilled_nodes setup cache a n) ≤ absent_nodes setup.shape cache a n
 spilled-few setup cache a zero = omega arith
@@ -289,15 +201,7 @@ spilled-few setup cache a (suc n) =
     )
 
 level_reads-few : (g : Shape) (cache : List (Option CachedNode)) (x : ℕ) → node_level_reads g cache x ≤ 1
-level_reads-few g cache x =
-    elim (cases_Bool (is_node_cached g cache x)) [
-      | inl was ↦
-          let none : node_level_reads g cache x ≡ 0 = cond-true (is_node_cached g cache x) 0 1 was in
-          omega (arith, none)
-      | inr absent ↦
-          let one : node_level_reads g cache x ≡ 1 = cond-false (is_node_cached g cache x) 0 1 absent in
-          omega (arith, one)
-    ]
+level_reads-few g cache x = search (rules, cases_Bool, cond-true, cond-false)
 
 pub absent-few : (g : Shape) (cache : List (Option CachedNode)) (a n : ℕ) → absent_nodes g cache a n ≤ n
 absent-few g cache a zero = omega arith

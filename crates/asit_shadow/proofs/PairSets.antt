@@ -1,7 +1,7 @@
 -- Values set at the places of a list of pairs; and a path's nodes as such a list.
-use Rattle.std.proofs.Common.{ℕ, zero, suc, ◌≡◌, ◌≢◌, ◌<◌, ◌≤◌, ◌+◌, ◌/◌, List, [], ◌∷◌, ◌++◌, length, map, get_or, true, Some, refl, sym, ap, subst, inl, inr, ◌∙◌, arith}
+use Rattle.std.proofs.Common.{ℕ, zero, suc, ◌≡◌, ◌≢◌, ◌<◌, ◌≤◌, ◌+◌, ◌/◌, List, [], ◌∷◌, ◌++◌, length, map, get_or, true, Some, refl, sym, ap, subst, inl, inr, ◌∙◌, arith, rules}
 use Rattle.std.proofs.lemmas.Simd.{map-map}
-use Rattle.asit_shadow.proofs.Common.{Option, slice_index, slice_set, cases_Bool, false≢true, ext_get_or, length-set, length-map, get_or-set_same, get_or-set_other, get_or-map, Line, put_lines, Shape, IsShape, meta_lines, child_slot, length-path_of, on_path-level, path_of-level, path_of-on_path, Node, LineSeal, tree_lines, line_of_slot, line_of_tag, zero_node, IsRaised, is_on_line_path, node_at, raised, slot_of, slot_line, CachedNode, tag_only, line_path, path_entries, set_each, dirty_node, path_node, set_pairs, pair_at, position_below, slot_entries, dirty_entries, armed_lines}
+use Rattle.asit_shadow.proofs.Common.{Option, slice_set, cases_Bool, false≢true, ext_get_or, length-set, length-map, get_or-set_same, get_or-set_other, get_or-map, Line, put_lines, Shape, IsShape, meta_lines, child_slot, length-path_of, on_path-level, path_of-level, path_of-on_path, Node, LineSeal, tree_lines, zero_node, IsRaised, is_on_line_path, node_at, raised, slot_of, CachedNode, line_path, path_entries, set_each, dirty_node, path_node, set_pairs, pair_at, position_below, slot_entries, dirty_entries, armed_lines}
 use Rattle.bonsai_tree.specs.Positions.{level_of}
 use Rattle.counter_tree.specs.Trees.{raised_nodes}
 use Rattle.asit_shadow.specs.Paths.{slots_with, cache_with, write_group}
@@ -43,10 +43,7 @@ pub record IsPairing (g : Shape) (a : ℕ) (pairs : List (ℕ × Node)) (nodes :
   pub its : pairs ≡ map (λ x. (x, node_at nodes x)) (line_path g a)
 
 pub pair-position : (g : Shape) (a n : ℕ) (pairs : List (ℕ × Node)) → map (λ pair. pair.0) pairs ≡ line_path g a → n ≤ g.levels → (pair_at pairs n).0 ≡ path_node g a n
-pair-position g a n pairs positions within =
-    let count : length pairs ≡ g.levels + 1 =
-    sym (length-map pairs (λ (pair : ℕ × Node). pair.0)) ∙ (ap length positions ∙ length-path_of g (a / 4)) in
-    sym (get_or-map (λ (pair : ℕ × Node). pair.0) pairs n (0, zero_node) 0 (omega (arith, count, within))) ∙ ap (λ xs. slice_index xs n) positions
+pair-position g a n pairs positions within = search (rules, length-map, length-path_of, get_or-map)
 
 -- positions of two levels are two
 path-apart : (g : Shape) (a i n : ℕ) → IsShape g → a < tree_lines g → i ≤ g.levels → n ≤ g.levels → i ≢ n → path_node g a i ≢ path_node g a n
@@ -55,8 +52,7 @@ path-apart g a i n shape inside in_i in_n apart same =
     apart (sym (path_of-level g (a / 4) i shape.at_most_six_levels page in_i) ∙ (ap level_of same ∙ path_of-level g (a / 4) n shape.at_most_six_levels page in_n))
 
 pub pairs-count : (g : Shape) (a : ℕ) (pairs : List (ℕ × Node)) → map (λ pair. pair.0) pairs ≡ line_path g a → length pairs ≡ g.levels + 1
-pairs-count g a pairs positions =
-    sym (length-map pairs (λ (pair : ℕ × Node). pair.0)) ∙ (ap length positions ∙ length-path_of g (a / 4))
+pairs-count g a pairs positions = search (rules, length-map, length-path_of)
 
 -- each pair's node stands in the list that they are set in
 pub pair-node : (g : Shape) (a n : ℕ) (pairs : List (ℕ × Node)) (nodes : List Node) → IsShape g → a < tree_lines g → map (λ pair. pair.0) pairs ≡ line_path g a → length nodes ≡ meta_lines g → n ≤ g.levels → node_at (set_pairs pairs nodes) (path_node g a n) ≡ (pair_at pairs n).1
@@ -94,14 +90,11 @@ pairs-are g a pairs nodes shape inside positions size =
 -- ---- what is made of the pairs is made of the path
 
 entries-are : (g : Shape) (place : ℕ → ℕ) (a : ℕ) (pairs : List (ℕ × Node)) (nodes : List Node) → IsPairing g a pairs nodes → slot_entries g place pairs ≡ path_entries g place a nodes
-entries-are g place a pairs nodes it =
-    ap (slot_entries g place) it.its
-    ∙ map-map (λ (pair : ℕ × Node). (place (slot_of g pair.0), slot_line pair.0 pair.1)) (λ x. (x, node_at nodes x)) (line_path g a)
+entries-are g place a pairs nodes it = search (rules, map-map)
 
 pub lines-are : (g : Shape) (a : ℕ) (seal : LineSeal) (pairs : List (ℕ × Node)) (nodes : List Node) → IsPairing g a pairs nodes → armed_lines g a seal pairs ≡ write_group g a seal nodes
 unfolding write_group
-lines-are g a seal pairs nodes it =
-    ap (λ rest. (a, seal.cipher) ∷ (line_of_tag g a, tag_only seal.tag) ∷ rest) (entries-are g (line_of_slot g) a pairs nodes it)
+lines-are g a seal pairs nodes it = search (rules, entries-are)
 
 pub slots-are : (g : Shape) (a : ℕ) (pairs : List (ℕ × Node)) (nodes : List Node) (slots : List Line) → IsPairing g a pairs nodes → put_lines (slot_entries g (λ i. i) pairs) slots ≡ slots_with g a nodes slots
 unfolding slots_with

@@ -1,5 +1,5 @@
 -- The levels of a path that are fetched, one after another.
-use Rattle.std.proofs.Common.{ℕ, suc, ◌≡◌, ◌≢◌, ◌<◌, ◌≤◌, ◌+◌, ◌/◌, true, false, List, length, Some, None, refl, sym, ap, subst, inl, inr, ◌∙◌, arith}
+use Rattle.std.proofs.Common.{ℕ, suc, ◌≡◌, ◌≢◌, ◌<◌, ◌≤◌, ◌+◌, ◌/◌, true, false, List, length, Some, None, refl, sym, ap, subst, inl, inr, ◌∙◌, arith, rules}
 use Rattle.asit_shadow.proofs.Common.{Option, slice_index, get_or-set_same, get_or-set_other, Line, Shape, IsShape, AreInRange, Setup, AreToldLines, Tells, parent, child_slot, path_of, counter_position, on_path-level, path_of-top, path_of-block, path_of-parent, going, Node, counter, total, node_read, tree_lines, tree_slots, tree_size, line_of_node, node_at, entry_for, is_on_line_path, slot_of, WatchState, CachedNode, cache_at, IsCached, IsCachedAs, TreeEngineParts, AreTreeTrusted, line_path, TreeCallEffect, IsNodeRead, IsNodeFound, HasFetchedNode, KeepsPathLines, IsPathFetchedTo}
 use Rattle.bonsai_tree.specs.Positions.{level_of}
 use Rattle.asit_shadow.proofs.SlotPlaces.{slot_of-inside, page_of_line, on_path-inside, path_slots-apart}
@@ -48,15 +48,7 @@ level-ready setup a j x version old now next =
 -- ---- the first level
 
 still_effect : (setup : Setup) (old : TreeEngineParts) → TreeCallEffect setup going old old
-still_effect setup old =
-    record {
-      shape = refl;
-      size = refl;
-      power = (λ was. was, λ was. was, refl);
-      trusted = λ was. was;
-      sound = λ was. was;
-      places = λ was. record { seals = λ a inside it. it; slots = λ i inside it. it; nodes = λ x inside it. it };
-    }
+still_effect setup old = search rules
 
 pub same_lines : (g : Shape) (a : ℕ) (told : Option (List Line)) → KeepsPathLines g a told told
 same_lines g a None = refl
@@ -87,14 +79,7 @@ path-start setup a old ready =
 
 -- the top, where the engine is trusted
 pub top-in : (setup : Setup) (old : TreeEngineParts) → AreTreeTrusted setup old → IsCachedAs setup.shape old.engine.cache 0 (Rattle.asit_shadow.specs.State.top_node old.engine.cache)
-top-in setup old trusted =
-    let top = trusted.top_cached in
-    record {
-      held = top.held;
-      stands = top.stands;
-      position = top.position;
-      its_node = ap Rattle.asit_shadow.specs.State.top_of top.stands;
-    }
+top-in setup old trusted = search rules
 
 -- ---- what was read stays on the device
 
@@ -104,28 +89,13 @@ tells-kept g a x line (Some old) None on kept tells = absurd kept
 tells-kept g a x line (Some old) (Some new) on kept tells = tells ∙ sym (kept x on)
 
 pub lines-then : (g : Shape) (a : ℕ) (old mid new : Option (List Line)) → KeepsPathLines g a old mid → KeepsPathLines g a mid new → KeepsPathLines g a old new
-lines-then g a None mid new first second = none_then mid first second
-  where
-    none_then : (told : Option (List Line)) → told ≡ None → KeepsPathLines g a told new → new ≡ None
-    none_then None is kept = kept
-    none_then (Some lines) is kept = absurd cc
+lines-then g a None mid new first second = search rules
 lines-then g a (Some old) None new first second = absurd first
 lines-then g a (Some old) (Some mid) None first second = absurd second
 lines-then g a (Some old) (Some mid) (Some new) first second = λ x on. second x on ∙ first x on
 
 pub read-kept : (setup : Setup) (a x : ℕ) (old mid new : TreeEngineParts) → KeepsPathLines setup.shape a mid.device.lines new.device.lines → IsNodeRead setup a x old mid → IsNodeRead setup a x old new
-read-kept setup a x old mid new kept it =
-    record {
-      line = it.line;
-      its =
-          record {
-            on_path = it.its.on_path;
-            below_top = it.its.below_top;
-            uncached = it.its.uncached;
-            read = tells-kept setup.shape a x it.line mid.device.lines new.device.lines it.its.on_path kept it.its.read;
-          };
-      accepted = it.accepted;
-    }
+read-kept setup a x old mid new kept it = search (rules, tells-kept)
 
 -- ---- a level that was cached
 
@@ -147,17 +117,7 @@ cached-after setup a j x version old now next it =
 
 -- what the levels so far did, as the next one's work asks
 pub next-work : (setup : Setup) (a j x version : ℕ) (old now : TreeEngineParts) → IsNextLevel setup a j x version old now → IsNextWork setup a j x old now
-next-work setup a j x version old now next =
-    record {
-      shape = next.ready.shape;
-      inside = next.ready.its_line;
-      level = next.level;
-      place = next.place;
-      slot = slot_below setup a j x version old now next;
-      watch = next.before.watch;
-      done = next.before.done;
-      reads = next.before.reads;
-    }
+next-work setup a j x version old now next = search (rules, slot_below)
 
 next-cached : (setup : Setup) (a j x version : ℕ) (node : Node) (old now : TreeEngineParts) → IsNextLevel setup a j x version old now → IsCachedAs setup.shape now.engine.cache x node → IsPathFetchedTo setup a (suc j) old now
 next-cached setup a j x version node old now next in_slot =
@@ -206,9 +166,7 @@ other_slot setup a j x version node old now new y next found on_y other =
     ∙ get_or-set_other now.engine.cache (slot_of setup.shape x) (slot_of setup.shape y) (Some (record { x = x; node = node; dirty = false })) None apart
 
 next-room : (setup : Setup) (a j x version : ℕ) (old now : TreeEngineParts) → IsNextLevel setup a j x version old now → slot_of setup.shape x < length now.engine.cache
-next-room setup a j x version old now next =
-    let on = next-on_path setup.shape a j x next.level next.place in
-    omega (arith, slot_of-inside setup.shape x next.ready.shape (on_path-inside setup.shape a x next.ready.its_line on), next.before.done.cache.count, next.ready.slots)
+next-room setup a j x version old now next = search (rules, next-on_path, slot_of-inside, on_path-inside)
 
 found-in : (setup : Setup) (a j x version : ℕ) (node : Node) (old now new : TreeEngineParts) → IsNextLevel setup a j x version old now → IsNodeFound setup x version node now new → IsCachedAs setup.shape new.engine.cache x node
 found-in setup a j x version node old now new next found =
@@ -326,18 +284,12 @@ in-entry setup y node parts trusted it =
 
 -- the position that the code takes from the path
 pub place-is : (g h : Shape) (a level from : ℕ) (items seen : List ℕ) → seen ≡ items → items ≡ path_of h (a / 4) → h ≡ g → from ≡ level → slice_index seen (from + 1) ≡ slice_index (line_path g a) (suc level)
-place-is g h a level from items seen of_items of_path same at =
-    let next : from + 1 ≡ suc level = omega (arith, at) in
-    ap (λ (xs : List ℕ). slice_index xs (from + 1)) (of_items ∙ of_path)
-    ∙ (ap (λ (k : Shape). slice_index (path_of k (a / 4)) (from + 1)) same ∙ ap (slice_index (line_path g a)) next)
+place-is g h a level from items seen of_items of_path same at = search rules
 
 -- the version that the code takes from the node above
 pub version-is : (setup : Setup) (a j x version : ℕ) (node : Node) (now : TreeEngineParts) → j < setup.shape.levels → x ≡ slice_index (line_path setup.shape a) (suc j) → version ≡ counter node (child_slot x)
     → (AreTreeTrusted setup now → IsCachedAs setup.shape now.engine.cache (slice_index (line_path setup.shape a) j) node) → AreTreeTrusted setup now → version ≡ entry_for now.watch.nodes x
-version-is setup a j x version node now inside place is last trusted =
-    let above : slice_index (line_path setup.shape a) j ≡ parent x =
-    sym (path_of-parent setup.shape (a / 4) j inside) ∙ ap parent (sym place) in
-    is ∙ in-entry setup x node now trusted (subst (λ p. IsCachedAs setup.shape now.engine.cache p node) above (last trusted))
+version-is setup a j x version node now inside place is last trusted = search (rules, path_of-parent, in-entry)
 
 -- the top as the fetch begins
 pub last-start : (setup : Setup) (a : ℕ) (node : Node) (old : TreeEngineParts) → IsFetchReady setup a old → node ≡ Rattle.asit_shadow.specs.State.top_node old.engine.cache → AreTreeTrusted setup old → IsCachedAs setup.shape old.engine.cache (slice_index (line_path setup.shape a) 0) node

@@ -1,6 +1,6 @@
 -- Each place of the device by itself, on any board.
-use Rattle.std.proofs.Common.{ℕ, ◌≡◌, ◌≢◌, ◌<◌, ◌≤◌, List, [], ◌∷◌, length, true, false, Some, None, refl, sym, ap, subst, inl, inr, ◌∙◌, arith}
-use Rattle.asit_shadow.proofs.Common.{Option, slice_set, IfSome, cases_Bool, cases_eq, get_or-set_other, set-set, set_comm, same_Some, Line, Regs, line_at, tag_slot, IsShape, meta_lines, line_at-set_same, line_at-set_other, lines-equal, AreInRange, Setup, redone, Node, total, version_counter, node_line, node_read, stored_node, tree_lines, tree_slots, tree_size, line_of_tag, line_of_node, line_of_slot, node_at, entry_for, line_counter, is_on_line_path, slot_of, WatchState, last_seal_of, LineSeal, node_read-node_line, stored_node-node_line, tree-IsNode, tree-version, TreeState, cache_at, IsCached, CachedNode, NamesTrueNode, IsTreeAnchored, IsTreeTrusted, IsTreeSealStored, IsNodeStored, IsSlotStored, is_path_slot, IsNodePathCached, IsNodeHeld, IsNodeHeldBy, ArePlacesArmed, ArePlacesKept, IsTreeArmed, HasPathStored, IsFetched, GivesWay, IsTreeRecovered, slots_read}
+use Rattle.std.proofs.Common.{ℕ, ◌≡◌, ◌≢◌, ◌<◌, ◌≤◌, List, [], ◌∷◌, length, true, false, Some, None, refl, sym, ap, subst, inl, inr, ◌∙◌, arith, rules}
+use Rattle.asit_shadow.proofs.Common.{Option, slice_set, IfSome, cases_Bool, cases_eq, get_or-set_other, set-set, set_comm, same_Some, Line, Regs, line_at, tag_slot, IsShape, meta_lines, line_at-set_same, line_at-set_other, lines-equal, AreInRange, Setup, redone, Node, total, version_counter, node_line, node_read, stored_node, tree_lines, tree_slots, tree_size, line_of_tag, line_of_node, node_at, entry_for, line_counter, is_on_line_path, slot_of, WatchState, last_seal_of, LineSeal, node_read-node_line, stored_node-node_line, tree-IsNode, tree-version, TreeState, cache_at, IsCached, CachedNode, NamesTrueNode, IsTreeAnchored, IsTreeTrusted, IsTreeSealStored, IsNodeStored, IsSlotStored, is_path_slot, IsNodePathCached, IsNodeHeld, IsNodeHeldBy, ArePlacesArmed, ArePlacesKept, IsTreeArmed, HasPathStored, IsFetched, GivesWay, IsTreeRecovered, slots_read}
 use Rattle.asit_shadow.proofs.SlotPlaces.{slot_of-inside, path_slot-from}
 use Rattle.asit_shadow.proofs.PutLaws.{IsGroupMade, tag_slot-tag_only}
 use Rattle.asit_shadow.proofs.ArmLaws.{armed-IsRaised, last_here, last_else, dirty-named, armed-made}
@@ -57,9 +57,7 @@ armed-places_from setup a seal engine lines made old_regs new_regs old new shape
     }
 
 pub armed-places : (setup : Setup) (a : ℕ) (seal : LineSeal) (engine : TreeState) (lines : List Line) (old_regs new_regs : Regs) (old new : WatchState) → IsShape setup.shape → length lines ≡ tree_size setup.shape → IsTreeTrusted setup engine old_regs old → IsNodePathCached setup.shape a engine.cache → IsTreeArmed setup a seal old_regs new_regs old new → ArePlacesArmed setup a engine lines (redone new_regs.group.items lines) old new
-armed-places setup a seal engine lines old_regs new_regs old new shape size trusted cached armed =
-    armed-places_from setup a seal engine lines (redone new_regs.group.items lines) old_regs new_regs old new shape trusted cached armed
-    (armed-made setup a seal lines old_regs new_regs old new shape size armed)
+armed-places setup a seal engine lines old_regs new_regs old new shape size trusted cached armed = search (rules, armed-places_from, armed-made)
 
 -- once the group is written, each node is held by the engine
 pub written-place : (setup : Setup) (a : ℕ) (seal : LineSeal) (engine after : TreeState) (lines : List Line) (old_regs armed_regs : Regs) (old new : WatchState) (x : ℕ) → IsShape setup.shape → length lines ≡ tree_size setup.shape → IsTreeTrusted setup engine old_regs old → IsNodePathCached setup.shape a engine.cache → IsTreeArmed setup a seal old_regs armed_regs old new → HasPathStored setup a engine after new → x < meta_lines setup.shape
@@ -92,32 +90,7 @@ written-place setup a seal engine after lines old_regs armed_regs old new x shap
 -- ---- a true node is written back, and another takes its slot
 
 pub written_back-places : (setup : Setup) (engine : TreeState) (lines : List Line) (watch : WatchState) (x : ℕ) → x < meta_lines setup.shape → length lines ≡ tree_size setup.shape → ArePlacesKept setup engine engine lines (slice_set lines (line_of_node setup.shape x) (node_line setup.formulas x (node_at watch.nodes x))) watch
-written_back-places setup engine lines watch x inside size =
-    let line = node_line setup.formulas x (node_at watch.nodes x) in
-    let else : (p : ℕ) → p ≢ line_of_node setup.shape x → line_at (slice_set lines (line_of_node setup.shape x) (node_line setup.formulas x (node_at watch.nodes x))) p ≡ line_at lines p =
-    λ p apart. line_at-set_other lines (line_of_node setup.shape x) p (node_line setup.formulas x (node_at watch.nodes x)) apart in
-    record {
-      seals =
-          λ a in_a its.
-          record {
-            seal = its.seal;
-            last = its.last;
-            cipher = else a (λ e. omega (arith, in_a, e)) ∙ its.cipher;
-            tag = ap (λ line. tag_slot line 0) (else (line_of_tag setup.shape a) (λ e. omega (arith, in_a, e))) ∙ its.tag;
-          };
-      slots = λ i stored. else (line_of_slot setup.shape i) (λ e. omega (arith, inside, e)) ∙ stored;
-      nodes =
-          λ y in_y held.
-          elim held [
-            | inr dirty ↦ inr dirty
-            | inl it ↦ elim (cases_eq y x) [
-              | inl same ↦
-                  inl (subst (IsNodeStored setup (slice_set lines (line_of_node setup.shape x) (node_line setup.formulas x (node_at watch.nodes x))) watch) (sym same)
-                  (line_at-set_same lines (line_of_node setup.shape x) (node_line setup.formulas x (node_at watch.nodes x)) (omega (arith, inside, size))))
-              | inr other ↦ inl (else (line_of_node setup.shape y) (λ e. other (omega (arith, e))) ∙ it)
-            ]
-          ];
-    }
+written_back-places setup engine lines watch x inside size = search (rules, line_at-set_other, cases_eq, line_at-set_same)
 
 pub fetched-places : (setup : Setup) (x : ℕ) (line : Line) (node : Node) (old new : TreeState) (lines : List Line) (watch : WatchState) → IsFetched setup x line node old new watch → GivesWay setup old lines watch (slot_of setup.shape x) → ArePlacesKept setup old new lines lines watch
 fetched-places setup x line node old new lines watch fetched gives =
@@ -165,13 +138,7 @@ recovered-place setup engine lines regs watch x shape anchored recovered in_x he
 
 -- with power off, a node that the engine held is held
 pub powered_off-place : (setup : Setup) (engine : TreeState) (lines : List Line) (regs : Regs) (watch : WatchState) (x : ℕ) → IsTreeTrusted setup engine regs watch → IsNodeHeldBy setup engine lines watch x → IsNodeHeld setup lines watch x
-powered_off-place setup engine lines regs watch x trusted held =
-    elim held [
-      | inl stored ↦ inl stored
-      | inr dirty ↦
-          let it = trusted.cached_true (slot_of setup.shape x) dirty.held dirty.stands in
-          inr (it.named dirty.dirty ∙ (ap (Rattle.counter_tree.specs.Slots.slot_line dirty.held.x) it.true_node ∙ ap (λ z. Rattle.counter_tree.specs.Slots.slot_line z (node_at watch.nodes z)) dirty.position))
-    ]
+powered_off-place setup engine lines regs watch x trusted held = search rules
 
 -- ---- what is read of a place that is held
 
@@ -204,12 +171,7 @@ line-place setup lines regs watch a anchored inside stored =
     )
 
 pub slots-place : (setup : Setup) (lines : List Line) (regs : Regs) (watch : WatchState) → IsTreeAnchored setup regs watch → length lines ≡ tree_size setup.shape → ((i : ℕ) → i < tree_slots setup.shape → IsSlotStored setup.shape lines watch i) → slots_read setup.shape lines ≡ watch.slots
-slots-place setup lines regs watch anchored size stored =
-    let count = length-slots_read setup.shape lines size in
-    lines-equal (slots_read setup.shape lines) watch.slots (count ∙ sym anchored.of_setup.slot_count)
-    (λ i low.
-    let inside : i < tree_slots setup.shape = omega (arith, low, count) in
-    line_at-slots_read setup.shape lines i inside ∙ stored i inside)
+slots-place setup lines regs watch anchored size stored = search (rules, length-slots_read, lines-equal, line_at-slots_read)
 
 -- ---- tampering
 

@@ -1,7 +1,7 @@
 -- The plain machine's truth is the watch's: its nodes are the sums of the writes made below them, and a
 -- write changes both alike.
-use Rattle.std.proofs.Common.{ℕ, zero, suc, ◌≡◌, ◌<◌, ◌≤◌, ◌+◌, ◌-◌, List, [], ◌∷◌, length, true, false, Some, None, refl, sym, ap, subst, inl, inr, ◌∙◌, arith}
-use Rattle.asit_shadow.proofs.Common.{Option, slice_set, ◌==◌, ◌||◌, list_any, cases_Bool, cases_eq, or_parts, or_right, eqb-false, eqb-true, ne_eqb, false_from_ne_true, false≢true, length-set, get_or-set_same, get_or-set_other, same_Some, Line, Regs, IsLine, line_at, Shape, IsShape, meta_lines, level_start, AreInRange, cipher_of, Setup, child_slot, child_position, IsAtLevel, parent-child, child-IsAtLevel, IsAtLevel-inner, level_start-suc, meta_lines-level, level_of-IsAtLevel, level_of-le, child_slot-child, Node, counter, version_counter, tree_lines, node_at, entry_for, line_counter, is_on_line_path, IsCounterTree, IsRaised, slot_of, slot_line, WatchState, LineSeal, its_counters, lines-are_children, IsTreeAnchored, line_path, is_path_slot, PlainTree, writes_below, node_above_lines, true_count, slot_naming, names_with, named_at, after_tree_write, IsPlainOf, IsTreeArmed, tree_plain_line}
+use Rattle.std.proofs.Common.{ℕ, zero, suc, ◌≡◌, ◌<◌, ◌≤◌, ◌+◌, ◌-◌, List, [], ◌∷◌, length, true, false, Some, None, refl, sym, ap, subst, inl, inr, ◌∙◌, arith, rules}
+use Rattle.asit_shadow.proofs.Common.{Option, slice_set, ◌==◌, ◌||◌, list_any, cases_Bool, cases_eq, or_parts, or_right, eqb-false, eqb-true, ne_eqb, false_from_ne_true, false≢true, length-set, get_or-set_same, get_or-set_other, same_Some, Line, Regs, IsLine, line_at, Shape, IsShape, meta_lines, level_start, AreInRange, cipher_of, Setup, child_position, IsAtLevel, parent-child, child-IsAtLevel, IsAtLevel-inner, level_start-suc, meta_lines-level, level_of-IsAtLevel, level_of-le, child_slot-child, Node, counter, version_counter, tree_lines, node_at, entry_for, line_counter, is_on_line_path, IsCounterTree, IsRaised, slot_of, slot_line, WatchState, LineSeal, its_counters, lines-are_children, IsTreeAnchored, line_path, is_path_slot, PlainTree, writes_below, node_above_lines, true_count, slot_naming, names_with, named_at, after_tree_write, IsPlainOf, IsTreeArmed, tree_plain_line}
 use Rattle.pmem_base.specs.Lines.{zero_line}
 use Rattle.bonsai_tree.specs.Positions.{level_of}
 use Rattle.asit_shadow.specs.Plain.{true_node}
@@ -16,9 +16,7 @@ abbrev AreCounts : Shape → List ℕ → List Node → Type 0
 AreCounts g counts nodes = (a : ℕ) → a < tree_lines g → Rattle.std.specs.Prelude.slice_index counts a ≡ line_counter g nodes a
 
 entry_for-child : (nodes : List Node) (x i : ℕ) → i < 4 → entry_for nodes (child_position x i) ≡ counter (node_at nodes x) i
-entry_for-child nodes x i small =
-    ap (λ p. counter (node_at nodes p) (child_slot (child_position x i))) (parent-child x i small)
-    ∙ ap (counter (node_at nodes x)) (child_slot-child x i small)
+entry_for-child nodes x i small = search (rules, parent-child, child_slot-child)
 
 -- the writes made below a position are its parent's counter for it
 writes_below-is : (g : Shape) (counts : List ℕ) (nodes : List Node) (j d y : ℕ) → 1 ≤ g.levels → IsCounterTree g nodes → AreCounts g counts nodes → 1 ≤ d → d + j ≡ suc g.levels → IsAtLevel d y → writes_below g counts j y ≡ entry_for nodes y

@@ -1,5 +1,5 @@
 -- Lines put at the places of a list of positions.
-use Rattle.std.proofs.Common.{ℕ, ◌≡◌, ◌≢◌, ◌<◌, ◌+◌, ◌/◌, List, [], ◌∷◌, length, map, Bool, true, false, refl, sym, ap, subst, inl, inr, ◌∙◌, arith, replicate, lit<}
+use Rattle.std.proofs.Common.{ℕ, ◌≡◌, ◌≢◌, ◌<◌, ◌+◌, ◌/◌, List, [], ◌∷◌, length, map, Bool, true, false, refl, sym, ap, subst, inl, inr, ◌∙◌, arith, replicate, lit<, rules}
 use Rattle.std.proofs.lemmas.List.Kept.{AllPairs-cons}
 use Rattle.asit_shadow.proofs.Common.{◌==◌, ◌||◌, slice_set, All, list_any, AllPairs, cases_Bool, cases_eq, or_parts, or_left, or_right, eqb-false, eqb-true, eq-eqb, ne_eqb, false_from_ne_true, false≢true, length-set, length-map, get_or-map, length-append, length-replicate, take_at, All-nil, All-cons, All-append, All-replicate, Line, IsLine, IsTag, line_at, put_lines, tag_slot, IsGroup, length-put_lines, line_at-set_same, line_at-set_other, put_lines-AreLines, Shape, IsShape, meta_lines, path_of, length-path_of, path_of-level, path_of-on_path, Node, tree_lines, tree_slots, tree_size, line_of_tag, line_of_node, line_of_slot, node_at, is_on_line_path, slot_of, slot_line, IsLineSeal, LineSeal, slot_line-IsLine, line_path, is_path_slot, path_entries, tag_only, HasPathNamed}
 use Rattle.asit_shadow.specs.Paths.{slots_with, write_group}
@@ -50,8 +50,7 @@ put_one place value (x ∷ xs) lines y here room apart =
 
 pub entries-AreLines : (place : ℕ → ℕ) (value : ℕ → Line) (xs : List ℕ) → ((x : ℕ) → IsLine (value x)) → All (λ entry. IsLine entry.1) (entries_at place value xs)
 entries-AreLines place value [] good = All-nil (λ (entry : ℕ × Line). IsLine entry.1)
-entries-AreLines place value (x ∷ xs) good =
-    All-cons (λ (entry : ℕ × Line). IsLine entry.1) (place x, value x) (entries_at place value xs) (good x) (entries-AreLines place value xs good)
+entries-AreLines place value (x ∷ xs) good = search (rules, All-cons, (entries-AreLines place value xs good))
 
 entries-on : (place : ℕ → ℕ) (value : ℕ → Line) (xs : List ℕ) (n : ℕ) → ((x : ℕ) → list_any (λ z. z == x) xs ≡ true → place x < n) → All (λ entry. entry.0 < n) (entries_at place value xs)
 entries-on place value [] n within = All-nil (λ (entry : ℕ × Line). entry.0 < n)
@@ -62,9 +61,7 @@ entries-on place value (x ∷ xs) n within =
 
 entries-past : (place : ℕ → ℕ) (value : ℕ → Line) (xs : List ℕ) (p : ℕ) → ((x : ℕ) → p < place x) → All (λ entry. p ≢ entry.0) (entries_at place value xs)
 entries-past place value [] p past = All-nil (λ (entry : ℕ × Line). p ≢ entry.0)
-entries-past place value (x ∷ xs) p past =
-    All-cons (λ (entry : ℕ × Line). p ≢ entry.0) (place x, value x) (entries_at place value xs)
-    (λ e. omega (arith, past x, e)) (entries-past place value xs p past)
+entries-past place value (x ∷ xs) p past = search (rules, All-cons, (entries-past place value xs p past))
 
 -- ---- the slot lines with a path named
 

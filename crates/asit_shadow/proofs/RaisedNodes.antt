@@ -1,6 +1,6 @@
 -- What a write makes of each node of its path.
-use Rattle.std.proofs.Common.{ℕ, zero, suc, ◌≡◌, ◌≢◌, ◌<◌, ◌≤◌, ◌+◌, ◌-◌, ◌/◌, List, length, refl, sym, ap, subst, ◌∙◌, arith}
-use Rattle.asit_shadow.proofs.Common.{◌==◌, cond-true, cond-false, eq-eqb, ne_eqb, Shape, meta_lines, parent, child_slot, IsAtLevel, parent-IsAtLevel, level_start-suc, level_start-le, path_of-block, path_of-parent, Node, tree_lines, up, node_at, raised, with_raised, raised_up, line_position, parent-lt, up-IsAtLevel, node_at-set_same, node_at-set_other, line_position-parent, line_position-IsAtLevel, raised_up-deep, path_node, position_below}
+use Rattle.std.proofs.Common.{ℕ, zero, suc, ◌≡◌, ◌≢◌, ◌<◌, ◌≤◌, ◌+◌, ◌-◌, ◌/◌, List, length, refl, sym, ap, subst, ◌∙◌, arith, rules}
+use Rattle.asit_shadow.proofs.Common.{cond-true, cond-false, eq-eqb, ne_eqb, Shape, meta_lines, parent, child_slot, IsAtLevel, parent-IsAtLevel, level_start-suc, level_start-le, path_of-block, path_of-parent, Node, tree_lines, up, node_at, raised, with_raised, raised_up, line_position, parent-lt, up-IsAtLevel, node_at-set_same, node_at-set_other, line_position-parent, line_position-IsAtLevel, raised_up-deep, path_node, position_below}
 use Rattle.counter_tree.specs.Trees.{raised_nodes}
 
 -- ---- steps up
@@ -12,9 +12,7 @@ up-parent (suc m) y = ap parent (up-parent m y)
 -- a node above y, which is j levels below the top
 raised_up-at : (j m d y : ℕ) (nodes : List Node) → m + suc d ≡ j → IsAtLevel j y → up (suc m) y < length nodes → parent y < length nodes → node_at (raised_up j y nodes) (up (suc m) y) ≡ raised (node_at nodes (up (suc m) y)) (child_slot (up m y))
 raised_up-at zero m d y nodes depth at inside near = absurd (omega (arith, depth))
-raised_up-at (suc j) zero d y nodes depth at inside near =
-    raised_up-deep j (parent y) (parent y) (with_raised nodes y) (parent-IsAtLevel j y at) (parent-IsAtLevel j y at).from
-    ∙ node_at-set_same nodes (parent y) (raised (node_at nodes (parent y)) (child_slot y)) near
+raised_up-at (suc j) zero d y nodes depth at inside near = search (rules, raised_up-deep, parent-IsAtLevel, node_at-set_same)
 raised_up-at (suc j) (suc m) d y nodes depth at inside near =
     let above = parent-IsAtLevel j y at in
     let here = up-IsAtLevel (suc m) d (parent y) (subst (λ n. IsAtLevel n (parent y)) (omega (arith, depth)) above) in
@@ -46,11 +44,8 @@ path_node-up g a (suc d) n depth =
     sym (path_of-parent g (a / 4) n (omega (arith, depth))) ∙ ap parent (path_node-up g a d (suc n) (omega (arith, depth)))
 
 position_below-up : (g : Shape) (a d n : ℕ) → d + n ≡ g.levels → position_below g a n ≡ up d (line_position g a)
-position_below-up g a zero n depth =
-    cond-true (n == g.levels) (line_position g a) (path_node g a (n + 1)) (eq-eqb n g.levels (omega (arith, depth)))
-position_below-up g a (suc d) n depth =
-    cond-false (n == g.levels) (line_position g a) (path_node g a (n + 1)) (ne_eqb n g.levels (λ e. omega (arith, depth, e)))
-    ∙ path_node-up g a d (n + 1) (omega (arith, depth))
+position_below-up g a zero n depth = search (rules, cond-true, eq-eqb)
+position_below-up g a (suc d) n depth = search (rules, cond-false, ne_eqb, path_node-up)
 
 -- a node of the path has one counter more, for the position below it
 pub raised_nodes-on_path : (g : Shape) (a n : ℕ) (nodes : List Node) → 1 ≤ g.levels → a < tree_lines g → n ≤ g.levels → length nodes ≡ meta_lines g → path_node g a n < meta_lines g → path_node g a g.levels < meta_lines g → node_at (raised_nodes g a nodes) (path_node g a n) ≡ raised (node_at nodes (path_node g a n)) (child_slot (position_below g a n))

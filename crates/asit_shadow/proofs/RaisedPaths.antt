@@ -1,28 +1,19 @@
 -- A path's nodes as they are raised, from the top down.
-use Rattle.std.proofs.Common.{ℕ, suc, ◌≡◌, ◌<◌, ◌≤◌, ◌+◌, ◌/◌, ◌-◌, ◌^◌, ◌++◌, ◌∷◌, List, [], take, true, refl, sym, ap, subst, inl, inr, ◌∙◌, arith}
+use Rattle.std.proofs.Common.{ℕ, suc, ◌≡◌, ◌<◌, ◌≤◌, ◌+◌, ◌/◌, ◌-◌, ◌^◌, ◌++◌, ◌∷◌, List, [], take, true, sym, ap, subst, inl, inr, ◌∙◌, arith, rules}
 use Rattle.asit_shadow.proofs.Common.{Option, ◌==◌, cases_eq, cond-true, cond-false, eq-eqb, ne_eqb, get_or_append_left, length-append, map-append, take_all, take_more, All-nil, All-push, get_or-append_seam, same_Some, Shape, IsShape, child_slot, meta_lines-level, level_start-suc, length-path_of, Node, tree_lines, total, zero_node, raised, line_position, CachedNode, IsCached, IsCachedAs, IsHeldNode, line_path, path_node, IsPathRaised, IsRaisedTo, pair_at, position_below}
 use Rattle.asit_shadow.proofs.PathSteps.{next-low}
 
 -- no level yet
 pub raised-none : (g : Shape) (cache : List (Option CachedNode)) (a : ℕ) → IsRaisedTo g cache a 0 []
-raised-none g cache a =
-    record {
-      count = refl;
-      positions = refl;
-      whole = All-nil (λ (pair : ℕ × Node). IsHeldNode g (record { x = pair.0; node = pair.1; dirty = true }));
-      each_raised = λ level node low. absurd (omega (arith, low));
-    }
+raised-none g cache a = search (rules, All-nil)
 
 -- what a slot holds is one node
 same-cached : (g : Shape) (cache : List (Option CachedNode)) (x : ℕ) (first second : Node) → IsCachedAs g cache x first → IsCachedAs g cache x second → first ≡ second
-same-cached g cache x first second one two =
-    one.its_node ∙ (ap (λ (held : CachedNode). held.node) (same_Some one.held two.held (sym one.stands ∙ two.stands)) ∙ sym two.its_node)
+same-cached g cache x first second one two = search (rules, same_Some)
 
 -- a node that was read from its slot, and raised
 pub node-raised : (g : Shape) (cache : List (Option CachedNode)) (x slot : ℕ) (read made old : Node) → (IsCached g cache x → IsCachedAs g cache x read) → (total read < 2 ^ 64 - 1 → made ≡ raised read slot) → IsCachedAs g cache x old → total old < 2 ^ 64 - 1 → made ≡ raised old slot
-node-raised g cache x slot read made old reads raises cached small =
-    let same = same-cached g cache x read old (reads (record { held = cached.held; stands = cached.stands; position = cached.position })) cached in
-    raises (subst (λ (n : Node). total n < 2 ^ 64 - 1) (sym same) small) ∙ ap (λ n. raised n slot) same
+node-raised g cache x slot read made old reads raises cached small = search (rules, same-cached)
 
 -- one level more
 pub raised-more : (g : Shape) (cache : List (Option CachedNode)) (a n : ℕ) (pairs : List (ℕ × Node)) (x : ℕ) (node : Node) → n ≤ g.levels → x ≡ path_node g a n → IsHeldNode g (record { x = x; node = node; dirty = true })
@@ -52,12 +43,7 @@ raised-more g cache a n pairs x node within place held made before =
 
 -- all levels
 pub raised-all : (g : Shape) (cache : List (Option CachedNode)) (a n : ℕ) (pairs : List (ℕ × Node)) → n ≡ g.levels + 1 → IsRaisedTo g cache a n pairs → IsPathRaised g cache a pairs
-raised-all g cache a n pairs all it =
-    record {
-      positions = it.positions ∙ take_all n (line_path g a) (omega (arith, length-path_of g (a / 4), all));
-      whole = it.whole;
-      each_raised = λ level node within cached small. it.each_raised level node (omega (arith, within, all)) cached small;
-    }
+raised-all g cache a n pairs all it = search (rules, take_all, length-path_of)
 
 -- the position below a level isn't the top
 pub below-low : (g : Shape) (a n : ℕ) → IsShape g → a < tree_lines g → n ≤ g.levels → 1 ≤ position_below g a n

@@ -1,6 +1,6 @@
 -- How a read ends.
-use Rattle.std.proofs.Common.{ℕ, ◌≡◌, ◌≢◌, ◌<◌, ◌/◌, ◌%◌, List, false, Some, None, refl, sym, ap, subst, inl, inr, ◌∙◌, arith}
-use Rattle.asit_shadow.proofs.Common.{Option, Ok, Err, IfSome, IsSome, MatchOption, true≢false, same_Some, Line, Regs, Exhibit, Forged, tag_slot, xor_lines, Shape, IsShape, HasRisen, Setup, RisesBy-then, RisesBy-once, HasRisen-once, Device, Tells, IsExhibit, child_slot, counter_position, parent, level_start-suc, meta_lines-level, on_path-level, going, cut_short, shown, HasPower, power_chained, Node, LineSeal, HasLineRead, IsCutReading, IsLineAccepted, IsLineUnaccepted, IsLineForged, counter, version_counter, tree_lines, line_of_tag, node_at, line_counter, line_position, WatchState, HasShown, last_seal_of, line_position-parent, TreeState, IsTreeSound, TreeEngineParts, AreTreeTrusted, AreTreeSound, IsPathAccepted, IsDataLineRead, IsLineRead, absent_nodes, HasFetchedPath, IsCutInNodeFetch, IsLineShownAt, KeepsPathLines, IsPathFetchedTo}
+use Rattle.std.proofs.Common.{ℕ, ◌≡◌, ◌≢◌, ◌<◌, ◌/◌, ◌%◌, List, false, Some, None, refl, sym, ap, subst, inl, inr, ◌∙◌, rules}
+use Rattle.asit_shadow.proofs.Common.{Option, Ok, Err, IfSome, IsSome, MatchOption, true≢false, same_Some, Line, Regs, Exhibit, Forged, tag_slot, xor_lines, Shape, IsShape, HasRisen, Setup, RisesBy-then, RisesBy-once, HasRisen-once, Device, Tells, IsExhibit, counter_position, level_start-suc, meta_lines-level, on_path-level, going, cut_short, shown, HasPower, power_chained, Node, LineSeal, HasLineRead, IsCutReading, IsLineAccepted, IsLineUnaccepted, IsLineForged, counter, version_counter, tree_lines, line_of_tag, node_at, line_counter, WatchState, HasShown, last_seal_of, line_position-parent, TreeState, IsTreeSound, TreeEngineParts, AreTreeTrusted, AreTreeSound, IsPathAccepted, IsDataLineRead, IsLineRead, absent_nodes, HasFetchedPath, IsCutInNodeFetch, IsLineShownAt, KeepsPathLines, IsPathFetchedTo}
 use Rattle.asit_shadow.specs.declared.fault.TreeFault.TheVariants as Fail
 use Rattle.asit_shadow.proofs.SlotPlaces.{page_of_line}
 use Rattle.call_effects.proofs.PowerLaws.{going_unshown, cut_unshown}
@@ -14,10 +14,7 @@ use Rattle.asit_shadow.proofs.FetchEnds.{AreUnwritten, kept-watch, refused-effec
 
 -- the last node of the path has the line's counter
 pub line_counter-is : (g : Shape) (a : ℕ) (nodes : List Node) (node : Node) → node ≡ node_at nodes (counter_position g (a / 4)) → counter node (a % 4) ≡ line_counter g nodes a
-line_counter-is g a nodes node is =
-    let place : child_slot (line_position g a) ≡ a % 4 = omega (arith, meta_lines-level g, level_start-suc g.levels) in
-    ap (λ n. counter n (a % 4)) (is ∙ ap (node_at nodes) (sym (line_position-parent g a)))
-    ∙ ap (counter (node_at nodes (parent (line_position g a)))) (sym place)
+line_counter-is g a nodes node is = search (rules, meta_lines-level, level_start-suc, line_position-parent)
 
 -- ---- a path accepted
 
@@ -46,18 +43,10 @@ pub record IsPathHad (setup : Setup) (a count : ℕ) (old mid new : TreeEnginePa
   pub engine : new.engine ≡ mid.engine
 
 both-unwritten : (setup : Setup) (a : ℕ) (cipher tags : Line) (old new : Device) → HasLineRead setup a cipher tags old new → AreUnwritten old new
-both-unwritten setup a cipher tags old new it =
-    record {
-      lines = it.second.lines ∙ it.first.lines;
-      regs = it.second.regs ∙ it.first.regs;
-      size = it.second.size ∙ it.first.size;
-      writes = it.second.writes ∙ it.first.writes;
-      latches = it.second.latches ∙ it.first.latches;
-    }
+both-unwritten setup a cipher tags old new it = search rules
 
 both-power : (setup : Setup) (a : ℕ) (cipher tags : Line) (old new : Device) → HasLineRead setup a cipher tags old new → HasPower going old new
-both-power setup a cipher tags old new it =
-    (λ was. it.second.steady ∙ it.first.steady ∙ was, λ was. it.second.live ∙ it.first.live ∙ was, it.second.cuts ∙ it.first.cuts)
+both-power setup a cipher tags old new it = search rules
 
 -- the path was fetched, and both lines were read
 path-through : (setup : Setup) (a : ℕ) (cipher tags : Line) (old mid new : TreeEngineParts) → IsPathFetchedTo setup a setup.shape.levels old mid → new.engine.cache ≡ mid.engine.cache → HasLineRead setup a cipher tags mid.device new.device → HasFetchedPath setup a 2 old new
@@ -70,11 +59,7 @@ path-through setup a cipher tags old mid new path cache read =
     }
 
 line-told : (setup : Setup) (a : ℕ) (cipher tags : Line) (mid new : TreeEngineParts) → HasLineRead setup a cipher tags mid.device new.device → IsDataLineRead setup a cipher tags new
-line-told setup a cipher tags mid new read =
-    record {
-      cipher_read = subst (λ told. Tells told a cipher) (sym (read.second.lines ∙ read.first.lines)) read.first.tells;
-      tags_read = subst (λ told. Tells told (line_of_tag setup.shape a) tags) (sym read.second.lines) read.second.tells;
-    }
+line-told setup a cipher tags mid new read = search rules
 
 -- the plain line is read
 pub read-ok : (setup : Setup) (a count : ℕ) (old mid new : TreeEngineParts) (plain : Line) → IsPathHad setup a count old mid new → IsLineAccepted setup a count mid.device new.device mid.watch new.watch plain → IsLineRead setup a old new (Ok plain)
@@ -109,14 +94,7 @@ read-ok setup a count old mid new plain had it =
     }
 
 pub cut-reading : (setup : Setup) (mid new : TreeEngineParts) → IsCutReading mid.device new.device → AreUnwritten mid.device new.device
-cut-reading setup mid new cut =
-    record {
-      lines = cut.cut.lines ∙ cut.lines;
-      regs = cut.cut.regs ∙ cut.regs;
-      size = cut.cut.size ∙ cut.size;
-      writes = cut.cut.writes ∙ cut.writes;
-      latches = cut.cut.latches ∙ cut.latches;
-    }
+cut-reading setup mid new cut = search rules
 
 -- how far a read came that was cut after its path was fetched
 unfoldable pub line_cut-work : (setup : Setup) (a count : ℕ) (old mid new : TreeEngineParts) → IsPathHad setup a count old mid new → IsCutReading mid.device new.device → mid.device.live ≡ false → IsCutInNodeFetch setup a old new
@@ -167,11 +145,7 @@ sound-read setup a cipher tags mid new inside sound read =
 
 -- a sound engine is trusted
 pub sound-trusted : (setup : Setup) (parts : TreeEngineParts) → AreTreeSound setup parts → AreTreeTrusted setup parts
-sound-trusted setup parts sound = of parts.device.lines sound
-  where
-    of : (told : Option (List Line)) → MatchOption told ⊥ (λ lines. IsTreeSound setup parts.engine lines parts.device.regs parts.watch) → AreTreeTrusted setup parts
-    of None it = absurd it
-    of (Some lines) it = it.trusted
+sound-trusted setup parts sound = search rules
 
 -- the tag doesn't fit
 pub read-refused : (setup : Setup) (a count : ℕ) (old mid new : TreeEngineParts) → IsPathHad setup a count old mid new → IsLineUnaccepted setup a count mid.device new.device mid.watch new.watch → IsLineRead setup a old new (Err (Fail.Tag a))

@@ -1,8 +1,8 @@
 -- A data line is read under its counter: its plain line is memory's, or what was read is forged; and no
 -- line is sealed twice under one counter.
-use Rattle.std.proofs.Common.{ℕ, ◌≡◌, ◌≢◌, ◌<◌, ◌≤◌, List, [], ◌∷◌, ◌++◌, length, get_or, Some, None, sym, ap, subst, inl, inr, ◌∙◌, arith}
+use Rattle.std.proofs.Common.{ℕ, ◌≡◌, ◌≢◌, ◌<◌, ◌≤◌, List, [], ◌∷◌, ◌++◌, get_or, Some, sym, ap, subst, inl, inr, ◌∙◌, arith, rules}
 use Rattle.std.proofs.lemmas.List.Quantifiers.{all_pairs_push}
-use Rattle.asit_shadow.proofs.Common.{slice_set, Option, All, IfSome, AllPairs, cases_eq, get_or-set_same, get_or-set_other, All-push, same_Some, Line, Regs, Forged, IsLine, line_at, tag_slot, xor_lines, IsShape, AreInRange, cipher_of, Setup, cipher_of-back, IsExhibit, redone, version_counter, tree_lines, line_of_tag, line_counter, IsRaised, WatchState, last_seal_of, LineSeal, raised_nodes-IsRaised, TreeState, IsTreeAnchored, IsTreeMendable, IsTreeSound, IsTreeArmed, tree_plain_of, tree_plain_line, MadeSeal, IsHistory}
+use Rattle.asit_shadow.proofs.Common.{slice_set, All, IfSome, AllPairs, cases_eq, get_or-set_same, get_or-set_other, All-push, same_Some, Line, Regs, Forged, IsLine, line_at, tag_slot, xor_lines, IsShape, AreInRange, cipher_of, Setup, cipher_of-back, IsExhibit, redone, version_counter, tree_lines, line_of_tag, line_counter, IsRaised, WatchState, last_seal_of, LineSeal, raised_nodes-IsRaised, TreeState, IsTreeAnchored, IsTreeMendable, IsTreeSound, IsTreeArmed, tree_plain_of, tree_plain_line, MadeSeal, IsHistory}
 
 -- ---- any board
 
@@ -42,13 +42,7 @@ line-sound setup engine lines regs watch a sound inside =
 
 pub armed-plain : (setup : Setup) (a : ℕ) (plain : Line) (seal : LineSeal) (old_regs new_regs : Regs) (old new : WatchState) → AreInRange setup.formulas → IsTreeAnchored setup old_regs old → IsTreeArmed setup a seal old_regs new_regs old new → IsLine plain → seal.cipher ≡ cipher_of setup.formulas a (version_counter seal.counter) plain
     → (tree_plain_line setup.formulas new a ≡ plain) × ((b : ℕ) → b ≢ a → tree_plain_line setup.formulas new b ≡ tree_plain_line setup.formulas old b)
-armed-plain setup a plain seal old_regs new_regs old new in_range anchored armed good cipher =
-    let room : a < length old.seals = omega (arith, armed.its_line, anchored.of_setup.seal_count) in (
-      ap (tree_plain_of setup.formulas a) (ap (λ (seals : List (Option LineSeal)). Rattle.std.specs.Prelude.slice_index_or seals a None) armed.seals ∙ get_or-set_same old.seals a (Some seal) None room)
-          ∙ (ap (λ c. xor_lines c (setup.formulas.pad_of a (version_counter seal.counter))) cipher
-          ∙ cipher_of-back setup.formulas a (version_counter seal.counter) plain in_range (record { major = armed.in_range.counter; minor = omega arith }) good),
-      λ b apart. ap (tree_plain_of setup.formulas b) (ap (λ (seals : List (Option LineSeal)). Rattle.std.specs.Prelude.slice_index_or seals b None) armed.seals ∙ get_or-set_other old.seals a b (Some seal) None apart),
-    )
+armed-plain setup a plain seal old_regs new_regs old new in_range anchored armed good cipher = search (rules, get_or-set_same, cipher_of-back, get_or-set_other)
 
 -- ---- no line is sealed twice under one counter
 

@@ -1,6 +1,6 @@
 -- How a recovery ends.
-use Rattle.std.proofs.Common.{◌++◌, take, drop, ℕ, ◌≡◌, ◌≢◌, ◌<◌, false, List, [], length, Some, None, refl, sym, ap, subst, subst₂, inl, inr, ◌∙◌, arith}
-use Rattle.asit_shadow.proofs.Common.{Option, Ok, Err, All, IfSome, IsSome, MatchOption, slice_index_or, true≢false, append-nil, take_all, drop_all, Line, Regs, Exhibit, HasRisen, risen_times, without_group, IsGroup, IsLine, line_at, Shape, IsShape, Formulas, AreInRange, Setup, RisesBy, Device, AreToldLines, IsDevice, Tells, IsExhibit, HasRisen-once, redone_told, finishing_latches, HasFinished, IsInterrupted, going, cut_short, HasPower, unarmed, IsGroup-nil, power_chained, going_uncut, Work, node_line, IsCutReading, tree_size, tree_slots, line_of_slot, node_at, slot_of, slot_line, slot_read, ChipTree, shadow_height, root_of, shadow_digests, LineSeal, WatchState, HasShown, IsSlotClash, lines-equal, meta_lines-most, slot_read-slot_line, slot_read-zero, tree-version, tree-IsNode, CachedNode, TreeState, IsTreeEngine, IsTreeAnchored, IsTreeDurable, IsTreeSound, IsTreeSealStored, IsSlotStored, IsNodeHeld, IsNodeHeldBy, IsTreeRecovered, slots_read, Rest, IsRestUsable, rest_redone, IsRestAnchored, IsRestDurable, HasOnlyReadLines, AreSlotsRead, IsTreeWork, IsGroupBegun, IsReadFinished, IsRoomFilled, HasTreeRecovered, IsNameable}
+use Rattle.std.proofs.Common.{◌++◌, take, drop, ℕ, ◌≡◌, ◌≢◌, ◌<◌, false, List, [], length, Some, None, refl, sym, ap, subst, inl, inr, ◌∙◌, arith, rules}
+use Rattle.asit_shadow.proofs.Common.{Option, Ok, Err, All, IfSome, MatchOption, true≢false, append-nil, take_all, drop_all, Line, Regs, Exhibit, HasRisen, risen_times, without_group, IsLine, line_at, Shape, IsShape, Formulas, AreInRange, Setup, RisesBy, Device, AreToldLines, IsDevice, Tells, IsExhibit, HasRisen-once, redone_told, finishing_latches, HasFinished, IsInterrupted, cut_short, HasPower, unarmed, IsGroup-nil, power_chained, going_uncut, Work, IsCutReading, tree_size, tree_slots, line_of_slot, node_at, slot_read, ChipTree, shadow_height, root_of, shadow_digests, WatchState, HasShown, IsSlotClash, lines-equal, meta_lines-most, slot_read-slot_line, slot_read-zero, tree-version, tree-IsNode, CachedNode, TreeState, IsTreeEngine, IsTreeAnchored, IsTreeDurable, IsTreeSound, IsTreeSealStored, IsSlotStored, IsNodeHeld, IsNodeHeldBy, IsTreeRecovered, slots_read, Rest, IsRestUsable, rest_redone, IsRestAnchored, IsRestDurable, HasOnlyReadLines, AreSlotsRead, IsTreeWork, IsReadFinished, IsRoomFilled, HasTreeRecovered, IsNameable}
 use Rattle.counter_tree.specs.Shadow.{shadow_root}
 use Rattle.asit_shadow.specs.declared.recovery.TreeRec.TheVariants as Fail
 use Rattle.asit_shadow.proofs.ArmLaws.{IsAnchored-emptied}
@@ -34,64 +34,27 @@ pub record KnowsSame (old new : WatchState) : Type 0 where
   pub slots : new.slots ≡ old.slots
 
 knows_same : (old new : WatchState) → new ≡ old → KnowsSame old new
-knows_same old new same =
-    record { seals = ap (λ (w : WatchState). w.seals) same; nodes = ap (λ (w : WatchState). w.nodes) same; slots = ap (λ (w : WatchState). w.slots) same }
+knows_same old new same = search rules
 
 held-same : (setup : Setup) (lines : List Line) (old new : WatchState) (x : ℕ) → KnowsSame old new → IsNodeHeld setup lines old x → IsNodeHeld setup lines new x
-held-same setup lines old new x same held =
-    elim held [
-      | inl stored ↦ inl (stored ∙ ap (λ nodes. node_line setup.formulas x (node_at nodes x)) (sym same.nodes))
-      | inr named ↦
-          inr (ap (λ slots. line_at slots (slot_of setup.shape x)) same.slots
-          ∙ (named ∙ ap (λ nodes. slot_line x (node_at nodes x)) (sym same.nodes)))
-    ]
+held-same setup lines old new x same held = search rules
 
 rest-seals : (setup : Setup) (old new : Rest) (a : ℕ) → rest_redone new ≡ rest_redone old → KnowsSame old.watch new.watch → IfSome (rest_redone old) (λ lines. IsTreeSealStored setup.shape lines old.watch a) → IfSome (rest_redone new) (λ lines. IsTreeSealStored setup.shape lines new.watch a)
-rest-seals setup old new a lines same it =
-    subst (λ (o : Option (List Line)). IfSome o (λ ls. IsTreeSealStored setup.shape ls new.watch a)) (sym lines)
-    (some_map (λ ls. IsTreeSealStored setup.shape ls old.watch a) (λ ls. IsTreeSealStored setup.shape ls new.watch a) (rest_redone old)
-    (λ ls stored.
-    record {
-      seal = stored.seal;
-      last = ap (λ (seals : List (Option Rattle.counter_tree.specs.declared.watch.LineSeal.LineSeal)). Rattle.std.specs.Prelude.slice_index_or seals a None) same.seals ∙ stored.last;
-      cipher = stored.cipher;
-      tag = stored.tag;
-    })
-    it)
+rest-seals setup old new a lines same it = search (rules, some_map)
 
 rest-slots : (setup : Setup) (old new : Rest) (i : ℕ) → rest_redone new ≡ rest_redone old → KnowsSame old.watch new.watch → IfSome (rest_redone old) (λ lines. IsSlotStored setup.shape lines old.watch i) → IfSome (rest_redone new) (λ lines. IsSlotStored setup.shape lines new.watch i)
-rest-slots setup old new i lines same it =
-    subst (λ (o : Option (List Line)). IfSome o (λ ls. IsSlotStored setup.shape ls new.watch i)) (sym lines)
-    (some_map (λ ls. IsSlotStored setup.shape ls old.watch i) (λ ls. IsSlotStored setup.shape ls new.watch i) (rest_redone old)
-    (λ ls stored. stored ∙ ap (λ slots. line_at slots i) (sym same.slots)) it)
+rest-slots setup old new i lines same it = search (rules, some_map)
 
 rest-nodes : (setup : Setup) (old new : Rest) (x : ℕ) → rest_redone new ≡ rest_redone old → KnowsSame old.watch new.watch → IfSome (rest_redone old) (λ lines. IsNodeHeld setup lines old.watch x) → IfSome (rest_redone new) (λ lines. IsNodeHeld setup lines new.watch x)
-rest-nodes setup old new x lines same it =
-    subst (λ (o : Option (List Line)). IfSome o (λ ls. IsNodeHeld setup ls new.watch x)) (sym lines)
-    (some_map (λ ls. IsNodeHeld setup ls old.watch x) (λ ls. IsNodeHeld setup ls new.watch x) (rest_redone old)
-    (λ ls held. held-same setup ls old.watch new.watch x same held) it)
+rest-nodes setup old new x lines same it = search (rules, some_map, held-same)
 
 -- ---- the group is finished, and lines are read
 
 pub read_finished : (g : Shape) (old mid new : Device) → HasFinished old mid → HasOnlyReadLines (tree_slots g) mid new → IsReadFinished g old new
-read_finished g old mid new first second =
-    record {
-      reads = subst (λ n. RisesBy (tree_slots g) n new.reads) first.reads second.reads;
-      lines = second.lines ∙ first.lines;
-      regs = second.regs ∙ first.regs;
-      size = second.size ∙ first.size;
-      group =
-          record {
-            regs = second.regs ∙ first.regs;
-            writes = subst (λ n. RisesBy (length old.regs.group.items) old.writes n) (sym second.writes) first.writes;
-            latches = subst (λ n. RisesBy (Rattle.commit_regs.specs.Groups.finishing_latches old.regs.group.items) old.latches n) (sym second.latches) first.latches;
-          };
-      power = power_chained going old mid new (first.steady, first.live, first.cuts) second.power;
-    }
+read_finished g old mid new first second = search (rules, power_chained)
 
 finished-redone : (old new : Rest) → new.device.regs ≡ without_group old.device.regs → new.device.lines ≡ redone_told old.device.regs.group.items old.device.lines → rest_redone new ≡ rest_redone old
-finished-redone old new regs lines =
-    unarmed new.device.regs.group.items new.device.lines (ap (λ (r : Regs). r.group.items) regs) ∙ lines
+finished-redone old new regs lines = search (rules, unarmed)
 
 finished-anchored : (setup : Setup) (old : Rest) (regs : Regs) (watch : WatchState) → regs ≡ without_group old.device.regs → watch ≡ old.watch → IsRestAnchored setup old → IsTreeAnchored setup regs watch
 finished-anchored setup old regs watch emptied same anchored =
@@ -108,11 +71,7 @@ finished-durable setup old told regs watch emptied same lines durable =
     of (Some ls) it = IsDurable-finished setup ls old.device.regs regs old.watch (finished-emptied old.device.regs regs emptied) it
 
 durable-anchored : (setup : Setup) (rest : Rest) → IsRestDurable setup rest → IsRestAnchored setup rest
-durable-anchored setup rest durable = of rest.device.lines durable
-  where
-    of : (o : Option (List Line)) → MatchOption o ⊥ (λ ls. IsTreeDurable setup ls rest.device.regs rest.watch) → IsRestAnchored setup rest
-    of None it = absurd it
-    of (Some ls) it = it.mendable.anchored
+durable-anchored setup rest durable = search rules
 
 -- over a durable device the slot lines read are the true ones
 slots-true : (setup : Setup) (slots : List Line) (old new : Rest) → IsReadFinished setup.shape old.device new.device → AreSlotsRead setup.shape slots new.device → IsRestDurable setup old → slots ≡ old.watch.slots
@@ -167,21 +126,7 @@ refused_end setup kept found slots old new before after finished read is_kept is
 
 -- where other slot lines were shown, the watch and the board are ready as before
 pub shown_usable : (g : Shape) (old new : Rest) (at : Exhibit) → IsReadFinished g old.device new.device → HasShown old.watch new.watch at → IsRestUsable g old → IsRestUsable g new
-shown_usable g old new at finished seen usable =
-    record {
-      watch =
-          record {
-            seal_count = ap length seen.seals ∙ usable.watch.seal_count;
-            node_count = ap length seen.nodes ∙ usable.watch.node_count;
-            slot_count = ap length seen.slots ∙ usable.watch.slot_count;
-            each_sealed = λ a low. subst (λ (seals : List (Option LineSeal)). IsSome (slice_index_or seals a None)) (sym seen.seals) (usable.watch.each_sealed a low);
-          };
-      board =
-          record {
-            its_size = finished.size ∙ usable.board.its_size;
-            group = subst (λ (r : Regs). IsGroup (tree_size g) r.group.items) (sym finished.regs) (IsGroup-nil (tree_size g));
-          };
-    }
+shown_usable g old new at finished seen usable = search (rules, IsGroup-nil)
 
 pub shown_end : (setup : Setup) (slots : List Line) (at : Exhibit) (old new : Rest) (before after : ℕ) → IsShape setup.shape → AreInRange setup.formulas → IsReadFinished setup.shape old.device new.device → AreSlotsRead setup.shape slots new.device
     → shadow_root setup.shape setup.formulas slots ≡ new.device.regs.root → slots ≢ old.watch.slots → IsSlotClash old.watch slots at → HasShown old.watch new.watch at → after ≡ risen_times (shadow_digests setup.shape) before → HasTreeRecovered setup old new before after (Err Fail.Shown)
@@ -224,34 +169,7 @@ again-durable setup regs watch (Some lines) (Some redone) whole again it = IsDur
 -- amid the group
 pub interrupted_end : (setup : Setup) (old new : Rest) (before after : ℕ) → old.device.size ≡ tree_size setup.shape → IsDevice new.device → old.device.regs.group.items ≢ [] → IsInterrupted old.device.regs.group.items old.device new.device
     → new.watch ≡ old.watch → after ≡ before → HasTreeRecovered setup old new before after (Err Fail.Cut)
-interrupted_end setup old new before after size whole armed cut watch counted =
-    let lines : rest_redone new ≡ rest_redone old = subst (λ (r : Regs). redone_told r.group.items new.device.lines ≡ rest_redone old) (sym cut.regs) cut.again in
-    let begun : IsGroupBegun old.device new.device = record { regs = cut.regs; writes = cut.writes; latches = cut.latches } in
-    let same = knows_same old.watch new.watch watch in
-    record {
-      size = cut.size;
-      lines = lines;
-      root = ap (λ (r : Regs). r.root) cut.regs;
-      group = inl begun;
-      begun = λ is was. begun;
-      work = record { no_digests = counted; due = λ was. armed; no_reads = λ was. cut.reads };
-      cached = tt;
-      power = (cut.unsteady, cut.off, cut.rose);
-      answered = watch;
-      trusted = λ anchored. subst₂ (IsTreeAnchored setup) (sym cut.regs) (sym watch) anchored;
-      sound =
-          λ durable.
-          subst₂ (λ (regs : Regs) (known : WatchState). MatchOption new.device.lines ⊥ (λ ls. IsTreeDurable setup ls regs known)) (sym cut.regs) (sym watch)
-          (again-durable setup old.device.regs old.watch old.device.lines new.device.lines
-          (subst (λ n. AreToldLines n new.device.lines) (cut.size ∙ size) whole) cut.again durable);
-      places =
-          λ anchored.
-          record {
-            seals = λ a inside it. rest-seals setup old new a lines same it;
-            slots = λ i inside it. rest-slots setup old new i lines same it;
-            nodes = λ x inside it. rest-nodes setup old new x lines same it;
-          };
-    }
+interrupted_end setup old new before after size whole armed cut watch counted = search (rules, knows_same, again-durable, rest-seals, rest-slots, rest-nodes)
 
 -- amid the reads, which comes only of a board that had no power
 pub unread_end : (setup : Setup) (old new : Rest) (mid : Device) (before after : ℕ) → HasFinished old.device mid → IsCutReading mid new.device → mid.live ≡ false → new.watch ≡ old.watch → after ≡ before
@@ -357,12 +275,7 @@ recovered_end setup slots engine work old new before after shape finished read i
 
 -- the slot lines read are those of the device as it is left
 pub slots-read : (g : Shape) (slots : List Line) (mid new : Device) → length slots ≡ tree_slots g → All IsLine slots → ((i : ℕ) → i < tree_slots g → Tells mid.lines (line_of_slot g i) (line_at slots i)) → HasOnlyReadLines (tree_slots g) mid new → AreSlotsRead g slots new
-slots-read g slots mid new count whole told read =
-    record {
-      count = count;
-      whole = whole;
-      told = λ i inside. subst (λ (o : Option (List Line)). Tells o (line_of_slot g i) (line_at slots i)) (sym read.lines) (told i inside);
-    }
+slots-read g slots mid new count whole told read = search rules
 
 pub root-is : (g : Shape) (f : Formulas) (h : ℕ) (slots : List Line) (found : List ℕ) → h ≡ shadow_height g → found ≡ root_of f h slots → found ≡ shadow_root g f slots
 unfolding shadow_root
@@ -370,8 +283,7 @@ root-is g f h slots found height is = is ∙ ap (λ n. root_of f n slots) height
 
 -- the filled memory makes an engine
 pub filled-engine : (setup : Setup) (old new : Rest) (before after : ℕ) (cache : List (Option CachedNode)) (tree : ChipTree) → IsRoomFilled setup old new before after cache tree → IsTreeEngine (record { shape = setup.shape; cache = cache; tree = tree; down = false })
-filled-engine setup old new before after cache tree it =
-    record { slot_count = it.count; each_held = it.each_held; tree_whole = it.tree_whole; tree_height = it.tree_height }
+filled-engine setup old new before after cache tree it = search rules
 
 pub filled-recovered : (setup : Setup) (old new : Rest) (before after : ℕ) (cache : List (Option CachedNode)) (tree : ChipTree) → IsShape setup.shape → IsRoomFilled setup old new before after cache tree → IsRestAnchored setup old → IsTreeRecovered setup old.watch.slots (record { shape = setup.shape; cache = cache; tree = tree; down = false })
 filled-recovered setup old new before after cache tree shape it anchored =
@@ -400,6 +312,4 @@ filled-end setup old new before after cache tree work shape it trials digests =
 
 -- a list that was written whole through a slice
 pub written-whole : {X : Type 0} (n : ℕ) (new old : List X) → length new ≡ length old → n ≡ length old → take n (new ++ drop (length new) old) ≡ new
-written-whole n new old count long =
-    let rest : drop (length new) old ≡ [] = drop_all (length new) old (omega (arith, count)) in
-    ap (λ xs. take n (new ++ xs)) rest ∙ (ap (take n) (append-nil new) ∙ take_all n new (omega (arith, count, long)))
+written-whole n new old count long = search (rules, drop_all, append-nil, take_all)

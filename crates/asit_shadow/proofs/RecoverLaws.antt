@@ -1,8 +1,7 @@
 -- Recovery: with the right root the slot lines are the true ones or show a clash, and the true ones make
 -- a trusted engine, which over a durable device is sound.
-use Rattle.std.proofs.Common.{ℕ, ◌≡◌, ◌<◌, ◌+◌, ◌-◌, List, [], length, drop, true, Some, None, refl, sym, ap, subst, inl, inr, ◌∙◌, arith}
-use Rattle.asit_shadow.proofs.Common.{All, cases_lt, get_or_past, get_or-take, get_or-drop, length-drop, length-take-le, same_Some, none-some, Line, Regs, Exhibit, IsLine, line_at, Shape, IsShape, meta_lines, meta_lines-most, AreInRange, Setup, IsExhibit, redone, tree_slots, tree_size, line_of_slot, node_at, slot_of, slot_read, shadow_height, shadow_tree_line, WatchState, IsSlotClash, shadow_height-room, shadow_clash, slot_read-slot_line, slot_read-zero, tree-IsNode, TreeState, CachedNode, NamesTrueNode, IsTreeAnchored, IsTrueCached, IsTreeTrusted, IsTreeMendable, IsTreeDurable, IsTreeSound, held_of, IsTreeRecovered, slots_read}
-use Rattle.pmem_base.specs.Lines.{zero_line}
+use Rattle.std.proofs.Common.{ℕ, ◌≡◌, ◌<◌, ◌-◌, List, [], length, true, Some, None, refl, sym, ap, subst, inl, inr, ◌∙◌, arith, rules}
+use Rattle.asit_shadow.proofs.Common.{All, cases_lt, get_or_past, get_or-take, get_or-drop, length-drop, length-take-le, same_Some, none-some, Line, Regs, Exhibit, IsLine, line_at, Shape, IsShape, meta_lines, meta_lines-most, AreInRange, Setup, IsExhibit, redone, tree_slots, tree_size, line_of_slot, node_at, slot_of, slot_read, WatchState, IsSlotClash, shadow_height-room, shadow_clash, slot_read-slot_line, slot_read-zero, tree-IsNode, TreeState, CachedNode, NamesTrueNode, IsTreeAnchored, IsTrueCached, IsTreeTrusted, IsTreeMendable, IsTreeDurable, IsTreeSound, held_of, IsTreeRecovered, slots_read}
 pub use Rattle.pmem_base.proofs.LineLemmas.{lines-equal}
 use Rattle.counter_tree.specs.Shadow.{shadow_root}
 use Rattle.asit_shadow.proofs.SlotPlaces.{slot_of-inside}
@@ -10,35 +9,21 @@ use Rattle.asit_shadow.proofs.SlotPlaces.{slot_of-inside}
 -- ---- the slot lines of a list
 
 pub length-slots_read : (g : Shape) (lines : List Line) → length lines ≡ tree_size g → length (slots_read g lines) ≡ tree_slots g
-length-slots_read g lines size =
-    let count : tree_size g - line_of_slot g 0 ≡ tree_slots g = omega arith in
-    length-take-le (tree_size g - line_of_slot g 0) (drop (line_of_slot g 0) lines) (omega (arith, length-drop (line_of_slot g 0) lines, size, count)) ∙ count
+length-slots_read g lines size = search (rules, length-take-le, length-drop)
 
 pub line_at-slots_read : (g : Shape) (lines : List Line) (i : ℕ) → i < tree_slots g → line_at (slots_read g lines) i ≡ line_at lines (line_of_slot g i)
-line_at-slots_read g lines i inside =
-    let place : line_of_slot g 0 + i ≡ line_of_slot g i = omega arith in
-    get_or-take (tree_size g - line_of_slot g 0) (drop (line_of_slot g 0) lines) i zero_line (omega (arith, inside))
-    ∙ (get_or-drop (line_of_slot g 0) lines i zero_line ∙ ap (line_at lines) place)
+line_at-slots_read g lines i inside = search (rules, get_or-take, get_or-drop)
 
 -- ---- any board
 
 -- the law: slot lines under the register's root that aren't the true ones show a clash that holds
 pub clash-holds : (setup : Setup) (regs : Regs) (watch : WatchState) (slots : List Line) (shown : Exhibit) → IsShape setup.shape → AreInRange setup.formulas → IsTreeAnchored setup regs watch → length slots ≡ tree_slots setup.shape → All IsLine slots → shadow_root setup.shape setup.formulas slots ≡ regs.root → IsSlotClash watch slots shown → IsExhibit setup.formulas shown
 unfolding shadow_root
-clash-holds setup regs watch slots shown shape in_range anchored size whole root clash =
-    let h = shadow_height setup.shape in
-    let same = anchored.of_setup.its_setup in
-    let place = subst (λ (s : Setup). Rattle.counter_tree.specs.Shadow.IsShadowDifference s.formulas (shadow_height s.shape) slots watch.slots clash.slot clash.height clash.position) same clash.place in
-    let its = subst (λ (s : Setup). shown ≡ Rattle.pmem_base.specs.declared.answers.Exhibit.TheVariants.Clash clash.position (shadow_tree_line s.formulas (shadow_height s.shape) slots clash.height clash.position) (shadow_tree_line s.formulas (shadow_height s.shape) watch.slots clash.height clash.position)) same clash.its in
-    let digest = shadow_clash setup.formulas (shadow_height setup.shape) slots watch.slots clash.slot clash.height clash.position in_range whole anchored.of_setup.whole_slots
-    (omega (arith, size, shadow_height-room setup.shape shape)) (root ∙ anchored.root) place in
-    subst (IsExhibit setup.formulas) (sym its) (record { differ = place.differ; one_digest = digest })
+clash-holds setup regs watch slots shown shape in_range anchored size whole root clash = search (rules, shadow_clash, shadow_height-room)
 
 -- what a true slot line gives
 pub slot-named : (setup : Setup) (regs : Regs) (watch : WatchState) (i : ℕ) → IsShape setup.shape → IsTreeAnchored setup regs watch → (names : NamesTrueNode setup.shape watch i) → held_of (slot_read (line_at watch.slots i)) ≡ Some (record { x = names.x; node = node_at watch.nodes names.x; dirty = true })
-slot-named setup regs watch i shape anchored names =
-    let most = meta_lines-most setup.shape shape.at_most_six_levels in
-    ap held_of (ap slot_read names.line ∙ slot_read-slot_line names.x (node_at watch.nodes names.x) (omega (arith, most, names.on_tree)) (tree-IsNode setup.shape watch.nodes names.x anchored.tree names.on_tree))
+slot-named setup regs watch i shape anchored names = search (rules, meta_lines-most, slot_read-slot_line, tree-IsNode)
 
 -- the law: the true slot lines make a trusted engine
 pub IsTrusted-recovered : (setup : Setup) (engine : TreeState) (regs : Regs) (watch : WatchState) → IsShape setup.shape → IsTreeAnchored setup regs watch → regs.group.items ≡ [] → IsTreeRecovered setup watch.slots engine → IsTreeTrusted setup engine regs watch
@@ -84,16 +69,7 @@ IsTrusted-recovered setup engine regs watch shape anchored no_group recovered =
 
 -- the law: the slot lines read are the true ones, so their root is the register's
 pub slots-sound : (setup : Setup) (lines : List Line) (regs : Regs) (watch : WatchState) → IsTreeDurable setup lines regs watch → regs.group.items ≡ [] → (slots_read setup.shape lines ≡ watch.slots) × (shadow_root setup.shape setup.formulas (slots_read setup.shape lines) ≡ regs.root)
-slots-sound setup lines regs watch durable no_group =
-    let before : IsTreeMendable setup lines regs watch = subst (λ group. IsTreeMendable setup (redone group lines) regs watch) no_group durable.mendable in
-    let count = length-slots_read setup.shape lines durable.device_whole.count in
-    let anchored = before.anchored in
-    let same : slots_read setup.shape lines ≡ watch.slots =
-    lines-equal (slots_read setup.shape lines) watch.slots (count ∙ sym anchored.of_setup.slot_count)
-    (λ i low.
-    let inside : i < tree_slots setup.shape = omega (arith, low, count) in
-    line_at-slots_read setup.shape lines i inside ∙ before.slots_stored i inside) in
-    (same, ap (shadow_root setup.shape setup.formulas) same ∙ sym anchored.root)
+slots-sound setup lines regs watch durable no_group = search (rules, length-slots_read, lines-equal, line_at-slots_read)
 
 -- the law: the recovered engine is sound
 pub IsSound-recovered : (setup : Setup) (engine : TreeState) (lines : List Line) (regs : Regs) (watch : WatchState) → IsShape setup.shape → IsTreeDurable setup lines regs watch → regs.group.items ≡ [] → IsTreeRecovered setup (slots_read setup.shape lines) engine → IsTreeSound setup engine lines regs watch

@@ -1,7 +1,7 @@
 -- The plans of recovery, at each of their ends.
-use Rattle.std.proofs.Common.{◌≡◌, ◌≢◌, ◌<◌, ℕ, length, map, arith, true, false, List, [], ◌∷◌, Result, Ok, Err, refl, sym, ap, subst, subst₂, inl, inr, ◌∙◌}
+use Rattle.std.proofs.Common.{◌≡◌, ◌≢◌, ◌<◌, ℕ, length, map, arith, true, false, List, [], ◌∷◌, Result, Ok, Err, refl, sym, ap, subst, subst₂, ◌∙◌, rules}
 use Rattle.asit_shadow.proofs.Common.{Option, None, slice_set, ◌&&◌, ext_get_or, length-map, get_or-map, cases_Bool, false≢true, and_parts, Line, Regs, risen_times, IsLine, line_at, same_bytes, Shape, Device, HasRead, WasCut, Setup, the_cut, done, Follows, is_done, is_stopped, read_then, read_cut, bind_ok, bind_err, mapped_follows, Work, line_of_slot, with_exhibit, clash_of, shadow_digests, chosen, not_chosen, TreeRec, slot_read, CachedNode, TreeState, cache_at, RecoverParts, recover_parts, slots_plan, cached_named, recovered_engine, recovery_work, same_lines}
-use Rattle.pmem_base.specs.Lines.{zero_line}
+use Rattle.pmem_base.specs.Lines.{zero_line, line_of}
 use Rattle.pmem_base.proofs.ByteLaws.{same_bytes-from, same_bytes-true}
 use Rattle.seal_ledger.proofs.NoteLemmas.{other_bytes, same_line}
 use Rattle.commit_regs.specs.Plans.{redo_plan}
@@ -39,25 +39,18 @@ same_lines-from first second e = subst (λ l. same_lines first l ≡ true) e (it
     itself [] = refl
     itself (line ∷ lines) = subst₂ (λ a b. (a && b) ≡ true) (sym (same_line line line refl)) (sym (itself lines)) refl
 
-line_is : (a b : Line) → a.0 ≡ b.0 → a ≡ b
-line_is a b e = ap (λ (bytes : List ℕ). let l : Line = record { 0 = bytes } in l) e
-
 same_lines-to : (first second : List Line) → same_lines first second ≡ true → first ≡ second
 same_lines-to [] [] e = refl
 same_lines-to [] (other ∷ second) e = absurd (false≢true e)
 same_lines-to (line ∷ first) [] e = absurd (false≢true e)
 same_lines-to (line ∷ first) (other ∷ second) e =
     let parts = and_parts (same_bytes line.0 other.0) (same_lines first second) e in
-    let here = line_is line other (same_bytes-true line.0 other.0 parts.0) in
+    let here : line ≡ other = ap line_of (same_bytes-true line.0 other.0 parts.0) in
     let rest = same_lines-to first second parts.1 in
     λ i. here i ∷ rest i
 
 other_lines : (first second : List Line) → first ≢ second → same_lines first second ≡ false
-other_lines first second differ =
-    elim (cases_Bool (same_lines first second)) [
-      | inl same ↦ absurd (differ (same_lines-to first second same))
-      | inr other ↦ other
-    ]
+other_lines first second differ = search (rules, cases_Bool, same_lines-to)
 
 module _ (setup : Setup) (kept : List ℕ) (at : RecoverParts) (slots : List Line) (d : Device) where
   abbrev made : RecoverParts
@@ -74,16 +67,12 @@ module _ (setup : Setup) (kept : List ℕ) (at : RecoverParts) (slots : List Lin
     pub slots_accepted : slots ≡ at.watch.slots
         → Follows (root_plan setup kept at slots) d d (Ok (made, (recovered_engine setup slots, recovery_work setup.shape)))
     unfolding root_plan seen_plan
-    slots_accepted same =
-        chosen _ (same_bytes-from kept found is) (chosen _ (same_lines-from slots at.watch.slots same)
-        (is_done (made, (recovered_engine setup slots, recovery_work setup.shape)) d))
+    slots_accepted same = search (rules, chosen, same_bytes-from, same_lines-from, is_done)
 
     pub slots_shown : slots ≢ at.watch.slots
         → Follows (root_plan setup kept at slots) d d (Err (recover_parts (with_exhibit at.watch (clash_of at.watch slots)) made.digests, Fail.Shown))
     unfolding root_plan seen_plan
-    slots_shown differ =
-        chosen _ (same_bytes-from kept found is) (not_chosen _ (other_lines slots at.watch.slots differ)
-        (is_stopped (recover_parts (with_exhibit at.watch (clash_of at.watch slots)) made.digests, Fail.Shown) d))
+    slots_shown differ = search (rules, chosen, same_bytes-from, not_chosen, other_lines, is_stopped)
 
 -- ---- the whole
 

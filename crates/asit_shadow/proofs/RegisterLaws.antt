@@ -1,5 +1,5 @@
 -- The registers beside the root and the group, and the group emptied.
-use Rattle.std.proofs.Common.{◌≡◌, refl, sym, ap, subst, ◌∙◌}
+use Rattle.std.proofs.Common.{◌≡◌, refl, sym, ap, subst, ◌∙◌, rules}
 use Rattle.asit_shadow.proofs.Common.{Regs, without_group, KeepsOtherRegisters, IsTreeEmptied}
 
 pub others-same : (old new : Regs) → new ≡ old → KeepsOtherRegisters old new
@@ -12,5 +12,4 @@ pub others-emptied : (old new : Regs) → new ≡ without_group old → KeepsOth
 others-emptied old new is = subst (KeepsOtherRegisters old) (sym is) refl
 
 pub finished-emptied : (old new : Regs) → new ≡ without_group old → IsTreeEmptied old new
-finished-emptied old new is =
-    record { root = ap (λ (r : Regs). r.root) is; no_group = ap (λ (r : Regs). r.group.items) is; others = others-emptied old new is }
+finished-emptied old new is = search (rules, others-emptied)

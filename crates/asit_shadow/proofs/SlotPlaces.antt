@@ -1,34 +1,17 @@
 -- Which slot a node has.
-use Rattle.std.proofs.Common.{ℕ, suc, ◌≡◌, ◌≢◌, ◌<◌, ◌≤◌, ◌+◌, ◌-◌, ◌*◌, ◌/◌, ◌%◌, ◌^◌, List, [], ◌∷◌, Bool, true, refl, sym, ap, subst, inl, inr, ◌∙◌, arith}
+use Rattle.std.proofs.Common.{ℕ, suc, ◌≡◌, ◌≢◌, ◌<◌, ◌≤◌, ◌+◌, ◌-◌, ◌*◌, ◌/◌, ◌%◌, ◌^◌, List, [], ◌∷◌, Bool, true, refl, sym, ap, subst, inl, inr, ◌∙◌, arith, rules}
 use Rattle.std.proofs.lemmas.Nat.{div-mul-add, mod_below}
-use Rattle.asit_shadow.proofs.Common.{◌==◌, ◌||◌, slice_index, list_any, cases_Bool, cases_eq, cond-false, ne_eqb, eq-eqb, eqb-true, or_left, or_right, mul-le-mul_right, pow-suc, Shape, IsShape, pages, meta_lines, level_start, path_of, is_on_path, level_of-IsAtLevel, level_of-le, level_start-le, meta_lines-level, path_position-IsAtLevel, on_path-position, on_path-level, path_position-top, path_position-on_path, tree_lines, tree_slots, is_on_line_path, slot_of, line_path, is_path_slot}
+use Rattle.asit_shadow.proofs.Common.{◌==◌, ◌||◌, slice_index, list_any, cases_Bool, cases_eq, cond-false, ne_eqb, eq-eqb, eqb-true, or_left, or_right, mul-le-mul_right, pow-suc, Shape, IsShape, pages, meta_lines, path_of, is_on_path, level_of-IsAtLevel, level_of-le, level_start-le, meta_lines-level, path_position-IsAtLevel, on_path-position, on_path-level, path_position-top, path_position-on_path, tree_lines, tree_slots, is_on_line_path, slot_of, line_path, is_path_slot}
 use Rattle.bonsai_tree.specs.Positions.{level_of}
 
 pub slot_of-below : (g : Shape) (x : ℕ) → x ≢ 0 → slot_of g x ≡ 1 + (level_of x - 1) * g.sets + x % g.sets
 slot_of-below g x low = cond-false (x == 0) 0 (1 + (level_of x - 1) * g.sets + x % g.sets) (ne_eqb x 0 low)
 
 pub level_of-low : (g : Shape) (x : ℕ) → IsShape g → x < meta_lines g → x ≢ 0 → 1 ≤ level_of x
-level_of-low g x shape inside low =
-    elim (cases_eq (level_of x) 0) [
-      | inl top ↦
-          let at = level_of-IsAtLevel g x shape.at_most_six_levels inside in
-          let below : x < level_start 1 = subst (λ n. x < level_start (suc n)) top at.below in
-          absurd (low (omega (arith, below)))
-      | inr other ↦ omega (arith, other)
-    ]
+level_of-low g x shape inside low = search (rules, cases_eq, level_of-IsAtLevel)
 
 pub slot_of-inside : (g : Shape) (x : ℕ) → IsShape g → x < meta_lines g → slot_of g x < tree_slots g
-slot_of-inside g x shape inside =
-    elim (cases_eq x 0) [
-      | inl top ↦ subst (λ z. slot_of g z < tree_slots g) (sym top) (omega arith)
-      | inr low ↦
-          let level = level_of-le g x shape.at_most_six_levels inside in
-          let some = level_of-low g x shape inside low in
-          let small = mod_below x g.sets (omega (arith, shape.at_least_one_set)) in
-          let most : (level_of x - 1 + 1) * g.sets ≤ g.levels * g.sets = mul-le-mul_right g.sets (omega (arith, level, some)) in
-          let split : (level_of x - 1 + 1) * g.sets ≡ (level_of x - 1) * g.sets + g.sets = omega arith in
-          subst (λ n. n < tree_slots g) (sym (slot_of-below g x low)) (omega (arith, most, split, small))
-    ]
+slot_of-inside g x shape inside = search (rules, cases_eq, level_of-le, level_of-low, mod_below, mul-le-mul_right, slot_of-below)
 
 -- nodes of one slot are of one level
 pub slot_of-level : (g : Shape) (x y : ℕ) → IsShape g → x < meta_lines g → y < meta_lines g → slot_of g x ≡ slot_of g y → level_of x ≡ level_of y
@@ -60,11 +43,7 @@ page_of_line g a inside = omega (arith, inside, pow-suc 4 g.levels, more)
     more = ap (λ n. 4 ^ n) (omega arith)
 
 pub on_path-inside : (g : Shape) (a x : ℕ) → a < tree_lines g → is_on_line_path g a x ≡ true → x < meta_lines g
-on_path-inside g a x inside on =
-    let found = on_path-position g (a / 4) x on in
-    let at = path_position-IsAtLevel g (a / 4) found.0 (page_of_line g a inside) found.1 in
-    let deep = level_start-le (suc found.0) (suc g.levels) (omega (arith, found.1)) in
-    omega (arith, at.below, deep, meta_lines-level g, found.2)
+on_path-inside g a x inside on = search (rules, on_path-position, path_position-IsAtLevel, page_of_line, level_start-le, meta_lines-level)
 
 pub path_slots-apart : (g : Shape) (a x y : ℕ) → IsShape g → a < tree_lines g → is_on_line_path g a x ≡ true → is_on_line_path g a y ≡ true → slot_of g x ≡ slot_of g y → x ≡ y
 path_slots-apart g a x y shape inside on_x on_y same =

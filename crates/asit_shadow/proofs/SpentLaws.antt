@@ -1,7 +1,7 @@
 -- All writes made are the version of the top.
-use Rattle.std.proofs.Common.{ℕ, zero, suc, ◌≡◌, ◌<◌, ◌≤◌, ◌+◌, ◌-◌, ◌*◌, ◌^◌, List, length, take, drop, get_or, refl, sym, ap, subst, ◌∙◌, arith}
+use Rattle.std.proofs.Common.{ℕ, zero, suc, ◌≡◌, ◌<◌, ◌≤◌, ◌+◌, ◌-◌, ◌*◌, ◌^◌, List, length, take, drop, get_or, refl, sym, ap, ◌∙◌, arith, rules}
 use Rattle.std.proofs.lemmas.List.Sums.{sum_by-append}
-use Rattle.asit_shadow.proofs.Common.{sum, drop-drop, drop-cons, take-add, take-length, pow-suc, Shape, IsShape, meta_lines, level_start, child_position, IsAtLevel, child-IsAtLevel, level_start-suc, meta_lines-level, total, tree_lines, lines-are_children, PlainTree, writes_below, node_above_lines, true_version, writes_made}
+use Rattle.asit_shadow.proofs.Common.{sum, drop-drop, drop-cons, take-add, take-length, pow-suc, Shape, IsShape, level_start, child_position, IsAtLevel, child-IsAtLevel, level_start-suc, meta_lines-level, total, tree_lines, lines-are_children, PlainTree, writes_below, node_above_lines, true_version, writes_made}
 use Rattle.bonsai_tree.specs.Positions.{level_of}
 use Rattle.asit_shadow.specs.Plain.{true_node}
 
@@ -11,15 +11,11 @@ part n o list = sum (take n (drop o list))
 
 part-more : (n m o : ℕ) (list : List ℕ) → part (n + m) o list ≡ part n o list + part m (o + n) list
 unfolding part
-part-more n m o list =
-    ap sum (take-add n m (drop o list))
-    ∙ (sum_by-append (λ x. x) (take n (drop o list)) (take m (drop n (drop o list)))
-    ∙ ap (λ l. sum (take n (drop o list)) + sum (take m l)) (drop-drop n o list))
+part-more n m o list = search (rules, take-add, sum_by-append, drop-drop)
 
 part-one : (o : ℕ) (list : List ℕ) → o < length list → part 1 o list ≡ get_or list o 0
 unfolding part
-part-one o list inside =
-    ap (λ l. sum (take 1 l)) (drop-cons list o 0 inside) ∙ omega arith
+part-one o list inside = search (rules, drop-cons)
 
 part-all : (n : ℕ) (list : List ℕ) → length list ≡ n → part n 0 list ≡ sum list
 unfolding part
@@ -40,13 +36,7 @@ part-four p o list =
 
 -- the writes below a position are those of its lines, which stand in a row
 below-part : (g : Shape) (counts : List ℕ) (j d y : ℕ) → 1 ≤ g.levels → length counts ≡ tree_lines g → d + j ≡ suc g.levels → IsAtLevel d y → writes_below g counts j y ≡ part (4 ^ j) ((y - level_start d) * 4 ^ j) counts
-below-part g counts zero d y some whole sum at =
-    let last : d ≡ suc g.levels = omega (arith, sum) in
-    let at_last = subst (λ n. IsAtLevel n y) last at in
-    let size = meta_lines-level g in
-    let start : level_start d ≡ meta_lines g = ap level_start last ∙ sym size in
-    let one : (y - level_start d) * 1 ≡ y - meta_lines g = omega (arith, start) in
-    sym (ap (λ o. part 1 o counts) one ∙ part-one (y - meta_lines g) counts (omega (arith, at_last.below, at_last.from, lines-are_children g some, size, whole)))
+below-part g counts zero d y some whole sum at = search (rules, IsAtLevel, meta_lines-level, part, part-one, lines-are_children)
 below-part g counts (suc j) d y some whole sum at =
     let P = 4 ^ j in
     let q = y - level_start d in

@@ -1,5 +1,5 @@
 -- When a write is spent, and that its group can be armed.
-use Rattle.std.proofs.Common.{ℕ, ◌≡◌, ◌<◌, ◌^◌, ◌-◌, List, map, sym, ap, subst}
+use Rattle.std.proofs.Common.{ℕ, ◌≡◌, ◌<◌, ◌^◌, ◌-◌, List, map, sym, ap, subst, rules}
 use Rattle.asit_shadow.proofs.Common.{Result, Err, ◌↔◌, replicate, length-replicate, Line, IsGroup, Shape, IsShape, meta_lines, Setup, Node, LineSeal, total, zero_node, tree_lines, tree_size, IsLineSeal, node_at, TreeFault, top_node, TreeEngineParts, AreTreeTrusted, line_path, IsTreeSpentAnswer, IsLineWritten, IsFetchFault, armed_lines, set_pairs, HasWrittenUp}
 use Rattle.asit_shadow.specs.declared.fault.TreeFault.TheVariants as Fail
 use Rattle.asit_shadow.proofs.PathSteps.{top-in, in-true}
@@ -32,14 +32,4 @@ armed-IsGroup g a seal pairs shape inside good positions =
 -- ---- a write of an engine that wasn't down
 
 pub written-up : (setup : Setup) (a : ℕ) (plain : Line) (old new : TreeEngineParts) (answer : Result ℕ TreeFault) → HasWrittenUp setup a plain old new answer → (IsTreeSpentAnswer answer ↔ (total (top_node old.engine.cache) ≡ 2 ^ 64 - 1)) → IsLineWritten setup a plain old new answer
-written-up setup a plain old new answer it spent =
-    record {
-      kind = it.kind;
-      up = it.up;
-      spent = spent;
-      effect = it.effect;
-      work = it.work;
-      answered = it.answered;
-      unrefused = it.unrefused;
-      watch = it.watch;
-    }
+written-up setup a plain old new answer it spent = search rules

@@ -1,9 +1,9 @@
 -- How a write ends.
-use Rattle.std.proofs.Common.{ℕ, ◌≡◌, ◌<◌, ◌+◌, ◌/◌, refl, sym, ap, subst, inl, inr, ◌∙◌, arith}
+use Rattle.std.proofs.Common.{ℕ, ◌≡◌, ◌<◌, ◌+◌, ◌/◌, sym, ap, subst, inl, inr, ◌∙◌, arith, rules}
 use Rattle.asit_shadow.proofs.Common.{Err, true≢false, Line, Regs, IsShape, on_path-level, Setup, HasRisen-once, RisesBy, WasCut, going, cut_short, shown, Node, tree_lines, TreeFault, TreeEngineParts, AreTreeTrusted, IsNodePathCached, IsUsedUp, KeepsWatch, absent_nodes, HasFetchedPath, IsFetchStopped, IsNodePathFetched, IsPathFetchedTo, HasWrittenUp}
 use Rattle.asit_shadow.specs.declared.fault.TreeFault.TheVariants as Fail
 use Rattle.asit_shadow.proofs.SlotPlaces.{page_of_line}
-use Rattle.call_effects.proofs.PowerLaws.{going_unshown, cut_unshown}
+use Rattle.call_effects.proofs.PowerLaws.{cut_unshown}
 use Rattle.asit_shadow.proofs.Chains.{effect-then}
 use Rattle.asit_shadow.proofs.FetchEnds.{AreUnwritten, cut-effect, kept-watch, unwritten-levels}
 use Rattle.asit_shadow.proofs.CallEnds.{ready-kept, board-kept}
@@ -20,28 +20,7 @@ path-cached setup a old mid shape inside trusted path =
 
 -- a fetch that stopped
 pub write-stopped : (setup : Setup) (a : ℕ) (plain : Line) (old new : TreeEngineParts) (fault : TreeFault) → (AreTreeTrusted setup old → IsUsedUp old → ⊥) → IsFetchStopped setup a old new fault → HasWrittenUp setup a plain old new (Err fault)
-write-stopped setup a plain old new Fail.Cut unspent it =
-    record {
-      kind = tt;
-      up = λ e. e;
-      down = it.down;
-      effect = it.effect;
-      work = inl (record { at = inl it.work; untold = it.same_watch });
-      answered =
-          λ trusted. (
-            unspent trusted,
-            inl (record {
-              watch = it.same_watch;
-              regs = it.regs;
-              latches = it.work.fetched.latches;
-            }),
-          );
-      unrefused = it.unrefused;
-      watch = λ e. absurd e;
-      ready = ready-kept setup.shape cut_short old.watch new.watch it.watch;
-      board = board-kept setup.shape old.device new.device it.effect.size it.regs;
-      no_group = λ e. absurd (true≢false (sym e));
-    }
+write-stopped setup a plain old new Fail.Cut unspent it = search (rules, ready-kept, board-kept, true≢false)
 write-stopped setup a plain old new Fail.Down unspent it = absurd it.kind
 write-stopped setup a plain old new (Fail.Node x) unspent it =
     record {
@@ -76,28 +55,7 @@ write-stopped setup a plain old new Fail.Shown unspent it =
 
 -- the top's version can't rise: nothing is done
 pub write-spent : (setup : Setup) (a : ℕ) (plain : Line) (old : TreeEngineParts) → (AreTreeTrusted setup old → IsUsedUp old) → HasWrittenUp setup a plain old old (Err Fail.Spent)
-write-spent setup a plain old used =
-    record {
-      kind = tt;
-      up = λ e. e;
-      down = refl;
-      effect =
-          record {
-            shape = refl;
-            size = refl;
-            power = (λ was. was, λ was. was, refl);
-            trusted = λ trusted. trusted;
-            sound = λ sound. sound;
-            places = λ trusted. record { seals = λ b inside was. was; slots = λ i inside was. was; nodes = λ x inside was. was };
-          };
-      work = refl;
-      answered = λ trusted. (used trusted, refl);
-      unrefused = λ sound. tt;
-      watch = λ e. kept-watch going old.watch old.watch going_unshown refl;
-      ready = λ was. was;
-      board = λ was. was;
-      no_group = λ e none. none;
-    }
+write-spent setup a plain old used = search (rules, kept-watch)
 
 -- how far it came
 pub lost-work : (setup : Setup) (a : ℕ) (old mid new : TreeEngineParts) → IsPathFetchedTo setup a setup.shape.levels old mid → new.engine.cache ≡ mid.engine.cache → WasCut mid.device new.device → HasFetchedPath setup a 0 old new

@@ -1,47 +1,28 @@
 -- One node of a path more: what is told, stored and named of it.
-use Rattle.std.proofs.Common.{ℕ, suc, ◌*◌, ◌≡◌, ◌<◌, ◌++◌, ◌∷◌, ◌+◌, List, [], length, take, get_or, Some, true, sym, ap, subst, subst₂, ◌∙◌, arith}
-use Rattle.asit_shadow.proofs.Common.{Option, slice_set, map-append, take_more, Line, risen_times, put_lines, Shape, put_lines-append, risen_times-then, Node, LineSeal, line_of_slot, line_of_tag, slot_of, slot_line, WatchState, HasNodeNoted, HasSlotNoted, HasSealNoted, CachedNode, tag_only, armed_lines, set_pairs, slot_entries, dirty_entries, IsWriteTold}
+use Rattle.std.proofs.Common.{ℕ, suc, ◌*◌, ◌≡◌, ◌<◌, ◌++◌, ◌∷◌, ◌+◌, List, [], length, take, get_or, Some, true, sym, ap, subst, subst₂, ◌∙◌, arith, rules}
+use Rattle.asit_shadow.proofs.Common.{Option, slice_set, map-append, take_more, Line, risen_times, put_lines, Shape, put_lines-append, Node, LineSeal, line_of_slot, line_of_tag, slot_of, slot_line, WatchState, HasNodeNoted, HasSlotNoted, HasSealNoted, CachedNode, tag_only, armed_lines, set_pairs, slot_entries, dirty_entries, IsWriteTold}
+use Rattle.pmem_base.proofs.CountLemmas.{risen_times-add}
 use Rattle.asit_shadow.proofs.PairSets.{set_pairs-append}
 
 -- a slot line more
 pub entries-more : (g : Shape) (place : ℕ → ℕ) (pairs : List (ℕ × Node)) (x : ℕ) (node : Node) → slot_entries g place (pairs ++ (x, node) ∷ []) ≡ slot_entries g place pairs ++ (place (slot_of g x), slot_line x node) ∷ []
-entries-more g place pairs x node =
-    map-append (λ (pair : ℕ × Node). (place (slot_of g pair.0), slot_line pair.0 pair.1)) pairs ((x, node) ∷ [])
+entries-more g place pairs x node = search (rules, map-append)
 
 pub slots-more : (g : Shape) (pairs : List (ℕ × Node)) (x : ℕ) (node : Node) (slots : List Line) → put_lines (slot_entries g (λ i. i) (pairs ++ (x, node) ∷ [])) slots ≡ slice_set (put_lines (slot_entries g (λ i. i) pairs) slots) (slot_of g x) (slot_line x node)
-slots-more g pairs x node slots =
-    ap (λ entries. put_lines entries slots) (entries-more g (λ i. i) pairs x node)
-    ∙ put_lines-append (slot_entries g (λ i. i) pairs) ((slot_of g x, slot_line x node) ∷ []) slots
+slots-more g pairs x node slots = search (rules, entries-more, put_lines-append)
 
 -- what the watch is told
 pub told-none : (g : Shape) (a : ℕ) (seal : LineSeal) (old new : WatchState) → HasSealNoted old new a seal → IsWriteTold g a seal [] old new
-told-none g a seal old new it =
-    record { setup = it.setup; seals = it.seals; nodes = it.nodes; slots = it.slots; exhibit = it.exhibit }
+told-none g a seal old new it = search rules
 
 pub told-more : (g : Shape) (a : ℕ) (seal : LineSeal) (pairs : List (ℕ × Node)) (x : ℕ) (node : Node) (old mid between new : WatchState) → IsWriteTold g a seal pairs old mid → HasNodeNoted mid between x node → HasSlotNoted between new (slot_of g x) (slot_line x node)
     → IsWriteTold g a seal (pairs ++ (x, node) ∷ []) old new
-told-more g a seal pairs x node old mid between new before first second =
-    record {
-      setup = second.setup ∙ (first.setup ∙ before.setup);
-      seals = second.seals ∙ (first.seals ∙ before.seals);
-      nodes =
-          second.nodes ∙ (first.nodes ∙ (ap (λ (nodes : List Node). slice_set nodes x node) before.nodes
-          ∙ sym (set_pairs-append pairs ((x, node) ∷ []) old.nodes)));
-      slots =
-          second.slots ∙ (ap (λ (slots : List Line). slice_set slots (slot_of g x) (slot_line x node)) (first.slots ∙ before.slots)
-          ∙ sym (slots-more g pairs x node old.slots));
-      exhibit = second.exhibit ∙ (first.exhibit ∙ before.exhibit);
-    }
+told-more g a seal pairs x node old mid between new before first second = search (rules, set_pairs-append, slots-more)
 
 -- what the cache holds
 pub stored-more : (g : Shape) (pairs : List (ℕ × Node)) (x : ℕ) (node : Node) (old mid new : List (Option CachedNode)) → mid ≡ set_pairs (dirty_entries g pairs) old → new ≡ slice_set mid (slot_of g x) (Some (record { x = x; node = node; dirty = true }))
     → new ≡ set_pairs (dirty_entries g (pairs ++ (x, node) ∷ [])) old
-stored-more g pairs x node old mid new before step =
-    step
-    ∙ (ap (λ (cache : List (Option CachedNode)). slice_set cache (slot_of g x) (Some (record { x = x; node = node; dirty = true }))) before
-    ∙ sym (ap (λ entries. set_pairs entries old)
-    (map-append (λ (pair : ℕ × Node). (slot_of g pair.0, Some (record { x = pair.0; node = pair.1; dirty = true }))) pairs ((x, node) ∷ []))
-    ∙ set_pairs-append (dirty_entries g pairs) ((slot_of g x, Some (record { x = x; node = node; dirty = true })) ∷ []) old))
+stored-more g pairs x node old mid new before step = search (rules, map-append, set_pairs-append)
 
 -- ---- the next node that a loop over the pairs has seen
 
@@ -65,11 +46,7 @@ stored-next g pairs seen i slot d old mid new same inside at before step =
 
 -- the group
 pub armed-none : (g : Shape) (a tags_place : ℕ) (seal : LineSeal) (tags : Line) (none one two : List (ℕ × Line)) → none ≡ [] → tags_place ≡ line_of_tag g a → tags ≡ tag_only seal.tag → one ≡ none ++ (a, seal.cipher) ∷ [] → two ≡ one ++ (tags_place, tags) ∷ [] → two ≡ armed_lines g a seal []
-armed-none g a tags_place seal tags none one two empty place line first second =
-    second
-    ∙ (ap (λ (ls : List (ℕ × Line)). ls ++ (tags_place, tags) ∷ []) (first ∙ ap (λ (ls : List (ℕ × Line)). ls ++ (a, seal.cipher) ∷ []) empty)
-    ∙ (ap (λ (n : ℕ). (a, seal.cipher) ∷ (n, tags) ∷ []) place
-    ∙ ap (λ (l : Line). (a, seal.cipher) ∷ (line_of_tag g a, l) ∷ []) line))
+armed-none g a tags_place seal tags none one two empty place line first second = search rules
 
 pub armed-next : (g : Shape) (a place slot : ℕ) (seal : LineSeal) (pairs seen : List (ℕ × Node)) (i : ℕ) (line : Line) (d : ℕ × Node) (old new : List (ℕ × Line)) → seen ≡ pairs → i < length seen → place ≡ line_of_slot g slot → slot ≡ slot_of g (get_or seen i d).0 → line ≡ slot_line (get_or seen i d).0 (get_or seen i d).1
     → old ≡ armed_lines g a seal (take i pairs) → new ≡ old ++ (place, line) ∷ [] → new ≡ armed_lines g a seal (take (i + 1) pairs)
@@ -92,4 +69,4 @@ path-digests n height same start count made is before next =
     next
     ∙ (ap (λ h. risen_times (suc h) count) is
     ∙ (ap (risen_times (suc height)) before
-    ∙ (risen_times-then (n * suc height) (suc height) start ∙ ap (λ k. risen_times k start) all)))
+    ∙ (sym (risen_times-add (n * suc height) (suc height) start) ∙ ap (λ k. risen_times k start) all)))

@@ -1,6 +1,6 @@
 -- A write that was armed: kept at a cut, or done.
-use Rattle.std.proofs.Common.{ℕ, ◌≡◌, ◌≢◌, ◌<◌, ◌≤◌, ◌+◌, ◌-◌, ◌^◌, List, [], ◌∷◌, length, true, Some, None, refl, sym, ap, subst, inl, inr, ◌∙◌, arith}
-use Rattle.asit_shadow.proofs.Common.{Option, Ok, Err, IfSome, IsSome, slice_set, slice_index_or, cases_eq, true≢false, false_from_ne_true, length-set, length-map, get_or-set_same, get_or-set_other, Line, Regs, HasRisen, line_at, IsGroup, without_group, Shape, IsShape, length-put_lines, Setup, RisesBy-then, RisesBy-once, RisesBy, Device, AreLinesOf, AreToldLines, HasLatched, Tells, HasFinished, IsInterrupted, RisesAtMost, redone, redone_told, finishing_latches, redone-nil, IsGroup-nil, cut_short, power_chained, any_told, Node, LineSeal, tree_lines, tree_slots, tree_size, line_of_node, line_of_slot, slot_of, slot_line, total, node_at, WatchState, IsTreeEngine, IsTreeAnchored, IsTreeDurable, IsTreeSound, IsTreeSealStored, IsSlotStored, IsNodeHeld, IsNodeHeldBy, TreeEngineParts, tree_lines_redone, AreTreeTrusted, AreTreeSound, IsWatchReady, HoldsTreeSeal, HoldsSlot, IsTreeArmed, IsTreeEmptied, IsPathAccepted, IsUsedUp, spilled_nodes, IsCutInGroup, IsNodePathFetched, HasWrittenUp, IsWriteMade, IsWriteTold, slot_entries}
+use Rattle.std.proofs.Common.{ℕ, ◌≡◌, ◌≢◌, ◌<◌, ◌≤◌, ◌+◌, ◌-◌, ◌^◌, List, [], ◌∷◌, length, true, Some, None, refl, sym, ap, subst, inl, inr, ◌∙◌, arith, rules}
+use Rattle.asit_shadow.proofs.Common.{Option, Ok, Err, IfSome, cases_eq, true≢false, false_from_ne_true, length-set, length-map, get_or-set_same, get_or-set_other, Line, Regs, HasRisen, line_at, IsGroup, without_group, Shape, IsShape, length-put_lines, Setup, RisesBy-then, RisesBy-once, RisesBy, Device, AreLinesOf, AreToldLines, HasLatched, Tells, HasFinished, IsInterrupted, RisesAtMost, redone, redone_told, finishing_latches, redone-nil, IsGroup-nil, cut_short, power_chained, any_told, Node, LineSeal, tree_lines, tree_slots, tree_size, line_of_node, total, node_at, WatchState, IsTreeEngine, IsTreeAnchored, IsTreeDurable, IsTreeSound, IsTreeSealStored, IsSlotStored, IsNodeHeld, IsNodeHeldBy, TreeEngineParts, tree_lines_redone, AreTreeTrusted, AreTreeSound, IsWatchReady, HoldsTreeSeal, HoldsSlot, IsTreeArmed, IsTreeEmptied, IsPathAccepted, IsUsedUp, spilled_nodes, IsCutInGroup, IsNodePathFetched, HasWrittenUp, IsWriteMade, IsWriteTold}
 use Rattle.asit_shadow.specs.declared.fault.TreeFault.TheVariants as Fail
 use Rattle.asit_shadow.proofs.ArmLaws.{armed-made, IsAnchored-armed, IsDurable-armed, IsTrusted-written, IsSound-written}
 use Rattle.asit_shadow.proofs.GroupLaws.{IsDurable-again}
@@ -25,19 +25,13 @@ redone-if P Q n group (Some lines) whole each was = each lines whole was
 
 -- the lines that a group makes of those before
 pub redone-over : (P Q : List Line → Type 0) (n : ℕ) (group : List (ℕ × Line)) (mid new : TreeEngineParts) → mid.device.regs.group.items ≡ [] → tree_lines_redone new ≡ redone_told group mid.device.lines → AreToldLines n mid.device.lines → ((lines : List Line) → AreLinesOf n lines → P lines → Q (redone group lines)) → IfSome (tree_lines_redone mid) P → IfSome (tree_lines_redone new) Q
-redone-over P Q n group mid new none made whole each was =
-    subst (λ told. IfSome told Q) (sym made) (redone-if P Q n group mid.device.lines whole each (told-of P mid none was))
+redone-over P Q n group mid new none made whole each was = search (rules, redone-if, told-of)
 
 pub redone-own : (Q : List Line → Type 0) (n : ℕ) (group : List (ℕ × Line)) (mid new : TreeEngineParts) → tree_lines_redone new ≡ redone_told group mid.device.lines → AreToldLines n mid.device.lines → ((lines : List Line) → AreLinesOf n lines → Q (redone group lines)) → IfSome (tree_lines_redone new) Q
-redone-own Q n group mid new made whole each =
-    subst (λ told. IfSome told Q) (sym made) (redone-if (λ lines. Unit {0}) Q n group mid.device.lines whole (λ lines are was. each lines are) (any_told mid.device.lines))
+redone-own Q n group mid new made whole each = search (rules, redone-if, any_told)
 
 told-redone : (n : ℕ) (group : List (ℕ × Line)) (told new : Option (List Line)) → AreToldLines n told → new ≡ redone_told group told → AreToldWith (λ x y. (AreLinesOf n x) × (y ≡ redone group x)) told new
-told-redone n group told new whole same = subst (AreToldWith (λ x y. (AreLinesOf n x) × (y ≡ redone group x)) told) (sym same) (itself told whole)
-  where
-    itself : (told : Option (List Line)) → AreToldLines n told → AreToldWith (λ x y. (AreLinesOf n x) × (y ≡ redone group x)) told (redone_told group told)
-    itself None whole = tt
-    itself (Some lines) whole = (whole, refl)
+told-redone n group told new whole same = search (rules, AreToldWith)
 
 told-again : (n : ℕ) (group : List (ℕ × Line)) (told new : Option (List Line)) → AreToldLines n new → redone_told group new ≡ redone_told group told → AreToldWith (λ x y. (AreLinesOf n y) × (redone group y ≡ redone group x)) told new
 told-again n group None None whole same = tt
@@ -47,12 +41,7 @@ told-again n group (Some x) (Some y) whole same = (whole, cc)
 
 -- a line that the group leaves as it was
 tells-redone : (n : ℕ) (group : List (ℕ × Line)) (told new : Option (List Line)) (place : ℕ) (line : Line) → AreToldLines n told → new ≡ redone_told group told → ((lines : List Line) → AreLinesOf n lines → line_at (redone group lines) place ≡ line_at lines place) → Tells told place line → Tells new place line
-tells-redone n group told new place line whole same kept tells =
-    subst (λ t. Tells t place line) (sym same) (itself told whole tells)
-  where
-    itself : (told : Option (List Line)) → AreToldLines n told → Tells told place line → Tells (redone_told group told) place line
-    itself None whole tells = tt
-    itself (Some lines) whole tells = tells ∙ sym (kept lines whole)
+tells-redone n group told new place line whole same kept tells = search rules
 
 -- ---- what an armed write makes
 
@@ -72,8 +61,7 @@ pub record IsArmedWrite (setup : Setup) (a : ℕ) (plain : Line) (seal : LineSea
   pub group : IsGroup (tree_size setup.shape) regs.group.items
 
 armed-over : (setup : Setup) (a : ℕ) (plain : Line) (seal : LineSeal) (pairs : List (ℕ × Node)) (regs : Regs) (old mid new : TreeEngineParts) (armed : Device) → IsArmedWrite setup a plain seal pairs regs old mid new armed → IsArmedOver setup a plain seal pairs regs old mid new
-armed-over setup a plain seal pairs regs old mid new armed it =
-    record { shape = it.shape; inside = it.inside; ready = it.ready; slots = it.slots; path = it.fetched.path; made = it.made }
+armed-over setup a plain seal pairs regs old mid new armed it = search rules
 
 -- from a trusted chip on it is as the laws ask
 armed-of : (setup : Setup) (a : ℕ) (plain : Line) (seal : LineSeal) (pairs : List (ℕ × Node)) (regs : Regs) (old mid new : TreeEngineParts) (armed : Device) → IsArmedWrite setup a plain seal pairs regs old mid new armed → AreTreeTrusted setup old → IsArmedAndStored setup a seal regs mid new
@@ -111,28 +99,11 @@ own-seal setup a plain seal pairs regs old mid new armed it trusted made =
 
 -- the watch has its counts and a seal of each line
 pub told-ready : (g : Shape) (a : ℕ) (seal : LineSeal) (pairs : List (ℕ × Node)) (old new : WatchState) → a < tree_lines g → IsWriteTold g a seal pairs old new → IsWatchReady g old → IsWatchReady g new
-told-ready g a seal pairs old new inside told ready =
-    record {
-      seal_count = ap length told.seals ∙ (length-set old.seals a (Some seal) ∙ ready.seal_count);
-      node_count = ap length told.nodes ∙ (length-set_pairs pairs old.nodes ∙ ready.node_count);
-      slot_count = ap length told.slots ∙ (length-put_lines (slot_entries g (λ i. i) pairs) old.slots ∙ ready.slot_count);
-      each_sealed =
-          λ b in_b.
-          subst (λ (seals : List (Option LineSeal)). IsSome (slice_index_or seals b None)) (sym told.seals)
-          (elim (cases_eq b a) [
-            | inl same ↦
-                subst (λ c. IsSome (slice_index_or (slice_set old.seals a (Some seal)) c None)) (sym same)
-                (subst (λ (s : Option LineSeal). IsSome s) (sym (get_or-set_same old.seals a (Some seal) None (omega (arith, inside, ready.seal_count)))) refl)
-            | inr other ↦ subst (λ (s : Option LineSeal). IsSome s) (sym (get_or-set_other old.seals a b (Some seal) None other)) (ready.each_sealed b in_b)
-          ]);
-    }
+told-ready g a seal pairs old new inside told ready = search (rules, length-set, length-set_pairs, length-put_lines, cases_eq, get_or-set_same, get_or-set_other)
 
 -- the group has three lines and one for each level
 group-count : (setup : Setup) (a : ℕ) (plain : Line) (seal : LineSeal) (pairs : List (ℕ × Node)) (regs : Regs) (mid new : TreeEngineParts) → IsWriteMade setup a plain seal pairs regs mid new → length regs.group.items ≡ setup.shape.levels + 3
-group-count setup a plain seal pairs regs mid new made =
-    let count = pairs-count setup.shape a pairs made.raised.positions in
-    let rest : length (slot_entries setup.shape (line_of_slot setup.shape) pairs) ≡ length pairs = length-map {B = ℕ × Line} pairs (λ (pair : ℕ × Node). (line_of_slot setup.shape (slot_of setup.shape pair.0), slot_line pair.0 pair.1)) in
-    omega (arith, ap length made.group, count, rest)
+group-count setup a plain seal pairs regs mid new made = search (rules, pairs-count, length-map)
 
 one-latch : (group : List (ℕ × Line)) → 1 ≤ length group → finishing_latches group ≡ 1
 one-latch [] some = absurd (omega (arith, some))
@@ -143,14 +114,11 @@ one-latch (entry ∷ rest) some = refl
 -- what the device holds once the group is written
 kept-made : (setup : Setup) (a : ℕ) (plain : Line) (seal : LineSeal) (pairs : List (ℕ × Node)) (regs : Regs) (old mid new : TreeEngineParts) (armed : Device) → IsArmedWrite setup a plain seal pairs regs old mid new armed → IsInterrupted armed.regs.group.items armed new.device
     → redone_told regs.group.items new.device.lines ≡ redone_told regs.group.items mid.device.lines
-kept-made setup a plain seal pairs regs old mid new armed it cut =
-    subst (λ (r : Regs). redone_told r.group.items new.device.lines ≡ redone_told r.group.items mid.device.lines) it.latched.regs
-    (cut.again ∙ ap (redone_told armed.regs.group.items) it.latched.lines)
+kept-made setup a plain seal pairs regs old mid new armed it cut = search rules
 
 kept-cuts : (setup : Setup) (a : ℕ) (plain : Line) (seal : LineSeal) (pairs : List (ℕ × Node)) (regs : Regs) (old mid new : TreeEngineParts) (armed : Device) → IsArmedWrite setup a plain seal pairs regs old mid new armed → IsInterrupted armed.regs.group.items armed new.device
     → RisesAtMost (length regs.group.items) armed.writes new.device.writes
-kept-cuts setup a plain seal pairs regs old mid new armed it cut =
-    subst (λ (r : Regs). RisesAtMost (length r.group.items) armed.writes new.device.writes) it.latched.regs cut.writes
+kept-cuts setup a plain seal pairs regs old mid new armed it cut = search rules
 
 -- how far it came
 pub kept-work : (setup : Setup) (a : ℕ) (plain : Line) (seal : LineSeal) (pairs : List (ℕ × Node)) (regs : Regs) (old mid new : TreeEngineParts) (armed : Device) → IsArmedWrite setup a plain seal pairs regs old mid new armed → IsInterrupted armed.regs.group.items armed new.device

@@ -1,6 +1,6 @@
 -- The plan of a write: what is raised, named and armed, level by level, and its ends.
-use Rattle.std.proofs.Common.{ℕ, suc, ◌≡◌, ◌<◌, ◌+◌, ◌-◌, ◌^◌, ◌%◌, ◌++◌, ◌∷◌, [], true, false, List, Result, Ok, Err, length, take, get_or, refl, sym, ap, subst, ◌∙◌, arith}
-use Rattle.asit_shadow.proofs.Common.{Option, ◌==◌, ◌≤◌, slice_set, All, length-set, take_more, Cut, Line, Regs, put_lines, meta_lines, Shape, IsShape, Device, HasLatched, WasCut, Formulas, AreInRange, Setup, Follows, is_stopped, bind_ok, bind_err, mapped_follows, HasFinished, finish_plan, Node, LineSeal, counter, total, version_counter, tree_slots, ChipTree, IsShadowTree, shadow_height, root_of, tree_with, tree_root_with, shadow_height-room, slot_line-IsLine, slot_of, slot_line, WatchState, chosen, not_chosen, CachedNode, TreeFault, top_node, KeepsOtherRegisters, armed_lines, pair_at, slot_entries, IsSealMade, IsTreeNamed, IsWriteTold, TreeChip, fetch_plan, raised_pair, seal_of, named_one, write_armed, told_write, named_chip, stored_chip, seal_under_plan, raise_plan}
+use Rattle.std.proofs.Common.{ℕ, suc, ◌≡◌, ◌<◌, ◌+◌, ◌-◌, ◌^◌, ◌%◌, ◌++◌, ◌∷◌, [], true, false, List, Result, Ok, Err, length, take, get_or, refl, sym, ap, subst, ◌∙◌, arith, rules}
+use Rattle.asit_shadow.proofs.Common.{Option, ◌==◌, ◌≤◌, slice_set, All, length-set, take_more, Cut, Line, Regs, put_lines, meta_lines, Shape, IsShape, Device, HasLatched, WasCut, Formulas, AreInRange, Setup, Follows, is_stopped, bind_ok, bind_err, mapped_follows, HasFinished, finish_plan, Node, LineSeal, counter, total, tree_slots, ChipTree, IsShadowTree, shadow_height, root_of, tree_with, tree_root_with, shadow_height-room, slot_line-IsLine, slot_of, slot_line, WatchState, chosen, not_chosen, CachedNode, TreeFault, top_node, KeepsOtherRegisters, armed_lines, pair_at, slot_entries, IsSealMade, IsTreeNamed, IsWriteTold, TreeChip, fetch_plan, raised_pair, seal_of, named_one, write_armed, told_write, named_chip, stored_chip, raise_plan}
 use Rattle.commit_regs.proofs.GroupPlans.{group_cut, group_end}
 use Rattle.counter_tree.proofs.ChipTree.{chip-with, chip-root_with}
 use Rattle.asit_shadow.specs.declared.fault.TreeFault.TheVariants as Fail
@@ -17,27 +17,20 @@ raised-first g cache a = refl
 pub raised-step : (g : Shape) (cache : List (Option CachedNode)) (a n : ℕ) (old new : List (ℕ × Node)) (pair : ℕ × Node) → old ≡ raised_path g cache a n
     → pair ≡ raised_pair g cache a n → new ≡ old ++ pair ∷ [] → new ≡ raised_path g cache a (n + 1)
 unfolding raised_path
-raised-step g cache a n old new pair before is step =
-    let more : suc n ≡ n + 1 = omega arith in
-    step ∙ (ap (λ (pairs : List (ℕ × Node)). pairs ++ pair ∷ []) before
-    ∙ (ap (λ (p : ℕ × Node). raised_path g cache a n ++ p ∷ []) is ∙ ap (raised_path g cache a) more))
+raised-step g cache a n old new pair before is step = search rules
 
 -- ---- the seal, the watch and the registers, as equations
 
 pub seal_is : (f : Formulas) (a count : ℕ) (plain : Line) (seal : LineSeal) → IsSealMade f a count plain seal → seal ≡ seal_of f a count plain
-seal_is f a count plain seal made =
-    let tag = sym made.tag ∙ ap (f.tag_of a (version_counter count)) made.cipher in
-    λ i. record { counter = made.its_counter i; cipher = made.cipher i; tag = tag i }
+seal_is f a count plain seal made = search rules
 
 pub told_is : (g : Shape) (a : ℕ) (seal : LineSeal) (pairs : List (ℕ × Node)) (old new : WatchState) → IsWriteTold g a seal pairs old new
     → new ≡ told_write g a seal pairs old
-told_is g a seal pairs old new it =
-    λ i. record { setup = it.setup i; seals = it.seals i; nodes = it.nodes i; slots = it.slots i; exhibit = it.exhibit i }
+told_is g a seal pairs old new it = search rules
 
 pub armed_is : (g : Shape) (a : ℕ) (seal : LineSeal) (pairs : List (ℕ × Node)) (root : List ℕ) (old new : Regs) → KeepsOtherRegisters old new
     → new.root ≡ root → new.group.items ≡ armed_lines g a seal pairs → new ≡ write_armed g a seal pairs root old
-armed_is g a seal pairs root old new others its_root group =
-    others ∙ (λ i. record old { root = its_root i; group = record { items = group i } })
+armed_is g a seal pairs root old new others its_root group = search rules
 
 -- ---- the shadow tree
 
@@ -156,7 +149,4 @@ module _ (setup : Setup) (regs : Regs) (a : ℕ) (plain : Line) (chip : TreeChip
         → Follows (fetch_plan setup a chip) old mid (Ok (fetched, node)) → Follows (seal_plan setup a seal pairs regs fetched) mid new end
         → Follows (write_line_plan setup regs a plain chip) old new end
     unfolding write_line_plan
-    fetched_write fetched node pairs seal {mid = mid} {new = new} {end = end} its made first second =
-        not_chosen _ unspent (bind_ok (raise_plan setup a plain regs) first
-        (subst (λ ps. Follows (seal_under_plan setup a plain ps regs fetched) mid new end) its
-        (subst (λ s. Follows (seal_plan setup a s pairs regs fetched) mid new end) made second)))
+    fetched_write fetched node pairs seal {mid = mid} {new = new} {end = end} its made first second = search (rules, not_chosen, bind_ok)

@@ -4,7 +4,7 @@ use Rattle.board.specs.Device.{Device}
 use Rattle.call_plan.specs.Plans.{Plan, done, stop, read, write, latch, bind, mapped, lifted, mapped_end}
 use Rattle.call_plan.specs.Following.{Took, Follows}
 
-same_err : {E T U : Type 0} (a b : E) → (let x : Result T E = Err a in x ≡ Err b) → (let x : Result U E = Err a in x ≡ Err b)
+pub same_err : {E T U : Type 0} (a b : E) → (let x : Result T E = Err a in x ≡ Err b) → (let x : Result U E = Err a in x ≡ Err b)
 same_err {E = E} {U = U} a b e =
     let same : a ≡ b = cc in
     let err : E → Result U E = Err in

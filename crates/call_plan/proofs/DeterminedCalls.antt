@@ -49,7 +49,7 @@ same_fuse old a b x y first second powered taken =
     ]
 
 -- a board is its fields
-same_board : (a b : BoardMemory) → a.lines ≡ b.lines → a.regs ≡ b.regs → a.powered ≡ b.powered → a.fuse ≡ b.fuse → a.snapshot ≡ b.snapshot
+pub same_board : (a b : BoardMemory) → a.lines ≡ b.lines → a.regs ≡ b.regs → a.powered ≡ b.powered → a.fuse ≡ b.fuse → a.snapshot ≡ b.snapshot
     → a.reads ≡ b.reads → a.writes ≡ b.writes → a.latches ≡ b.latches → a.cuts ≡ b.cuts → a.accesses ≡ b.accesses → a ≡ b
 same_board a b lines regs powered fuse snapshot reads writes latches cuts accesses =
     ap (λ (l : List Line). record a { lines = l }) lines

@@ -6,4 +6,5 @@ pub mod Leaves
 pub mod Spending
 pub mod Determined
 pub mod DeterminedCalls
+pub mod StillCalls
 pub mod Ascents

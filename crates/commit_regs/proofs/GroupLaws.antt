@@ -1,12 +1,11 @@
 -- What a group's plan leaves at its end and at each cut.
-use Rattle.std.proofs.Common.{ℕ, ◌≡◌, List, [], ◌∷◌, ◌++◌, Option, Some, None, Ok, Err, length, refl, sym, ap, ◌∙◌, arith}
+use Rattle.std.proofs.Common.{ℕ, ◌≡◌, List, [], ◌∷◌, ◌++◌, Ok, Err, length, refl, sym, ap, ◌∙◌, arith}
 use Rattle.std.proofs.lemmas.List.{append-nil, append_assoc}
 use Rattle.pmem_base.specs.declared.faults.Cut.{Cut}
 use Rattle.pmem_base.specs.declared.lines.Line.{Line}
 use Rattle.pmem_base.specs.declared.registers.Regs.{Regs}
 use Rattle.pmem_base.specs.Counts.{risen, risen_times}
 use Rattle.pmem_base.specs.Registers.{without_group}
-use Rattle.pmem_base.proofs.LineSets.{put_lines-append}
 use Rattle.board.specs.Device.{Device}
 use Rattle.board.specs.Steps.{HasWritten, WasCut, with_line}
 use Rattle.call_plan.specs.Plans.{Plan, done, latch, the_cut}
@@ -17,13 +16,7 @@ use Rattle.call_plan.proofs.Spending.{spends, spends_bind, spends_more, spends_f
 use Rattle.commit_regs.specs.Groups.{redone_told}
 use Rattle.commit_regs.specs.Plans.{line_plan, lines_plan, finish_plan}
 use Rattle.commit_regs.specs.Laws.{IsWrittenTo}
-use Rattle.commit_regs.proofs.GroupLemmas.{redone-nil}
-
--- one line more
-redone-more : (front : List (ℕ × Line)) (entry : ℕ × Line) (told : Option (List Line))
-    → redone_told (front ++ entry ∷ []) told ≡ with_line (redone_told front told) entry.0 entry.1
-redone-more front entry None = refl
-redone-more front entry (Some lines) = ap Some (put_lines-append front (entry ∷ []) lines)
+use Rattle.commit_regs.proofs.GroupLemmas.{redone-nil, redone-more}
 
 module _ (armed : Regs) (old : Device) where
   abbrev group : List (ℕ × Line)

@@ -89,6 +89,12 @@ pub redone_told-append : (front back : List (ℕ × Line)) (told : Option (List 
 redone_told-append front back None = refl
 redone_told-append front back (Some lines) = ap Some (put_lines-append front back lines)
 
+-- one line more
+pub redone-more : (front : List (ℕ × Line)) (entry : ℕ × Line) (told : Option (List Line))
+    → redone_told (front ++ entry ∷ []) told ≡ with_line (redone_told front told) entry.0 entry.1
+redone-more front entry None = refl
+redone-more front entry (Some lines) = ap Some (put_lines-append front (entry ∷ []) lines)
+
 -- no entries are a group
 pub IsGroup-nil : (size : ℕ) → IsGroup size []
 IsGroup-nil size = search rules

@@ -1,21 +1,8 @@
 -- The tree on the chip: how many lines it has, how it is made anew, and how a line is put into it.
-use Rattle.std.proofs.Common.{ℕ, suc, ◌≡◌, ◌<◌, ◌≤◌, ◌+◌, ◌-◌, ◌*◌, ◌/◌, ◌^◌, List, [], ◌∷◌, length, sym, ap, subst, ◌∙◌, inl, inr, arith}
-use Rattle.std.specs.Prelude.{slice_set, All}
+use Rattle.std.proofs.Common.{ℕ, suc, ◌≡◌, ◌<◌, ◌≤◌, ◌+◌, ◌-◌, ◌*◌, ◌^◌, List, length, sym, subst, arith, rules}
 use Rattle.std.proofs.Common.{replicate}
-use Rattle.std.proofs.lemmas.List.{length-replicate}
-use Rattle.std.proofs.lemmas.Bool.{cases_eq}
-use Rattle.pmem_base.proofs.LineLemmas.{All-zero_lines}
-use Rattle.pmem_base.specs.declared.lines.Line.{Line}
-use Rattle.pmem_base.specs.Layout.{level_start}
-use Rattle.pmem_base.specs.Lines.{IsLine, line_at, put_lines, zero_line}
-use Rattle.pmem_base.proofs.LineSets.{put_lines-append, line_at-set_same, line_at-set_other}
-use Rattle.suite.specs.Formulas.{Formulas}
-use Rattle.bonsai_tree.specs.Positions.{parent, child_slot, child_position}
-use Rattle.bonsai_tree.specs.Nodes.{node_over}
-use Rattle.bonsai_tree.proofs.NodeLaws.{node_over-same}
-use Rattle.bonsai_tree.specs.Paths.{node_above, new_path, new_root, with_child_digest}
-use Rattle.bonsai_tree.proofs.Levels.{IsAtLevel, parent-IsAtLevel, level_start-suc, level_start-le, level_start-next}
-use Rattle.counter_tree.specs.Shadow.{ChipTree, IsChipTree, IsAtLevelOf, AreLeaves, IsShadowTree}
+use Rattle.counter_tree.proofs.Common.{slice_set, length-replicate, All-zero_lines, Line, level_start, line_at, put_lines, put_lines-append, Formulas, parent, child_slot, node_over, node_above, new_path, new_root, with_child_digest, IsAtLevel, parent-IsAtLevel, level_start-suc, level_start-le, ChipTree, IsChipTree, IsAtLevelOf, AreLeaves, IsShadowTree}
+use Rattle.pmem_base.specs.Lines.{zero_line}
 
 -- a node's children are lines of the tree
 pub children-within : (tree : ChipTree) (x : ℕ) → IsChipTree tree → x < level_start tree.height → 4 * x + 1 + 3 < length tree.lines
@@ -46,29 +33,19 @@ pub put-more : (f : Formulas) (lines made : List Line) (level j x above : ℕ) (
     → level ≡ suc j → above ≡ parent x → node ≡ node_above f (line_at lines) x line
     → made ≡ put_lines (new_path f (line_at lines) j above node) lines
     → slice_set made x line ≡ put_lines (new_path f (line_at lines) level x line) lines
-put-more f lines made level j x above line node is up over rest =
-    ap (λ (ls : List Line). slice_set ls x line)
-    (rest ∙ (ap (λ y. put_lines (new_path f (line_at lines) j y node) lines) up
-    ∙ ap (λ n. put_lines (new_path f (line_at lines) j (parent x) n) lines) over))
-    ∙ (sym (put_lines-append (new_path f (line_at lines) j (parent x) (node_above f (line_at lines) x line)) ((x, line) ∷ []) lines)
-    ∙ ap (λ n. put_lines (new_path f (line_at lines) n x line) lines) (sym is))
+put-more f lines made level j x above line node is up over rest = search (rules, put_lines-append)
 
 pub root-more : (f : Formulas) (lines : List Line) (level j x above : ℕ) (line node : Line) (root : List ℕ)
     → level ≡ suc j → above ≡ parent x → node ≡ node_above f (line_at lines) x line
     → root ≡ new_root f (line_at lines) j above node
     → root ≡ new_root f (line_at lines) level x line
-root-more f lines level j x above line node root is up over rest =
-    rest
-    ∙ (ap (λ y. new_root f (line_at lines) j y node) up
-    ∙ (ap (λ n. new_root f (line_at lines) j (parent x) n) over ∙ ap (λ n. new_root f (line_at lines) n x line) (sym is)))
+root-more f lines level j x above line node root is up over rest = search rules
 
 -- the node above, as it is made
 pub node-is : (f : Formulas) (lines : List Line) (x slot above : ℕ) (line old node : Line) (digest : List ℕ)
     → above ≡ parent x → slot ≡ child_slot x → old ≡ line_at lines above → digest ≡ f.digest_of x line
     → node ≡ with_child_digest old slot digest → node ≡ node_above f (line_at lines) x line
-node-is f lines x slot above line old node digest up its from of is =
-    is ∙ (ap (λ o. with_child_digest o slot digest) (from ∙ ap (line_at lines) up)
-    ∙ (ap (λ s. with_child_digest (line_at lines (parent x)) s digest) its ∙ ap (with_child_digest (line_at lines (parent x)) (child_slot x)) of))
+node-is f lines x slot above line old node digest up its from of is = search rules
 
 -- ---- the tree made anew
 
@@ -77,20 +54,7 @@ pub nodes-more : (f : Formulas) (lines new : List Line) (n x : ℕ) (node : Line
     → x < length lines → node ≡ node_over f x (line_at lines) → new ≡ slice_set lines x node
     → ((y : ℕ) → suc x ≤ y → y < n → line_at lines y ≡ node_over f y (line_at lines))
     → (y : ℕ) → x ≤ y → y < n → line_at new y ≡ node_over f y (line_at new)
-nodes-more f lines new n x node inside its is below y from within =
-    subst (λ ls. line_at ls y ≡ node_over f y (line_at ls)) (sym is)
-    (elim (cases_eq y x) [
-      | inl here ↦
-          subst (λ z. line_at (slice_set lines x node) z ≡ node_over f z (line_at (slice_set lines x node))) (sym here)
-          (line_at-set_same lines x node inside ∙ (its ∙ same x (omega arith)))
-      | inr other ↦
-          line_at-set_other lines x y node other ∙ (below y (omega (arith, from, other)) within ∙ same y from)
-    ])
-  where
-    same : (z : ℕ) → x ≤ z → node_over f z (line_at lines) ≡ node_over f z (line_at (slice_set lines x node))
-    same z low =
-        node_over-same f z (line_at lines) (line_at (slice_set lines x node))
-        (λ i small. sym (line_at-set_other lines x (child_position z i) node (λ e. absurd (omega (arith, e, low)))))
+nodes-more f lines new n x node inside its is below y from within = search rules
 
 -- all of it
 pub filled : (f : Formulas) (tree : ChipTree) (slots leaves : List Line) (h : ℕ)
@@ -98,32 +62,12 @@ pub filled : (f : Formulas) (tree : ChipTree) (slots leaves : List Line) (h : �
     → ((x : ℕ) → x < level_start h → line_at tree.lines x ≡ node_over f x (line_at tree.lines))
     → ((x : ℕ) → level_start h ≤ x → line_at tree.lines x ≡ line_at leaves x)
     → IsShadowTree f h slots tree.lines
-filled f tree slots leaves h it height leaf nodes kept =
-    record {
-      tree_lines =
-          record {
-            whole = it.count ∙ (ap (λ n. level_start (suc n)) height ∙ ap (λ n. (4 ^ n - 1) / 3) (omega arith));
-            inner = nodes;
-          };
-      whole = it.whole;
-      leaves = λ i inside. kept (level_start h + i) (omega arith) ∙ leaf i inside;
-    }
+filled f tree slots leaves h it height leaf nodes kept = search rules
 
 -- a slot's leaf stands at the last level
 pub leaf-level : (tree : ChipTree) (i first : ℕ) → first ≡ level_start tree.height → i < 4 ^ tree.height → IsAtLevelOf tree tree.height (first + i)
-leaf-level tree i first is inside =
-    record {
-      within = omega arith;
-      from = omega (arith, is);
-      below = omega (arith, is, inside, level_start-next tree.height);
-    }
+leaf-level tree i first is inside = search rules
 
 -- zero lines are a tree on the chip
 pub zero_tree : (height n : ℕ) (lines : List Line) → 1 ≤ height → height ≤ 5 → n ≡ level_start (suc height) → lines ≡ replicate n zero_line → IsChipTree (record { height = height; lines = lines })
-zero_tree height n lines least most many zeros =
-    record {
-      least = least;
-      most = most;
-      count = ap (λ (ls : List Line). length ls) zeros ∙ (length-replicate n zero_line ∙ many);
-      whole = subst (λ ls. All IsLine ls) (sym zeros) (All-zero_lines n);
-    }
+zero_tree height n lines least most many zeros = search (rules, length-replicate, All-zero_lines)

@@ -1,28 +1,13 @@
 -- The shadow tree that is kept on the chip: its lines are those over the slot lines, also after one of
 -- them is replaced along its path.
-use Rattle.pmem_base.specs.Layout.{level_start}
-use Rattle.std.proofs.Common.{ℕ, zero, suc, ◌≡◌, ◌<◌, ◌≤◌, ◌+◌, ◌-◌, ◌^◌, List, length, sym, ap, inl, inr, ◌∙◌, arith}
-use Rattle.std.specs.Prelude.{slice_set}
-use Rattle.std.proofs.lemmas.Bool.{cases_eq}
-use Rattle.pmem_base.specs.declared.lines.Line.{Line}
-use Rattle.pmem_base.specs.Lines.{IsLine, line_at}
-use Rattle.pmem_base.proofs.LineSets.{line_at-set_same, line_at-set_other}
-use Rattle.suite.specs.Formulas.{Formulas, AreInRange}
-use Rattle.bonsai_tree.specs.Positions.{child_position}
-use Rattle.bonsai_tree.specs.Paths.{lines_with}
-use Rattle.bonsai_tree.proofs.Levels.{IsAtLevel, child-IsAtLevel, IsAtLevel-inner, level_start-next}
-use Rattle.bonsai_tree.proofs.NodeLaws.{node_over-same}
+use Rattle.std.proofs.Common.{ℕ, zero, suc, ◌≡◌, ◌<◌, ◌+◌, ◌-◌, ◌^◌, List, length, ap, ◌∙◌, arith, rules}
+use Rattle.counter_tree.proofs.Common.{slice_set, cases_eq, Line, IsLine, line_at, line_at-set_same, line_at-set_other, Formulas, AreInRange, child_position, IsAtLevel, child-IsAtLevel, IsAtLevel-inner, node_over-same, shadow_tree_line, root_of, shape_of_height, IsShadowTree}
 use Rattle.bonsai_tree.proofs.Trees.{lines_with-IsTreeWith}
-use Rattle.counter_tree.specs.Shadow.{shadow_tree_line, root_of, shape_of_height, IsShadowTree, tree_with, tree_root_with}
+use Rattle.counter_tree.specs.Shadow.{tree_with, tree_root_with}
 
 -- each line is that of the tree over the slot lines
 pub chip-line : (f : Formulas) (h : ℕ) (slots tree : List Line) (j d x : ℕ) → IsShadowTree f h slots tree → d + j ≡ h → IsAtLevel d x → line_at tree x ≡ shadow_tree_line f h slots j x
-chip-line f h slots tree zero d x it sum at =
-    let last : d ≡ h = omega (arith, sum) in
-    let from : level_start h ≤ x = omega (arith, at.from, ap level_start last) in
-    let below : x < level_start (suc h) = omega (arith, at.below, ap (λ n. level_start (suc n)) last) in
-    let place : level_start h + (x - level_start h) ≡ x = omega (arith, from) in
-    ap (line_at tree) (sym place) ∙ it.leaves (x - level_start h) (omega (arith, below, from, level_start-next h))
+chip-line f h slots tree zero d x it sum at = search rules
 chip-line f h slots tree (suc j) d x it sum at =
     it.tree_lines.inner x (IsAtLevel-inner h d x (omega (arith, sum)) at)
     ∙ node_over-same f x (line_at tree) (shadow_tree_line f h slots j)
@@ -38,18 +23,7 @@ pub chip-with : (f : Formulas) (h : ℕ) (slots tree : List Line) (i : ℕ) (lin
 unfolding tree_with
 chip-with f h slots tree i line in_range it inside in_list good =
     let new = lines_with-IsTreeWith (shape_of_height h) f tree i line in_range it.tree_lines it.whole inside good in
-    record {
-      tree_lines = new.tree;
-      whole = new.whole;
-      leaves =
-          λ j in_j.
-          elim (cases_eq j i) [
-            | inl same ↦
-                ap (λ n. line_at (lines_with (shape_of_height h) f tree i line) (level_start h + n)) same
-                ∙ (new.its_block ∙ (sym (line_at-set_same slots i line in_list) ∙ ap (line_at (slice_set slots i line)) (sym same)))
-            | inr other ↦ new.other_blocks j other ∙ (it.leaves j in_j ∙ sym (line_at-set_other slots i j line other))
-          ];
-    }
+    search (rules, cases_eq, line_at-set_same, line_at-set_other)
 
 -- and the new root is found along that path
 pub chip-root_with : (f : Formulas) (h : ℕ) (slots tree : List Line) (i : ℕ) (line : Line) → AreInRange f → IsShadowTree f h slots tree → i < 4 ^ h → i < length slots → IsLine line → tree_root_with f h tree i line ≡ root_of f h (slice_set slots i line)

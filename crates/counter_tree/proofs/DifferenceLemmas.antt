@@ -1,23 +1,13 @@
 -- Where two lists of slot lines, and the lines of their shadow trees, differ.
-use Rattle.std.proofs.Common.{ℕ, suc, ◌≡◌, ◌≢◌, ◌<◌, ◌≤◌, ◌+◌, ◌-◌, ◌^◌, List, length, refl, sym, subst, ◌∙◌, inl, inr, arith}
-use Rattle.std.proofs.lemmas.Bool.{cases_eq}
-use Rattle.pmem_base.specs.declared.lines.Line.{Line}
-use Rattle.pmem_base.specs.Layout.{level_start}
-use Rattle.pmem_base.specs.Lines.{line_at}
-use Rattle.suite.specs.Formulas.{Formulas}
-use Rattle.bonsai_tree.proofs.Levels.{IsAtLevel, level_start-next, level_start-suc}
-use Rattle.counter_tree.specs.Shadow.{up, shadow_tree_line, ChipTree, IsChipTree, IsAtLevelOf, IsShadowTree, FirstDiffers, IsShadowDifference, IsTopDifference}
+use Rattle.std.proofs.Common.{ℕ, suc, ◌≡◌, ◌≢◌, ◌<◌, ◌≤◌, ◌+◌, ◌-◌, ◌^◌, List, length, refl, sym, subst, ◌∙◌, inl, inr, arith, rules}
+use Rattle.counter_tree.proofs.Common.{cases_eq, Line, level_start, line_at, Formulas, IsAtLevel, level_start-next, level_start-suc, up, shadow_tree_line, ChipTree, IsChipTree, IsAtLevelOf, IsShadowTree, FirstDiffers, IsShadowDifference, IsTopDifference}
 use Rattle.counter_tree.proofs.ShadowLaws.{cases_line, up-IsAtLevel}
 use Rattle.counter_tree.proofs.ChipTree.{chip-line}
 use Rattle.counter_tree.proofs.ChipLemmas.{level-within, leaf-level}
 
 -- one place more at which two lists are equal
 pub same-more : (a b : List Line) (i : ℕ) → line_at a i ≡ line_at b i → ((j : ℕ) → j < i → line_at a j ≡ line_at b j) → (j : ℕ) → j < i + 1 → line_at a j ≡ line_at b j
-same-more a b i here before j below =
-    elim (cases_eq j i) [
-      | inl last ↦ subst (λ k. line_at a k ≡ line_at b k) (sym last) here
-      | inr other ↦ before j (omega (arith, below, other))
-    ]
+same-more a b i here before j below = search rules
 
 -- ---- up from a leaf
 
@@ -46,14 +36,7 @@ level-before level top h is below = omega (arith, is, below)
 -- ---- the highest difference
 
 pub highest-first : (a b : List Line) (leaf : ℕ) → line_at a leaf ≢ line_at b leaf → IsTopDifference 0 a b leaf leaf
-highest-first a b leaf differ =
-    record {
-      height = 0;
-      within = omega arith;
-      its_place = refl;
-      differ = differ;
-      above = λ n low high. absurd (omega (arith, low, high));
-    }
+highest-first a b leaf differ = search rules
 
 -- one level more
 pub highest-more : (a b : List Line) (leaf level x found result : ℕ)
@@ -81,9 +64,7 @@ highest-more a b leaf level x found result place same other so_far =
             differ = subst (λ z. line_at a z ≢ line_at b z) (sym is) so_far.differ;
             above = λ n low high.
                 elim (cases_eq n (suc level)) [
-                  | inl last ↦
-                      subst (λ k. line_at a (up k leaf) ≡ line_at b (up k leaf)) (sym last)
-                      (subst (λ z. line_at a z ≡ line_at b z) place equal)
+                  | inl last ↦ search rules
                   | inr before ↦ so_far.above n low (omega (arith, high, before))
                 ];
           }
@@ -103,24 +84,4 @@ pub shadow_top : (f : Formulas) (h : ℕ) (first second a b : List Line) (i x : 
     → IsShadowTree f h first a → IsShadowTree f h second b → i < 4 ^ h → FirstDiffers first second i
     → IsTopDifference h a b (level_start h + i) x
     → (m : ℕ) × IsShadowDifference f h first second i m x × (line_at a x ≡ shadow_tree_line f h first m x) × (line_at b x ≡ shadow_tree_line f h second m x)
-shadow_top f h first second a b i x one two inside slot top =
-    let m = top.height in
-    let leaf = level_start h + i in
-    let is_one : line_at a x ≡ shadow_tree_line f h first m x =
-    subst (λ z. line_at a z ≡ shadow_tree_line f h first m z) (sym top.its_place) (path_line f h first a i m one inside top.within) in
-    let is_two : line_at b x ≡ shadow_tree_line f h second m x =
-    subst (λ z. line_at b z ≡ shadow_tree_line f h second m z) (sym top.its_place) (path_line f h second b i m two inside top.within) in (
-      m,
-      record {
-        slot = slot;
-        height = top.within;
-        its_place = top.its_place;
-        above =
-            λ n low high.
-            sym (path_line f h first a i n one inside high)
-            ∙ (top.above n low high ∙ path_line f h second b i n two inside high);
-        differ = λ e. top.differ (is_one ∙ (e ∙ sym is_two));
-      },
-      is_one,
-      is_two,
-    )
+shadow_top f h first second a b i x one two inside slot top = search (rules, path_line)

@@ -1,3 +1,4 @@
+pub mod Common
 pub mod Positions
 pub mod HeightLemmas
 pub mod ChipLemmas

@@ -1,12 +1,7 @@
 -- More on positions, and nodes over whole lines.
 use Rattle.std.proofs.Common.{ℕ, ◌≡◌, ◌<◌, ◌≤◌, [], ◌++◌, length, refl, arith, length-append}
-use Rattle.std.proofs.lemmas.List.Elements.{All-append, All-nil}
-use Rattle.pmem_base.specs.declared.lines.Line.{Line}
-use Rattle.pmem_base.specs.Lines.{IsLine, IsTag}
+use Rattle.counter_tree.proofs.Common.{All-append, All-nil, Line, IsLine, IsTag, Formulas, AreInRange, parent, child_slot, child_position, node_over, child_digest_over}
 pub use Rattle.pmem_base.proofs.LayoutLemmas.{meta_lines-most}
-use Rattle.suite.specs.Formulas.{Formulas, AreInRange}
-use Rattle.bonsai_tree.specs.Positions.{parent, child_slot, child_position}
-use Rattle.bonsai_tree.specs.Nodes.{node_over, child_digest_over}
 
 pub child_slot-child : (x i : ℕ) → i < 4 → child_slot (child_position x i) ≡ i
 child_slot-child x i small = omega (arith, small)
@@ -37,9 +32,5 @@ node_over-IsLine f x line in_range whole =
             good3.long,
             none,
           );
-      bytes =
-          All-append (λ b. b < 256) (D 0) (D 1 ++ (D 2 ++ (D 3 ++ []))) good0.bytes
-          (All-append (λ b. b < 256) (D 1) (D 2 ++ (D 3 ++ [])) good1.bytes
-          (All-append (λ b. b < 256) (D 2) (D 3 ++ []) good2.bytes
-          (All-append (λ b. b < 256) (D 3) [] good3.bytes (All-nil (λ b. b < 256)))));
+      bytes = search (All-append, All-nil);
     }

@@ -1,51 +1,30 @@
 -- The ends of reading a node and a data line, as their plans have them.
 use Rattle.std.proofs.Common.{rules, refl, ◌≡◌, ◌≢◌, ℕ, Bool, true, false, List, Option, Some, None, Result, Ok, Err, sym, ap, subst}
-use Rattle.std.specs.Prelude.{IsSome, if◌then◌else◌}
-use Rattle.pmem_base.specs.declared.lines.Line.{Line}
-use Rattle.pmem_base.specs.declared.answers.Exhibit.{Exhibit}
-use Rattle.pmem_base.specs.declared.answers.Exhibit.TheVariants.{Forged}
-use Rattle.pmem_base.specs.Counts.{risen}
-use Rattle.pmem_base.specs.Lines.{IsLine, tag_slot}
-use Rattle.pmem_base.proofs.ByteLaws.{same_bytes-from}
+use Rattle.counter_tree.proofs.Common.{IsSome, if◌then◌else◌, Line, Exhibit, Forged, risen, IsLine, tag_slot, same_bytes-from, HasRead, WasCut, Setup, other_bytes, same_line, other_line, unsealed, is_done, is_stopped, read_then, read_cut, Node, LineSeal, FetchFault, line_of_node, line_of_tag, version_counter, node_read, node_at, WatchState, last_seal_of, HasShown, forged_node, ReadParts, read_parts, with_exhibit, tags_of_node}
 use Rattle.board.specs.Device.{Device}
-use Rattle.board.specs.Steps.{HasRead, WasCut}
-use Rattle.suite.specs.Setup.{Setup}
-use Rattle.seal_ledger.proofs.NoteLemmas.{other_bytes, same_line, other_line}
-use Rattle.line_seal.specs.Seals.{unsealed}
-use Rattle.call_plan.specs.Plans.{Plan, read, ended}
+use Rattle.call_plan.specs.Plans.{Plan, ended}
 use Rattle.call_plan.specs.Following.{Follows}
-use Rattle.call_plan.proofs.Steps.{is_done, is_stopped, read_then, read_cut}
-use Rattle.counter_tree.specs.declared.nodes.Node.{Node}
-use Rattle.counter_tree.specs.declared.watch.LineSeal.{LineSeal}
-use Rattle.counter_tree.specs.declared.accepted.FetchFault.{FetchFault}
 use Rattle.counter_tree.specs.declared.accepted.FetchFault.TheVariants as Fail
-use Rattle.counter_tree.specs.Layout.{line_of_node, line_of_tag}
-use Rattle.counter_tree.specs.Nodes.{version_counter, stored_node, node_read}
-use Rattle.counter_tree.specs.Trees.{node_at}
-use Rattle.counter_tree.specs.Watch.{WatchState, last_seal_of, HasShown, forged_node}
-use Rattle.counter_tree.specs.Plans.{ReadParts, read_parts, with_exhibit, taken_node_plan, tags_of_node, node_plan, known_line_plan, opened_line_plan, line_plan}
+use Rattle.counter_tree.specs.Nodes.{stored_node}
+use Rattle.counter_tree.specs.Plans.{taken_node_plan, node_plan, known_line_plan, opened_line_plan, line_plan}
 
 -- a watch that was shown something, as an equation
 pub watch_shown : (old new : WatchState) (shown : Exhibit) → HasShown old new shown → new ≡ with_exhibit old shown
-watch_shown old new shown it =
-    λ i. record { setup = it.setup i; seals = it.seals i; nodes = it.nodes i; slots = it.slots i; exhibit = it.exhibit i }
+watch_shown old new shown it = search rules
 
 -- ---- choices in a plan, and the state that an end leaves
 
 pub chosen : {E T : Type 0} {first : Plan E T} (second : Plan E T) {old new : Device} {end : Result T E} {b : Bool} → b ≡ true
     → Follows first old new end → Follows (if b then first else second) old new end
-chosen {first = first} second {old = old} {new = new} {end = end} is it =
-    subst (λ (c : Bool). Follows (if c then first else second) old new end) (sym is) it
+chosen {first = first} second {old = old} {new = new} {end = end} is it = search rules
 
 pub not_chosen : {E T : Type 0} (first : Plan E T) {second : Plan E T} {old new : Device} {end : Result T E} {b : Bool} → b ≡ false
     → Follows second old new end → Follows (if b then first else second) old new end
-not_chosen first {second = second} {old = old} {new = new} {end = end} is it =
-    subst (λ (c : Bool). Follows (if c then first else second) old new end) (sym is) it
+not_chosen first {second = second} {old = old} {new = new} {end = end} is it = search rules
 
 pub leaving : {S A F : Type 0} {plan : Plan (S × F) (S × A)} {old new : Device} {state : S} (answer : Result A F) (after : S) → after ≡ state
     → Follows plan old new (ended answer state) → Follows plan old new (ended answer after)
-leaving {S = S} {plan = plan} {old = old} {new = new} answer after is it =
-    subst (λ (s : S). Follows plan old new (ended answer s)) (sym is) it
+leaving {S = S} {plan = plan} {old = old} {new = new} answer after is it = search rules
 
 -- ---- a node
 
@@ -88,10 +67,7 @@ module _ (setup : Setup) (x version : ℕ) (at : ReadParts) where
           → Follows (node_plan setup x version at) old new
           (Err (read_parts (with_exhibit at.watch (forged_node at.watch x line)) at.pads after.tags, Fail.Shown))
       unfolding taken_node_plan
-      node_shown differs =
-          by_node (Some node) is
-          (not_chosen _ (other_bytes (stored_node line).0 (node_at at.watch.nodes x).0 (λ same. differs (node_is _ _ same)))
-          (is_stopped (read_parts (with_exhibit at.watch (forged_node at.watch x line)) at.pads after.tags, Fail.Shown) new))
+      node_shown differs = search (by_node, other_bytes, node_is, is_stopped)
 
 -- ---- a data line
 
@@ -109,15 +85,13 @@ module _ (setup : Setup) (a counter : ℕ) (at : ReadParts) where
   -- neither line was read
   pub line_unread : {old new : Device} → WasCut old new → old.live ≡ false → Follows (line_plan setup a counter at) old new (Err (at, Fail.Cut))
   unfolding line_plan
-  line_unread was off =
-      read_cut (at, Fail.Cut) a (λ cipher. read (at, Fail.Cut) (line_of_tag setup.shape a) (opened cipher)) was off
+  line_unread was off = search read_cut
 
   module _ {old mid : Device} {cipher : Line} (first : HasRead old a cipher mid) (whole : IsLine cipher) where
     -- only the first was
     pub line_half_read : {new : Device} → WasCut mid new → mid.live ≡ false → Follows (line_plan setup a counter at) old new (Err (at, Fail.Cut))
     unfolding line_plan
-    line_half_read was off =
-        read_then (at, Fail.Cut) first whole (read_cut (at, Fail.Cut) (line_of_tag setup.shape a) (opened cipher) was off)
+    line_half_read was off = search (read_then, read_cut)
 
     module _ {new : Device} {tags : Line} (second : HasRead mid (line_of_tag setup.shape a) tags new) (tags_whole : IsLine tags) where
       by_plain : (plain : Option Line) {end : Result (ReadParts × Line) (ReadParts × FetchFault)}
@@ -153,6 +127,4 @@ module _ (setup : Setup) (a counter : ℕ) (at : ReadParts) where
             → Follows (line_plan setup a counter at) old new
             (Err (read_parts (with_exhibit at.watch (Forged a (version_counter seal.counter) cipher (tag_slot tags 0))) unsealed_parts.pads unsealed_parts.tags, Fail.Shown))
         unfolding known_line_plan
-        line_shown differs =
-            by_seal (not_chosen _ (other_line cipher seal.cipher differs)
-            (is_stopped (read_parts (with_exhibit at.watch (Forged a (version_counter seal.counter) cipher (tag_slot tags 0))) unsealed_parts.pads unsealed_parts.tags, Fail.Shown) new))
+        line_shown differs = search (by_seal, other_line, is_stopped)

@@ -1,30 +1,15 @@
 -- Two lists of slot lines with one root: on the path of the first slot that differs, the first
 -- position from the top at which their trees differ has one digest for two lines.
-use Rattle.pmem_base.specs.Layout.{level_start}
-use Rattle.std.proofs.Common.{ℕ, zero, suc, ◌≡◌, ◌≢◌, ◌<◌, ◌≤◌, ◌+◌, ◌-◌, ◌^◌, List, [], ◌∷◌, length, refl, sym, ap, subst, inl, inr, ◌⊎◌, ◌∙◌, arith}
-use Rattle.std.specs.Prelude.{All}
-use Rattle.std.proofs.lemmas.Bool.{cases_Bool, cases_lt, false≢true}
-use Rattle.pmem_base.specs.declared.lines.Line.{Line}
-use Rattle.pmem_base.specs.Lines.{IsLine, line_of, line_at, same_bytes}
-use Rattle.pmem_base.proofs.ByteLaws.{same_bytes-from, same_bytes-true}
-use Rattle.pmem_base.proofs.LineLemmas.{IsLine-line_at}
-use Rattle.suite.specs.Formulas.{Formulas, AreInRange}
-use Rattle.bonsai_tree.specs.Positions.{parent, child_slot, child_position}
-use Rattle.bonsai_tree.specs.Nodes.{child_digest}
-use Rattle.bonsai_tree.proofs.Levels.{IsAtLevel, parent-IsAtLevel, child-of_parent, level_start-suc, IsAtLevel-place}
-use Rattle.bonsai_tree.proofs.NodeLaws.{AreSixteen, child_digest-node_over}
+use Rattle.std.proofs.Common.{ℕ, zero, suc, ◌≡◌, ◌≢◌, ◌<◌, ◌≤◌, ◌+◌, ◌-◌, ◌^◌, List, [], ◌∷◌, length, refl, sym, ap, subst, inl, inr, ◌⊎◌, ◌∙◌, arith, rules}
+use Rattle.counter_tree.proofs.Common.{level_start, All, cases_Bool, cases_lt, false≢true, Line, IsLine, line_of, line_at, same_bytes, same_bytes-from, same_bytes-true, IsLine-line_at, Formulas, AreInRange, parent, child_slot, child_position, child_digest, IsAtLevel, parent-IsAtLevel, level_start-suc, IsAtLevel-place, AreSixteen, child_digest-node_over, shadow_tree_line, root_of, up, FirstDiffers, IsShadowDifference}
 use Rattle.counter_tree.proofs.Positions.{node_over-IsLine}
-use Rattle.counter_tree.specs.Shadow.{shadow_tree_line, root_of, up, FirstDiffers, IsShadowDifference}
 
 -- ---- lines are equal or differ
-
-pub line-is : (a b : Line) → a.0 ≡ b.0 → a ≡ b
-line-is a b e = ap line_of e
 
 pub cases_line : (a b : Line) → (a ≡ b) ⊎ (a ≢ b)
 cases_line a b =
     elim (cases_Bool (same_bytes a.0 b.0)) [
-      | inl same ↦ inl (line-is a b (same_bytes-true a.0 b.0 same))
+      | inl same ↦ inl (ap line_of (same_bytes-true a.0 b.0 same))
       | inr other ↦ inr (λ e. false≢true (sym other ∙ same_bytes-from a.0 b.0 (ap (λ (l : Line). l.0) e)))
     ]
 
@@ -63,17 +48,12 @@ sixteen f h slots j x in_range whole = λ i small. (in_range.digests (child_posi
 
 -- a node's entry is its child's digest
 child_entry : (f : Formulas) (h : ℕ) (slots : List Line) (j y : ℕ) → AreInRange f → All IsLine slots → 1 ≤ y → child_digest (shadow_tree_line f h slots (suc j) (parent y)) (child_slot y) ≡ f.digest_of y (shadow_tree_line f h slots j y)
-child_entry f h slots j y in_range whole below =
-    child_digest-node_over f (parent y) (child_slot y) (shadow_tree_line f h slots j) (sixteen f h slots j (parent y) in_range whole) (omega arith)
-    ∙ ap (λ z. f.digest_of z (shadow_tree_line f h slots j z)) (child-of_parent y below)
+child_entry f h slots j y in_range whole below = search (rules, child_digest-node_over, sixteen)
 
 -- ---- the path of a leaf
 
 pub up-IsAtLevel : (m k y : ℕ) → IsAtLevel (m + k) y → IsAtLevel k (up m y)
-up-IsAtLevel zero k y at = subst (λ n. IsAtLevel n y) zero_plus at
-  where
-    zero_plus : 0 + k ≡ k
-    zero_plus = omega arith
+up-IsAtLevel zero k y at = search rules
 up-IsAtLevel (suc m) k y at =
     let more : suc m + k ≡ m + suc k = omega arith in
     parent-IsAtLevel k (up m y) (up-IsAtLevel m (suc k) y (subst (λ n. IsAtLevel n y) more at))
@@ -96,18 +76,7 @@ up-top h y at =
 descend : (f : Formulas) (h : ℕ) (a b : List Line) (i m : ℕ) → FirstDiffers a b i → m ≤ h
     → ((n : ℕ) → m < n → n ≤ h → shadow_tree_line f h a n (up n (level_start h + i)) ≡ shadow_tree_line f h b n (up n (level_start h + i)))
     → (n : ℕ) × (x : ℕ) × IsShadowDifference f h a b i n x
-descend f h a b i zero first small above =
-    let place : level_start h + i - level_start h ≡ i = omega arith in (
-      zero,
-      level_start h + i,
-      record {
-        slot = first;
-        height = small;
-        its_place = refl;
-        above = above;
-        differ = λ e. first.differ (ap (line_at a) (sym place) ∙ (e ∙ ap (line_at b) place));
-      },
-    )
+descend f h a b i zero first small above = search rules
 descend f h a b i (suc m) first small above =
     elim (cases_line (shadow_tree_line f h a (suc m) (up (suc m) (level_start h + i))) (shadow_tree_line f h b (suc m) (up (suc m) (level_start h + i)))) [
       | inr other ↦ (
@@ -148,11 +117,7 @@ pub shadow_clash : (f : Formulas) (h : ℕ) (a b : List Line) (i m x : ℕ) → 
 shadow_clash f h a b i m x in_range wa wb room root it =
     let at : IsAtLevel h (level_start h + i) = IsAtLevel-place h i (omega (arith, it.slot.within, room)) in
     elim (cases_lt m h) [
-      | inr top ↦
-          let here : h ≡ m = omega (arith, top, it.height) in
-          let zero_is : 0 ≡ x = sym (up-top h (level_start h + i) at) ∙ (ap (λ n. up n (level_start h + i)) here ∙ sym it.its_place) in
-          subst (λ z. f.digest_of x (shadow_tree_line f h a z x) ≡ f.digest_of x (shadow_tree_line f h b z x)) here
-          (subst (λ z. f.digest_of z (shadow_tree_line f h a h z) ≡ f.digest_of z (shadow_tree_line f h b h z)) zero_is root)
+      | inr top ↦ search (rules, up-top)
       | inl deep ↦
           let low = up-low h m (level_start h + i) at (omega (arith, deep)) in
           let same = it.above (suc m) (omega arith) (omega (arith, deep)) in
@@ -162,27 +127,5 @@ shadow_clash f h a b i m x in_range wa wb room root it =
           ∙ child_entry f h b m (up m (level_start h + i)) in_range wb low))
     ]
 
--- it is one position: the first slot that differs, and the first line from the top on its path
-FirstDiffers-once : (a b : List Line) (i j : ℕ) → FirstDiffers a b i → FirstDiffers a b j → i ≡ j
-FirstDiffers-once a b i j one two =
-    elim (cases_lt i j) [
-      | inl less ↦ absurd (one.differ (two.before i less))
-      | inr le ↦ elim (cases_lt j i) [
-        | inl less ↦ absurd (two.differ (one.before j less))
-        | inr ge ↦ omega (arith, le, ge)
-      ]
-    ]
-
 pub IsShadowDifference-once : (f : Formulas) (h : ℕ) (a b : List Line) (i m x j n y : ℕ) → IsShadowDifference f h a b i m x → IsShadowDifference f h a b j n y → x ≡ y
-IsShadowDifference-once f h a b i m x j n y one two =
-    let slot = FirstDiffers-once a b i j one.slot two.slot in
-    let moved : IsShadowDifference f h a b i n y = subst (λ z. IsShadowDifference f h a b z n y) (sym slot) two in
-    elim (cases_lt m n) [
-      | inl less ↦ absurd (moved.differ (subst (λ z. shadow_tree_line f h a n z ≡ shadow_tree_line f h b n z) (sym moved.its_place) (one.above n less moved.height)))
-      | inr le ↦ elim (cases_lt n m) [
-        | inl less ↦ absurd (one.differ (subst (λ z. shadow_tree_line f h a m z ≡ shadow_tree_line f h b m z) (sym one.its_place) (moved.above m less one.height)))
-        | inr ge ↦
-            let same : m ≡ n = omega (arith, le, ge) in
-            one.its_place ∙ (ap (λ z. up z (level_start h + i)) same ∙ sym moved.its_place)
-      ]
-    ]
+IsShadowDifference-once f h a b i m x j n y one two = search rules

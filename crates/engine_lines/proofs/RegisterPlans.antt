@@ -4,6 +4,7 @@ use Rattle.pmem_base.specs.declared.registers.Regs.{Regs}
 use Rattle.board.specs.Device.{Device}
 use Rattle.call_plan.specs.Plans.{Plan, done, stop, read, write, latch}
 use Rattle.call_plan.specs.Following.{Took, Follows}
+use Rattle.call_plan.proofs.Bind.{same_err}
 use Rattle.engine_lines.specs.Plans.{with_regs}
 
 done_with : {E T : Type 0} (t s : T) (regs now : Regs) → regs ≡ now → (let x : Result T E = Ok t in x ≡ Ok s)
@@ -12,12 +13,6 @@ done_with {E = E} {T = T} t s regs now same e =
     let t_is_s : t ≡ s = cc in
     let ok : T → Regs → Result (T × Regs) E = λ t r. Ok (t, r) in
     ap (λ (t : T). ok t now) t_is_s ∙ ap (ok s) (sym same)
-
-stopped_with : {E T U : Type 0} (a b : E) → (let x : Result T E = Err a in x ≡ Err b) → (let x : Result U E = Err a in x ≡ Err b)
-stopped_with {E = E} {U = U} a b e =
-    let same : a ≡ b = cc in
-    let err : E → Result U E = Err in
-    ap err same
 
 done_took : {E T : Type 0} (plan : Plan E T) (regs : Regs) (old new : Device) (t : T) → regs ≡ old.regs → Took plan old new (Ok t)
     → Took (with_regs regs plan) old new (Ok (t, new.regs))
@@ -45,7 +40,7 @@ stopped_took : {E T : Type 0} (plan : Plan E T) (regs : Regs) (old new : Device)
     → Took (with_regs regs plan) old new (Err left)
 unfolding Took with_regs
 stopped_took (done t) regs old new left it = absurd (cc)
-stopped_took (stop l) regs old new left it = (stopped_with left l it.0, it.1)
+stopped_took (stop l) regs old new left it = (same_err left l it.0, it.1)
 stopped_took (read l at later) regs old new left (inl s) =
     inl (record {
       line = s.line;
@@ -55,15 +50,15 @@ stopped_took (read l at later) regs old new left (inl s) =
       rest = stopped_took (later s.line) regs s.mid new left s.rest;
     })
 stopped_took (read l at later) regs old new left (inr s) =
-    inr (record { ends = stopped_with left l s.0.ends; cut = s.0.cut }, s.1)
+    inr (record { ends = same_err left l s.0.ends; cut = s.0.cut }, s.1)
 stopped_took (write l at line later) regs old new left (inl s) =
     inl (record { mid = s.mid; step = s.step; rest = stopped_took later regs s.mid new left s.rest })
 stopped_took (write l at line later) regs old new left (inr s) =
-    inr (record { ends = stopped_with left l s.ends; cut = s.cut })
+    inr (record { ends = same_err left l s.ends; cut = s.cut })
 stopped_took (latch l next later) regs old new left (inl s) =
     inl (record { mid = s.mid; step = s.step; rest = stopped_took later next s.mid new left s.rest })
 stopped_took (latch l next later) regs old new left (inr s) =
-    inr (record { ends = stopped_with left l s.ends; cut = s.cut })
+    inr (record { ends = same_err left l s.ends; cut = s.cut })
 
 module _ {E T : Type 0} {plan : Plan E T} {old new : Device} where
   -- it was done, and the board has these registers now

@@ -1,7 +1,7 @@
 -- What a recovery leaves that a session over the engine began: as from the engine's start where it is done, and else a
 -- durable device.
-use Rattle.std.proofs.Common.{ℕ, ◌≡◌, ◌<◌, ◌≤◌, ◌-◌, Bool, true, false, List, [], length, inl, inr, Option, Some, None, Ok, Err, refl, sym, ap, subst, ◌∙◌, arith}
-use Rattle.line_session.proofs.Common.{is_some, option_map, MatchOption, true≢false, append-nil, same_Some, Line, Regs, Device, BoardMemory, LedgerState, Setup, recovery_bound, EngineState, Parts, parts_of, AreSound, IsDurable, IsSound, Work, SuiteState, IsTwinOfLastSeal, HasRecovered, most_recovery_steps, Taken, steps_in, device_during, none_taken, IsWatched, unburnt, most_within, AreDone, on_chip}
+use Rattle.std.proofs.Common.{ℕ, ◌≡◌, ◌<◌, ◌≤◌, true, List, [], length, inl, inr, Option, Some, None, Ok, Err, refl, sym, ap, subst, ◌∙◌, arith}
+use Rattle.line_session.proofs.Common.{is_some, MatchOption, true≢false, append-nil, Line, Regs, Device, BoardMemory, LedgerState, Setup, recovery_bound, EngineState, Parts, parts_of, AreSound, IsDurable, IsSound, Work, SuiteState, IsTwinOfLastSeal, HasRecovered, most_recovery_steps, Taken, device_during, none_taken, most_within, AreDone, on_chip}
 use Rattle.pmem_base.specs.Layout as layout
 use Rattle.pmem_base.specs.Registers.{without_group}
 use Rattle.commit_regs.specs.Groups.{redone}
@@ -54,29 +54,6 @@ pub record IsLeftDurable (setup : Setup) (old : BoardMemory) (new : BoardMemory)
   pub durable : IsDurable setup new.lines new.regs ledger
   pub few_armed : length new.regs.group.items ≤ 3
   pub loss : new.regs.loss ≡ old.regs.loss
-
-same_board : (a b : BoardMemory) → a.lines ≡ b.lines → a.regs ≡ b.regs → a.powered ≡ b.powered → a.fuse ≡ b.fuse → a.snapshot ≡ b.snapshot
-    → a.reads ≡ b.reads → a.writes ≡ b.writes → a.latches ≡ b.latches → a.cuts ≡ b.cuts → a.accesses ≡ b.accesses → a ≡ b
-same_board a b lines regs powered fuse snapshot reads writes latches cuts accesses = grind arith
-
--- nothing was done: no step was taken, and nothing was read
-pub untouched : (old new : BoardMemory) (taken : Taken) → IsWatched old new taken → device_during new taken ≡ device_during old none_taken → old.powered ≡ true
-    → new ≡ old
-untouched old new taken watched same on =
-    let follows = watched.follows in
-    let lasting : new.powered ≡ true = ap (λ (d : Device). d.live) same ∙ on in
-    let no_writes : taken.writes ≡ 0 = ap (λ (d : Device). d.writes) same in
-    let no_latches : taken.latches ≡ 0 = ap (λ (d : Device). d.latches) same in
-    let none : steps_in taken ≡ 0 = omega (arith, no_writes, no_latches) in
-    same_board new old (same_Some new.lines old.lines (ap (λ (d : Device). d.lines) same)) (ap (λ (d : Device). d.regs) same) (ap (λ (d : Device). d.live) same)
-    (follows.burnt lasting ∙ ap (λ k. option_map (λ n. n - k) old.fuse) none ∙ unburnt old.fuse) follows.snapshot (ap (λ (d : Device). d.reads) same)
-    (omega (arith, follows.writes, watched.in_count.writes, no_writes)) (omega (arith, follows.latches, watched.in_count.latches, no_latches)) (follows.uncut lasting)
-    (same_Some new.accesses old.accesses (ap (λ (d : Device). d.accesses) same))
-
--- and power goes off again
-pub rests : (board lit now : BoardMemory) → lit ≡ record board { powered = true } → board.powered ≡ false → now ≡ lit → record now { powered = false } ≡ board
-rests board lit now lit_is off same =
-    ap (λ (b : BoardMemory). record b { powered = false }) (same ∙ lit_is) ∙ ap (λ (x : Bool). record board { powered = x }) (sym off)
 
 module _ (setup : Setup) (ledger after : LedgerState) (lit board : BoardMemory) (taken : Taken) (suite_old suite_between : SuiteState) (same : after ≡ ledger)
     (durable : IsDurable setup lit.lines lit.regs ledger) (few : length lit.regs.group.items ≤ 3) where

@@ -1,35 +1,12 @@
 -- What a commit leaves, by its answer.
-use Rattle.std.proofs.Common.{ℕ, suc, ◌≡◌, ◌≤◌, ◌+◌, ◌^◌, inl, inr, true, false, eqb, List, [], ◌∷◌, length, Result, Ok, Err, refl, sym, ap, subst, ◌∙◌, arith}
-use Rattle.std.specs.Prelude.{All, slice_set}
-use Rattle.std.proofs.lemmas.Bool.{true≢false, eqb-true, eqb-false}
-use Rattle.std.proofs.lemmas.List.{length-map}
-use Rattle.std.proofs.lemmas.List.Elements.{All-nil}
-use Rattle.pmem_base.proofs.LineLemmas.{IsLine-zero_line}
-use Rattle.pmem_base.specs.declared.lines.Line.{Line}
-use Rattle.pmem_base.specs.Layout.{data_lines}
-use Rattle.pmem_base.specs.Lines.{IsLine, put_lines, zero_line}
-use Rattle.suite.specs.Setup.{Setup}
-use Rattle.pmem_engine.specs.declared.fault.Fault.{Fault}
+use Rattle.std.proofs.Common.{ℕ, suc, ◌≡◌, ◌≤◌, ◌+◌, ◌^◌, inl, inr, true, false, eqb, List, [], ◌∷◌, length, Result, Ok, Err, refl, sym, ap, subst, ◌∙◌, arith, rules}
+use Rattle.line_txn.proofs.Common.{All, slice_set, eqb-true, eqb-false, length-map, All-nil, IsLine-zero_line, Line, data_lines, IsLine, put_lines, Setup, Fault, Parts, AreTrusted, AreSound, LeavesTrusted, LeavesSound, HasLines, IsUnspent, AreEdited, IsEditOf, all_edited, Store, Committed, CommitFault, Edit, AreDistinctBelow, AreTargets, CommitStage, logged, decided, cleared, lines_decided, commit_lines_at, with_header, targets_of, bodies_of, IsWholeTxn, body_edits, target_edits, deciding_edits, applying_edits, HasStoreCommitted, HasDecided, HasCommitGoneOn, IsServedAs, IsServedBy, IsCommitEnd, IsLeftLogged, IsSoundCommitAnswer, IsSpentUndecided, commit_answer_by, commit_outcome_by, commit_fault, IsCommitRefused, AfterEdits, LeftTrusted, LeftSound, trusted_after_edits, sound_after_edits, edits_leave, LeavesAll, after_last, StopsEditsBy, stops_by}
+use Rattle.pmem_base.specs.Lines.{zero_line}
 use Rattle.pmem_engine.specs.declared.fault.Fault.TheVariants as Fail
-use Rattle.pmem_engine.specs.Parts.{Parts, AreTrusted, AreSound}
-use Rattle.pmem_engine.specs.Outcomes.{LeavesTrusted, LeavesSound}
-use Rattle.engine_lines.specs.Lines.{HasLines, IsUnspent}
-use Rattle.engine_lines.specs.Edits.{AreEdited, IsEditOf, all_edited}
-use Rattle.line_txn.specs.declared.store.Store.{Store}
-use Rattle.line_txn.specs.declared.store.Committed.{Committed}
 use Rattle.line_txn.specs.declared.store.Committed.TheVariants as Do
-use Rattle.line_txn.specs.declared.store.CommitFault.{CommitFault}
-use Rattle.engine_lines.specs.declared.edits.Edit.{Edit}
 use Rattle.engine_lines.specs.declared.edits.Edit.TheVariants as Make
-use Rattle.line_txn.specs.Header.{AreDistinctBelow, AreTargets, header_of}
-use Rattle.line_txn.specs.Logged.{CommitStage, logged, decided, cleared, lines_decided, commit_lines_at, with_header, targets_of, bodies_of}
-use Rattle.line_txn.specs.Edits.{IsWholeTxn, body_edits, target_edits, deciding_edits, applying_edits}
-use Rattle.line_txn.specs.Store.{HasStoreCommitted, HasDecided, HasCommitGoneOn, IsServedAs, IsServedBy, IsCommitEnd, IsLeftLogged, IsSoundCommitAnswer, IsSpentUndecided, commit_answer_by, commit_outcome_by}
-use Rattle.line_txn.specs.Plans.{commit_fault}
-use Rattle.line_txn.specs.Promised.{IsCommitRefused}
+use Rattle.line_txn.specs.Header.{header_of}
 use Rattle.line_txn.proofs.LoggedLaws.{whole_at_each_stage, zero_header}
-use Rattle.engine_lines.proofs.EditLaws.{AfterEdits, LeftTrusted, LeftSound, trusted_after_edits, sound_after_edits, edits_leave, LeavesAll}
-use Rattle.engine_lines.proofs.EditStages.{after_last, StopsEditsBy, stops_by}
 use Rattle.line_txn.proofs.EditStages.{after_bodies, after_all_bodies, after_targets, after_all_targets, length-bodies, length-targets, deciding_fit, applying_fit}
 
 -- ---- the lines
@@ -247,11 +224,7 @@ spent_answer (Err Fail.Shown) = λ e. tt
 pub spent_undecided : (setup : Setup) (txn : List (ℕ × Line)) (old new : Store) (from to : Parts) (answer : Result Committed CommitFault)
     → HasStoreCommitted setup txn old new from to answer → IsSpentUndecided answer
 spent_undecided setup [] old new from to answer it = subst IsSpentUndecided (sym it.its_answer) tt
-spent_undecided setup (entry ∷ txn) old new from to answer it = go it.made it.then
-  where
-    go : (made : Result (Unit {0}) Fault) → HasCommitGoneOn made setup (entry ∷ txn) old new it.between to answer → IsSpentUndecided answer
-    go (Ok done) then = subst IsSpentUndecided (sym then.its_answer) (spent_answer then.applied)
-    go (Err fault) then = subst IsSpentUndecided (sym then.its_answer) (λ e. absurd (true≢false (sym e)))
+spent_undecided setup (entry ∷ txn) old new from to answer it = search rules
 
 -- ---- the calls of a commit, put together
 
@@ -275,27 +248,13 @@ decided_by setup (entry ∷ txn) old new from to answer some it = it
 pub refused_by : (setup : Setup) (txn : List (ℕ × Line)) (old new : Store) (from to : Parts) (fault : Fault) → (txn ≡ [] → ⊥)
     → AreEdited setup (deciding_edits old.lines txn) from to (Err fault) → IsServedAs old.logged.items old.stuck old new
     → HasStoreCommitted setup txn old new from to (Err (record { fault = fault; committed = false }))
-refused_by setup txn old new from to fault some made served =
-    decided_by setup txn old new from to (Err (record { fault = fault; committed = false })) some
-    (record {
-      made = Err fault;
-      between = to;
-      was_made = made;
-      then = record { its_answer = refl; served = served; nothing_else = refl };
-    })
+refused_by setup txn old new from to fault some made served = search (rules, decided_by)
 
 pub applied_by : (setup : Setup) (txn : List (ℕ × Line)) (old new : Store) (from between to : Parts) (applied : Result (Unit {0}) Fault)
     (answer : Result Committed CommitFault) → (txn ≡ [] → ⊥) → AreEdited setup (deciding_edits old.lines txn) from between (Ok tt)
     → AreEdited setup (applying_edits old.lines txn) between to applied → answer ≡ commit_answer_by applied → IsServedBy applied txn old new
     → HasStoreCommitted setup txn old new from to answer
-applied_by setup txn old new from between to applied answer some made was its_answer served =
-    decided_by setup txn old new from to answer some
-    (record {
-      made = Ok tt;
-      between = between;
-      was_made = made;
-      then = record { applied = applied; was_applied = was; its_answer = its_answer; served = served };
-    })
+applied_by setup txn old new from between to applied answer some made was its_answer served = search (rules, decided_by)
 
 -- a fault that isn't that a line is spent
 pub fault_answer : (fault : Fault) → ((page : ℕ) → fault ≡ Fail.Spent page → ⊥)

@@ -1,14 +1,7 @@
 -- The lists of changes that a commit and its redo are made of, one change more.
 use Rattle.std.proofs.Common.{ℕ, ◌≡◌, ◌<◌, ◌+◌, List, [], ◌∷◌, ◌++◌, length, get_or, take, sym, ap, ◌∙◌, arith}
-use Rattle.std.specs.Prelude.{All}
-use Rattle.std.proofs.lemmas.List.{map_more, take_more, length-map, length-take-le}
-use Rattle.std.proofs.lemmas.List.Elements.{All-push, All-same}
-use Rattle.pmem_base.specs.declared.lines.Line.{Line}
-use Rattle.pmem_base.specs.Lines.{IsLine}
-use Rattle.engine_lines.specs.declared.edits.Edit.{Edit}
+use Rattle.line_txn.proofs.Common.{All, map_more, take_more, length-map, length-take-le, All-push, All-same, Line, IsLine, Edit, bodies_of, body_edits, copy_edits}
 use Rattle.engine_lines.specs.declared.edits.Edit.TheVariants as Make
-use Rattle.line_txn.specs.Logged.{bodies_of}
-use Rattle.line_txn.specs.Edits.{body_edits, copy_edits}
 
 body_edits-append : (p : ℕ) (xs ys : List Line) → body_edits p (xs ++ ys) ≡ body_edits p xs ++ body_edits (p + length xs) ys
 body_edits-append p [] ys = ap (λ j. body_edits j ys) (omega arith)

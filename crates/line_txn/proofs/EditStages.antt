@@ -1,19 +1,9 @@
 -- The lines after so many of the changes that a commit or a redo is made of, and which changes these are.
-use Rattle.std.proofs.Common.{ℕ, zero, suc, ◌≡◌, ◌<◌, ◌≤◌, ◌+◌, List, [], ◌∷◌, ◌++◌, length, take, drop, drop-cons, refl, sym, ap, ◌∙◌, arith}
-use Rattle.std.specs.Prelude.{All, slice_set}
-use Rattle.std.specs.List.{zip}
-use Rattle.std.proofs.lemmas.List.{length-append, length-map}
-use Rattle.std.proofs.lemmas.List.Elements.{All-nil, All-cons, All-head, All-tail, All-append}
-use Rattle.pmem_base.specs.declared.lines.Line.{Line}
-use Rattle.pmem_base.specs.Lines.{IsLine, line_at, put_lines, zero_line}
-use Rattle.pmem_base.proofs.LineLemmas.{IsLine-zero_line}
-use Rattle.pmem_base.proofs.LineSets.{line_at-set_other}
-use Rattle.engine_lines.specs.declared.edits.Edit.{Edit}
+use Rattle.std.proofs.Common.{ℕ, zero, suc, ◌≡◌, ◌<◌, ◌≤◌, ◌+◌, List, [], ◌∷◌, ◌++◌, length, take, drop, drop-cons, refl, sym, ap, ◌∙◌, arith, rules}
+use Rattle.line_txn.proofs.Common.{All, slice_set, zip, length-append, length-map, All-nil, All-cons, All-head, All-tail, All-append, Line, IsLine, line_at, put_lines, IsLine-zero_line, line_at-set_other, Edit, AreDistinctBelow, redone_to, with_bodies, targets_of, bodies_of, IsEditOf, all_edited, body_edits, target_edits, copy_edits, deciding_edits, applying_edits, redoing_edits}
+use Rattle.pmem_base.specs.Lines.{zero_line}
 use Rattle.engine_lines.specs.declared.edits.Edit.TheVariants as Make
-use Rattle.line_txn.specs.Header.{AreDistinctBelow, header_of}
-use Rattle.line_txn.specs.Logged.{redone_to, with_bodies, targets_of, bodies_of}
-use Rattle.engine_lines.specs.Edits.{IsEditOf, all_edited}
-use Rattle.line_txn.specs.Edits.{body_edits, target_edits, copy_edits, deciding_edits, applying_edits, redoing_edits}
+use Rattle.line_txn.specs.Header.{header_of}
 
 -- ---- the lines after so many of them
 
@@ -103,10 +93,7 @@ module _ (n count : ℕ) (size : n + 16 ≡ count) where
 
   pub deciding_fit : (txn : List (ℕ × Line)) → length txn ≤ 15 → All IsLine (bodies_of txn) → IsLine (header_of (targets_of txn))
       → All (IsEditOf count) (deciding_edits n txn)
-  deciding_fit txn few whole header =
-      let bodies = length-map txn (λ e. e.1) in
-      last_fits (body_edits (n + 1) (bodies_of txn)) (header_of (targets_of txn)) header
-      (bodies_fit (n + 1) (bodies_of txn) (omega (arith, few, bodies, size)) whole)
+  deciding_fit txn few whole header = search (rules, length-map, last_fits, bodies_fit)
 
   pub applying_fit : (txn : List (ℕ × Line)) → AreDistinctBelow n (targets_of txn) → All IsLine (bodies_of txn) → All (IsEditOf count) (applying_edits n txn)
   applying_fit txn below whole =
@@ -128,7 +115,4 @@ length-applying n txn = length-append (target_edits txn) (Make.Put n zero_line �
 
 pub length-redoing : (n : ℕ) (targets : List ℕ) → length targets ≤ 15 → length (redoing_edits n targets) ≤ 16
 length-redoing n [] few = omega arith
-length-redoing n (t ∷ targets) few =
-    let all = length-append (copy_edits (n + 1) (t ∷ targets)) (Make.Put n zero_line ∷ []) in
-    let copies = length-copy_edits (n + 1) (t ∷ targets) in
-    omega (arith, all, copies, few)
+length-redoing n (t ∷ targets) few = search (rules, length-append, length-copy_edits)

@@ -1,15 +1,9 @@
 -- The header of a line, as it is read: it is found exactly where the line is one.
-use Rattle.std.proofs.Common.{ℕ, suc, ◌≡◌, ◌≢◌, ◌<◌, ◌^◌, Bool, true, false, not, cond, eqb, List, [], ◌∷◌, length, get_or, Option, Some, None, refl, sym, ap, subst, ◌∙◌, inl, inr, arith}
-use Rattle.std.specs.Prelude.{All, ◌==◌, nat_lt, nat_le, ◌&&◌}
-use Rattle.std.specs.List.{AllPairs, list_any}
-use Rattle.std.proofs.lemmas.Bool.{cases_Bool, lt-ltb, ltb-true, le-leb, leb-true, ne_eqb, eq-eqb, and_parts, and_from, not_from_false, not-true, false≢true}
-use Rattle.std.proofs.lemmas.List.Elements.{All-cons, All-head, All-tail}
-use Rattle.std.proofs.lemmas.List.Folds.{list_any_none, list_any_at}
-use Rattle.std.proofs.lemmas.List.Kept.{AllPairs-cons}
-use Rattle.pmem_base.specs.declared.lines.Line.{Line}
-use Rattle.pmem_base.specs.Lines.{same_bytes}
+use Rattle.std.proofs.Common.{ℕ, suc, nat_le, length, ◌≡◌, ◌≢◌, ◌<◌, ◌^◌, Bool, true, false, not, cond, eqb, List, [], ◌∷◌, get_or, Option, Some, None, refl, sym, ap, subst, ◌∙◌, arith, rules}
+use Rattle.line_txn.proofs.Common.{All, ◌==◌, nat_lt, ◌&&◌, AllPairs, list_any, cases_Bool, lt-ltb, ltb-true, le-leb, leb-true, ne_eqb, eq-eqb, and_parts, and_from, not_from_false, not-true, false≢true, All-cons, All-head, All-tail, list_any_none, list_any_at, AllPairs-cons, Line, AreDistinctBelow, IsHeader, are_distinct_below, is_header_of, header_in}
+use Rattle.pmem_base.specs.Lines.{same_bytes, line_of}
+use Rattle.line_txn.specs.Header.{header_of}
 use Rattle.pmem_base.proofs.ByteLaws.{same_bytes-from, same_bytes-true}
-use Rattle.line_txn.specs.Header.{AreDistinctBelow, IsHeader, header_of, targets_in, are_distinct_below, is_header_of, header_in}
 use Rattle.line_txn.proofs.Headers.{below_none, targets_of_header}
 
 -- ---- distinct lines below n
@@ -53,15 +47,8 @@ distinct_back n (t ∷ targets) it =
 
 -- ---- a line that is a header
 
-same_as_line : (line other : Line) → line.0 ≡ other.0 → line ≡ other
-same_as_line line other e = ap (λ (bytes : List ℕ). let l : Line = record { 0 = bytes } in l) e
-
 header_true : (n : ℕ) (line : Line) (targets : List ℕ) → IsHeader n line targets → is_header_of n line targets ≡ true
-header_true n line targets its =
-    and_from (nat_le (length targets) 15 && are_distinct_below n targets) (same_bytes line.0 (header_of targets).0)
-    (and_from (nat_le (length targets) 15) (are_distinct_below n targets) (le-leb (length targets) 15 its.its_targets.few)
-    (distinct_true n targets its.its_targets.below))
-    (same_bytes-from line.0 (header_of targets).0 (ap (λ (l : Line). l.0) its.its_line))
+header_true n line targets its = search (rules, and_from, le-leb, distinct_true, same_bytes-from)
 
 header_back : (n : ℕ) (line : Line) (targets : List ℕ) → is_header_of n line targets ≡ true → IsHeader n line targets
 header_back n line targets it =
@@ -69,7 +56,7 @@ header_back n line targets it =
     let second = and_parts (nat_le (length targets) 15) (are_distinct_below n targets) first.0 in
     record {
       its_targets = record { few = leb-true (length targets) 15 second.0; below = distinct_back n targets second.1 };
-      its_line = same_as_line line (header_of targets) (same_bytes-true line.0 (header_of targets).0 first.1);
+      its_line = ap line_of (same_bytes-true line.0 (header_of targets).0 first.1);
     }
 
 abbrev found_as : Bool → List ℕ → Option (List ℕ)
@@ -81,9 +68,4 @@ header_found n line targets small its =
     (ap (λ b. found_as b targets) (header_true n line targets its))
 
 pub header_none : (n : ℕ) (line : Line) → ((targets : List ℕ) → IsHeader n line targets → ⊥) → header_in n line ≡ None
-header_none n line none =
-    let targets = targets_in line (get_or line.0 0 0) in
-    elim (cases_Bool (is_header_of n line targets)) [
-      | inl is ↦ absurd (none targets (header_back n line targets is))
-      | inr other ↦ ap (λ b. found_as b targets) other
-    ]
+header_none n line none = search (rules, get_or, cases_Bool, header_back)

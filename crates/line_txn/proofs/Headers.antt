@@ -1,20 +1,11 @@
 -- Headers, and the targets that are read from them.
-use Rattle.std.proofs.Common.{ℕ, zero, suc, ◌≡◌, ◌≢◌, ◌<◌, ◌≤◌, ◌+◌, ◌-◌, ◌*◌, ◌^◌, false, List, [], ◌∷◌, ◌++◌, length, get_or, take, drop, replicate, refl, sym, ap, subst, ◌∙◌, arith}
-use Rattle.std.specs.Prelude.{All, slice_range, ◌==◌}
-use Rattle.std.specs.List.{flat_map, list_any}
+use Rattle.std.proofs.Common.{ℕ, zero, suc, ◌≡◌, ◌≢◌, ◌<◌, ◌≤◌, ◌+◌, ◌-◌, ◌*◌, ◌^◌, false, List, [], ◌∷◌, ◌++◌, length, get_or, take, drop, replicate, refl, sym, ap, subst, ◌∙◌, arith, rules}
 use Rattle.std.specs.Int.{w32, from_be_bytes}
+use Rattle.line_txn.proofs.Common.{All, slice_range, ◌==◌, flat_map, list_any, false≢true, eq-eqb, length-append, length-take-le, append_assoc, append-nil, take_more, take_all, drop-drop, drop-replicate, All-nil, All-cons, All-head, All-tail, All-append, list_any_at, take-append_seam, drop-append_seam, Line, IsLine, line_of, big_endian, from_big_endian, from_big_endian-big_endian, number_of_four, AreDistinctBelow, IsHeader, numbers_in, targets_in}
 use borrow.Rule.Slice.PartMut.{put_mid}
 use Rattle.std.proofs.lemmas.Grind.{flat_map-append}
-use Rattle.std.proofs.lemmas.Bool.{false≢true, eq-eqb}
-use Rattle.std.proofs.lemmas.List.{length-append, length-take-le, append_assoc, append-nil, take_more, take_all, drop-drop, drop-replicate}
-use Rattle.std.proofs.lemmas.List.Elements.{All-nil, All-cons, All-head, All-tail, All-append}
 use Rattle.std.proofs.lemmas.List.Quantifiers.{all_pairs_push}
-use Rattle.std.proofs.lemmas.List.Folds.{list_any_at}
-use Rattle.std.proofs.Math.Seq.{take-append_seam, drop-append_seam}
-use Rattle.pmem_base.specs.declared.lines.Line.{Line}
-use Rattle.pmem_base.specs.Lines.{IsLine, line_of, big_endian, from_big_endian}
-use Rattle.pmem_base.proofs.Digits.{from_big_endian-big_endian, number_of_four}
-use Rattle.line_txn.specs.Header.{AreDistinctBelow, IsHeader, header_of, numbers_in, targets_in}
+use Rattle.line_txn.specs.Header.{header_of}
 
 -- ---- the header that is made
 
@@ -31,16 +22,7 @@ length-words (t ∷ targets) =
 -- four bytes put behind a front, over the first four of the zeros there
 put_behind : (front bytes : List ℕ) (at k room : ℕ) → length front ≡ at → k ≡ 4 → length bytes ≡ 4
     → put_mid at k (front ++ replicate room 0) bytes ≡ front ++ bytes ++ replicate (room - 4) 0
-put_behind front bytes at k room e f g =
-    let first : take at (front ++ replicate room 0) ≡ front =
-    subst (λ n. take n (front ++ replicate room 0) ≡ front) e (take-append_seam front (replicate room 0)) in
-    let behind : drop at (front ++ replicate room 0) ≡ replicate room 0 =
-    subst (λ n. drop n (front ++ replicate room 0) ≡ replicate room 0) e (drop-append_seam front (replicate room 0)) in
-    let rest : drop k (drop at (front ++ replicate room 0)) ≡ replicate (room - 4) 0 =
-    ap (drop k) behind ∙ drop-replicate k room 0 ∙ ap (λ n. replicate (room - n) 0) f in
-    ap (λ l. l ++ (bytes ++ drop k (drop at (front ++ replicate room 0)))) first
-    ∙ ap (λ l. front ++ (bytes ++ l)) rest
-    ∙ sym (append_assoc front bytes (replicate (room - 4) 0))
+put_behind front bytes at k room e f g = search (rules, take-append_seam, drop-append_seam, drop-replicate, append_assoc)
 
 pub header_step : (count : ℕ) (targets bytes word : List ℕ) (i k : ℕ) → length targets ≤ 15 → i < length targets
     → bytes ≡ header_bytes count (take i targets) → word ≡ big_endian 4 (get_or targets i 0) → k ≡ 4

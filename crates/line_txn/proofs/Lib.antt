@@ -1,3 +1,4 @@
+pub mod Common
 pub mod Headers
 pub mod LoggedLaws
 pub mod EditLists

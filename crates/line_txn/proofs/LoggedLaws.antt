@@ -1,18 +1,10 @@
 -- Logical memory through each write of a commit and of a redo.
-use Rattle.std.proofs.Common.{ℕ, zero, suc, ◌≡◌, ◌≢◌, ◌<◌, ◌≤◌, ◌+◌, ◌^◌, List, [], ◌∷◌, length, get_or, take, drop, drop-cons, replicate, refl, sym, ap, subst, ◌∙◌, arith}
-use Rattle.std.specs.Prelude.{slice_set, slice_index, All}
-use Rattle.std.specs.List.{zip, AllPairs, Contains}
-use Rattle.std.proofs.lemmas.List.{length-set, length-drop, length-take-le, set-set, set_comm, drop-set-lt, take-set-le, take_all, get_or-take, get_or-drop, get_or_default, length-map, length-replicate, get_or-replicate, take-replicate}
-use Rattle.std.proofs.lemmas.List.Elements.{All-nil, All-cons, All-head, All-tail, All-take, All-contains_itself}
-use Rattle.std.proofs.Math.Seq.{take-set-lt}
-use Rattle.std.proofs.lemmas.List.Kept.{AllPairs-cons}
+use Rattle.std.proofs.Common.{ℕ, zero, suc, ◌≡◌, ◌≢◌, ◌<◌, ◌≤◌, ◌+◌, ◌^◌, List, [], ◌∷◌, length, get_or, take, drop, drop-cons, replicate, refl, sym, ap, subst, ◌∙◌, arith, rules}
 use Rattle.std.proofs.lemmas.Slice.Zip.{get_or-zip, length-zip}
-use Rattle.pmem_base.specs.declared.lines.Line.{Line}
-use Rattle.pmem_base.specs.Lines.{line_at, put_lines, zero_line}
+use Rattle.line_txn.proofs.Common.{slice_set, slice_index, All, zip, AllPairs, Contains, length-set, length-drop, length-take-le, set-set, set_comm, drop-set-lt, take-set-le, take_all, get_or-take, get_or-drop, get_or_default, length-map, length-replicate, get_or-replicate, take-replicate, All-nil, All-cons, All-head, All-tail, All-take, All-contains_itself, take-set-lt, AllPairs-cons, Line, line_at, put_lines, length-put_lines, line_at-set_same, line_at-set_other, AreDistinctBelow, AreTargets, IsHeader, entries_in, memory_in, IsLogged, with_bodies, with_header, targets_of, bodies_of, logged, decided, cleared, lines_decided, IsWholeAtEachStage, redone_to, IsKeptByRedo, IsKeptByTarget, Opening, partly, through, lines_opened, targets_opened, IsKeptByOpening, IsReadFrom}
+use Rattle.pmem_base.specs.Lines.{zero_line}
 use Rattle.pmem_base.proofs.ListLaws.{AllPairs-head, AllPairs-tail}
-use Rattle.pmem_base.proofs.LineSets.{length-put_lines, line_at-set_same, line_at-set_other}
-use Rattle.line_txn.specs.Header.{AreDistinctBelow, AreTargets, IsHeader, header_of}
-use Rattle.line_txn.specs.Logged.{entries_in, memory_in, IsLogged, with_bodies, with_header, targets_of, bodies_of, logged, decided, cleared, lines_decided, IsWholeAtEachStage, redone_to, IsKeptByRedo, IsKeptByTarget, Opening, partly, through, lines_opened, targets_opened, IsKeptByOpening, IsReadFrom}
+use Rattle.line_txn.specs.Header.{header_of}
 use Rattle.line_txn.proofs.Headers.{below_none, one_header}
 
 -- ---- lists
@@ -273,22 +265,12 @@ zip-with_bodies k (e ∷ txn) lines within =
 
 logged_keeps : (n : ℕ) (lines memory bodies : List Line) → IsLogged n lines [] memory
     → IsLogged n (with_bodies (n + 1) bodies lines) [] memory
-logged_keeps n lines memory bodies old =
-    record {
-      size = length-with_bodies (n + 1) bodies lines ∙ old.size;
-      header = subst (λ l. IsHeader n l []) (sym (line_at-with_bodies n (n + 1) bodies lines (omega arith))) old.header;
-      its_memory = take-with_bodies n (n + 1) bodies lines (omega arith) ∙ old.its_memory;
-    }
+logged_keeps n lines memory bodies old = search (rules, length-with_bodies, line_at-with_bodies, take-with_bodies)
 
 -- the entries under the header that was written are the transaction
 entries_decided : (n : ℕ) (lines memory : List Line) (txn : List (ℕ × Line)) → AreTargets n (targets_of txn) → IsLogged n lines [] memory
     → entries_in n (targets_of txn) (lines_decided n txn lines) ≡ txn
-entries_decided n lines memory txn its old =
-    let lengths : length (targets_of txn) ≡ length txn = length-map txn (λ e. e.0) in
-    let few : length txn ≤ 15 = omega (arith, its.few, lengths) in
-    ap (zip (targets_of txn))
-    (drop-set-lt (n + 1) (with_bodies (n + 1) (bodies_of txn) lines) n (header_of (targets_of txn)) (omega arith))
-    ∙ zip-with_bodies (n + 1) txn lines (omega (arith, few, old.size))
+entries_decided n lines memory txn its old = search (rules, length-map, drop-set-lt, zip-with_bodies)
 
 decided_holds : (n : ℕ) (lines memory : List Line) (txn : List (ℕ × Line)) → AreTargets n (targets_of txn) → IsLogged n lines [] memory
     → IsLogged n (lines_decided n txn lines) (targets_of txn) (put_lines txn memory)

@@ -1,32 +1,12 @@
 -- What an opening leaves, by its answer, and what a store reads.
-use Rattle.std.proofs.Common.{ℕ, ◌≡◌, ◌<◌, ◌≤◌, ◌+◌, ◌^◌, ◌⊎◌, inl, inr, List, [], ◌∷◌, length, take, Result, Ok, Err, Option, Some, None, refl, sym, ap, subst, ◌∙◌, arith}
-use Rattle.std.specs.Prelude.{All, slice_set, ⊤}
-use Rattle.std.proofs.lemmas.List.{take_all}
-use Rattle.pmem_base.specs.declared.lines.Line.{Line}
-use Rattle.pmem_base.specs.Shape.{Shape}
-use Rattle.pmem_base.specs.Layout.{data_lines}
-use Rattle.pmem_base.specs.Lines.{line_at, zero_line}
-use Rattle.suite.specs.Setup.{Setup}
-use Rattle.pmem_engine.specs.declared.fault.Fault.{Fault}
+use Rattle.std.proofs.Common.{ℕ, ◌≡◌, ◌<◌, ◌≤◌, ◌+◌, ◌^◌, ◌⊎◌, inl, inr, List, [], ◌∷◌, length, take, Result, Ok, Err, Option, Some, None, refl, sym, ap, subst, ◌∙◌, arith, rules}
+use Rattle.line_txn.proofs.Common.{All, slice_set, ⊤, take_all, Line, Shape, data_lines, line_at, Setup, Fault, EngineState, Parts, AreTrusted, AreSound, HasReadLine, HasLines, IsUnspent, IsCutOrSpent, AreEdited, IsEditOf, edited, all_edited, least_lines, unrefused_fault, trusted_after_read, sound_after_read, lines_after_read, line_read, Store, TxnFault, AreTargets, IsHeader, IsLogged, Opening, partly, through, lines_opened, targets_opened, with_header, copy_edits, redoing_edits, logged_lines, HasStoreOpened, HasStoreStarted, HasTargetsRedone, HasFailedRedo, HasFoundNone, IsOpenedBy, IsOpenedTo, HasOpenedLogged, LeavesOpenedTrusted, LeavesOpenedSound, AfterEdits, LeftTrusted, LeftSound, trusted_after_edits, sound_after_edits, edits_leave, LeavesAll, after_last, stops_by}
+use Rattle.pmem_base.specs.Lines.{zero_line}
 use Rattle.pmem_engine.specs.declared.fault.Fault.TheVariants as Fail
-use Rattle.pmem_engine.specs.Engine.{EngineState}
-use Rattle.pmem_engine.specs.Parts.{Parts, AreTrusted, AreSound}
-use Rattle.pmem_engine.specs.Calls.{HasReadLine}
 use Rattle.engine_lines.specs.declared.edits.Edit.TheVariants as Make
-use Rattle.engine_lines.specs.Lines.{HasLines, IsUnspent, IsCutOrSpent}
-use Rattle.engine_lines.specs.Edits.{AreEdited, IsEditOf, edited, all_edited}
-use Rattle.engine_lines.proofs.EngineLines.{least_lines, unrefused_fault, trusted_after_read, sound_after_read, lines_after_read, line_read}
-use Rattle.line_txn.specs.declared.store.Store.{Store}
 use Rattle.line_txn.specs.declared.store.Opened.{Opened}
-use Rattle.line_txn.specs.declared.store.TxnFault.{TxnFault}
 use Rattle.line_txn.specs.declared.store.TxnFault.TheVariants as Txn
-use Rattle.line_txn.specs.Header.{AreTargets, IsHeader}
-use Rattle.line_txn.specs.Logged.{IsLogged, Opening, partly, through, lines_opened, targets_opened, with_header}
-use Rattle.line_txn.specs.Edits.{copy_edits, redoing_edits}
-use Rattle.line_txn.specs.Store.{logged_lines, HasStoreOpened, HasStoreStarted, HasTargetsRedone, HasFailedRedo, HasFoundNone, IsOpenedBy, IsOpenedTo, HasOpenedLogged, LeavesOpenedTrusted, LeavesOpenedSound}
 use Rattle.line_txn.proofs.LoggedLaws.{kept_by_opening, zero_header}
-use Rattle.engine_lines.proofs.EditLaws.{AfterEdits, LeftTrusted, LeftSound, trusted_after_edits, sound_after_edits, edits_leave, LeavesAll}
-use Rattle.engine_lines.proofs.EditStages.{after_last, stops_by}
 use Rattle.line_txn.proofs.EditStages.{after_copies, length-copy_edits, redoing_fit}
 
 -- ---- the lines
@@ -244,23 +224,12 @@ unspent_fault fault unspent = tt
 
 pub none_by : (setup : Setup) (n : ℕ) (old new : Parts) (line : Line) → n ≡ logged_lines setup.shape → HasReadLine setup n old new (Ok line)
     → ((targets : List ℕ) → IsHeader n line targets → ⊥) → HasFoundNone setup old new line
-none_by setup n old new line same read none =
-    record {
-      was_read = subst (λ m. HasReadLine setup m old new (Ok line)) same read;
-      none = λ targets its. none targets (subst (λ m. IsHeader m line targets) (sym same) its);
-    }
+none_by setup n old new line same read none = search rules
 
 pub redone_by : (setup : Setup) (n : ℕ) (old between new : Parts) (line : Line) (targets : List ℕ) (redone : Result (Unit {0}) Fault)
     → n ≡ logged_lines setup.shape → HasReadLine setup n old between (Ok line) → IsHeader n line targets
     → AreEdited setup (redoing_edits n targets) between new redone → HasTargetsRedone setup targets old new redone
-redone_by setup n old between new line targets redone same read header edits =
-    record {
-      line = line;
-      between = between;
-      was_read = subst (λ m. HasReadLine setup m old between (Ok line)) same read;
-      header = subst (λ m. IsHeader m line targets) same header;
-      was_redone = subst (λ m. AreEdited setup (redoing_edits m targets) between new redone) same edits;
-    }
+redone_by setup n old between new line targets redone same read header edits = search rules
 
 abbrev IsThere : {X : Type 0} → Option X → Type 0
 IsThere (Some x) = ⊤

@@ -1,20 +1,6 @@
 -- What a store reads: a target from its body, and every other line from its place.
-use Rattle.std.proofs.Common.{ℕ, zero, suc, ◌≡◌, ◌<◌, ◌+◌, ◌⊎◌, inl, inr, cond, eqb, List, [], ◌∷◌, Result, Ok, Err, length, refl, sym, ap, subst, ◌∙◌, arith}
-use Rattle.std.specs.Prelude.{slice_index, IfOk}
-use Rattle.std.proofs.lemmas.Bool.{cases_Bool, eqb-true, eqb-false}
-use Rattle.pmem_base.specs.declared.lines.Line.{Line}
-use Rattle.pmem_base.specs.Layout.{data_lines}
-use Rattle.pmem_base.specs.Lines.{line_at}
-use Rattle.suite.specs.Setup.{Setup}
-use Rattle.pmem_engine.specs.declared.fault.Fault.{Fault}
-use Rattle.pmem_engine.specs.Parts.{Parts, AreTrusted}
-use Rattle.pmem_engine.specs.Calls.{HasReadLine}
-use Rattle.engine_lines.specs.Lines.{HasLines}
-use Rattle.engine_lines.proofs.EngineLines.{line_read}
-use Rattle.line_txn.specs.declared.store.Store.{Store}
-use Rattle.line_txn.specs.Logged.{IsLogged, IsReadFrom}
-use Rattle.line_txn.specs.Serving.{body_or_place, served_from}
-use Rattle.line_txn.specs.Promised.{HasReadServed}
+use Rattle.std.proofs.Common.{ℕ, zero, suc, ◌≡◌, ◌<◌, ◌+◌, ◌⊎◌, inl, inr, cond, eqb, List, [], ◌∷◌, Result, Ok, Err, length, refl, sym, ap, subst, ◌∙◌, arith, rules}
+use Rattle.line_txn.proofs.Common.{slice_index, IfOk, cases_Bool, eqb-true, eqb-false, Line, data_lines, line_at, Setup, Fault, Parts, AreTrusted, HasReadLine, HasLines, line_read, Store, IsLogged, IsReadFrom, body_or_place, served_from, HasReadServed}
 use Rattle.line_txn.proofs.LoggedLaws.{read_from}
 
 -- a target has its body, and no line that isn't one has another place
@@ -65,10 +51,7 @@ pub read_logged : (setup : Setup) (n a place : ℕ) (targets : List ℕ) (lines 
     → a < n → n + 16 ≡ data_lines setup.shape → place ≡ served_from n targets a → place < n + 16 → HasLines setup lines old
     → AreTrusted setup old → IsLogged n lines targets memory → HasReadLine setup place old new answer
     → IfOk answer (λ read. read ≡ line_at memory a)
-read_logged setup n a place targets lines memory old new (Ok line) inside size there low had trusted held it =
-    line_read setup place old new line lines (omega (arith, size, low)) had trusted it
-    ∙ ap (line_at lines) there
-    ∙ served_line n lines memory targets a inside held
+read_logged setup n a place targets lines memory old new (Ok line) inside size there low had trusted held it = search (rules, line_read, served_line)
 read_logged setup n a place targets lines memory old new (Err fault) inside size there low had trusted held it = tt
 
 pub read_served : (setup : Setup) (a : ℕ) (store : Store) (place : ℕ) (old new : Parts) (answer : Result Line Fault) → a < store.lines

@@ -1,30 +1,19 @@
 -- The calls of a store followed their plans.
 use Rattle.std.proofs.Common.{ℕ, ◌≡◌, true, false, List, [], ◌∷◌, Option, Some, None, Result, Ok, Err, refl, sym, subst, ◌∙◌}
-use Rattle.pmem_base.specs.declared.lines.Line.{Line}
+use Rattle.line_txn.proofs.Common.{Line, Setup, Fault, Chip, read_plan, Edit, Store, Committed, CommitFault, TxnFault, header_in, deciding_edits, applying_edits, redoing_edits, logged_lines, IsServedAs, IsServedBy, commit_answer_by, OpeningStop, unread, unredone, redo_end, Serving, opened_of, FollowsOpening, commit_fault, commit_answer_of, IsServedAfter, FollowsCommit}
 use Rattle.pmem_base.specs.declared.registers.Regs.{Regs}
 use Rattle.board.specs.Device.{Device}
 use Rattle.call_plan.specs.Plans.{Plan, lifted, ended}
 use Rattle.call_plan.specs.Following.{Follows}
 use Rattle.call_plan.proofs.Steps.{is_done, is_stopped}
 use Rattle.call_plan.proofs.Bind.{bind_ok, bind_err, mapped_follows, lifted_follows}
-use Rattle.suite.specs.Setup.{Setup}
-use Rattle.pmem_engine.specs.declared.fault.Fault.{Fault}
 use Rattle.pmem_engine.specs.declared.fault.Fault.TheVariants as Fail
 use Rattle.commit_regs.specs.Plans.{ended_with}
-use Rattle.pmem_engine.specs.Plans.{Chip, read_plan}
-use Rattle.engine_lines.specs.declared.edits.Edit.{Edit}
 use Rattle.engine_lines.specs.Plans.{edits_plan}
 use Rattle.engine_lines.proofs.RegisterPlans.{done_with_regs, stopped_with_regs}
-use Rattle.line_txn.specs.declared.store.Store.{Store}
-use Rattle.line_txn.specs.declared.store.Committed.{Committed}
 use Rattle.line_txn.specs.declared.store.Committed.TheVariants as Do
-use Rattle.line_txn.specs.declared.store.CommitFault.{CommitFault}
-use Rattle.line_txn.specs.declared.store.TxnFault.{TxnFault}
 use Rattle.line_txn.specs.declared.store.TxnFault.TheVariants as Txn
-use Rattle.line_txn.specs.Header.{header_in}
-use Rattle.line_txn.specs.Edits.{deciding_edits, applying_edits, redoing_edits}
-use Rattle.line_txn.specs.Store.{logged_lines, IsServedAs, IsServedBy, commit_answer_by}
-use Rattle.line_txn.specs.Plans.{OpeningStop, unread, unredone, redo_end, open_plan, Serving, opened_of, FollowsOpening, commit_fault, commit_plan, commit_answer_of, IsServedAfter, FollowsCommit}
+use Rattle.line_txn.specs.Plans.{open_plan, commit_plan}
 
 -- the fault that changes ended with, in other words
 pub edits_fault : (setup : Setup) (after : Chip) (edits : List Edit) (from : Chip × Regs) {old new : Device} {fault other : Fault} → fault ≡ other

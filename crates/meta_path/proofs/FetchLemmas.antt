@@ -2,6 +2,7 @@
 use Rattle.std.proofs.Common.{rules, ◌≡◌, ℕ, zero, suc, ◌+◌, ◌<◌, ◌≤◌, true, false, cond, List, [], ◌++◌, length, refl, sym, ap, subst, subst₂, ◌∙◌, inl, inr, arith}
 use Rattle.std.specs.Prelude.{option_map, unwrap_or}
 use Rattle.std.proofs.lemmas.Bool.{cases_eq, both_ways}
+use Rattle.std.proofs.lemmas.List.{append-nil}
 use Rattle.pmem_base.specs.declared.lines.Line.{Line}
 use Rattle.pmem_base.specs.declared.answers.Exhibit.TheVariants.{Clash}
 use Rattle.pmem_base.specs.Counts.{HasRisen, risen_times}
@@ -11,7 +12,7 @@ use Rattle.pmem_base.specs.Lines.{line_at, zero_line}
 use Rattle.suite.specs.Formulas.{Formulas}
 use Rattle.board.specs.Counts.{RisesBy}
 use Rattle.board.specs.Steps.{Tells}
-use Rattle.board.proofs.CountLemmas.{RisesBy-then}
+use Rattle.board.proofs.CountLemmas.{HasRisen-once}
 use Rattle.seal_ledger.specs.Ledger.{LedgerState}
 use Rattle.seal_ledger.specs.Notes.{HasExhibit}
 use Rattle.bonsai_tree.specs.Positions.{parent, child_slot}
@@ -179,6 +180,10 @@ cut_at : (g : Shape) (f : Formulas) (truth : List Line) (page n : ℕ) (old mid 
     → IsCutAt g f truth page old new
 cut_at g f truth page n old mid new le before level =
     let same = same_here before in
+    let work : HasWorked (absent_count g old.cache.banks page n + level.tries) (spilled g old.cache.banks page n) old.device level.mid =
+    subst (λ entries. HasWorked (absent_count g old.cache.banks page n + level.tries) entries old.device level.mid)
+    (append-nil (spilled g old.cache.banks page n))
+    (HasWorked-then _ level.tries (spilled g old.cache.banks page n) [] old.device mid.device level.mid before.work level.read) in
     record {
       n = n;
       on_path = le;
@@ -194,22 +199,19 @@ cut_at g f truth page n old mid new le before level =
       tries = absent_count g old.cache.banks page n + level.tries;
       at_least = omega arith;
       at_most = omega (arith, level.at_most_one);
-      reads =
-          RisesBy-then (absent_count g old.cache.banks page n) level.tries old.device.reads mid.device.reads new.device.reads
-          before.work.reads level.reads;
+      reads = subst (RisesBy (absent_count g old.cache.banks page n + level.tries) old.device.reads) (sym level.cut.reads) work.reads;
       digests =
           level.digests ∙ ap (risen_times level.tries) before.digests
           ∙ sym (risen_times-add (absent_count g old.cache.banks page n) level.tries old.digests);
-      lines = level.lines ∙ before.work.lines;
-      writes =
-          subst (RisesBy (length (spilled g old.cache.banks page n)) old.device.writes) (sym level.writes) before.work.writes;
-      unsteady = not_steady before.work.steady level.unsteady;
-      off = level.off;
-      never_falls = omega (arith, level.never_falls, before.work.cuts);
-      rose = subst (λ count. HasRisen count new.device.cuts) before.work.cuts level.rose;
-      size = level.size ∙ before.work.size;
-      regs = level.regs ∙ before.work.regs;
-      latches = level.latches ∙ before.work.latches;
+      lines = level.cut.lines ∙ work.lines;
+      writes = subst (RisesBy (length (spilled g old.cache.banks page n)) old.device.writes) (sym level.cut.writes) work.writes;
+      unsteady = not_steady work.steady level.cut.unsteady;
+      off = level.cut.off;
+      never_falls = omega (arith, level.cut.cuts.never_falls, work.cuts);
+      rose = subst (λ count. HasRisen count new.device.cuts) work.cuts (HasRisen-once level.cut.cuts);
+      size = level.cut.size ∙ work.size;
+      regs = level.cut.regs ∙ work.regs;
+      latches = level.cut.latches ∙ work.latches;
       victim = λ live. subst (HasDirtyVictim g) same (level.victim (before.work.live live));
     }
 

@@ -10,7 +10,6 @@ use Rattle.pmem_base.specs.Layout.{meta_line}
 use Rattle.pmem_base.specs.Lines.{line_at, zero_line}
 use Rattle.pmem_base.specs.Counts.{risen_times}
 use Rattle.suite.specs.Formulas.{Formulas}
-use Rattle.board.proofs.CountLemmas.{HasRisen-once}
 use Rattle.board.specs.Device.{Device}
 use Rattle.board.specs.Steps.{Tells, WasCut}
 use Rattle.commit_regs.proofs.GroupLemmas.{redone-nil}
@@ -40,7 +39,7 @@ pub cut_at_read : (g : Shape) (bank x : ℕ) (cache : CacheState) (old new : Dev
     → is_cached g cache.banks bank x ≡ false → WasCut old new → old.live ≡ false
     → IsLevelCut g bank x (record { cache = cache; device = old; digests = digests })
     (record { cache = cache; device = new; digests = digests })
-cut_at_read g bank x cache old new digests absent cut dead = search (rules, HasRisen-once)
+cut_at_read g bank x cache old new digests absent cut dead = search (rules, HasWorked-none)
 
 -- ---- room
 

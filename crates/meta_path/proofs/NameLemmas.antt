@@ -9,11 +9,13 @@ use Rattle.pmem_base.specs.Counts.{HasRisen}
 use Rattle.pmem_base.specs.Shape.{Shape}
 use Rattle.pmem_base.specs.Layout.{slots, shadow_line}
 use Rattle.board.specs.Counts.{RisesBy}
-use Rattle.board.proofs.CountLemmas.{HasRisen-once, RisesBy-once}
+use Rattle.board.proofs.CountLemmas.{HasRisen-once}
 use Rattle.board.specs.Device.{Device}
-use Rattle.board.specs.Steps.{HasWritten, WasCut}
+use Rattle.board.specs.Steps.{WasCut}
+use Rattle.call_plan.specs.Plans.{the_cut}
+use Rattle.call_plan.specs.Following.{Follows}
 use Rattle.shadow_tables.specs.Entries.{slot_entry}
-use Rattle.shadow_tables.specs.Naming.{entry_line, naming_line, with_named, Names}
+use Rattle.shadow_tables.specs.Naming.{entry_line, naming_line, Names}
 use Rattle.meta_cache.specs.declared.slot.Slot.{Slot}
 use Rattle.meta_cache.specs.Banks.{Banks, set_index, slot_number, is_cached}
 use Rattle.meta_cache.specs.Sets.{slot_with, IsSetOf}
@@ -22,7 +24,9 @@ use Rattle.meta_cache.proofs.SetLemmas.{is_some-slot_with}
 use Rattle.meta_cache.proofs.FormLemmas.{way_low}
 use Rattle.meta_path.specs.Blocks.{path_at, slots_at, number_in, IsPathCached}
 use Rattle.meta_path.specs.Work.{HasWorked}
-use Rattle.meta_path.specs.Naming.{path_number, is_slot_named, named_slot, naming_write, named_path, naming_writes, IsSlotNamed, IsSlotCut, ArePathEntries, IsNamedTo, IsNamingCut}
+use Rattle.meta_path.specs.Naming.{path_number, is_slot_named, named_slot, naming_write, named_path, naming_writes, ArePathEntries, IsNamedTo, IsNamingCut}
+use Rattle.meta_path.specs.Plans.{slot_plan}
+use Rattle.meta_path.proofs.NamePlans.{slot_named, slot_stopped}
 use Rattle.meta_path.proofs.WorkLemmas.{not_steady, HasWorked-then}
 
 -- ---- one slot
@@ -30,25 +34,6 @@ use Rattle.meta_path.proofs.WorkLemmas.{not_steady, HasWorked-then}
 pub unnamed : {W : Type 0} (g : Shape) (shadow : List Line) (bank n x : ℕ) (answer : Option W) (write : W) → answer ≡ Some write
     → (IsNone answer ↔ (slot_entry g shadow bank n ≡ x + 1)) → is_slot_named g shadow bank n x ≡ false
 unnamed g shadow bank n x answer write is already = search rules
-
--- the shadow line was written
-pub IsSlotNamed-written : (g : Shape) (bank n x : ℕ) (old_mirror new_mirror : List Line) (old new : Device) (at : ℕ) (line : Line)
-    → is_slot_named g old_mirror bank n x ≡ false → new_mirror ≡ with_named g old_mirror bank n x
-    → at ≡ shadow_line g (entry_line g bank n) → line ≡ naming_line g old_mirror bank n x
-    → HasWritten old at line new → IsSlotNamed g bank n x old_mirror new_mirror old new
-IsSlotNamed-written g bank n x old_mirror new_mirror old new at line not_named written place bytes done = search (rules, RisesBy-once)
-
--- the entry named the position already
-pub IsSlotNamed-already : (g : Shape) (bank n x : ℕ) (old_mirror new_mirror : List Line) (device : Device)
-    → slot_entry g old_mirror bank n ≡ x + 1 → new_mirror ≡ old_mirror
-    → IsSlotNamed g bank n x old_mirror new_mirror device device
-IsSlotNamed-already g bank n x old_mirror new_mirror device named same = search rules
-
--- the write was cut
-pub IsSlotCut-from : (g : Shape) (bank n x : ℕ) (old_mirror new_mirror : List Line) (old new : Device)
-    → is_slot_named g old_mirror bank n x ≡ false → new_mirror ≡ with_named g old_mirror bank n x → WasCut old new
-    → IsSlotCut g bank n x old_mirror new_mirror old new
-IsSlotCut-from g bank n x old_mirror new_mirror old new not_named written cut = search (rules, HasRisen-once)
 
 -- what an answer that is an error has
 pub on_err : {X E : Type 0} (answer : Result X E) (P : Type 0) → P → OnErr answer P
@@ -87,12 +72,13 @@ module _ {g : Shape} {banks : Banks} {page n : ℕ} {old_mirror mid_mirror new_m
       is ∙ ap (λ shadow. named_slot g shadow n (path_number g banks page n) (path_at g page n)) before.mirror
       ∙ ap (named_path g banks page old_mirror) next
 
-  pub IsNamedTo-more : {new : Device} → IsSlotNamed g n (path_number g banks page n) (path_at g page n) mid_mirror new_mirror mid new
+  pub IsNamedTo-more : {new : Device} → Follows (slot_plan g n (path_number g banks page n) (path_at g page n) mid_mirror) mid new (Ok (new_mirror, tt))
       → IsNamedTo g banks page (n + 1) old_mirror new_mirror old new
-  IsNamedTo-more {new} level =
+  IsNamedTo-more {new} it =
+      let level = slot_named g n (path_number g banks page n) (path_at g page n) mid_mirror mid new_mirror new it in
       let next : suc n ≡ n + 1 = omega arith in
       record {
-        mirror = mirror_more level.mirror;
+        mirror = mirror_more level.0;
         entries = entries_more;
         work =
             subst (λ k. HasWorked 0 (naming_writes g banks page old_mirror k) old new) next
@@ -100,20 +86,22 @@ module _ {g : Shape} {banks : Banks} {page n : ℕ} {old_mirror mid_mirror new_m
             (naming_writes g banks page old_mirror n ++ naming_write g shadow n (path_number g banks page n) (path_at g page n))
             old new) before.mirror
             (HasWorked-then 0 0 (naming_writes g banks page old_mirror n)
-            (naming_write g mid_mirror n (path_number g banks page n) (path_at g page n)) old mid new before.work level.work));
+            (naming_write g mid_mirror n (path_number g banks page n) (path_at g page n)) old mid new before.work level.1));
       }
 
   pub IsNamingCut-at : {new : Device} → n ≤ g.levels
-      → IsSlotCut g n (path_number g banks page n) (path_at g page n) mid_mirror new_mirror mid new
+      → Follows (slot_plan g n (path_number g banks page n) (path_at g page n) mid_mirror) mid new (Err (new_mirror, the_cut))
       → IsNamingCut g banks page old_mirror new_mirror old new
-  IsNamingCut-at {new} le cut =
+  IsNamingCut-at {new} le it =
+      let level = slot_stopped g n (path_number g banks page n) (path_at g page n) mid_mirror mid new_mirror the_cut new it in
+      let cut : WasCut mid new = level.2 in
       record {
         n = n;
         on_path = le;
-        mirror = mirror_more cut.mirror;
+        mirror = mirror_more level.0;
         entries = entries_more;
         unnamed = λ e.
-            both_ways (is_slot_named g mid_mirror n (path_number g banks page n) (path_at g page n)) cut.unnamed
+            both_ways (is_slot_named g mid_mirror n (path_number g banks page n) (path_at g page n)) level.1
             (eq-eqb (slot_entry g mid_mirror n (path_number g banks page n)) (path_at g page n + 1)
             (before.entries.others n (path_number g banks page n) (low n (omega arith)) (λ h. omega (arith, h.0)) ∙ e));
         lines = cut.lines ∙ before.work.lines;
@@ -121,8 +109,8 @@ module _ {g : Shape} {banks : Banks} {page n : ℕ} {old_mirror mid_mirror new_m
             subst (RisesBy (length (naming_writes g banks page old_mirror n)) old.writes) (sym cut.writes) before.work.writes;
         unsteady = not_steady before.work.steady cut.unsteady;
         off = cut.off;
-        never_falls = omega (arith, cut.never_falls, before.work.cuts);
-        rose = subst (λ count. HasRisen count new.cuts) before.work.cuts cut.rose;
+        never_falls = omega (arith, cut.cuts.never_falls, before.work.cuts);
+        rose = subst (λ count. HasRisen count new.cuts) before.work.cuts (HasRisen-once cut.cuts);
         size = cut.size ∙ before.work.size;
         regs = cut.regs ∙ before.work.regs;
         reads = cut.reads ∙ before.work.no_read refl;

@@ -2,16 +2,15 @@
 use Rattle.std.specs.Prelude.{ℕ, zero, suc, ◌≡◌, ◌≢◌, ◌≤◌, true, false, List, [], ◌∷◌, Option, Some, None, IsTrue, IsSomeAnd, if◌then◌else◌, ⊤}
 use Rattle.pmem_base.specs.declared.lines.Line.{Line}
 use Rattle.pmem_base.specs.declared.answers.Exhibit.TheVariants.{Clash}
-use Rattle.pmem_base.specs.Counts.{HasRisen, risen_times}
+use Rattle.pmem_base.specs.Counts.{risen_times}
 use Rattle.pmem_base.specs.Shape.{Shape}
 use Rattle.pmem_base.specs.Layout.{meta_line}
 use Rattle.pmem_base.specs.Lines.{IsLine, line_at}
 use Rattle.suite.specs.Formulas.{Formulas}
 use Rattle.bonsai_tree.specs.Positions.{parent, child_slot}
 use Rattle.bonsai_tree.specs.Nodes.{child_digest}
-use Rattle.board.specs.Counts.{RisesBy}
 use Rattle.board.specs.Device.{Device}
-use Rattle.board.specs.Steps.{Tells}
+use Rattle.board.specs.Steps.{Tells, WasCut}
 use Rattle.seal_ledger.specs.Ledger.{LedgerState}
 use Rattle.seal_ledger.specs.Notes.{HasExhibit}
 use Rattle.meta_cache.specs.declared.slot.Slot.{Slot}
@@ -111,23 +110,16 @@ pub record IsLevelRead (g : Shape) (bank x : ℕ) (line : Line) (old new : Fetch
   pub whole : IsLine line
 
 -- Position x of a bank isn't cached, and a cut came before it was: at the read, or before the write
--- that makes room. Nothing changed but the counts.
+-- that makes room, and then its read and its digest are counted.
 pub record IsLevelCut (g : Shape) (bank x : ℕ) (old new : FetchState) : Type 0 where
   pub absent : is_cached g old.cache.banks bank x ≡ false
   pub cache : new.cache ≡ old.cache
   pub tries : ℕ
   pub at_most_one : tries ≤ 1
-  pub reads : RisesBy tries old.device.reads new.device.reads
   pub digests : new.digests ≡ risen_times tries old.digests
-  pub unsteady : old.device.steady ≡ false
-  pub off : new.device.live ≡ false
-  pub never_falls : old.device.cuts ≤ new.device.cuts
-  pub rose : HasRisen old.device.cuts new.device.cuts
-  pub size : new.device.size ≡ old.device.size
-  pub lines : new.device.lines ≡ old.device.lines
-  pub regs : new.device.regs ≡ old.device.regs
-  pub writes : new.device.writes ≡ old.device.writes
-  pub latches : new.device.latches ≡ old.device.latches
+  pub mid : Device
+  pub read : HasWorked tries [] old.device mid
+  pub cut : WasCut mid new.device
   pub victim : old.device.live ≡ true → HasDirtyVictim g (slots_at g old.cache.banks bank x)
 
 -- a line was read whose digest isn't the one that it has to have

@@ -45,28 +45,6 @@ naming_writes g banks page shadow (suc n) =
     naming_writes g banks page shadow n
     ++ naming_write g (named_path g banks page shadow n) n (path_number g banks page n) (path_at g page n)
 
--- slot n of a bank is named, on the board as in the mirror
-pub record IsSlotNamed (g : Shape) (bank n x : ℕ) (old_mirror new_mirror : List Line) (old new : Device) :
-    Type 0 where
-  pub mirror : new_mirror ≡ named_slot g old_mirror bank n x
-  pub work : HasWorked 0 (naming_write g old_mirror bank n x) old new
-
--- a cut came before the entry of slot n of a bank was written, which doesn't name x; the mirror has it
-pub record IsSlotCut (g : Shape) (bank n x : ℕ) (old_mirror new_mirror : List Line) (old new : Device) :
-    Type 0 where
-  pub mirror : new_mirror ≡ named_slot g old_mirror bank n x
-  pub unnamed : is_slot_named g old_mirror bank n x ≡ false
-  pub unsteady : old.steady ≡ false
-  pub off : new.live ≡ false
-  pub never_falls : old.cuts ≤ new.cuts
-  pub rose : HasRisen old.cuts new.cuts
-  pub size : new.size ≡ old.size
-  pub lines : new.lines ≡ old.lines
-  pub regs : new.regs ≡ old.regs
-  pub reads : new.reads ≡ old.reads
-  pub writes : new.writes ≡ old.writes
-  pub latches : new.latches ≡ old.latches
-
 -- the entries of the path's first n slots name its blocks, and every other slot's is as it was
 pub record ArePathEntries (g : Shape) (banks : Banks) (page n : ℕ) (old new : List Line) : Type 0 where
   pub named :

@@ -24,7 +24,7 @@ use Rattle.meta_path.specs.Work.{FetchState}
 use Rattle.meta_path.specs.Levels.{expected_digest, IsLevelFetched, IsLevelRead, IsLevelFault}
 use Rattle.meta_path.specs.Fetching.{IsFetchedTo, IsPathFault}
 use Rattle.meta_path.specs.Keeping.{IsUndisturbed, IsTrueTree, IsFaultCaused}
-use Rattle.meta_path.specs.Naming.{path_number, IsSlotNamed, IsSlotCut}
+use Rattle.meta_path.specs.Naming.{path_number}
 use Rattle.meta_path.specs.Plans.{slot_plan}
 use Rattle.meta_path.specs.FetchPlans.{FetchParts, fetch_parts, check_plan, level_plan, fetch_plan}
 use Rattle.meta_path.specs.Storing.{IsPathOf, IsRenewed, IsStoredTo}
@@ -116,14 +116,7 @@ module _ {B : Type 0} (board : BoardOf B) (geo : Geo) (cache : CacheState) (mirr
   abbrev number : ℕ
   number = number_in (shape_of geo) cache.banks bank x
 
-  -- the slot of position x, which is cached, was named
-  abbrev pub NamesSlot : Type 0
-  NamesSlot = IsSlotNamed (shape_of geo) bank number x mirror later_mirror (board.device b) (board.device later_b)
-
-  -- a cut came before
-  abbrev pub CutsNaming : Type 0
-  CutsNaming = IsSlotCut (shape_of geo) bank number x mirror later_mirror (board.device b) (board.device later_b)
-
+  -- the slot of position x, which is cached, is named
   abbrev pub FollowsNaming : Result (Unit {0}) Cut → Type 0
   FollowsNaming answer =
       Follows (slot_plan (shape_of geo) bank number x mirror) (board.device b) (board.device later_b)

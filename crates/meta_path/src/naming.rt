@@ -9,7 +9,7 @@ ghost use Rattle.meta_cache.specs.Banks.{is_cached};
 ghost use Rattle.meta_path.specs.Blocks.{number_in, IsPathCached};
 ghost use Rattle.meta_path.specs.Naming.{naming_writes, IsNamedTo, IsNamingCut};
 ghost use Rattle.meta_path.specs.Plans.{naming_plan};
-ghost use Rattle.meta_path.specs.Promised.{KeepsOtherEntries, NamesSlot, CutsNaming, FollowsNaming};
+ghost use Rattle.meta_path.specs.Promised.{KeepsOtherEntries, FollowsNaming};
 
 use board::Board;
 use bonsai_tree::path;
@@ -67,8 +67,6 @@ fn name_level<B: Board>(
     requires bank { bank ≤ (shape_of geo.now).levels }
     requires position { x < meta_lines (shape_of geo.now) }
     requires cached { IsTrue (is_cached (shape_of geo.now) cache.now.banks bank x) }
-    ensures ok { OnOk result (NamesSlot B.Board geo.now cache.now mirror.old board.old mirror.new board.new bank x) }
-    ensures cut { OnErr result (CutsNaming B.Board geo.now cache.now mirror.old board.old mirror.new board.new bank x) }
     ensures names { Names (shape_of geo.now) mirror.old mirror.new bank
         (number_in (shape_of geo.now) cache.now.banks bank x) x }
     ensures long { length mirror.new ≡ shadow_lines (shape_of geo.now) }

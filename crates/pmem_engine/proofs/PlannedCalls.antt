@@ -20,7 +20,9 @@ pub mod BlockOrder
 pub mod FetchedLevels
 pub mod FetchedReads
 pub mod LowWrites
+pub mod GroupEnds
 pub mod StoppedFetches
+pub mod StoppedFinishes
 pub mod StoppedWrites
 pub mod NamedPaths
 pub mod OwnSeals

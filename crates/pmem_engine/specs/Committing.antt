@@ -1,5 +1,6 @@
 -- What arming and finishing a group makes of a device, and the registers and lines that a seal arms.
-use Rattle.std.specs.Prelude.{ℕ, ◌≡◌, true, false, List, [], ◌∷◌, length}
+use Rattle.std.specs.Prelude.{ℕ, ◌≡◌, ◌⊎◌, true, false, List, [], ◌∷◌, length, Result, Ok, Err}
+use Rattle.pmem_base.specs.declared.faults.Cut.{Cut}
 use Rattle.pmem_base.specs.declared.lines.Line.{Line}
 use Rattle.pmem_base.specs.declared.lines.Ctr.{Ctr}
 use Rattle.pmem_base.specs.declared.registers.Regs.{Regs}
@@ -8,6 +9,7 @@ use Rattle.pmem_base.specs.Shape.{Shape}
 use Rattle.pmem_base.specs.Layout.{tag_line}
 use Rattle.board.specs.Counts.{RisesBy}
 use Rattle.board.specs.Device.{Device}
+use Rattle.board.specs.Steps.{WasCut}
 use Rattle.commit_regs.specs.Groups.{RisesAtMost, redone_told}
 use Rattle.line_seal.specs.Seals.{with_tag}
 use Rattle.page_reencrypt.specs.Registers.{registers_with_done}
@@ -59,3 +61,9 @@ pub record IsCutArmed (group : List (ℕ × Line)) (old new : Device) : Type 0 w
   pub unsteady : old.steady ≡ false
   pub off : new.live ≡ false
   pub rose : HasRisen old.cuts new.cuts
+
+-- How a group ended: with what goes with it done, or a cut came before it was armed, and left that undone, or while it
+-- was armed.
+abbrev pub HasGroupEnded : List (ℕ × Line) → Type 0 → Type 0 → Device → Device → Result (Unit {0}) Cut → Type 0
+HasGroupEnded group Undone Done old new (Ok value) = HasCommitted group old new × Done
+HasGroupEnded group Undone Done old new (Err cut) = (WasCut old new × Undone) ⊎ (IsCutArmed group old new × Done)

@@ -1,5 +1,5 @@
 -- What a read and a write do of the page's path before all else, and what they leave of it wherever they end.
-use Rattle.std.specs.Prelude.{ℕ, Bool, ◌≡◌, ◌<◌, ◌≤◌, ◌+◌, ◌%◌, ◌==◌, ◌&&◌, ◌⊎◌, true, false, List, length, IsOk, Result, Ok, Err, ⊤}
+use Rattle.std.specs.Prelude.{ℕ, zero, suc, Bool, ◌≡◌, ◌<◌, ◌≤◌, ◌+◌, ◌*◌, ◌%◌, ◌==◌, ◌&&◌, ◌⊎◌, true, false, List, length, Some, IsOk, Result, Ok, Err, ⊤}
 use Rattle.std.specs.List.{list_any}
 use Rattle.pmem_base.specs.declared.lines.Line.{Line}
 use Rattle.pmem_base.specs.declared.lines.Ctr.{Ctr}
@@ -7,7 +7,8 @@ use Rattle.pmem_base.specs.declared.commands.Posted.{Posted}
 use Rattle.pmem_base.specs.declared.registers.Regs.{Regs}
 use Rattle.pmem_base.specs.Layout as layout
 use Rattle.pmem_base.specs.Layout.{page_of, index_in_page}
-use Rattle.pmem_base.specs.Registers.{IsValidRegs}
+use Rattle.pmem_base.specs.Counts.{risen_times}
+use Rattle.pmem_base.specs.Registers.{IsValidRegs, not_done, without_group}
 use Rattle.pmem_base.specs.declared.answers.Mark.{Mark}
 use Rattle.pmem_base.specs.declared.answers.Mark.TheVariants.{Begin, Seal}
 use Rattle.bonsai_tree.specs.Positions.{counter_position}
@@ -30,11 +31,11 @@ use Rattle.pmem_engine.specs.declared.fault.Fault.TheVariants as Fail
 use Rattle.pmem_engine.specs.Engine.{ChipState}
 use Rattle.pmem_engine.specs.Flushed.{cache_of}
 use Rattle.pmem_engine.specs.KeptLaws.{left_at}
-use Rattle.pmem_engine.specs.Plans.{Chip, read_plan}
+use Rattle.pmem_engine.specs.Plans.{Chip, read_plan, register_at}
 use Rattle.pmem_engine.specs.CallFacts.{KeepsButPath}
 use Rattle.pmem_engine.specs.Inner.{cached_block}
-use Rattle.pmem_engine.specs.Writing.{overflow_of}
-use Rattle.pmem_engine.specs.WritePlans.{write_plan}
+use Rattle.pmem_engine.specs.Writing.{overflow_of, register_to_finish}
+use Rattle.pmem_engine.specs.WritePlans.{with_next_done, write_plan}
 
 -- ---- what a fetch asks of the cache: what each engine has
 
@@ -47,7 +48,7 @@ pub record HasWholeCache (engine : ChipState) : Type 0 where
 -- ---- how far the path was fetched
 
 -- The path's first so many levels were fetched, by the cache as it was: of the lines, those of the dirty blocks that
--- gave way were written, one line write each.
+-- gave way were written, one line write each. Nothing was latched, and the registers are as they were.
 pub record HasFetchedLevels (page levels : ℕ) (before : Chip) (after : ChipState) (old new : Device) : Type 0 where
   pub on_path : levels ≤ before.engine.shape.levels + 1
   pub cache :
@@ -55,6 +56,8 @@ pub record HasFetchedLevels (page levels : ℕ) (before : Chip) (after : ChipSta
   pub lines : new.lines ≡ redone_told (spilled before.engine.shape before.engine.cache page levels) old.lines
   pub writes :
       RisesBy (length (spilled before.engine.shape before.engine.cache page levels)) old.writes new.writes
+  pub latches : new.latches ≡ old.latches
+  pub regs : new.regs ≡ old.regs
 
 -- the path's next level isn't cached
 pub record IsNextAbsent (page levels : ℕ) (before : ChipState) : Type 0 where
@@ -131,15 +134,38 @@ pub record IsStoppedInFetch (page : ℕ) (before after : Chip) (old new : Device
   pub marks : after.ledger.marks ≡ before.ledger.marks
   pub unnamed : NamesNothing before.engine after.engine old new
 
--- the whole path was fetched, and no block came in or gave way since, or is named; of the metadata lines those that the
--- fetch wrote back were written, and no other
-pub record IsStoppedUnnamed (page : ℕ) (before after : ChipState) (truth : List Line) (old new : Device) : Type 0 where
-  pub cache : HasFetchedSets before.shape truth page (before.shape.levels + 1) (cache_of before) (cache_of after)
+-- the registers once so many lines of register n's page are sealed anew, from the lowest that isn't done
+abbrev pub with_resealed : ℕ → ℕ → Regs → Regs
+with_resealed n zero regs = regs
+with_resealed n (suc lines) regs = without_group (with_next_done n (with_resealed n lines regs))
+
+-- Of the page that has to be finished first so many lines were sealed anew, not all, by a mark and two latches each. No
+-- other mark was made, and nothing else was latched.
+pub record HasResealedSome (page : ℕ) (before after : Chip) (old new : Device) : Type 0 where
+  pub lines : ℕ
+  pub register : ℕ
+  pub found : 0 < lines → register_to_finish old.regs.progress.items page ≡ Some register
+  pub fewer : 0 < lines → lines < length (not_done (register_at old.regs register))
+  pub marks : length after.ledger.marks ≡ length before.ledger.marks + lines
+  pub latches : new.latches ≡ risen_times (2 * lines) old.latches
+  pub regs : new.regs ≡ with_resealed register lines old.regs
+
+-- The whole path was fetched, and no block came in or gave way since, or is named; of the metadata lines those that the
+-- fetch wrote back were written, and no other. The line writes are the fetch's, and two for each line sealed anew.
+pub record IsStoppedUnnamed (page : ℕ) (before after : Chip) (old new : Device) : Type 0 where
+  pub cache :
+      HasFetchedSets before.engine.shape before.ledger.truth page (before.engine.shape.levels + 1) (cache_of before.engine)
+      (cache_of after.engine)
   pub metadata :
-      (at : ℕ) → layout.meta_line before.shape 0 ≤ at
+      (at : ℕ) → layout.meta_line before.engine.shape 0 ≤ at
       → told_line new.lines at
-      ≡ told_line (redone_told (spilled before.shape before.cache page (before.shape.levels + 1)) old.lines) at
-  pub unnamed : NamesNothing before after old new
+      ≡ told_line (redone_told (spilled before.engine.shape before.engine.cache page (before.engine.shape.levels + 1)) old.lines) at
+  pub unnamed : NamesNothing before.engine after.engine old new
+  pub resealed : HasResealedSome page before after old new
+  pub writes :
+      RisesBy
+      (length (spilled before.engine.shape before.engine.cache page (before.engine.shape.levels + 1)) + 2 * resealed.lines)
+      old.writes new.writes
 
 -- the whole path was fetched, the line's counter isn't used up, and no block came in or gave way since
 pub record IsCutPastFetch (write : Posted) (before after : ChipState) (truth : List Line) : Type 0 where
@@ -159,10 +185,10 @@ IsStoppedBy write before after old new (Fail.Meta x) =
 IsStoppedBy write before after old new (Fail.Spent page) =
     IsStoppedInFetch (page_of write.at) before after old new (Fail.Spent page)
 IsStoppedBy write before after old new (Fail.Tag at) =
-    IsStoppedUnnamed (page_of write.at) before.engine after.engine before.ledger.truth old new
+    IsStoppedUnnamed (page_of write.at) before after old new
 IsStoppedBy write before after old new Fail.Shown =
     IsStoppedInFetch (page_of write.at) before after old new Fail.Shown
-    ⊎ IsStoppedUnnamed (page_of write.at) before.engine after.engine before.ledger.truth old new
+    ⊎ IsStoppedUnnamed (page_of write.at) before after old new
 IsStoppedBy write before after old new Fail.Cut =
     IsStoppedInFetch (page_of write.at) before after old new Fail.Cut
     ⊎ IsCutPastFetch write before.engine after.engine before.ledger.truth

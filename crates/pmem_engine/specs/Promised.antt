@@ -25,8 +25,8 @@ use Rattle.pmem_engine.specs.Parts.{Parts, parts_with, parts_of, parts_with_at, 
 use Rattle.pmem_engine.specs.CallFacts.{IsEngineCall}
 use Rattle.pmem_engine.specs.Calls.{HasReadLine, HasWrittenLine, HasTurned, HasFlushed, HasSetLoss}
 use Rattle.pmem_engine.specs.Inner.{HasFetched, HasUnsealed, HasNamedPath}
-use Rattle.pmem_engine.specs.Resealing.{HasResealed, HasResealCommitted, IsResealCut}
-use Rattle.pmem_engine.specs.Sealing.{HasSealedNext, HasBegunPage, HasSealCommitted, IsSealCut, HasBeginCommitted, IsBeginCut}
+use Rattle.pmem_engine.specs.Resealing.{HasResealed, HasResealEnded}
+use Rattle.pmem_engine.specs.Sealing.{HasSealedNext, HasBegunPage, HasSealEnded, HasBeginEnded}
 use Rattle.pmem_engine.specs.Writing.{HasMadePlain, HasFinishedPage, HasFinishedFor, HasBegunFor}
 use Rattle.commit_regs.specs.Plans.{ended_with}
 use Rattle.pmem_engine.specs.Plans.{Chip, chip_with, chip_with_at, fetch_path_plan, unseal_plan, read_plan, commit_plan, reseal_plan}
@@ -158,28 +158,19 @@ module _ {B : Type 0} (board : BoardOf B) (engine : ChipState) (b : B) (later_en
 
 module _ {B A : Type 0} (board : BoardOf B) (audit : AuditOf A) (engine : ChipState) (b : B) (a : A)
     (later_engine : ChipState) (later_b : B) (later_a : A) where
-  abbrev pub CommitsReseal : NextSeal → Type 0
-  CommitsReseal next =
-      HasResealCommitted engine.shape next (board.device b) (board.device later_b) (audit.ledger a) (audit.ledger later_a)
-
-  abbrev pub CutsReseal : NextSeal → Type 0
-  CutsReseal next =
-      IsResealCut engine.shape next (board.device b) (board.device later_b) (audit.ledger a) (audit.ledger later_a)
+  abbrev pub EndsReseal : NextSeal → Result (Unit {0}) Cut → Type 0
+  EndsReseal next answer =
+      HasResealEnded engine.shape next (board.device b) (board.device later_b) (audit.ledger a) (audit.ledger later_a) answer
 
   abbrev pub FollowsResealGroup : NextSeal → Result (Unit {0}) Cut → Type 0
   FollowsResealGroup next answer =
       Follows (commit_plan engine.shape next (board.device b).regs (audit.ledger a)) (board.device b) (board.device later_b)
       (ended answer (audit.ledger later_a))
 
-  abbrev pub CommitsSeal : NextSeal → Bool → Line → Path → Type 0
-  CommitsSeal next persisted block path =
-      HasSealCommitted engine.shape next persisted block path.lines.items path.root engine later_engine (board.device b)
-      (board.device later_b) (audit.ledger a) (audit.ledger later_a)
-
-  abbrev pub CutsSeal : NextSeal → Bool → Line → Path → Type 0
-  CutsSeal next persisted block path =
-      IsSealCut engine.shape next persisted block path.lines.items path.root engine later_engine (board.device b)
-      (board.device later_b) (audit.ledger a) (audit.ledger later_a)
+  abbrev pub EndsSeal : NextSeal → Bool → Line → Path → Result (Unit {0}) Cut → Type 0
+  EndsSeal next persisted block path answer =
+      HasSealEnded engine.shape next persisted block path.lines.items path.root engine later_engine (board.device b)
+      (board.device later_b) (audit.ledger a) (audit.ledger later_a) answer
 
   abbrev pub FollowsSealGroup : NextSeal → Bool → Line → Path → Result (Unit {0}) Cut → Type 0
   FollowsSealGroup next persisted block path answer =
@@ -190,15 +181,10 @@ module _ {B A : Type 0} (board : BoardOf B) (audit : AuditOf A) (engine : ChipSt
       (board.device b) (board.device later_b)
       (ended_with answer (chip_with later_engine (audit.ledger later_a) tags digests) (board.device later_b).regs)
 
-  abbrev pub CommitsBegin : ℕ → Progress → Line → Path → Type 0
-  CommitsBegin page register block path =
-      HasBeginCommitted engine.shape page register block path.lines.items path.root engine later_engine (board.device b)
-      (board.device later_b) (audit.ledger a) (audit.ledger later_a)
-
-  abbrev pub CutsBegin : ℕ → Progress → Line → Path → Type 0
-  CutsBegin page register block path =
-      IsBeginCut engine.shape page register block path.lines.items path.root engine later_engine (board.device b)
-      (board.device later_b) (audit.ledger a) (audit.ledger later_a)
+  abbrev pub EndsBegin : ℕ → Progress → Line → Path → Result (Unit {0}) Cut → Type 0
+  EndsBegin page register block path answer =
+      HasBeginEnded engine.shape page register block path.lines.items path.root engine later_engine (board.device b)
+      (board.device later_b) (audit.ledger a) (audit.ledger later_a) answer
 
   abbrev pub FollowsBeginGroup : ℕ → Progress → Line → Path → Result (Unit {0}) Cut → Type 0
   FollowsBeginGroup page register block path answer =

@@ -1,5 +1,6 @@
 -- What sealing a held line anew makes of its parts.
 use Rattle.std.specs.Prelude.{ℕ, ◌≡◌, ◌<◌, ◌≤◌, ◌+◌, ◌*◌, ◌⊎◌, List, [], ◌∷◌, length, slice_get, slice_index_or, Some, IfOk, IsOk, IsTrue, Result, Ok, Err, ⊤}
+use Rattle.pmem_base.specs.declared.faults.Cut.{Cut}
 use Rattle.pmem_base.specs.declared.registers.Progress.{Progress}
 use Rattle.pmem_base.specs.declared.answers.Mark.{Mark}
 use Rattle.pmem_base.specs.declared.answers.Mark.TheVariants.{Seal}
@@ -10,7 +11,6 @@ use Rattle.pmem_base.specs.Registers.{IsGroup, not_done, old_major, empty_progre
 use Rattle.split_counters.specs.Blocks.{unpacked, block_counter}
 use Rattle.board.specs.Counts.{RisesBy}
 use Rattle.board.specs.Device.{Device}
-use Rattle.board.specs.Steps.{WasCut}
 use Rattle.seal_ledger.specs.Ledger.{LedgerState, IsSealValue}
 use Rattle.seal_ledger.specs.Notes.{HasMark}
 use Rattle.suite.specs.Formulas.{Formulas}
@@ -27,7 +27,7 @@ use Rattle.call_effects.specs.Outcomes.{shown}
 use Rattle.pmem_engine.specs.Outcomes.{of_line, outcome_of, is_sealed_by, OneLossEffect, TakesSteps, TakesFewer}
 use Rattle.pmem_engine.specs.Faults.{IsTagRefused, IsForgedShown}
 use Rattle.pmem_engine.specs.CallFacts.{IsMemory, IsUnrefused, IsTurnWork, AreUnderMinorZero, KeepsMetaLines, moment_in}
-use Rattle.pmem_engine.specs.Committing.{entries_of, HasLineDone, HasCommitted, IsCutArmed}
+use Rattle.pmem_engine.specs.Committing.{entries_of, HasLineDone, HasGroupEnded}
 
 -- ---- a held line
 
@@ -58,25 +58,11 @@ pub record HasLineSealed (g : Shape) (next : NextSeal) (old new : Device) (befor
   pub mark : HasMark before after (Seal next.at next.ctr next.cipher next.tag)
   pub fits : IsSealValue next.ctr next.cipher next.tag
 
--- the group was armed and finished
-pub record HasResealCommitted (g : Shape) (next : NextSeal) (old new : Device) (before after : LedgerState) :
-    Type 0 where
-  pub device : HasCommitted (entries_of g next) old new
-  pub line_sealed : HasLineSealed g next old new before after
-
--- a cut came before the group was armed, or while it was
-pub record IsCutUnarmed (old new : Device) (before after : LedgerState) : Type 0 where
-  pub device : WasCut old new
-  pub ledger : after ≡ before
-
-pub record IsResealCutArmed (g : Shape) (next : NextSeal) (old new : Device) (before after : LedgerState) :
-    Type 0 where
-  pub device : IsCutArmed (entries_of g next) old new
-  pub line_sealed : HasLineSealed g next old new before after
-
-abbrev pub IsResealCut : Shape → NextSeal → Device → Device → LedgerState → LedgerState → Type 0
-IsResealCut g next old new before after =
-    IsCutUnarmed old new before after ⊎ IsResealCutArmed g next old new before after
+-- how its group ended
+abbrev pub HasResealEnded :
+    Shape → NextSeal → Device → Device → LedgerState → LedgerState → Result (Unit {0}) Cut → Type 0
+HasResealEnded g next old new before after =
+    HasGroupEnded (entries_of g next) (after ≡ before) (HasLineSealed g next old new before after) old new
 
 -- ---- the whole
 

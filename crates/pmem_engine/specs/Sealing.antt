@@ -17,7 +17,6 @@ use Rattle.suite.specs.Setup.{Setup}
 use Rattle.split_counters.specs.declared.Block.{Block}
 use Rattle.split_counters.specs.Blocks.{packed, minor_of, with_minor, next_block}
 use Rattle.board.specs.Device.{Device}
-use Rattle.board.specs.Steps.{WasCut}
 use Rattle.meta_cache.specs.Banks.{IsBanksOf}
 use Rattle.meta_path.specs.Blocks.{IsPathCached}
 use Rattle.meta_path.specs.Storing.{IsPathOf, KeepsSlots}
@@ -34,7 +33,7 @@ use Rattle.pmem_engine.specs.Parts.{Parts, regs_of, AreTrusted}
 use Rattle.pmem_engine.specs.Outcomes.{of_cut, outcome_of, is_sealed_by, OneLossEffect, TakesSteps, TakesFewer}
 use Rattle.pmem_engine.specs.CallFacts.{IsPathNamedInMirror, IsBlockTrue, IsWork, begin_work, seal_work, KeepsButPath, KeepsOtherMeta}
 use Rattle.pmem_engine.specs.Inner.{cached_block}
-use Rattle.pmem_engine.specs.Committing.{entries_of, HasCommitted, IsCutArmed}
+use Rattle.pmem_engine.specs.Committing.{entries_of, HasGroupEnded}
 
 -- ---- parts of a commit
 
@@ -92,52 +91,21 @@ pub record HasPageBegun (g : Shape) (page : ℕ) (register : Progress) (block : 
 
 -- ---- ends
 
--- nothing was done before the cut
-pub record IsNothingDone (old new : ChipState) (old_device new_device : Device) (before after : LedgerState) :
-    Type 0 where
-  pub engine : new ≡ old
-  pub device : WasCut old_device new_device
-  pub ledger : after ≡ before
-
--- the group was armed, and finished
-pub record HasSealCommitted (g : Shape) (next : NextSeal) (persisted : Bool) (block : Line) (lines : List (ℕ × Line))
-    (root : List ℕ) (old new : ChipState) (old_device new_device : Device) (before after : LedgerState) : Type 0 where
-  pub device : HasCommitted (seal_group g next persisted block) old_device new_device
-  pub path_sealed :
-      HasPathSealed g next persisted block lines root old new old_device.regs new_device.regs before after
-
--- or cut
-pub record IsSealCutArmed (g : Shape) (next : NextSeal) (persisted : Bool) (block : Line) (lines : List (ℕ × Line))
-    (root : List ℕ) (old new : ChipState) (old_device new_device : Device) (before after : LedgerState) : Type 0 where
-  pub device : IsCutArmed (seal_group g next persisted block) old_device new_device
-  pub path_sealed :
-      HasPathSealed g next persisted block lines root old new old_device.regs new_device.regs before after
-
-abbrev pub IsSealCut :
+abbrev pub HasSealEnded :
     Shape → NextSeal → Bool → Line → List (ℕ × Line) → List ℕ → ChipState → ChipState → Device → Device
-    → LedgerState → LedgerState → Type 0
-IsSealCut g next persisted block lines root old new old_device new_device before after =
-    IsNothingDone old new old_device new_device before after
-    ⊎ IsSealCutArmed g next persisted block lines root old new old_device new_device before after
+    → LedgerState → LedgerState → Result (Unit {0}) Cut → Type 0
+HasSealEnded g next persisted block lines root old new old_device new_device before after =
+    HasGroupEnded (seal_group g next persisted block) ((new ≡ old) × (after ≡ before))
+    (HasPathSealed g next persisted block lines root old new old_device.regs new_device.regs before after)
+    old_device new_device
 
-pub record HasBeginCommitted (g : Shape) (page : ℕ) (register : Progress) (block : Line) (lines : List (ℕ × Line))
-    (root : List ℕ) (old new : ChipState) (old_device new_device : Device) (before after : LedgerState) : Type 0 where
-  pub device : HasCommitted (begin_group g page block) old_device new_device
-  pub page_begun :
-      HasPageBegun g page register block lines root old new old_device.regs new_device.regs before after
-
-pub record IsBeginCutArmed (g : Shape) (page : ℕ) (register : Progress) (block : Line) (lines : List (ℕ × Line))
-    (root : List ℕ) (old new : ChipState) (old_device new_device : Device) (before after : LedgerState) : Type 0 where
-  pub device : IsCutArmed (begin_group g page block) old_device new_device
-  pub page_begun :
-      HasPageBegun g page register block lines root old new old_device.regs new_device.regs before after
-
-abbrev pub IsBeginCut :
+abbrev pub HasBeginEnded :
     Shape → ℕ → Progress → Line → List (ℕ × Line) → List ℕ → ChipState → ChipState → Device → Device
-    → LedgerState → LedgerState → Type 0
-IsBeginCut g page register block lines root old new old_device new_device before after =
-    IsNothingDone old new old_device new_device before after
-    ⊎ IsBeginCutArmed g page register block lines root old new old_device new_device before after
+    → LedgerState → LedgerState → Result (Unit {0}) Cut → Type 0
+HasBeginEnded g page register block lines root old new old_device new_device before after =
+    HasGroupEnded (begin_group g page block) ((new ≡ old) × (after ≡ before))
+    (HasPageBegun g page register block lines root old new old_device.regs new_device.regs before after)
+    old_device new_device
 
 -- ---- the whole
 

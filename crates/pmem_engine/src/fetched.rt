@@ -4,9 +4,9 @@ ghost use Rattle.pmem_engine.specs.FetchLaws.{ReadsFetchFirst, CachedReadsTakeNo
 ghost use Rattle.pmem_engine.specs.NameLaws.{PathsAreNamedInOrder};
 
 /// A law: wherever a read ends, the path's first levels were fetched, by the cache as it was, and of the lines those of
-/// the dirty blocks that gave way were written, and no other: all levels where the line was unsealed or its tag refused,
-/// and those above a line that was refused or clashes, which is of a level that wasn't cached. Power that is on is cut
-/// only where the next level isn't cached and a dirty block has to give way to it.
+/// the dirty blocks that gave way were written, and no other, and nothing was latched: all levels where the line was
+/// unsealed or its tag refused, and those above a line that was refused or clashes, which is of a level that wasn't
+/// cached. Power that is on is cut only where the next level isn't cached and a dirty block has to give way to it.
 pub fn reads_fetch_their_path()
     ensures { ReadsFetchFirst }
 {}
@@ -18,10 +18,11 @@ pub fn cached_reads_take_no_step()
 {}
 
 /// A law: what a write leaves that is refused, shown or cut. Where the path is refused or the counter is used up, the
-/// fetch's write-backs were written and nothing else, and no mark was made. Where a tag is refused or a seal is a forged
-/// one, the whole path was fetched, of the metadata lines no other was written, and no block is named. A cut comes in the
-/// fetch, where no mark is made yet and no block named, or once the whole path was fetched and the counter isn't used up,
-/// and no block came in or gave way since.
+/// fetch's write-backs were written and nothing else, no mark was made, nothing was latched, and the registers are as they
+/// were. Where a tag is refused or a seal is a forged one, the whole path was fetched, of the metadata lines no other was
+/// written, no block is named, and so many lines of the page that has to be finished are sealed anew, by a mark, two line
+/// writes and two latches each, and done in its register. A cut comes in the fetch, which then leaves what a refused path
+/// leaves, or once the whole path was fetched and the counter isn't used up, and no block came in or gave way since.
 pub fn stopped_writes_leave_their_fetch()
     ensures { StoppedWritesAreTold }
 {}

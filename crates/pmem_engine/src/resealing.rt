@@ -1,5 +1,5 @@
 //! Sealing a line anew: the lowest line not done of a page under re-encryption.
-ghost use Rattle.std.specs.Prelude.{◌≡◌, ◌≢◌, ◌<◌, ◌+◌, ◌-◌, ◌*◌, ◌^◌, false, [], All, AllPairs, length, OnOk, OnErr};
+ghost use Rattle.std.specs.Prelude.{◌≡◌, ◌≢◌, ◌<◌, ◌+◌, ◌-◌, ◌*◌, ◌^◌, false, [], All, AllPairs, length};
 ghost use Rattle.pmem_base.specs.Counts.{risen};
 ghost use Rattle.pmem_base.specs.Layout.{data_lines, device_lines};
 ghost use Rattle.pmem_base.specs.Lines.{IsLine};
@@ -9,7 +9,7 @@ ghost use Rattle.page_reencrypt.specs.Registers.{registers_with_done};
 ghost use Rattle.pmem_engine.specs.Committing.{next_seal_of, entries_of, HasLineDone};
 ghost use Rattle.pmem_engine.specs.CallFacts.{IsUsableWith};
 ghost use Rattle.pmem_engine.specs.Resealing.{IsNextHeld};
-ghost use Rattle.pmem_engine.specs.Promised.{SealsAnew, FollowsReseal, CommitsReseal, CutsReseal, FollowsResealGroup};
+ghost use Rattle.pmem_engine.specs.Promised.{SealsAnew, FollowsReseal, EndsReseal, FollowsResealGroup};
 
 use crate::engine::OnChip;
 use crate::fault::LineFault;
@@ -157,10 +157,8 @@ impl OnChip {
         requires no_group { (B.device board.old).regs.group.items ≡ [] }
         requires lines { (A.ledger audit.old).data_lines ≡ data_lines self.now.shape }
         requires room { HasRoom (A.ledger audit.old) (A.capacity audit.old) 1 }
-        ensures ok { OnOk result (CommitsReseal B.Board A.Audit self.now board.old audit.old
-            self.now board.new audit.new next.now) }
-        ensures cut { OnErr result (CutsReseal B.Board A.Audit self.now board.old audit.old
-            self.now board.new audit.new next.now) }
+        ensures ended { EndsReseal B.Board A.Audit self.now board.old audit.old
+            self.now board.new audit.new next.now result }
         ensures plan { FollowsResealGroup B.Board A.Audit self.now board.old audit.old
             self.now board.new audit.new next.now result }
         ensures capacity { A.capacity audit.new ≡ A.capacity audit.old }

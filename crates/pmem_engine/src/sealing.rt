@@ -1,6 +1,6 @@
 //! Sealing with a page's new path: a line under its next counter, and a page's begin. What belongs to
 //! the group is armed by one latch together with the registers.
-ghost use Rattle.std.specs.Prelude.{◌≡◌, ◌≢◌, ◌<◌, ◌-◌, ◌^◌, None, false, ◌%◌, ◌++◌, ◌∷◌, [], true, length, OnOk, OnErr};
+ghost use Rattle.std.specs.Prelude.{◌≡◌, ◌≢◌, ◌<◌, ◌-◌, ◌^◌, None, false, ◌%◌, ◌++◌, ◌∷◌, [], true, length, OnOk};
 ghost use Rattle.pmem_base.specs.Lines.{IsCtr};
 ghost use Rattle.pmem_base.specs.Layout.{page_of, index_in_page, data_lines, device_lines, meta_lines, pages, meta_line};
 ghost use Rattle.pmem_base.specs.Registers.{IsGroup, IsValidRegs};
@@ -14,7 +14,7 @@ ghost use Rattle.pmem_engine.specs.SealPlans.{with_path, with_true_path};
 ghost use Rattle.pmem_engine.specs.CallFacts.{IsUsableWith, IsPathNamedInMirror};
 ghost use Rattle.pmem_engine.specs.Inner.{cached_block};
 ghost use Rattle.pmem_engine.specs.Sealing.{next_counter_of, raised_block, HasStoredPath, seal_group, begin_group};
-ghost use Rattle.pmem_engine.specs.Promised.{SealsNext, FollowsSeal, BeginsPage, FollowsBegin, CommitsSeal, CutsSeal, FollowsSealGroup, CommitsBegin, CutsBegin, FollowsBeginGroup};
+ghost use Rattle.pmem_engine.specs.Promised.{SealsNext, FollowsSeal, BeginsPage, FollowsBegin, EndsSeal, FollowsSealGroup, EndsBegin, FollowsBeginGroup};
 
 use crate::engine::OnChip;
 use crate::fault::Fault;
@@ -128,10 +128,8 @@ impl OnChip {
         requires lines { (A.ledger audit.old).data_lines ≡ data_lines self.old.shape }
         requires truth { length (A.ledger audit.old).truth ≡ meta_lines self.old.shape }
         requires room { HasRoom (A.ledger audit.old) (A.capacity audit.old) 1 }
-        ensures ok { OnOk result (CommitsSeal B.Board A.Audit self.old board.old audit.old
-            self.new board.new audit.new next.now persisted block.now path.now) }
-        ensures cut { OnErr result (CutsSeal B.Board A.Audit self.old board.old audit.old
-            self.new board.new audit.new next.now persisted block.now path.now) }
+        ensures ended { EndsSeal B.Board A.Audit self.old board.old audit.old
+            self.new board.new audit.new next.now persisted block.now path.now result }
         ensures plan { FollowsSealGroup B.Board A.Audit self.old board.old audit.old
             self.new board.new audit.new next.now persisted block.now path.now result }
         ensures capacity { A.capacity audit.new ≡ A.capacity audit.old }
@@ -190,10 +188,8 @@ impl OnChip {
         requires no_group { (B.device board.old).regs.group.items ≡ [] }
         requires truth { length (A.ledger audit.old).truth ≡ meta_lines self.old.shape }
         requires room { HasRoom (A.ledger audit.old) (A.capacity audit.old) 1 }
-        ensures ok { OnOk result (CommitsBegin B.Board A.Audit self.old board.old audit.old
-            self.new board.new audit.new page register.now block.now path.now) }
-        ensures cut { OnErr result (CutsBegin B.Board A.Audit self.old board.old audit.old
-            self.new board.new audit.new page register.now block.now path.now) }
+        ensures ended { EndsBegin B.Board A.Audit self.old board.old audit.old
+            self.new board.new audit.new page register.now block.now path.now result }
         ensures plan { FollowsBeginGroup B.Board A.Audit self.old board.old audit.old
             self.new board.new audit.new page register.now block.now path.now result }
         ensures capacity { A.capacity audit.new ≡ A.capacity audit.old }

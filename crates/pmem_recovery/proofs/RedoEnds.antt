@@ -4,7 +4,6 @@ use Rattle.std.proofs.lemmas.List.{append-nil, append_assoc, length-append, get_
 use Rattle.pmem_base.specs.declared.faults.Cut.{Cut}
 use Rattle.pmem_base.specs.declared.lines.Line.{Line}
 use Rattle.pmem_base.specs.Registers.{without_group}
-use Rattle.pmem_base.proofs.LineSets.{put_lines-append}
 use Rattle.board.specs.Counts.{RisesBy}
 use Rattle.board.specs.Device.{Device}
 use Rattle.board.specs.Steps.{with_line, HasWritten, HasLatched, WasCut}
@@ -15,17 +14,11 @@ use Rattle.call_plan.specs.Bounds.{Leaves}
 use Rattle.call_plan.proofs.Leaves.{leaves, leaves_bind, leaves_more, leaves_for_each}
 use Rattle.commit_regs.specs.Groups.{Writes, redone_told, finishing_latches, RisesAtMost, HasFinished, IsInterrupted}
 use Rattle.commit_regs.specs.Plans.{line_plan, lines_plan, finish_plan, redo_of}
-use Rattle.commit_regs.proofs.GroupLemmas.{redone-nil, redone-redone, Writes-get_or}
+use Rattle.commit_regs.proofs.GroupLemmas.{redone-nil, redone-redone, Writes-get_or, redone-more}
 use Rattle.pmem_recovery.specs.Parts.{IsUncut}
 use Rattle.pmem_recovery.specs.Writing.{HasOnlyWritten}
 use Rattle.pmem_recovery.proofs.PartLaws.{IsUncut-none, IsUncut-then, IsCutOff-after, IsCutOff-cut}
 use Rattle.pmem_recovery.proofs.WriteSteps.{HasOnlyWritten-none, HasOnlyWritten-then, HasOnlyWritten-one}
-
--- one line more
-redone-more : (front : List (ℕ × Line)) (entry : ℕ × Line) (told : Option (List Line))
-    → redone_told (front ++ entry ∷ []) told ≡ with_line (redone_told front told) entry.0 entry.1
-redone-more front entry None = refl
-redone-more front entry (Some lines) = ap Some (put_lines-append front (entry ∷ []) lines)
 
 -- a front of the group is lost in the whole
 redone-front : (front later : List (ℕ × Line)) (told : Option (List Line)) → redone_told (front ++ later) (redone_told front told) ≡ redone_told (front ++ later) told

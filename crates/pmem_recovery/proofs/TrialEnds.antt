@@ -11,6 +11,7 @@ use Rattle.pmem_base.specs.declared.registers.Regs.{Regs}
 use Rattle.pmem_base.specs.Lines.{line_at, tag_slot}
 use Rattle.pmem_base.specs.Shape.{Shape, IsShape, is_loss}
 use Rattle.pmem_base.specs.Layout.{slots, pages, meta_lines, tag_line, shadow_lines, level_start, page_of, index_in_page}
+use Rattle.pmem_base.proofs.CountLemmas.{risen_times-add}
 use Rattle.board.specs.Steps.{Tells}
 use Rattle.call_plan.specs.Plans.{bind, mapped}
 use Rattle.bonsai_tree.specs.Positions.{counter_position}
@@ -33,7 +34,6 @@ use Rattle.pmem_recovery.specs.Fixed.{fixed_block}
 use Rattle.pmem_recovery.specs.Reads.{sum_named, line_reads, page_reads, block_reads, named_reads, reads_to}
 use Rattle.pmem_recovery.specs.Parts.{IfLinesTold, decided_of, IsDecided, IsUndecided}
 use Rattle.pmem_recovery.specs.Plans.{SuiteCounts, suite_counts, after_tags, decided_plan, sealed_plan, held_or_tried, trial_plan, minor_turn, minors_plan}
-use Rattle.call_effects.proofs.SuiteLaws.{risen_times-then}
 use Rattle.pmem_recovery.proofs.PartLaws.{few_and_one}
 use Rattle.pmem_recovery.proofs.NamedLaws.{count_named-next, count_named-le, count_named-counters}
 use Rattle.pmem_recovery.proofs.ReadLaws.{RisesBy-as, page_reads-more, page_reads-le, sum_named-le}
@@ -171,7 +171,7 @@ module _ (setup : Setup) (regs : Regs) (told : Option (List Line)) (shadow : Lis
               record {
                 counted =
                     same_after ∙ ap (after_tags more) so_far.counted
-                    ∙ ap (λ t. suite_counts t first.digests) (risen_times-then trials more first.tags);
+                    ∙ ap (λ t. suite_counts t first.digests) (sym (risen_times-add trials more first.tags));
                 few = omega (arith, so_far.few, less);
                 reads = omega (arith, so_far.reads, reads, page_reads-more regs.progress.items page i);
                 over = λ lines its.
@@ -247,7 +247,7 @@ module _ (setup : Setup) (regs : Regs) (told : Option (List Line)) (shadow : Lis
                 digests = 0;
                 counted =
                     ap (after_tags (length window)) so_far.counted
-                    ∙ ap (λ t. suite_counts t first.digests) (risen_times-then trials (length window) first.tags);
+                    ∙ ap (λ t. suite_counts t first.digests) (sym (risen_times-add trials (length window) first.tags));
                 few_trials = few_within (count_named g shadow start (counter_position g page)) i trials (length window) so_far.few less low room;
                 few_digests = omega arith;
                 few_reads = so_few.0;

@@ -1,17 +1,13 @@
 -- Two formats of one device are the same.
-use Rattle.std.proofs.Common.{◌≡◌, ℕ, List, Option, Some, None, refl, sym, ap₂, ◌∙◌}
+use Rattle.std.proofs.Common.{◌≡◌, ℕ, List, Option, sym, ap₂, ◌∙◌}
 use Rattle.std.specs.Prelude.{IsNone}
-use Rattle.std.proofs.lemmas.Bool.{true≢false}
 use Rattle.pmem_base.specs.declared.lines.Line.{Line}
 use Rattle.pmem_base.specs.declared.answers.Mark.{Mark}
 use Rattle.pmem_base.specs.declared.answers.Exhibit.{Exhibit}
 use Rattle.seal_ledger.specs.Ledger.{LedgerState}
 use Rattle.call_plan.proofs.Determined.{uncut_alike}
+use Rattle.call_effects.proofs.ResultLaws.{none_is}
 use Rattle.pmem_recovery.specs.Determined.{FormatIsDetermined}
-
-none_is : (shown : Option Exhibit) → IsNone shown → shown ≡ None
-none_is None none = refl
-none_is (Some exhibit) none = absurd (true≢false none)
 
 -- a ledger without an exhibit is its marks, its true lines and the number of its lines
 same_ledger : (a b : LedgerState) → a.marks ≡ b.marks → a.truth ≡ b.truth → a.data_lines ≡ b.data_lines → IsNone a.exhibit → IsNone b.exhibit → a ≡ b

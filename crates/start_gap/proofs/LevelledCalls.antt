@@ -1,29 +1,9 @@
 -- The calls of a write, put together.
-use Rattle.std.proofs.Common.{ℕ, List, true, ◌≡◌, ◌<◌, ◌≤◌, ◌+◌, Result, Ok, Err, refl, sym, subst, ◌∙◌, false}
-use Rattle.std.specs.Prelude.{MatchBool}
-use Rattle.std.proofs.lemmas.Bool.{lt-ltb, le-ltb}
-use Rattle.pmem_base.specs.declared.lines.Line.{Line}
-use Rattle.pmem_base.specs.declared.lines.Ctr.{Ctr}
-use Rattle.pmem_base.specs.Shape.{Shape}
+use Rattle.std.proofs.Common.{ℕ, List, true, ◌≡◌, ◌<◌, ◌≤◌, ◌+◌, Result, Ok, Err, refl, subst, false, rules}
+use Rattle.start_gap.proofs.Common.{lt-ltb, le-ltb, Line, Ctr, Shape, Setup, Fault, Parts, is_going, outcome_of, whole_write, HasWrittenLine, AreEdited, setup_under, edits_under, Wear, Gapped, Moved, WriteFault, place_of, move_edits, HasLevelledWrite, HasWear, wear_by, write_answer_by, write_outcome_by}
 use Rattle.suite.specs.Formulas.{Formulas}
-use Rattle.suite.specs.Setup.{Setup}
-use Rattle.pmem_engine.specs.declared.fault.Fault.{Fault}
 use Rattle.pmem_engine.specs.declared.fault.Fault.TheVariants as Fail
-use Rattle.pmem_engine.specs.Parts.{Parts}
-use Rattle.call_effects.specs.Outcomes.{is_going}
-use Rattle.pmem_engine.specs.Outcomes.{outcome_of}
-use Rattle.pmem_engine.specs.Calls.{whole_write, HasWrittenLine}
-use Rattle.engine_lines.specs.Edits.{AreEdited}
-use Rattle.engine_lines.proofs.EngineLines.{setup_under}
-use Rattle.engine_lines.proofs.EditLaws.{edits_under}
-use Rattle.start_gap.specs.declared.wear.Wear.{Wear}
-use Rattle.start_gap.specs.declared.gapped.Gapped.{Gapped}
-use Rattle.start_gap.specs.declared.gapped.Moved.{Moved}
 use Rattle.start_gap.specs.declared.gapped.Moved.TheVariants as Move
-use Rattle.start_gap.specs.declared.gapped.WriteFault.{WriteFault}
-use Rattle.start_gap.specs.Wear.{place_of}
-use Rattle.start_gap.specs.Logical.{move_edits}
-use Rattle.start_gap.specs.Gapped.{HasLevelledWrite, HasCounted, HasTriedMove, HasWear, wear_by, write_answer_by, write_outcome_by}
 
 -- a write at a place
 pub write_at : (setup : Setup) (at at' : ℕ) (plain : Line) (old new : Parts) (made : Result Ctr Fault) → at ≡ at'
@@ -39,13 +19,7 @@ move_as formulas_of g g' keys keys' same same_keys n wear = edits_under formulas
 -- the same of a moment after the call's start
 pub wear_over : (wear : Wear) (count : ℕ) (old between new : Gapped) → HasWear wear count between new → between.lines ≡ old.lines
     → between.every ≡ old.every → HasWear wear count old new
-wear_over wear count old between new it lines every =
-    record {
-      its_lines = it.its_lines ∙ lines;
-      its_every = it.its_every ∙ every;
-      its_wear = it.its_wear;
-      its_count = it.its_count;
-    }
+wear_over wear count old between new it lines every = search rules
 
 -- a move's fault that isn't that a line is spent is the write's
 pub fault_of_move : (fault : Fault) → ((page : ℕ) → fault ≡ Fail.Spent page → ⊥)
@@ -64,28 +38,13 @@ module _ (setup : Setup) (a : ℕ) (plain : Line) (old new : Gapped) where
   pub refused : (from to : Parts) (fault : Fault)
       → HasWrittenLine setup (whole_write (place_of old.lines old.wear a) plain) from to (Err fault) → HasWear old.wear old.count old new
       → HasLevelledWrite setup a plain old new from to (Err (record { fault = fault; written = false }))
-  refused from to fault it wear =
-      record {
-        made = Err fault;
-        between = to;
-        was_written = it;
-        then = record { its_answer = refl; its_wear = wear; nothing_else = refl };
-      }
+  refused from to fault it wear = search rules
 
   pub counted : (from to : Parts) (made : Result Ctr Fault) → ((fault : Fault) → made ≡ Err fault → ⊥) → old.count + 1 < old.every
       → HasWrittenLine setup (whole_write (place_of old.lines old.wear a) plain) from to made
       → HasWear old.wear (old.count + 1) old new
       → HasLevelledWrite setup a plain old new from to (Ok Move.Not)
-  counted from to (Ok ctr) done early it wear =
-      record {
-        made = Ok ctr;
-        between = to;
-        was_written = it;
-        then =
-            subst (λ b. MatchBool b (HasCounted old new to to (Ok Move.Not)) (HasTriedMove setup old new to to (Ok Move.Not)))
-            (sym (lt-ltb (old.count + 1) old.every early))
-            (record { its_answer = refl; its_wear = wear; nothing_else = refl });
-      }
+  counted from to (Ok ctr) done early it wear = search (rules, lt-ltb)
   counted from to (Err fault) done early it wear = absurd (done fault refl)
 
   pub tried_as : (from between to : Parts) (made : Result Ctr Fault) (tried : Result (Unit {0}) Fault) (answer : Result Moved WriteFault)
@@ -94,14 +53,5 @@ module _ (setup : Setup) (a : ℕ) (plain : Line) (old new : Gapped) where
       → AreEdited setup (move_edits old.lines old.wear) between to tried
       → HasWear (wear_by tried old.lines old.wear) 0 old new → answer ≡ write_answer_by tried
       → HasLevelledWrite setup a plain old new from to answer
-  tried_as from between to (Ok ctr) tried answer done due it move wear e =
-      record {
-        made = Ok ctr;
-        between = between;
-        was_written = it;
-        then =
-            subst (λ b. MatchBool b (HasCounted old new between to answer) (HasTriedMove setup old new between to answer))
-            (sym (le-ltb (old.count + 1) old.every due))
-            (record { tried = tried; was_tried = move; its_answer = e; its_wear = wear });
-      }
+  tried_as from between to (Ok ctr) tried answer done due it move wear e = search (rules, le-ltb)
   tried_as from between to (Err fault) tried answer done due it move wear e = absurd (done fault refl)

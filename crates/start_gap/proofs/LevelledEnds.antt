@@ -1,26 +1,9 @@
 -- How the engine stands after a write with its move.
 use Rattle.std.proofs.Common.{ℕ, ◌+◌, List, [], ◌∷◌, Result, Ok, Err, sym, subst}
-use Rattle.std.specs.Prelude.{nat_lt}
-use Rattle.pmem_base.specs.declared.lines.Line.{Line}
-use Rattle.pmem_base.specs.declared.lines.Ctr.{Ctr}
-use Rattle.suite.specs.Setup.{Setup}
-use Rattle.pmem_engine.specs.declared.fault.Fault.{Fault}
+use Rattle.start_gap.proofs.Common.{nat_lt, Line, Ctr, Setup, Fault, Parts, AreTrusted, AreSound, LeavesTrusted, LeavesSound, whole_write, HasWrittenLine, Edit, done_as, AreEdited, AfterEdits, LeftTrusted, LeftSound, one_put, trusted_after_edits, sound_after_edits, Gapped, Moved, WriteFault, place_of, move_edits, HasWriteGoneOn, HasLevelledWrite, HasCounted, HasTriedMove, write_answer_by, write_outcome_by, IsSoundWriteAnswer}
 use Rattle.pmem_engine.specs.declared.fault.Fault.TheVariants as Fail
-use Rattle.pmem_engine.specs.Parts.{Parts, AreTrusted, AreSound}
-use Rattle.pmem_engine.specs.Outcomes.{LeavesTrusted, LeavesSound}
-use Rattle.pmem_engine.specs.Calls.{whole_write, HasWrittenLine}
-use Rattle.engine_lines.specs.declared.edits.Edit.{Edit}
 use Rattle.engine_lines.specs.declared.edits.Edit.TheVariants as Make
-use Rattle.engine_lines.specs.Lines.{done_as}
-use Rattle.engine_lines.specs.Edits.{AreEdited}
-use Rattle.engine_lines.proofs.EditLaws.{AfterEdits, LeftTrusted, LeftSound, one_put, trusted_after_edits, sound_after_edits}
-use Rattle.start_gap.specs.declared.gapped.Gapped.{Gapped}
-use Rattle.start_gap.specs.declared.gapped.Moved.{Moved}
 use Rattle.start_gap.specs.declared.gapped.Moved.TheVariants as Move
-use Rattle.start_gap.specs.declared.gapped.WriteFault.{WriteFault}
-use Rattle.start_gap.specs.Wear.{place_of}
-use Rattle.start_gap.specs.Logical.{move_edits}
-use Rattle.start_gap.specs.Gapped.{HasWriteGoneOn, HasLevelledWrite, HasCounted, HasTriedMove, write_answer_by, write_outcome_by, IsSoundWriteAnswer}
 use Rattle.start_gap.proofs.LevelledWrites.{due_cases}
 
 -- what holds after a write: P, or what E says of the fault

@@ -1,15 +1,9 @@
 -- Logical memory through each write of a write and its move.
-use Rattle.std.proofs.Common.{ℕ, ◌≡◌, ◌<◌, ◌≤◌, ◌+◌, ◌-◌, ◌^◌, inl, inr, List, ◌++◌, length, replicate, Some, sym, ap, ◌∙◌, arith}
-use Rattle.std.specs.Prelude.{slice_set}
-use Rattle.std.proofs.lemmas.Bool.{cases_eq}
-use Rattle.std.proofs.lemmas.List.{length-set, length-replicate, get_or-replicate}
-use Rattle.pmem_base.specs.declared.lines.Line.{Line}
-use Rattle.pmem_base.specs.Lines.{line_at, zero_line, line_of, big_endian}
+use Rattle.std.proofs.Common.{ℕ, ◌≡◌, ◌<◌, ◌≤◌, ◌+◌, ◌-◌, ◌^◌, inl, inr, List, ◌++◌, length, replicate, Some, sym, ap, ◌∙◌, arith, rules}
+use Rattle.start_gap.proofs.Common.{slice_set, cases_eq, length-set, length-replicate, get_or-replicate, Line, line_at, line_of, big_endian, Wear, IsWear, place_of, next_wear, source_of, first_wear, recorded, IsLevelled, begun, written, copied, moved, IsSafeAtEachStage, IsSameUnderNext}
+use Rattle.pmem_base.specs.Lines.{zero_line}
 use Rattle.pmem_base.proofs.LineSets.{line_at-set_same, line_at-set_other}
-use Rattle.start_gap.specs.declared.wear.Wear.{Wear}
-use Rattle.start_gap.specs.Wear.{IsWear, place_of, next_wear, source_of, first_wear}
-use Rattle.start_gap.specs.Record.{recorded, wear_record}
-use Rattle.start_gap.specs.Logical.{IsLevelled, begun, written, copied, moved, IsSafeAtEachStage, IsSameUnderNext}
+use Rattle.start_gap.specs.Record.{wear_record}
 use Rattle.start_gap.proofs.Places.{places, next_place, next-IsWear}
 use Rattle.start_gap.proofs.Records.{recorded_record}
 
@@ -60,42 +54,15 @@ write_levels n lines memory wear a plain ha old =
 -- the gap holds no line
 pub copy_levels : (n : ℕ) (lines memory : List Line) (wear : Wear)
     → IsLevelled n lines wear memory → IsLevelled n (with_copy n wear lines) wear memory
-copy_levels n lines memory wear old =
-    let its = places n wear old.its_wear in
-    record {
-      size = length-set lines wear.gap (line_at lines (source_of n wear)) ∙ old.size;
-      its_wear = old.its_wear;
-      its_record = same_record n lines wear wear.gap (line_at lines (source_of n wear)) old.its_wear.gap old.its_record;
-      holds =
-          record {
-            count = old.holds.count;
-            each =
-                λ b hb.
-                line_at-set_other lines wear.gap (place_of n wear b) (line_at lines (source_of n wear)) (its.not_gap b hb)
-                ∙ old.holds.each b hb;
-          };
-    }
+copy_levels n lines memory wear old = search (rules, places, length-set, same_record, line_at-set_other)
 
 -- the gap holds what the source holds, once that is copied
 pub copy_same : (n : ℕ) (lines : List Line) (wear : Wear) → IsWear n wear → length lines ≡ n + 2
     → line_at (with_copy n wear lines) wear.gap ≡ line_at (with_copy n wear lines) (source_of n wear)
-copy_same n lines wear its size =
-    let here = line_at-set_same lines wear.gap (line_at lines (source_of n wear)) (omega (arith, its.gap, size)) in
-    elim (cases_eq (source_of n wear) wear.gap) [
-      | inl e ↦ ap (line_at (with_copy n wear lines)) (sym e)
-      | inr e ↦ here ∙ sym (line_at-set_other lines wear.gap (source_of n wear) (line_at lines (source_of n wear)) e)
-    ]
+copy_same n lines wear its size = search (rules, line_at-set_same, cases_eq, line_at-set_other)
 
 pub same_under_next : (n : ℕ) → IsSameUnderNext n
-same_under_next n lines memory wear its same old =
-    record {
-      count = old.count;
-      each =
-          λ a ha. elim (next_place n wear a its ha) [
-            | inl e ↦ ap (line_at lines) e ∙ old.each a ha
-            | inr e ↦ ap (line_at lines) e.1 ∙ same ∙ sym (ap (line_at lines) e.0) ∙ old.each a ha
-          ];
-    }
+same_under_next n lines memory wear its same old = search (rules, next_place)
 
 -- the next wear is recorded
 pub record_levels : (n : ℕ) (lines memory : List Line) (wear : Wear) → n < 2 ^ 32
@@ -128,11 +95,7 @@ safe_at_each_stage n small lines memory wear a plain written ha old = write_leve
 safe_at_each_stage n small lines memory wear a plain copied ha old =
     copy_levels n (with_levelled_line n wear a plain lines) (slice_set memory a plain) wear
     (write_levels n lines memory wear a plain ha old)
-safe_at_each_stage n small lines memory wear a plain moved ha old =
-    let then = write_levels n lines memory wear a plain ha old in
-    record_levels n (with_copy n wear (with_levelled_line n wear a plain lines)) (slice_set memory a plain) wear small
-    (copy_same n (with_levelled_line n wear a plain lines) wear then.its_wear then.size)
-    (copy_levels n (with_levelled_line n wear a plain lines) (slice_set memory a plain) wear then)
+safe_at_each_stage n small lines memory wear a plain moved ha old = search (rules, write_levels, record_levels, copy_same, copy_levels)
 
 -- ---- the first memory
 

@@ -1,35 +1,15 @@
 -- The calls of levelled lines followed their plans.
 use Rattle.std.proofs.Common.{ℕ, ◌≡◌, ◌<◌, ◌≤◌, ◌+◌, Bool, true, false, not, [], Option, Some, None, Result, Ok, Err, refl, sym, ap, subst, ◌∙◌}
-use Rattle.std.proofs.lemmas.Bool.{lt-ltb, le-ltb}
-use Rattle.pmem_base.specs.declared.lines.Line.{Line}
-use Rattle.pmem_base.specs.declared.lines.Ctr.{Ctr}
+use Rattle.start_gap.proofs.Common.{lt-ltb, le-ltb, Line, Ctr, Follows, Setup, Fault, whole_write, ended_with, Chip, read_plan, put_plan, edits_plan, put_follows, Wear, Gapped, GapFault, Engine, BadWear, Moved, WriteFault, place_of, recorded, move_edits, logical_lines, HasWear, wear_by, write_answer_by, wear_end, is_move_due, due_edits, write_fault, moved_as, write_answer_of, wear_after, count_after, FollowsWrite}
 use Rattle.pmem_base.specs.declared.registers.Regs.{Regs}
 use Rattle.board.specs.Device.{Device}
 use Rattle.call_plan.specs.Plans.{Plan, lifted, ended, for_each}
-use Rattle.call_plan.specs.Following.{Follows}
 use Rattle.call_plan.proofs.Steps.{is_done, is_stopped}
 use Rattle.call_plan.proofs.Bind.{bind_ok, bind_err, lifted_follows}
-use Rattle.suite.specs.Setup.{Setup}
-use Rattle.pmem_engine.specs.declared.fault.Fault.{Fault}
 use Rattle.pmem_engine.specs.declared.fault.Fault.TheVariants as Fail
-use Rattle.pmem_engine.specs.Calls.{whole_write}
-use Rattle.commit_regs.specs.Plans.{ended_with}
-use Rattle.pmem_engine.specs.Plans.{Chip, read_plan}
 use Rattle.pmem_engine.specs.WritePlans as engine
-use Rattle.engine_lines.specs.Plans.{put_plan, edits_plan}
-use Rattle.engine_lines.proofs.EditPlans.{put_follows}
-use Rattle.start_gap.specs.declared.wear.Wear.{Wear}
-use Rattle.start_gap.specs.declared.gapped.Gapped.{Gapped}
-use Rattle.start_gap.specs.declared.gapped.GapFault.{GapFault}
-use Rattle.start_gap.specs.declared.gapped.GapFault.TheVariants.{Engine, BadWear}
-use Rattle.start_gap.specs.declared.gapped.Moved.{Moved}
 use Rattle.start_gap.specs.declared.gapped.Moved.TheVariants as Move
-use Rattle.start_gap.specs.declared.gapped.WriteFault.{WriteFault}
-use Rattle.start_gap.specs.Wear.{place_of}
-use Rattle.start_gap.specs.Record.{recorded}
-use Rattle.start_gap.specs.Logical.{move_edits}
-use Rattle.start_gap.specs.Gapped.{logical_lines, HasWear, wear_by, write_answer_by}
-use Rattle.start_gap.specs.Plans.{open_plan, wear_end, is_move_due, due_edits, write_fault, levelled_plan, moved_as, write_answer_of, wear_after, count_after, FollowsWrite}
+use Rattle.start_gap.specs.Plans.{open_plan, levelled_plan}
 
 -- ---- opening
 

@@ -1,25 +1,7 @@
 -- What is read of lines that hold a logical memory.
-use Rattle.std.proofs.Common.{ℕ, ◌≡◌, ◌<◌, ◌+◌, List, Result, Ok, Err, sym, ap, subst, ◌∙◌, arith}
-use Rattle.std.specs.Prelude.{IfOk}
+use Rattle.std.proofs.Common.{ℕ, ◌≡◌, ◌<◌, ◌+◌, List, Result, Ok, Err, subst, ◌∙◌, arith, rules}
 use Rattle.std.proofs.lemmas.Option.{same_Some, none-some}
-use Rattle.pmem_base.specs.declared.lines.Line.{Line}
-use Rattle.pmem_base.specs.Layout.{data_lines}
-use Rattle.pmem_base.specs.Lines.{line_at}
-use Rattle.suite.specs.Setup.{Setup}
-use Rattle.pmem_engine.specs.declared.fault.Fault.{Fault}
-use Rattle.pmem_engine.specs.Engine.{EngineState}
-use Rattle.pmem_engine.specs.Parts.{Parts, AreTrusted}
-use Rattle.pmem_engine.specs.Calls.{HasReadLine}
-use Rattle.engine_lines.specs.Lines.{HasLines}
-use Rattle.engine_lines.proofs.EngineLines.{least_lines, line_read}
-use Rattle.start_gap.specs.declared.wear.Wear.{Wear}
-use Rattle.start_gap.specs.declared.gapped.Gapped.{Gapped}
-use Rattle.start_gap.specs.declared.gapped.GapFault.{GapFault}
-use Rattle.start_gap.specs.declared.gapped.GapFault.TheVariants.{Engine, BadWear}
-use Rattle.start_gap.specs.Wear.{place_of}
-use Rattle.start_gap.specs.Record.{recorded}
-use Rattle.start_gap.specs.Logical.{IsLevelled}
-use Rattle.start_gap.specs.Gapped.{logical_lines, HasGappedOpened, HasWearOf}
+use Rattle.start_gap.proofs.Common.{IfOk, Line, data_lines, line_at, Setup, Fault, EngineState, Parts, AreTrusted, HasReadLine, HasLines, least_lines, line_read, Wear, Gapped, GapFault, Engine, BadWear, place_of, IsLevelled, logical_lines, HasGappedOpened, HasWearOf}
 use Rattle.start_gap.specs.Promised.{HasReadLevelled}
 use Rattle.start_gap.proofs.Places.{places}
 
@@ -27,17 +9,9 @@ use Rattle.start_gap.proofs.Places.{places}
 pub wear_read : (setup : Setup) (every : ℕ) (old : Parts) (now : EngineState → Parts) (answer : Result Gapped GapFault)
     → HasGappedOpened setup every old now answer → AreTrusted setup old → (lines memory : List Line) (wear : Wear) → HasLines setup lines old
     → IsLevelled (logical_lines setup.shape) lines wear memory → HasWearOf wear answer
-wear_read setup every old now (Ok gapped) it trusted lines memory wear had levelled =
-    let least = least_lines setup.shape in
-    let its = it.1.its_lines in
-    let line = line_read setup (gapped.lines + 1) old (now gapped.engine) it.0 lines (omega (arith, its, least)) had trusted it.1.was_read in
-    same_Some gapped.wear wear
-    (sym it.1.its_wear ∙ ap (recorded gapped.lines) line ∙ ap (λ (n : ℕ). recorded n (line_at lines (n + 1))) its ∙ levelled.its_record)
+wear_read setup every old now (Ok gapped) it trusted lines memory wear had levelled = search (rules, least_lines, line_read, same_Some)
 wear_read setup every old now (Err (Engine fault)) it trusted lines memory wear had levelled = tt
-wear_read setup every old now (Err (BadWear line)) it trusted lines memory wear had levelled =
-    let least = least_lines setup.shape in
-    let same = line_read setup (logical_lines setup.shape + 1) old (now it.0) line lines (omega (arith, least)) had trusted it.1 in
-    absurd (none-some wear (sym it.2 ∙ ap (recorded (logical_lines setup.shape)) same ∙ levelled.its_record))
+wear_read setup every old now (Err (BadWear line)) it trusted lines memory wear had levelled = search (rules, least_lines, line_read, none-some)
 
 -- a line that is read at its place
 pub read_levelled : (setup : Setup) (a : ℕ) (gapped : Gapped) (at : ℕ) (old new : Parts) (answer : Result Line Fault) → a < gapped.lines

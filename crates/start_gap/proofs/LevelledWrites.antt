@@ -1,32 +1,11 @@
 -- What becomes of the logical lines in a write with its move.
-use Rattle.std.proofs.Common.{ℕ, zero, suc, ◌≡◌, ◌<◌, ◌≤◌, ◌+◌, ◌^◌, inl, inr, Bool, true, false, List, [], ◌∷◌, take, Result, Ok, Err, refl, sym, subst, arith}
-use Rattle.std.specs.Prelude.{All, nat_lt, MatchBool, ⊤}
-use Rattle.std.proofs.lemmas.List.Elements.{All-nil, All-cons}
-use Rattle.pmem_base.specs.declared.lines.Line.{Line}
-use Rattle.pmem_base.specs.declared.lines.Ctr.{Ctr}
-use Rattle.pmem_base.specs.Layout.{data_lines}
-use Rattle.pmem_base.specs.Lines.{IsLine}
-use Rattle.suite.specs.Setup.{Setup}
-use Rattle.pmem_engine.specs.declared.fault.Fault.{Fault}
+use Rattle.std.proofs.Common.{ℕ, zero, suc, ◌≡◌, ◌<◌, ◌≤◌, ◌+◌, ◌^◌, inl, inr, Bool, true, false, List, [], ◌∷◌, take, Result, Ok, Err, refl, sym, subst, arith, rules}
+use Rattle.start_gap.proofs.Common.{All, nat_lt, MatchBool, ⊤, All-nil, All-cons, Line, Ctr, data_lines, IsLine, Setup, Fault, Parts, AreTrusted, whole_write, HasWrittenLine, Edit, HasLines, IsUnspent, done_as, AreEdited, IsEditOf, all_edited, trusted_after_write, LeavesLines, LeavesAll, put_leaves, edits_leave, Wear, Gapped, Moved, WriteFault, IsWear, place_of, next_wear, source_of, move_edits, MoveStage, begun, written, copied, moved, write_lines_at, HasWriteGoneOn, HasLevelledWrite, HasCounted, HasTriedMove, IsWriteEnd, IsLeftLevelled, write_answer_by}
 use Rattle.pmem_engine.specs.declared.fault.Fault.TheVariants as Fail
-use Rattle.pmem_engine.specs.Parts.{Parts, AreTrusted}
-use Rattle.pmem_engine.specs.Calls.{whole_write, HasWrittenLine}
-use Rattle.engine_lines.specs.declared.edits.Edit.{Edit}
 use Rattle.engine_lines.specs.declared.edits.Edit.TheVariants as Make
-use Rattle.engine_lines.specs.Lines.{HasLines, IsUnspent, done_as}
-use Rattle.engine_lines.specs.Edits.{AreEdited, IsEditOf, all_edited}
-use Rattle.engine_lines.proofs.EngineLines.{trusted_after_write}
-use Rattle.engine_lines.proofs.EditLaws.{LeavesLines, LeavesAll, put_leaves, edits_leave}
 use Rattle.engine_lines.proofs.EditStages.{leaves_cases, stops_by}
-use Rattle.start_gap.specs.declared.wear.Wear.{Wear}
-use Rattle.start_gap.specs.declared.gapped.Gapped.{Gapped}
-use Rattle.start_gap.specs.declared.gapped.Moved.{Moved}
 use Rattle.start_gap.specs.declared.gapped.Moved.TheVariants as Move
-use Rattle.start_gap.specs.declared.gapped.WriteFault.{WriteFault}
-use Rattle.start_gap.specs.Wear.{IsWear, place_of, next_wear, source_of}
 use Rattle.start_gap.specs.Record.{wear_record}
-use Rattle.start_gap.specs.Logical.{move_edits, MoveStage, begun, written, copied, moved, write_lines_at}
-use Rattle.start_gap.specs.Gapped.{HasWriteGoneOn, HasLevelledWrite, HasCounted, HasTriedMove, IsWriteEnd, IsLeftLevelled, write_answer_by}
 use Rattle.start_gap.proofs.Places.{places, source-within}
 use Rattle.start_gap.proofs.Records.{wear_record-IsLine}
 use Rattle.start_gap.proofs.LevelledMemory.{safe_at_each_stage}
@@ -34,13 +13,7 @@ use Rattle.start_gap.proofs.LevelledMemory.{safe_at_each_stage}
 -- ---- a move
 
 pub move_fits : (n : ℕ) (wear : Wear) → IsWear n wear → All (IsEditOf (n + 2)) (move_edits n wear)
-move_fits n wear its =
-    let source = source-within n wear its in
-    All-cons (IsEditOf (n + 2)) (Make.Copy (source_of n wear) wear.gap) (kept ∷ []) (omega (arith, source), omega (arith, its.gap))
-    (All-cons (IsEditOf (n + 2)) kept [] (omega arith, wear_record-IsLine n (next_wear n wear)) (All-nil (IsEditOf (n + 2))))
-  where
-    kept : Edit
-    kept = Make.Put (n + 1) (wear_record n (next_wear n wear))
+move_fits n wear its = search (rules, source-within, All-cons, wear_record-IsLine, All-nil)
 
 -- the stages at which a move may end, once the line is written
 abbrev IsMoveEnd : Result (Unit {0}) Fault → MoveStage → Type 0

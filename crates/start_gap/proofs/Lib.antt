@@ -1,3 +1,4 @@
+pub mod Common
 pub mod Records
 pub mod Places
 pub mod LevelledMemory

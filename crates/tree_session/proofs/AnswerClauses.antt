@@ -1,5 +1,5 @@
 -- Answers as contracts write them: the suite's keys stay.
-use Rattle.std.proofs.Common.{ℕ, ◌≡◌, List, Option, Some, None, inl, refl, sym, ap, subst, ◌∙◌}
+use Rattle.std.proofs.Common.{ℕ, ◌≡◌, List, Option, Some, None, inl, refl, sym, ap, subst, ◌∙◌, rules}
 use Rattle.tree_session.proofs.Common.{Result, IsSome, option_map, same_Some, Exhibit, Shape, Formulas, Setup, BoardMemory, WatchState, Taken, steps_in, IsWatched, TreeFault, TreeState, AreSmallMinors, Halt, TreeCommand, TreeAnswer, SessionState, tree_setup_in, TreeParts, state_of, IsTreeWorld, IsTreeAnswered, IsTreeHalt, IsEngineShown}
 use Rattle.trace_text.specs.declared.talk.Halt.TheVariants as Stop
 use Rattle.tree_session.proofs.Worlds.{TreeEngineCall, on}
@@ -13,12 +13,7 @@ pub seen_from : (formulas_of : List ℕ → Formulas) (g : Shape) (p q : TreePar
     (Q : Setup → SessionState → SessionState → Type 0) → state_of (setup_under formulas_of g p.keys) p ≡ now → keys ≡ p.keys → q.keys ≡ p.keys
     → Q (setup_under formulas_of g p.keys) (state_of (setup_under formulas_of g p.keys) p) (state_of (setup_under formulas_of g p.keys) q)
     → Q (tree_setup_in formulas_of now) now (state_of (setup_under formulas_of g keys) (record q { keys = keys }))
-seen_from formulas_of g p q now keys Q is same its it =
-    subst (λ (w : SessionState). Q (tree_setup_in formulas_of w) w (state_of (setup_under formulas_of g keys) (record q { keys = keys }))) is
-    (subst (λ (k : List ℕ). Q (setup_under formulas_of g p.keys) (state_of (setup_under formulas_of g p.keys) p) (state_of (setup_under formulas_of g k) (record q { keys = k })))
-    (sym same)
-    (subst (λ (k : List ℕ). Q (setup_under formulas_of g p.keys) (state_of (setup_under formulas_of g p.keys) p) (state_of (setup_under formulas_of g p.keys) (record q { keys = k })))
-    its it))
+seen_from formulas_of g p q now keys Q is same its it = search rules
 
 pub held_under : (formulas_of : List ℕ → Formulas) (g : Shape) (p q : TreeParts) (keys : List ℕ) → keys ≡ p.keys
     → IsTreeWorld (setup_under formulas_of g p.keys) (record q { keys = p.keys }) → IsTreeWorld (setup_under formulas_of g keys) (record q { keys = keys })

@@ -1,7 +1,7 @@
 -- Chains of answers from a new session on.
-use Rattle.std.proofs.Common.{ℕ, ◌≡◌, ◌<◌, true, false, Bool, inl, inr, List, [], ◌∷◌, length, Some, None, refl, sym, ap, subst, ◌∙◌}
+use Rattle.std.proofs.Common.{ℕ, ◌≡◌, ◌<◌, true, false, Bool, inl, inr, List, [], ◌∷◌, length, Some, None, refl, sym, ap, subst, ◌∙◌, rules}
 use Rattle.std.proofs.lemmas.List.Elements.{All-nil, All-cons, All-head, All-tail}
-use Rattle.tree_session.proofs.Common.{slice_set, slice_index, slice_index_or, is_some, not, nat_lt, if◌then◌else◌, All, cases_lt, le-ltb, false≢true, length-replicate, set-get_or, none-some, Line, Exhibit, Forged, line_at, tag_slot, Shape, Setup, tree_lines, tree_size, line_of_node, line_of_slot, node_place, version_counter, without_tag, PlainTree, true_version, hurt_with, replicate-default, TreeCommand, TreeAnswer, SessionState, IsNewTree, is_made, tree_decided, device_node, device_tag, IsPathTampered, IsSlotTampered, IsTreeAnswered, IsPlainKept, IsNodeExhibit, IsDataExhibit, IsShadowExhibit, ShowsEngine, TreeReply, AreTreeAnswered, IsTreeSession, History, first_history, history_with, history_after, is_answered_ok, IsAllowed, AreAllowed, MayShow, version_by, ShowsNode, ShowsLine, ShowsClash, IsTreeKept, IsTreeShown, IsTreeUntouched, IsNoTampering, IsTreeAnswerUnrefused}
+use Rattle.tree_session.proofs.Common.{slice_set, slice_index_or, is_some, not, nat_lt, if◌then◌else◌, All, cases_lt, le-ltb, false≢true, length-replicate, set-get_or, none-some, Line, Exhibit, Shape, Setup, tree_lines, tree_size, line_of_node, line_of_slot, PlainTree, true_version, hurt_with, replicate-default, TreeCommand, TreeAnswer, SessionState, IsNewTree, is_made, tree_decided, IsPathTampered, IsSlotTampered, IsTreeAnswered, IsPlainKept, IsNodeExhibit, IsDataExhibit, IsShadowExhibit, ShowsEngine, TreeReply, AreTreeAnswered, IsTreeSession, History, first_history, history_with, history_after, is_answered_ok, IsAllowed, AreAllowed, MayShow, version_by, ShowsNode, ShowsLine, ShowsClash, IsTreeKept, IsTreeShown, IsTreeUntouched, IsNoTampering, IsTreeAnswerUnrefused}
 use Rattle.asit_shadow.specs.Plain.{true_node}
 use Rattle.tree_session.specs.declared.commands.TreeCommand.TheVariants as Do
 use Rattle.tree_session.specs.declared.answers.TreeAnswer.TheVariants as Say
@@ -61,11 +61,7 @@ history-last setup replies last session =
 served-from : (power : Bool) (a n : ℕ) (off past : TreeAnswer) → (if not power then Some off else if nat_lt a n then None else Some past) ≡ None
     → (power ≡ true) × (a < n)
 served-from false a n off past is = absurd (none-some off (sym is))
-served-from true a n off past is =
-    elim (cases_lt a n) [
-      | inl low ↦ (refl, low)
-      | inr high ↦ absurd (none-some past (sym (sym (ap (λ (b : Bool). if b then None else Some past) (le-ltb a n high)) ∙ is)))
-    ]
+served-from true a n off past is = search (rules, cases_lt, none-some, le-ltb)
 
 dark-from : (power : Bool) (on : TreeAnswer) → (if power then Some on else None) ≡ None → power ≡ false
 dark-from false on is = refl
@@ -79,28 +75,10 @@ counts-kept : (before after : PlainTree) → IsPlainKept before after → after.
 counts-kept before after plain = ap (λ (p : PlainTree). p.counts) plain
 
 shows-node : (setup : Setup) (before after : PlainTree) (a : ℕ) (exhibit : Exhibit) → IsPlainKept before after → IsNodeExhibit setup after a exhibit → ShowsNode setup.shape (history_of before) a exhibit
-shows-node setup before after a exhibit plain it =
-    let version = version-is setup.shape after it.x ∙ ap (λ counts. version_by setup.shape counts it.x) (counts-kept before after plain) in
-    record {
-      x = it.x;
-      cipher = _;
-      tag = _;
-      place = path-kept setup.shape before after a it.x plain it.place;
-      its =
-          it.its
-          ∙ ap (λ v. Forged (node_place it.x) (version_counter v) (without_tag (device_node setup.shape after it.x)) (tag_slot (device_node setup.shape after it.x) 3)) version;
-    }
+shows-node setup before after a exhibit plain it = search (rules, version-is, counts-kept, path-kept)
 
 shows-line : (setup : Setup) (before after : PlainTree) (a : ℕ) (exhibit : Exhibit) → IsPlainKept before after → IsDataExhibit setup after a exhibit → ShowsLine (history_of before) a exhibit
-shows-line setup before after a exhibit plain it =
-    record {
-      cipher = _;
-      tag = _;
-      hurt = hurt-kept before after a plain it.hurt;
-      its =
-          it.its
-          ∙ ap (λ counts. Forged a (version_counter (slice_index counts a)) (line_at after.board.lines a) (device_tag setup.shape after a)) (counts-kept before after plain);
-    }
+shows-line setup before after a exhibit plain it = search (rules, hurt-kept, counts-kept)
 
 shows-clash : (setup : Setup) (before after : PlainTree) (exhibit : Exhibit) → IsPlainKept before after → IsShadowExhibit setup after exhibit → ShowsClash setup.shape (history_of before) exhibit
 shows-clash setup before after exhibit plain it =
@@ -111,14 +89,7 @@ may-show : (setup : Setup) (before after : PlainTree) (command : TreeCommand) (e
 may-show setup before after (Do.Write a line) exhibit undecided plain it =
     let served = served-from before.board.powered a (tree_lines setup.shape) Say.Off Say.Range undecided in
     (record { power = served.0; inside = served.1 }, it.0, shows-node setup before after a exhibit plain it.1)
-may-show setup before after (Do.Read a) exhibit undecided plain it =
-    let served = served-from before.board.powered a (tree_lines setup.shape) Say.Off Say.Range undecided in (
-      record { power = served.0; inside = served.1 },
-      elim it [
-        | inl node ↦ inl (shows-node setup before after a exhibit plain node)
-        | inr line ↦ inr (shows-line setup before after a exhibit plain line)
-      ],
-    )
+may-show setup before after (Do.Read a) exhibit undecided plain it = search (rules, served-from, shows-node, shows-line)
 may-show setup before after Do.On exhibit undecided plain it = (dark-from before.board.powered Say.Already undecided, shows-clash setup before after exhibit plain it)
 may-show setup before after command exhibit undecided plain it = absurd it
 
@@ -149,11 +120,7 @@ clear-written : (history : History) (a : ℕ) → IsClear history → slice_set 
 clear-written history a clear = ap (λ (b : Bool). slice_set history.hurt a b) (sym (clear.hurt a)) ∙ set-get_or history.hurt a false
 
 clear-from : (old new : History) → IsClear old → new.tampered ≡ old.tampered → new.hurt ≡ old.hurt → IsClear new
-clear-from old new clear tampered hurt =
-    record {
-      tampered = λ d. ap (λ flags. slice_index_or flags d false) tampered ∙ clear.tampered d;
-      hurt = λ a. ap (λ flags. slice_index_or flags a false) hurt ∙ clear.hurt a;
-    }
+clear-from old new clear tampered hurt = search rules
 
 clear-write : (g : Shape) (history : History) (a : ℕ) (line : Line) (answer : TreeAnswer) → IsClear history → IsClear (history_with g history (Do.Write a line) answer)
 clear-write g history a line answer clear =
@@ -221,11 +188,7 @@ clear-chain g history (reply ∷ replies) clear none =
 
 unshown : (g : Shape) (history : History) (command : TreeCommand) (exhibit : Exhibit) → IsClear history → MayShow g history command exhibit → ⊥
 unshown g history (Do.Write a line) exhibit clear it = untampered g history a it.2.x clear it.2.place
-unshown g history (Do.Read a) exhibit clear it =
-    elim it.1 [
-      | inl node ↦ untampered g history a node.x clear node.place
-      | inr line ↦ false≢true (sym (clear.hurt a) ∙ line.hurt)
-    ]
+unshown g history (Do.Read a) exhibit clear it = search (rules, untampered, false≢true)
 unshown g history Do.On exhibit clear it = untampered-slot g history clear it.1.place
 unshown g history command exhibit clear it = it
 

@@ -51,7 +51,7 @@ pub use Rattle.pmem_base.specs.declared.answers.Exhibit.TheVariants.{Forged, Cla
 pub use Rattle.pmem_base.specs.declared.lines.Line.{Line}
 pub use Rattle.pmem_base.specs.declared.registers.Regs.{Regs}
 pub use Rattle.call_effects.specs.Outcomes.{Outcome, going, cut_short, shown, is_going}
-pub use Rattle.call_effects.proofs.ResultLaws.{none_of, from_no_error}
+pub use Rattle.call_effects.proofs.ResultLaws.{none_is, none_of, from_no_error}
 pub use Rattle.call_effects.specs.declared.recovery.Work.{Work}
 pub use Rattle.std.proofs.lemmas.Bool.{cases_lt, le-ltb, false≢true, lt-ltb, true≢false, cases_Bool, cases_eq, and_parts, not-true, or_left, or_right, eq-eqb}
 pub use Rattle.std.proofs.lemmas.List.{length-replicate, length-set, ext_get_or, length-map, get_or-set_other, set-get_or, map-set, get_or-map, get_or_past, set_past, get_or-set_same}

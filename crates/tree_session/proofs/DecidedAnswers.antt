@@ -1,6 +1,6 @@
 -- Answers that the state decides.
-use Rattle.std.proofs.Common.{ℕ, ◌≡◌, ◌<◌, ◌≤◌, true, false, Bool, List, Option, Some, None, Ok, Err, refl, sym, ap, subst, ◌∙◌}
-use Rattle.tree_session.proofs.Common.{Result, IsErr, OnErr, nat_lt, not, is_none, is_some, if◌then◌else◌, slice_set, All, lt-ltb, le-ltb, true≢false, false≢true, Line, IsLine, line_at, shape_of, Shape, Formulas, Setup, BoardMemory, with_line_at, with_lines, restored_lines, tree_lines, tree_size, hurt_with, TreeState, TreeCommand, TreeAnswer, SessionState, tree_setup_in, IsChipStill, IsTreeCalled, engine_left, parts_in, setup_in, TreeParts, plain_of_parts, state_of, IsTreeWorld, IsTreeAnswered, IsTreeMemoryWanted, AnswersWith, tree_decided, tree_after_decided}
+use Rattle.std.proofs.Common.{ℕ, ◌≡◌, ◌<◌, ◌≤◌, true, false, Bool, List, Option, Some, None, Ok, Err, refl, sym, ap, subst, ◌∙◌, rules}
+use Rattle.tree_session.proofs.Common.{Result, IsErr, OnErr, nat_lt, not, is_none, is_some, if◌then◌else◌, slice_set, All, lt-ltb, le-ltb, true≢false, false≢true, Line, IsLine, line_at, shape_of, Shape, Formulas, Setup, BoardMemory, with_line_at, with_lines, restored_lines, tree_lines, tree_size, hurt_with, TreeState, TreeCommand, TreeAnswer, SessionState, tree_setup_in, IsChipStill, engine_left, parts_in, setup_in, TreeParts, plain_of_parts, state_of, IsTreeWorld, IsTreeAnswered, IsTreeMemoryWanted, tree_decided, tree_after_decided}
 use Rattle.suite.specs.declared.Suite.{Ghosts as SuiteOf}
 use Rattle.tree_session.specs.declared.commands.TreeCommand.TheVariants as Do
 use Rattle.tree_session.specs.declared.answers.TreeAnswer.TheVariants as Say
@@ -36,15 +36,7 @@ a_snapshot (Some kept) missing = (kept, refl)
 decided_done : (setup : Setup) (p q : TreeParts) (command : TreeCommand) (answer : TreeAnswer) → IsTreeWorld setup q → p.watch.exhibit ≡ None → q.watch.exhibit ≡ None → q.keys ≡ p.keys
     → tree_decided setup.shape (plain_of_parts setup p) command ≡ Some answer → plain_of_parts setup q ≡ tree_after_decided setup.shape (plain_of_parts setup p) command answer
     → IsChipStill (state_of setup p) command answer (state_of setup q) → IsTreeAnswered setup (state_of setup p) command answer (state_of setup q)
-decided_done setup p q command answer world none none_then keys known plain chip =
-    record {
-      not_shown = none;
-      kept = record { shape = refl; keys = keys; shown = none_then ∙ sym none };
-      answered =
-          subst (λ d. AnswersWith setup (plain_of_parts setup p) command (plain_of_parts setup q) answer d) (sym known) (refl, plain);
-      called = subst (λ d. IsTreeCalled setup (state_of setup p) command (state_of setup q) answer d) (sym known) chip;
-      rooted = rooted_open setup q world none_then;
-    }
+decided_done setup p q command answer world none none_then keys known plain chip = search (rules, rooted_open)
 
 -- the fields of a session before a command that the state decides
 pub record QuietCall : Type 0 where
@@ -165,12 +157,7 @@ module _ (c : QuietCall) where
 
   -- memory is wanted for a first snapshot
   pub snap_wanted : {T E : Type 0} (answer : Result T E) → IsErr answer → OnErr answer (c.parts.board.snapshot ≡ None) → IsTreeMemoryWanted c.now Do.Snap
-  snap_wanted answer error first =
-      record {
-        takes = refl;
-        not_shown = c.unshown;
-        needs = ap (λ (s : SessionState). s.plain.board.snapshot) (sym c.is) ∙ from_error answer error first;
-      }
+  snap_wanted answer error first = search (rules, from_error)
 
   -- ---- the fuse, a snapshot, and power
 

@@ -1,6 +1,6 @@
 -- Two replies to one command in one state are the same, and leave the same state and the same log.
-use Rattle.std.proofs.Common.{◌≡◌, Bool, true, false, List, [], Option, Some, None, Result, Ok, Err, inl, inr, refl, sym, ap, subst, ◌∙◌, arith}
-use Rattle.tree_session.proofs.Common.{not, nat_lt, ⊤, if◌then◌else◌, same_Some, Exhibit, Access, BoardMemory, Setup, Plan, IsOutcome, tree_lines, Taken, same_logged, TreeFault, PlainTree, with_board, TreeChip, read_plan, write_plan, RecoverParts, TreeCommand, TreeAnswer, SessionState, HasTreeCalled, HasTreeStarted, IsTreeCallOf, IsTreeCalled, chip_in, plain_said, on_said, read_said, write_said, board_left, engine_kept, board_resting, engine_made, AnswersWith, tree_decided, IsTreeAnswered, IsEngineShown, IsTreeShownBy, IsTreeLogged}
+use Rattle.std.proofs.Common.{◌≡◌, Bool, true, false, List, [], Option, Some, None, Result, Ok, Err, inl, inr, refl, sym, ap, subst, ◌∙◌, arith, rules}
+use Rattle.tree_session.proofs.Common.{not, nat_lt, ⊤, if◌then◌else◌, same_Some, Exhibit, Access, BoardMemory, Setup, Plan, tree_lines, Taken, same_logged, TreeFault, PlainTree, with_board, TreeChip, read_plan, write_plan, RecoverParts, TreeCommand, TreeAnswer, SessionState, HasTreeCalled, HasTreeStarted, IsTreeCallOf, IsTreeCalled, plain_said, on_said, read_said, write_said, board_resting, engine_made, AnswersWith, tree_decided, IsTreeAnswered, IsEngineShown, IsTreeShownBy, IsTreeLogged}
 use Rattle.call_plan.proofs.DeterminedCalls.{call_is_determined}
 use Rattle.tree_session.specs.declared.commands.TreeCommand.TheVariants as Do
 use Rattle.tree_session.specs.declared.answers.TreeAnswer.TheVariants as Say
@@ -37,39 +37,13 @@ module _ (setup : Setup) (old one other : SessionState) where
 
   plain_alike : (command : TreeCommand) (first second : Option TreeAnswer) → first ≡ second → one.plain.board ≡ other.plain.board
       → one.plain ≡ plain_left command first one.plain.board → other.plain ≡ plain_left command second other.plain.board → one.plain ≡ other.plain
-  plain_alike command first second said board it its =
-      it
-      ∙ (ap (λ (a : Option TreeAnswer). plain_left command a one.plain.board) said
-      ∙ (ap (λ (b : BoardMemory). plain_left command second b) board ∙ sym its))
+  plain_alike command first second said board it its = search rules
 
   called_alike : {A : Type 0} (plan : TreeChip → Plan (TreeChip × TreeFault) (TreeChip × A)) (says : Taken → Result A TreeFault → Option TreeAnswer)
       (command : TreeCommand) (first second : Option TreeAnswer) → old.plain.board.powered ≡ true → HasTreeCalled setup plan says old one first
       → HasTreeCalled setup plan says old other second → one.plain ≡ plain_left command first one.plain.board
       → other.plain ≡ plain_left command second other.plain.board → AreAlike first second
-  called_alike plan says command first second on it its plain plain_other =
-      let engine : its.engine ≡ it.engine = same_Some its.engine it.engine (sym its.was_on ∙ it.was_on) in
-      let outcome : IsOutcome (plan (chip_in setup old it.engine)) old.plain.board its.board its.taken its.end (chip_in setup other its.after) =
-      subst (λ e. IsOutcome (plan (chip_in setup old e)) old.plain.board its.board its.taken its.end (chip_in setup other its.after)) engine its.outcome in
-      let same = call_is_determined on it.outcome outcome in
-      let said : first ≡ second = it.is_said ∙ (ap (λ t. says t it.end) same.3 ∙ (ap (says its.taken) same.0 ∙ sym its.is_said)) in
-      let board : one.plain.board ≡ other.plain.board =
-      it.rests ∙ (ap (λ s. board_left s it.board) said ∙ (ap (board_left second) same.2 ∙ sym its.rests)) in
-      record {
-        said = said;
-        plain = plain_alike command first second said board plain plain_other;
-        shown = ap (λ (c : TreeChip). c.watch.exhibit) same.1;
-        engine =
-            it.kept
-            ∙ (ap (λ s. engine_kept s it.board it.after) said
-            ∙ (ap (λ (b : BoardMemory). engine_kept second b it.after) same.2
-            ∙ (ap (λ (c : TreeChip). engine_kept second its.board c.engine) same.1 ∙ sym its.kept)));
-        seals = ap (λ (c : TreeChip). c.watch.seals) same.1;
-        nodes = ap (λ (c : TreeChip). c.watch.nodes) same.1;
-        slots = ap (λ (c : TreeChip). c.watch.slots) same.1;
-        pads = ap (λ (c : TreeChip). c.pads) same.1;
-        tags = ap (λ (c : TreeChip). c.tags) same.1;
-        digests = ap (λ (c : TreeChip). c.digests) same.1;
-      }
+  called_alike plan says command first second on it its plain plain_other = search (rules, same_Some, call_is_determined, plain_alike)
 
   started_alike : (first second : Option TreeAnswer) → HasTreeStarted setup old one first → HasTreeStarted setup old other second
       → one.plain ≡ plain_left Do.On first one.plain.board → other.plain ≡ plain_left Do.On second other.plain.board → AreAlike first second
@@ -116,19 +90,7 @@ module _ (setup : Setup) (old one other : SessionState) where
       → AnswersWith setup old.plain command one.plain first decided → AnswersWith setup old.plain command other.plain second decided
       → IsTreeCalled setup old command one first decided → IsTreeCalled setup old command other second decided → AreAlike (Some first) (Some second)
   answers_alike None command first second on shown it its called again = by_call command (Some first) (Some second) (on refl) called.0 again.0 called.1 again.1
-  answers_alike (Some known) command first second on shown it its called again =
-      record {
-        said = ap Some (it.0 ∙ sym its.0);
-        plain = it.1 ∙ sym its.1;
-        shown = shown;
-        engine = called.engine ∙ sym again.engine;
-        seals = called.seals ∙ sym again.seals;
-        nodes = called.nodes ∙ sym again.nodes;
-        slots = called.slots ∙ sym again.slots;
-        pads = called.pads ∙ sym again.pads;
-        tags = called.tags ∙ sym again.tags;
-        digests = called.digests ∙ sym again.digests;
-      }
+  answers_alike (Some known) command first second on shown it its called again = search rules
 
   -- an answer's call, where an exhibit says that the state doesn't decide
   called_of : (decided : Option TreeAnswer) (command : TreeCommand) (answer : TreeAnswer) (new : SessionState) → decided ≡ None
@@ -201,7 +163,4 @@ same_log_of Do.On old new accesses others it its = same_logged (tree_decided old
 same_log_of command old new accesses others it its = same_Some accesses others (it ∙ sym its)
 
 pub logs_are_determined : TreeLogsAreDetermined
-logs_are_determined setup command first second old one other accesses others it its log its_log =
-    let same = (replies_are_determined setup command first second old one other it its).1 in
-    same_log_of command old one accesses others log
-    (subst (λ (s : SessionState). IsTreeLogged command (Some []) old (Some others) s) (sym same) its_log)
+logs_are_determined setup command first second old one other accesses others it its log its_log = search (rules, replies_are_determined, same_log_of)

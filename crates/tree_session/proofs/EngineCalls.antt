@@ -1,5 +1,5 @@
 -- What a call of the engine answers: the parts that are one for reads and writes.
-use Rattle.std.proofs.Common.{ℕ, ◌≡◌, ◌<◌, true, false, Bool, List, Option, Some, None, refl, sym, ap, subst, ◌∙◌}
+use Rattle.std.proofs.Common.{ℕ, ◌≡◌, ◌<◌, true, false, Bool, List, Option, Some, None, refl, sym, ap, subst, ◌∙◌, rules}
 use Rattle.tree_session.proofs.Common.{slice_index_or, lt-ltb, same_Some, nat_lt, not, if◌then◌else◌, Line, Exhibit, Forged, line_at, meta_lines, BoardMemory, AreSmallMinors, redone, Outcome, tree_lines, line_of_node, HoldsNode, KeepsWatch, with_board, on_path-inside, TreeParts, plain_of_parts, IsRooted, IsNodeRefusal, IsNodeExhibit, IsPlainKept}
 use Rattle.asit_shadow.specs.Calls as told
 use Rattle.tree_session.proofs.PlainStates.{plain-kept}
@@ -16,10 +16,7 @@ undecided_line power a n off range on low =
 -- what was left where the watch knows what it knew
 pub kept_plain : (c : TreeEngineCall) (outcome : Outcome) (q : TreeParts) → KeepsWatch outcome c.parts.watch c.watch → q.watch ≡ c.watch → q.tampered ≡ c.parts.tampered → q.hurt ≡ c.parts.hurt
     → IsPlainKept (plain_of_parts c.setup c.parts) (plain_of_parts c.setup q)
-kept_plain c outcome q keeps its tampered hurt =
-    plain-kept c.setup c.parts q (ap (λ (w : Rattle.counter_tree.specs.Watch.WatchState). w.seals) its ∙ keeps.seals)
-    (ap (λ (w : Rattle.counter_tree.specs.Watch.WatchState). w.nodes) its ∙ keeps.nodes) (ap (λ (w : Rattle.counter_tree.specs.Watch.WatchState). w.slots) its ∙ keeps.slots)
-    tampered hurt
+kept_plain c outcome q keeps its tampered hurt = search (rules, plain-kept)
 
 -- after an exhibit the root is the one before
 pub rooted_shown : (c : TreeEngineCall) (q : TreeParts) → IsPlainKept (plain_of_parts c.setup c.parts) (plain_of_parts c.setup q) → q.board.regs.root ≡ c.parts.board.regs.root

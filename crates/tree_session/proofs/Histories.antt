@@ -1,5 +1,5 @@
 -- What the commands and answers so far say is what the plain state has, so the next answer is one that they allow.
-use Rattle.std.proofs.Common.{ℕ, ◌≡◌, ◌<◌, ◌≤◌, ◌+◌, true, false, Bool, inl, inr, List, length, Option, Some, None, refl, sym, ap, subst, ◌∙◌, arith}
+use Rattle.std.proofs.Common.{ℕ, ◌≡◌, ◌<◌, ◌≤◌, ◌+◌, true, false, Bool, inl, inr, List, length, Option, Some, None, refl, ap, subst, ◌∙◌, arith, rules}
 use Rattle.tree_session.proofs.Common.{slice_set, is_some, is_none, not, nat_lt, if◌then◌else◌, cases_Bool, cases_lt, lt-ltb, le-ltb, length-set, Line, Shape, Setup, tree_lines, tree_size, PlainTree, true_count, TreeCommand, TreeAnswer, tree_decided, tree_after_decided, TakesTreeSteps, IsTreeCutAt, IsPlainKept, IsPlainWritten, SaysOfWrite, SaysOfRead, SaysOfOn, AnswersWith, IsPathTampered, IsSlotTampered, IsHurt, History, history_with, IsAllowed}
 use Rattle.trace_text.specs.Sessions.{burnt}
 use Rattle.tree_session.specs.declared.commands.TreeCommand.TheVariants as Do
@@ -79,13 +79,7 @@ knows : (setup : Setup) (before after : PlainTree) (command : TreeCommand) (answ
     → history_of (tree_after_decided setup.shape before command known) ≡ history_with setup.shape (history_of before) command known
     → length (tree_after_decided setup.shape before command known).counts ≡ length before.counts
     → TreeFollows setup.shape before after command answer
-knows setup before after command answer known it allowed history count =
-    subst (λ (a : TreeAnswer). TreeFollows setup.shape before after command a) (sym it.0)
-    (record {
-      allowed = allowed;
-      history = ap history_of it.1 ∙ history;
-      count = ap (λ (p : PlainTree). length p.counts) it.1 ∙ count;
-    })
+knows setup before after command answer known it allowed history count = search rules
 
 -- what was tampered with stays so
 pub tampered-kept : (before after : PlainTree) → IsPlainKept before after → after.tampered ≡ before.tampered
@@ -104,89 +98,29 @@ hurt-kept before after a kept it = subst (λ (flags : List Bool). IsHurt flags a
 
 by_write : (setup : Setup) (before after : PlainTree) (a : ℕ) (line : Line) (answer : TreeAnswer) → before.board.powered ≡ true → a < tree_lines setup.shape → length before.counts ≡ tree_lines setup.shape
     → SaysOfWrite setup before a line after answer → TreeFollows setup.shape before after (Do.Write a line) answer
-by_write setup before after a line (Say.Written s) on low count it =
-    record {
-      allowed = (record { power = on; inside = low }, it.0, it.3, (it.1.fuse.lasting, it.4));
-      history = stepped-write setup.shape s a line before.board.powered before after (sym on) it.1 it.5;
-      count = counts-made setup.shape a line before after it.5;
-    }
-by_write setup before after a line (Say.CutKept s) on low count it =
-    record {
-      allowed = (record { power = on; inside = low }, it.0, it.3, (it.1.fuse.at_end, it.4));
-      history = darkened-write setup.shape s a line before after it.1 it.5;
-      count = counts-made setup.shape a line before after it.5;
-    }
-by_write setup before after a line (Say.CutLost s) on low count it =
-    record {
-      allowed = (record { power = on; inside = low }, it.0, it.1.fuse.at_end, it.3);
-      history = darkened s before after it.1 it.4;
-      count = counts-kept before after it.4;
-    }
-by_write setup before after a line (Say.Spent s) on low count it =
-    record {
-      allowed = (record { power = on; inside = low }, it.0, it.1);
-      history = ap history_of it.2;
-      count = ap (λ (p : PlainTree). length p.counts) it.2;
-    }
-by_write setup before after a line (Say.RefusedNode x s) on low count it =
-    record {
-      allowed = (record { power = on; inside = low }, it.0, path-kept setup.shape before after a x it.4 it.1.place, (it.2.fuse.lasting, it.3));
-      history = stepped s true before.board.powered before after (sym on) it.2 it.4;
-      count = counts-kept before after it.4;
-    }
+by_write setup before after a line (Say.Written s) on low count it = search (rules, stepped-write, counts-made)
+by_write setup before after a line (Say.CutKept s) on low count it = search (rules, darkened-write, counts-made)
+by_write setup before after a line (Say.CutLost s) on low count it = search (rules, darkened, counts-kept)
+by_write setup before after a line (Say.Spent s) on low count it = search rules
+by_write setup before after a line (Say.RefusedNode x s) on low count it = search (rules, path-kept, stepped, counts-kept)
 by_write setup before after a line answer on low count it = absurd it
 
 -- ---- reads
 
 by_read : (setup : Setup) (before after : PlainTree) (a : ℕ) (answer : TreeAnswer) → before.board.powered ≡ true → a < tree_lines setup.shape
     → SaysOfRead setup before a after answer → TreeFollows setup.shape before after (Do.Read a) answer
-by_read setup before after a (Say.Got got s) on low it =
-    record {
-      allowed = (record { power = on; inside = low }, it.0, (it.1.fuse.lasting, it.2));
-      history = stepped s true before.board.powered before after (sym on) it.1 it.3;
-      count = counts-kept before after it.3;
-    }
-by_read setup before after a (Say.Cut s) on low it =
-    record {
-      allowed = (record { power = on; inside = low }, (it.0.fuse.at_end, it.1));
-      history = darkened s before after it.0 it.2;
-      count = counts-kept before after it.2;
-    }
-by_read setup before after a (Say.RefusedData b s) on low it =
-    record {
-      allowed = (record { power = on; inside = low }, it.0, hurt-kept before after a it.4 it.1.hurt, (it.2.fuse.lasting, it.3));
-      history = stepped s true before.board.powered before after (sym on) it.2 it.4;
-      count = counts-kept before after it.4;
-    }
-by_read setup before after a (Say.RefusedNode x s) on low it =
-    record {
-      allowed = (record { power = on; inside = low }, path-kept setup.shape before after a x it.3 it.0.place, (it.1.fuse.lasting, it.2));
-      history = stepped s true before.board.powered before after (sym on) it.1 it.3;
-      count = counts-kept before after it.3;
-    }
+by_read setup before after a (Say.Got got s) on low it = search (rules, stepped, counts-kept)
+by_read setup before after a (Say.Cut s) on low it = search (rules, darkened, counts-kept)
+by_read setup before after a (Say.RefusedData b s) on low it = search (rules, hurt-kept, stepped, counts-kept)
+by_read setup before after a (Say.RefusedNode x s) on low it = search (rules, path-kept, stepped, counts-kept)
 by_read setup before after a answer on low it = absurd it
 
 -- ---- recoveries
 
 by_on : (setup : Setup) (before after : PlainTree) (answer : TreeAnswer) → before.board.powered ≡ false → SaysOfOn setup before after answer → TreeFollows setup.shape before after Do.On answer
-by_on setup before after (Say.Recovered digests s) off it =
-    record {
-      allowed = (off, it.0, (it.1.fuse.lasting, it.4));
-      history = stepped s true true before after refl it.1 it.5;
-      count = counts-kept before after it.5;
-    }
-by_on setup before after (Say.Cut s) off it =
-    record {
-      allowed = (off, (it.0.fuse.at_end, it.4));
-      history = darkened s before after it.0 it.5;
-      count = counts-kept before after it.5;
-    }
-by_on setup before after (Say.RefusedShadow kept found s) off it =
-    record {
-      allowed = (off, slot-kept setup.shape before after it.5 it.0.place, it.0.differ, (it.1.fuse.lasting, it.4));
-      history = stepped s false before.board.powered before after (sym off) it.1 it.5;
-      count = counts-kept before after it.5;
-    }
+by_on setup before after (Say.Recovered digests s) off it = search (rules, stepped, counts-kept)
+by_on setup before after (Say.Cut s) off it = search (rules, darkened, counts-kept)
+by_on setup before after (Say.RefusedShadow kept found s) off it = search (rules, slot-kept, stepped, counts-kept)
 by_on setup before after answer off it = absurd it
 
 -- ---- any command
@@ -229,27 +163,10 @@ follows setup before after (Do.Read a) answer count it =
     (λ dark known. knows setup before after (Do.Read a) answer Say.Off known dark refl refl)
     (λ on high known. knows setup before after (Do.Read a) answer Say.Range known (on, high) refl refl)
     (λ on low made. by_read setup before after a answer on low made)
-follows setup before after Do.On answer count it =
-    elim (cases_Bool before.board.powered) [
-      | inl on ↦
-          knows setup before after Do.On answer Say.Already (subst (λ (b : Bool). AnswersWith setup before Do.On after answer (if b then Some Say.Already else None)) on it) on refl refl
-      | inr off ↦ by_on setup before after answer off (subst (λ (b : Bool). AnswersWith setup before Do.On after answer (if b then Some Say.Already else None)) off it)
-    ]
-follows setup before after Do.Off answer count it =
-    elim (cases_Bool before.board.powered) [
-      | inl on ↦ knows setup before after Do.Off answer Say.Ok (subst (λ (b : Bool). AnswersWith setup before Do.Off after answer (if b then Some Say.Ok else Some Say.Off)) on it) on refl refl
-      | inr off ↦ knows setup before after Do.Off answer Say.Off (subst (λ (b : Bool). AnswersWith setup before Do.Off after answer (if b then Some Say.Ok else Some Say.Off)) off it) off refl refl
-    ]
+follows setup before after Do.On answer count it = search (rules, cases_Bool, knows, by_on)
+follows setup before after Do.Off answer count it = search (rules, cases_Bool, knows)
 follows setup before after (Do.Cut n) answer count it = knows setup before after (Do.Cut n) answer Say.Ok it refl refl refl
-follows setup before after (Do.Poke d line) answer count it =
-    elim (cases_lt d (tree_size setup.shape)) [
-      | inl low ↦
-          knows setup before after (Do.Poke d line) answer Say.Ok
-          (subst (λ (b : Bool). AnswersWith setup before (Do.Poke d line) after answer (if b then Some Say.Ok else Some Say.Range)) (lt-ltb d (tree_size setup.shape) low) it) low refl refl
-      | inr high ↦
-          knows setup before after (Do.Poke d line) answer Say.Range
-          (subst (λ (b : Bool). AnswersWith setup before (Do.Poke d line) after answer (if b then Some Say.Ok else Some Say.Range)) (le-ltb d (tree_size setup.shape) high) it) high refl refl
-    ]
+follows setup before after (Do.Poke d line) answer count it = search (rules, cases_lt, knows, lt-ltb, le-ltb)
 follows setup before after Do.Snap answer count it = knows setup before after Do.Snap answer Say.Ok it refl refl refl
 follows setup before after (Do.Back d) answer count it =
     elim (cases_lt d (tree_size setup.shape)) [

@@ -1,11 +1,11 @@
 -- A formatted device begins a session.
 use Rattle.std.proofs.Common.{ℕ, zero, suc, ◌≡◌, ◌<◌, true, false, List, ◌∷◌, length, Some, None, refl, sym, ap, subst, ◌∙◌, arith, zero-add, lit<}
-use Rattle.tree_session.proofs.Common.{All, is_none, is_some, map, replicate, slice_set, range_with_len, ext_get_or, length-replicate, map-set, length-map-range_with_len, get_or-map-range_with_len, and_parts, not-true, IsLine, zero_line, IsShape, meta_lines, AreInRange, Setup, BoardMemory, device_of, new_memory, new_watch, tree_lines, tree_slots, tree_size, Node, zero_node, IsNode, counter, version_counter, slot_line, node_at, line_counter, line_position, tree-IsNode, redone, cipher_of-back, WatchState, TreeState, HasTreeFormatted, IsTreeSound, AreTreeTrusted, tree_parts_of, IsNodeHeldBy, tree_plain_of, tree_plain_line, rest_of, replicate-default, lines-equal, IsNewTree, TreeParts, named_by, state_of, IsTreeWorld}
+use Rattle.tree_session.proofs.Common.{All, is_none, is_some, map, replicate, slice_set, range_with_len, ext_get_or, length-replicate, map-set, length-map-range_with_len, get_or-map-range_with_len, and_parts, not-true, IsLine, zero_line, IsShape, meta_lines, AreInRange, Setup, BoardMemory, device_of, new_memory, new_watch, tree_lines, tree_slots, tree_size, Node, zero_node, IsNode, counter, version_counter, slot_line, node_at, line_counter, line_position, tree-IsNode, redone, cipher_of-back, WatchState, TreeState, HasTreeFormatted, IsTreeSound, AreTreeTrusted, tree_parts_of, IsNodeHeldBy, tree_plain_of, tree_plain_line, rest_of, replicate-default, lines-equal, IsNewTree, TreeParts, named_by, state_of, IsTreeWorld, none_is}
 use Rattle.bonsai_tree.specs.Positions.{parent, child_slot}
 use Rattle.pmem_base.proofs.LineLemmas.{IsLine-zero_line}
 use Rattle.asit_shadow.proofs.FormatPlans.{first_engine-is}
 use Rattle.tree_session.proofs.PlainStates.{named-zero, named-line, top_inside}
-use Rattle.tree_session.proofs.Worlds.{opened, none_is, usable_on}
+use Rattle.tree_session.proofs.Worlds.{opened, usable_on}
 
 map-replicate : {X Y : Type 0} (f : X → Y) (n : ℕ) (x : X) → map f (replicate n x) ≡ replicate n (f x)
 map-replicate f zero x = refl

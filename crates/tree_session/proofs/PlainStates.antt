@@ -1,6 +1,6 @@
 -- The plain state that a session's parts make: it is that of the plain machine, and there is one of a watch.
-use Rattle.std.proofs.Common.{ℕ, ◌≡◌, ◌<◌, List, false, length, Option, Some, None, refl, sym, ap, subst, inl, inr, ◌∙◌, arith, zero-add}
-use Rattle.tree_session.proofs.Common.{map, option_map, slice_set, range_with_len, cases_lt, ext_get_or, length-map, get_or-map, get_or_past, length-map-range_with_len, get_or-map-range_with_len, same_Some, none-some, Line, Regs, IsLine, line_at, zero_line, Shape, IsShape, meta_lines, AreInRange, cipher_of, Setup, Node, LineSeal, IsNode, total, version_counter, tree_lines, tree_slots, node_at, line_counter, NamedNode, slot_of, slot_line, shadow_root, WatchState, tree-IsNode, IsTreeAnchored, NamesTrueNode, IsTreeArmed, tree_plain_of, tree_plain_line, PlainTree, IsPlainOf, true_count, true_slots, writes_made, named_at, slot_naming, after_tree_write, with_board, lines-equal, TreeParts, named_by, plain_of_parts}
+use Rattle.std.proofs.Common.{ℕ, ◌≡◌, ◌<◌, false, length, Option, Some, None, refl, sym, ap, subst, inl, inr, ◌∙◌, arith, zero-add, rules}
+use Rattle.tree_session.proofs.Common.{option_map, slice_set, cases_lt, ext_get_or, length-map, get_or-map, get_or_past, length-map-range_with_len, get_or-map-range_with_len, same_Some, none-some, Line, Regs, IsLine, line_at, zero_line, Shape, IsShape, meta_lines, AreInRange, cipher_of, Setup, Node, LineSeal, IsNode, total, version_counter, tree_lines, tree_slots, node_at, line_counter, NamedNode, slot_of, slot_line, shadow_root, WatchState, tree-IsNode, IsTreeAnchored, NamesTrueNode, IsTreeArmed, tree_plain_line, PlainTree, IsPlainOf, true_count, true_slots, writes_made, named_at, slot_naming, after_tree_write, with_board, lines-equal, TreeParts, named_by, plain_of_parts}
 use Rattle.bonsai_tree.proofs.Levels.{meta_lines-level, level_start-suc}
 use Rattle.counter_tree.proofs.SlotLaws.{slot_read-slot_line, slot_read-zero}
 use Rattle.counter_tree.proofs.Positions.{meta_lines-most}
@@ -127,11 +127,7 @@ plain-equal p q memory counts named tampered hurt board = grind arith
 -- a watch that knows what it knew makes the same
 pub plain-kept : (setup : Setup) (p : TreeParts) (q : TreeParts) → q.watch.seals ≡ p.watch.seals → q.watch.nodes ≡ p.watch.nodes → q.watch.slots ≡ p.watch.slots
     → q.tampered ≡ p.tampered → q.hurt ≡ p.hurt → plain_of_parts setup q ≡ with_board (plain_of_parts setup p) q.board
-plain-kept setup p q seals nodes slots tampered hurt =
-    plain-equal (plain_of_parts setup q) (with_board (plain_of_parts setup p) q.board)
-    (ap (λ (s : List (Option LineSeal)). map (λ a. tree_plain_of setup.formulas a (Rattle.std.specs.Prelude.slice_index_or s a None)) (range_with_len 0 (tree_lines setup.shape))) seals)
-    (ap (λ (ns : List Node). map (line_counter setup.shape ns) (range_with_len 0 (tree_lines setup.shape))) nodes)
-    (ap (map named_by) slots) tampered hurt refl
+plain-kept setup p q seals nodes slots tampered hurt = search (rules, plain-equal)
 
 -- an armed write of a line puts it into memory
 pub plain-written : (setup : Setup) (p q : TreeParts) (a : ℕ) (line : Line) (seal : LineSeal) (old_regs armed_regs new_regs : Regs) → IsShape setup.shape → AreInRange setup.formulas

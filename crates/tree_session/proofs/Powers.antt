@@ -1,5 +1,5 @@
 -- A fuse is set, a snapshot is taken, or power goes off: what is held of the device stays.
-use Rattle.std.proofs.Common.{ℕ, ◌≡◌, false, List, length, Option, Some, None, refl, ap, arith}
+use Rattle.std.proofs.Common.{ℕ, ◌≡◌, false, List, length, Option, Some, None, refl, ap, arith, rules}
 use Rattle.tree_session.proofs.Common.{Line, Setup, device_of, redone, TreeState, powered_off-place, TreeParts, IsTreeBy, IsTreeWorld}
 use Rattle.tree_session.proofs.Worlds.{opened, open_in, on_in, off_in, usable_on, usable_off}
 
@@ -10,46 +10,11 @@ module _ (setup : Setup) (p : TreeParts) (world : IsTreeWorld setup p) (none : p
     other = record p { board = record p.board { fuse = fuse; snapshot = snapshot } }
 
     chip_other : (found : Option TreeState) → p.engine ≡ found → IsTreeBy setup other found
-    chip_other None there =
-        let off = off_in setup p (open_in setup p world none) there in
-        record {
-          unpowered = off.unpowered;
-          usable = usable_off setup (device_of (record p.board { fuse = fuse; snapshot = snapshot })) p.watch world.whole_lines.count off.anchored;
-          small_group = off.small_group;
-          anchored = off.anchored;
-          nodes = λ x unchanged. off.nodes x unchanged;
-        }
-    chip_other (Some engine) there =
-        let on = on_in setup p engine (open_in setup p world none) there in
-        record {
-          powered = on.powered;
-          its_shape = on.its_shape;
-          usable = usable_on setup engine (device_of (record p.board { fuse = fuse; snapshot = snapshot })) p.watch world.whole_lines.count on.trusted;
-          trusted = on.trusted;
-          nodes = λ x unchanged. on.nodes x unchanged;
-        }
+    chip_other None there = search (rules, off_in, open_in, usable_off)
+    chip_other (Some engine) there = search (rules, on_in, open_in, usable_on)
 
     pub other_held : IsTreeWorld setup (record p { board = record p.board { fuse = fuse; snapshot = snapshot } })
-    other_held =
-        let opened_in = open_in setup p world none in
-        opened setup other
-        (record {
-          shape = world.whole_shape;
-          formulas = world.whole_formulas;
-          watch = world.its_watch;
-          lines = world.whole_lines;
-          tampered = world.tampered_count;
-          hurt = world.hurt_count;
-        })
-        none
-        (record {
-          chip = chip_other p.engine refl;
-          places =
-              record {
-                seals = λ a inside clear. opened_in.places.seals a inside clear;
-                slots = λ i inside clear. opened_in.places.slots i inside clear;
-              };
-        })
+    other_held = search (rules, open_in, opened, chip_other)
 
   -- power goes off
   module _ (engine : TreeState) (there : p.engine ≡ Some engine) where

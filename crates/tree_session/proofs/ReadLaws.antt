@@ -1,6 +1,6 @@
 -- A read: what is left of the session, and what is answered.
-use Rattle.std.proofs.Common.{ℕ, ◌≡◌, ◌≢◌, ◌<◌, ◌≤◌, ◌⊎◌, false, inl, inr, List, Option, Some, None, Ok, Err, refl, sym, ap, subst, ◌∙◌, arith}
-use Rattle.tree_session.proofs.Common.{Result, IfSome, slice_index_or, Line, Regs, Exhibit, same_Some, LineSeal, line_at, tag_slot, IsExhibit, AreSmallMinors, redone, going, cut_short, shown, tree_lines, line_of_tag, version_counter, line_counter, last_seal_of, steps_in, step_limit, TreeFault, TreeState, with_board, read_plan, IsTreeSealStored, HoldsTreeSeal, HasReadTreeLine, IsLineRead, line-place, going_unshown, cut_unshown, TreeAnswer, IsTreeCalled, read_said, plain_of_parts, state_of, IsTreeWorld, IsTreeAnswered, IsRooted, IsEngineShown, IsBoardSpilled, SaysOfRead, AnswersWith, IsDataAccepted, IsDataRefusal, IsDataExhibit, IsNodeExhibit, IsNodeRefusal}
+use Rattle.std.proofs.Common.{ℕ, ◌≡◌, ◌<◌, ◌≤◌, ◌⊎◌, false, inl, inr, Option, Some, None, Ok, Err, refl, sym, ap, subst, ◌∙◌, arith, rules}
+use Rattle.tree_session.proofs.Common.{Result, IfSome, slice_index_or, Line, Regs, Exhibit, same_Some, line_at, tag_slot, IsExhibit, AreSmallMinors, going, cut_short, shown, tree_lines, line_of_tag, version_counter, line_counter, last_seal_of, steps_in, step_limit, TreeFault, TreeState, with_board, read_plan, IsTreeSealStored, HoldsTreeSeal, HasReadTreeLine, IsLineRead, line-place, going_unshown, cut_unshown, TreeAnswer, IsTreeCalled, read_said, plain_of_parts, state_of, IsTreeWorld, IsTreeAnswered, IsRooted, IsEngineShown, IsBoardSpilled, SaysOfRead, AnswersWith, IsDataAccepted, IsDataRefusal, IsDataExhibit, IsNodeExhibit, IsNodeRefusal}
 use Rattle.asit_shadow.specs.declared.fault.TreeFault.TheVariants as Fail
 use Rattle.asit_shadow.specs.Calls as told
 use Rattle.tree_session.specs.declared.commands.TreeCommand.TheVariants as Do
@@ -102,15 +102,7 @@ module _ (c : TreeEngineCall) (a : ℕ) (within : a < tree_lines c.setup.shape) 
 
   -- a stored line is read: the armed group is empty
   stored_here : c.board.regs ≡ c.parts.board.regs → HoldsTreeSeal c.setup.shape (to c) a → c.watch.seals ≡ c.parts.watch.seals → IsTreeSealStored c.setup.shape c.board.lines c.parts.watch a
-  stored_here regs holds seals =
-      let none = ap (λ (r : Regs). r.group.items) regs ∙ (trusted_from c).no_group in
-      let it : IsTreeSealStored c.setup.shape c.board.lines c.watch a = subst (λ g. IsTreeSealStored c.setup.shape (redone g c.board.lines) c.watch a) none holds in
-      record {
-        seal = it.seal;
-        last = ap (λ (s : List (Option LineSeal)). slice_index_or s a None) (sym seals) ∙ it.last;
-        cipher = it.cipher;
-        tag = it.tag;
-      }
+  stored_here regs holds seals = search (rules, trusted_from)
 
   fits_here : IsTreeSealStored c.setup.shape c.board.lines c.parts.watch a
       → (c.setup.formulas.tag_of a (version_counter (line_counter c.setup.shape c.parts.watch.nodes a)) (line_at c.board.lines a) ≡ tag_slot (line_at c.board.lines (line_of_tag c.setup.shape a)) 0)
@@ -166,12 +158,7 @@ module _ (c : TreeEngineCall) (a : ℕ) (within : a < tree_lines c.setup.shape) 
     shown_held = ended_after c show.effect show.watch exhibit is shown_minors
 
     unstored : (line : told.IsLineShown c.setup a (from c) (to c)) → slice_index_or c.parts.hurt a false ≡ false → ⊥
-    unstored line unhurt =
-        let sealed = (trusted_from c).anchored.seals a within in
-        let same = (fits_here (stored_here show.regs (seals_kept c shown show.effect a within unhurt) show.watch.seals)).1 in
-        let differs : line.cipher ≢ sealed.seal.cipher = subst (λ s. IfSome s (λ (seal : LineSeal). line.cipher ≢ seal.cipher)) sealed.last line.other in
-        let equal : line_at c.board.lines a ≡ sealed.seal.cipher = subst (λ s. IfSome s (λ (seal : LineSeal). line_at c.board.lines a ≡ seal.cipher)) sealed.last same in
-        differs (line.its.cipher_read ∙ equal)
+    unstored line unhurt = search (rules, trusted_from, fits_here, stored_here, seals_kept)
 
     left_before : IsBoardSpilled c.setup (plain_of_parts c.setup c.parts) (plain_of_parts c.setup (left_resting c)) × (steps_in c.taken ≤ c.setup.shape.levels)
     left_before =

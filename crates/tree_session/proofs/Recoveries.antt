@@ -1,12 +1,13 @@
 -- A recovery: what is left of the session, and what is answered.
-use Rattle.std.proofs.Common.{ℕ, zero, suc, ◌≡◌, ◌≢◌, ◌<◌, ◌≤◌, ◌+◌, true, false, Bool, inl, inr, ◌⊎◌, List, [], ◌∷◌, length, Option, Some, None, Ok, Err, refl, sym, ap, subst, ◌∙◌, arith}
+use Rattle.std.proofs.Common.{ℕ, zero, suc, ◌≡◌, ◌≢◌, ◌<◌, ◌≤◌, ◌+◌, true, false, Bool, inl, inr, ◌⊎◌, List, [], ◌∷◌, length, Option, Some, None, Ok, Err, refl, sym, ap, subst, ◌∙◌, arith, rules}
 use Rattle.tree_session.proofs.Common.{Result, IfSome, All, slice_index_or, cases_Bool, cases_eq, true≢false, same_Some, Line, Regs, IsLine, Setup, AreLinesOf, BoardMemory, device_of, redone, finishing_latches, Follows, Work, tree_slots, tree_size, line_of_slot, shadow_root, WatchState, Taken, steps_in, step_limit, device_during, none_taken, IsWatched, TreeRec, TreeState, IsTreeAnchored, IsTreeTrusted, IsSlotStored, slots_read, Rest, rest_of, rest_redone, HasTreeRecovered, IsGroupFinished, IsGroupBegun, AreSlotsRead, KeepsRestPlaces, KeepsRestNode, recover_parts, tree_recover_plan, IsNodeHeld, with_board, slots-place, lines-equal, length-slots_read, line_at-slots_read, TreeAnswer, HasTreeStarted, IsTreeCalled, on_said, board_resting, engine_made, watch_in, TreeParts, plain_of_parts, state_of, IsTreeWorld, IsTreeOff, IsTreeOpen, IsTreeAnswered, IsRooted, IsTreeMemoryWanted, SaysOfOn, HasTrueSlots, AnswersWith, IsSlotTampered, IsShadowRefusal, IsGroupDone, group_steps, board_redone, tree_recovery_bound}
 use Rattle.call_plan.specs.Plans as plans
+use Rattle.call_plan.proofs.StillCalls.{untouched, rests}
 use Rattle.commit_regs.proofs.GroupLemmas.{one_latch}
 use Rattle.asit_shadow.specs.declared.recovery.TreeRec.TheVariants as Fail
 use Rattle.tree_session.specs.declared.commands.TreeCommand.TheVariants as Do
 use Rattle.tree_session.specs.declared.answers.TreeAnswer.TheVariants as Say
-use Rattle.tree_session.proofs.BoardSteps.{goes_on, cut_off, from_dark, cut_from_dark, then_rests, taken-exact, untouched}
+use Rattle.tree_session.proofs.BoardSteps.{goes_on, cut_off, from_dark, cut_from_dark, then_rests, taken-exact}
 use Rattle.tree_session.proofs.PlainStates.{plain_is, plain-kept, true_slots-is}
 use Rattle.tree_session.proofs.Worlds.{IsFrame, opened, open_in, off_in, usable_on, usable_off, rooted_on, rooted_off}
 
@@ -167,11 +168,7 @@ module _ (c : TreeRecoveryCall) where
 
   -- the steps are those of the whole group and its latch, which are few enough
   pub finished_steps : IsGroupFinished (device_during (record c.parts.board { powered = true }) none_taken) (device_during c.board c.taken) → steps_in c.taken ≡ group_steps c.parts.board
-  finished_steps it =
-      let few = c.watched.follows.few in
-      let writes = taken-exact (length c.parts.board.regs.group.items) c.taken.writes it.writes (omega (arith, few)) in
-      let latches = taken-exact (finishing_latches c.parts.board.regs.group.items) c.taken.latches it.latches (omega (arith, few)) in
-      omega (arith, writes, latches)
+  finished_steps it = search (rules, taken-exact)
 
   group_few : group_steps c.parts.board ≤ tree_recovery_bound c.setup.shape
   group_few = omega (arith, one_latch c.parts.board.regs.group.items, off.small_group)
@@ -313,19 +310,11 @@ module _ (c : TreeRecoveryCall) where
         omega (arith, ap (λ (r : Regs). length r.group.items) begun.regs, off.small_group)
 
     cut_steps : steps_in c.taken < tree_recovery_bound c.setup.shape
-    cut_steps =
-        let begun = begun_of in
-        let few = c.watched.follows.few in
-        let writes = begun.writes.bound (omega (arith, few)) in
-        omega (arith, writes, begun.latches, off.small_group)
+    cut_steps = search (rules, begun_of)
 
     -- a cut comes before the group is finished
     cut_early : steps_in c.taken < group_steps c.parts.board
-    cut_early =
-        let begun = begun_of in
-        let few = c.watched.follows.few in
-        let writes = begun.writes.bound (omega (arith, few)) in
-        omega (arith, writes, begun.latches, some_latch c.parts.board.regs.group.items (it.work.due refl))
+    cut_early = search (rules, begun_of, some_latch)
 
     pub cut_held : IsTreeWorld c.setup (left_with c.board None)
     cut_held =
@@ -405,10 +394,9 @@ module _ (c : TreeRecoveryCall) where
 
     pub as_it_was : left_with resting None ≡ c.parts
     as_it_was =
-        let lit : c.board ≡ record c.parts.board { powered = true } = untouched (record c.parts.board { powered = true }) c.board c.taken c.watched refl same_device in
-        let rests : resting ≡ record c.parts.board { powered = false } = ap (λ (b : BoardMemory). record b { powered = false }) lit in
-        let off : record c.parts.board { powered = false } ≡ c.parts.board = ap (λ p. record c.parts.board { powered = p }) (sym dark) in
-        same_parts (left_with resting None) c.parts refl c.same_pads c.same_tags (it.work ∙ c.same_before) (rests ∙ off) (ap (λ (r : Rest). r.watch) it.answered) (sym c.there) refl refl
+        let lit : BoardMemory = record c.parts.board { powered = true } in
+        let rested : resting ≡ c.parts.board = rests c.parts.board lit c.board refl dark (untouched lit c.board c.taken c.watched same_device refl) in
+        same_parts (left_with resting None) c.parts refl c.same_pads c.same_tags (it.work ∙ c.same_before) rested (ap (λ (r : Rest). r.watch) it.answered) (sym c.there) refl refl
       where
         same_parts : (p q : TreeParts) → p.keys ≡ q.keys → p.pads ≡ q.pads → p.tags ≡ q.tags → p.digests ≡ q.digests → p.board ≡ q.board → p.watch ≡ q.watch → p.engine ≡ q.engine → p.tampered ≡ q.tampered → p.hurt ≡ q.hurt → p ≡ q
         same_parts p q keys pads tags digests board watch engine tampered hurt = grind arith

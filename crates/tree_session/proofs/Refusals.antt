@@ -1,5 +1,5 @@
 -- Refusals and exhibits as the plain state tells them: each comes of a place that was tampered with.
-use Rattle.std.proofs.Common.{ℕ, ◌≡◌, ◌≢◌, ◌<◌, ◌≤◌, ◌^◌, true, false, inl, inr, List, [], ◌∷◌, Option, Some, None, refl, sym, ap, subst, ◌∙◌, arith, mod-eq_of_lt}
+use Rattle.std.proofs.Common.{ℕ, ◌≡◌, ◌≢◌, ◌<◌, ◌≤◌, ◌^◌, true, false, List, [], ◌∷◌, Option, Some, None, refl, sym, ap, subst, ◌∙◌, arith, mod-eq_of_lt, rules}
 use Rattle.tree_session.proofs.Common.{IfSome, map, slice_index_or, cases_Bool, false≢true, Line, Regs, Exhibit, Forged, line_at, tag_slot, Shape, IsShape, meta_lines, AreInRange, cipher_of, cipher_of-back, Setup, BoardMemory, Node, total, wrapped_version, node_place, version_counter, without_tag, node_read, tree_lines, line_of_tag, line_of_node, shadow_root, slot_line, node_at, line_counter, is_on_line_path, last_seal_of, forged_node, tree-version, IsTreeAnchored, tree_plain_of, PlainTree, true_version, true_count, true_cipher, slot_naming, with_board, on_path-inside, TreeParts, plain_of_parts, IsRooted, IsPathTampered, IsNodeRefusal, IsNodeExhibit, IsDataAccepted, IsDataRefusal, IsDataExhibit, device_tag}
 use Rattle.asit_shadow.specs.Plain.{true_node}
 use Rattle.tree_session.proofs.PlainStates.{plain_is, node-is}
@@ -39,28 +39,12 @@ module _ (setup : Setup) (p : TreeParts) (regs : Regs) (b : BoardMemory) (shape 
 
   path-tampered : (a x : ℕ) → is_on_line_path setup.shape a x ≡ true → 1 ≤ x → (slice_index_or p.tampered (line_of_node setup.shape x) false ≡ false → ⊥)
       → IsPathTampered setup.shape p.tampered a x
-  path-tampered a x on low changed =
-      record {
-        on_path = on;
-        below_top = λ e. omega (arith, low, e);
-        its_line =
-            elim (cases_Bool (slice_index_or p.tampered (line_of_node setup.shape x) false)) [
-              | inl set ↦ set
-              | inr clear ↦ absurd (changed clear)
-            ];
-      }
+  path-tampered a x on low changed = search (rules, cases_Bool)
 
   pub node-refused : (a x : ℕ) (line : Line) → a < tree_lines setup.shape → is_on_line_path setup.shape a x ≡ true → 1 ≤ x
       → line ≡ line_at b.lines (line_of_node setup.shape x) → node_read setup.formulas x line (total (node_at p.watch.nodes x)) ≡ None
       → (slice_index_or p.tampered (line_of_node setup.shape x) false ≡ false → ⊥) → IsNodeRefusal setup (with_board (plain_of_parts setup p) b) a x
-  node-refused a x line within on low read none changed =
-      let inside = on_path-inside setup.shape a x within on in
-      record {
-        place = path-tampered a x on low changed;
-        refused =
-            ap (λ v. node_read setup.formulas x (line_at b.lines (line_of_node setup.shape x)) v) (version-here x inside)
-            ∙ (ap (λ l. node_read setup.formulas x l (total (node_at p.watch.nodes x))) (sym read) ∙ none);
-      }
+  node-refused a x line within on low read none changed = search (rules, on_path-inside, path-tampered, version-here)
 
   pub node-shown : (a x : ℕ) (line : Line) (node : Node) (exhibit : Exhibit) → a < tree_lines setup.shape → is_on_line_path setup.shape a x ≡ true → 1 ≤ x
       → line ≡ line_at b.lines (line_of_node setup.shape x) → node_read setup.formulas x line (total (node_at p.watch.nodes x)) ≡ Some node
@@ -91,11 +75,7 @@ module _ (setup : Setup) (p : TreeParts) (regs : Regs) (b : BoardMemory) (shape 
   count-here a within = (plain_is setup p regs shape anchored).counts a within
 
   hurt-here : (a : ℕ) → (slice_index_or p.hurt a false ≡ false → ⊥) → slice_index_or p.hurt a false ≡ true
-  hurt-here a unhurt =
-      elim (cases_Bool (slice_index_or p.hurt a false)) [
-        | inl set ↦ set
-        | inr clear ↦ absurd (unhurt clear)
-      ]
+  hurt-here a unhurt = search (rules, cases_Bool)
 
   pub data-refused : (a : ℕ) (cipher tags : Line) → a < tree_lines setup.shape → cipher ≡ line_at b.lines a → tags ≡ line_at b.lines (line_of_tag setup.shape a)
       → setup.formulas.tag_of a (version_counter (line_counter setup.shape p.watch.nodes a)) cipher ≢ tag_slot tags 0
@@ -125,10 +105,7 @@ module _ (setup : Setup) (p : TreeParts) (regs : Regs) (b : BoardMemory) (shape 
   device-fits : (a : ℕ) (cipher tags : Line) → a < tree_lines setup.shape → cipher ≡ line_at b.lines a → tags ≡ line_at b.lines (line_of_tag setup.shape a)
       → setup.formulas.tag_of a (version_counter (line_counter setup.shape p.watch.nodes a)) cipher ≡ tag_slot tags 0
       → setup.formulas.tag_of a (version_counter (true_count (with_board (plain_of_parts setup p) b) a)) (line_at b.lines a) ≡ device_tag setup.shape (with_board (plain_of_parts setup p) b) a
-  device-fits a cipher tags within read read_tags fits =
-      ap (λ n. setup.formulas.tag_of a (version_counter n) (line_at b.lines a)) (count-here a within)
-      ∙ (ap (setup.formulas.tag_of a (version_counter (line_counter setup.shape p.watch.nodes a))) (sym read)
-      ∙ (fits ∙ ap (λ l. tag_slot l 0) read_tags))
+  device-fits a cipher tags within read read_tags fits = search (rules, count-here)
 
   pub data-accepted : (a : ℕ) (cipher tags : Line) → a < tree_lines setup.shape → cipher ≡ line_at b.lines a → tags ≡ line_at b.lines (line_of_tag setup.shape a)
       → setup.formulas.tag_of a (version_counter (line_counter setup.shape p.watch.nodes a)) cipher ≡ tag_slot tags 0

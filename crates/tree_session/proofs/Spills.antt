@@ -1,5 +1,5 @@
 -- What a call of the engine leaves of the device's lines: true nodes are written back, and a write puts its group.
-use Rattle.std.proofs.Common.{ℕ, zero, suc, ◌≡◌, ◌<◌, ◌≤◌, ◌==◌, ◌⊎◌, ◌++◌, true, false, Bool, inl, inr, List, [], ◌∷◌, length, Option, Some, None, refl, sym, ap, subst, ◌∙◌, arith}
+use Rattle.std.proofs.Common.{ℕ, zero, suc, ◌≡◌, ◌<◌, ◌≤◌, ◌==◌, ◌⊎◌, ◌++◌, true, false, Bool, inl, inr, List, [], ◌∷◌, length, Option, Some, None, refl, sym, ap, subst, ◌∙◌, arith, rules}
 use Rattle.tree_session.proofs.Common.{slice_set, map, if◌then◌else◌, ⊤, list_any, cases_eq, cases_lt, or_left, or_right, eq-eqb, set_past, same_Some, Line, line_at, meta_lines, Setup, BoardMemory, redone, Node, LineSeal, node_line, version_counter, tree_lines, line_of_tag, line_of_node, line_of_slot, node_at, slot_of, slot_line, WatchState, last_seal_of, TreeState, cache_at, IsTreeAnchored, IsTreeTrusted, line_path, path_node, tag_only, KeepsOtherRegisters, spilled_nodes, node_level_write, write_back, is_node_cached, HasFetchedNodes, HasArmedPath, PlainTree, true_count, true_cipher, on_path-inside, steps_in, TreeParts, plain_of_parts, AreLinesSpilled, IsBoardSpilled, IsBoardWritten, put_by_write, board_redone}
 use Rattle.pmem_base.proofs.LineSets.{line_at-set_same, line_at-set_other}
 use Rattle.asit_shadow.specs.declared.cache.CachedNode.{CachedNode}
@@ -106,17 +106,11 @@ module _ (c : TreeEngineCall) (a : ℕ) where
       }
 
   pub spilled_most : (n : ℕ) → length (spilled_nodes c.setup c.engine.cache a n) ≤ n
-  spilled_most n =
-      let back = spilled-few c.setup c.engine.cache a n in
-      let absent = absent-few c.setup.shape c.engine.cache a n in
-      omega (arith, back, absent)
+  spilled_most n = search (rules, spilled-few, absent-few)
 
   -- as many line writes at most as levels were fetched
   pub few_spilled : (n : ℕ) → HasFetchedNodes c.setup a n (from c) (to c) → steps_in c.taken ≤ n
-  few_spilled n it =
-      let few = c.watched.follows.few in
-      let writes = taken-exact (length (spilled_nodes c.setup c.engine.cache a n)) c.taken.writes it.writes (omega (arith, few)) in
-      omega (arith, writes, it.latches, spilled_most n)
+  few_spilled n it = search (rules, taken-exact, spilled_most)
 
   pub few_steps : (n : ℕ) → HasFetchedNodes c.setup a n (from c) (to c) → steps_in c.taken ≤ c.setup.shape.levels
   few_steps n it = omega (arith, few_spilled n it, it.on_path)

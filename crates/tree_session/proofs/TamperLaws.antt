@@ -1,17 +1,13 @@
 -- A device line is changed past the controller: what is still held of the other places.
-use Rattle.std.proofs.Common.{ℕ, ◌≡◌, ◌≢◌, ◌<◌, ◌≤◌, ◌+◌, ◌-◌, true, false, Bool, inl, inr, List, length, Option, Some, None, refl, sym, ap, subst, ◌∙◌, arith}
-use Rattle.tree_session.proofs.Common.{slice_index_or, slice_set, All, nat_lt, if◌then◌else◌, cases_eq, cases_lt, lt-ltb, le-ltb, false≢true, length-set, get_or-set_same, get_or-set_other, Line, IsLine, line_at, tag_slot, Shape, Setup, BoardMemory, device_of, with_line_at, redone, tree_lines, tree_size, line_of_tag, line_of_node, line_of_slot, TreeState, IsTreeSealStored, hurt_with, poked-elsewhere, TreeParts, plain_of_parts, rest_in, AreTreePlacesKept, IsTreeBy, IsTreeWorld}
+use Rattle.std.proofs.Common.{ℕ, ◌≡◌, ◌≢◌, ◌<◌, ◌≤◌, ◌+◌, ◌-◌, true, false, Bool, inl, inr, List, length, Option, Some, None, refl, sym, ap, subst, ◌∙◌, arith, rules}
+use Rattle.tree_session.proofs.Common.{slice_index_or, slice_set, All, nat_lt, if◌then◌else◌, cases_eq, cases_lt, lt-ltb, le-ltb, false≢true, length-set, get_or-set_same, get_or-set_other, Line, IsLine, line_at, Shape, Setup, BoardMemory, device_of, with_line_at, redone, tree_lines, tree_size, line_of_tag, line_of_node, TreeState, hurt_with, poked-elsewhere, TreeParts, plain_of_parts, rest_in, AreTreePlacesKept, IsTreeBy, IsTreeWorld}
 use Rattle.tree_session.proofs.Worlds.{opened, open_in, on_in, off_in, usable_on, usable_off}
 
 -- ---- flags
 
 unflagged : (flags : List Bool) (d q : ℕ) → d < length flags → slice_index_or (slice_set flags d true) q false ≡ false
     → (q ≢ d) × (slice_index_or flags q false ≡ false)
-unflagged flags d q inside is =
-    elim (cases_eq q d) [
-      | inl same ↦ absurd (false≢true (sym is ∙ (ap (λ i. slice_index_or (slice_set flags d true) i false) same ∙ get_or-set_same flags d true false inside)))
-      | inr other ↦ (other, sym (get_or-set_other flags d q true false other) ∙ is)
-    ]
+unflagged flags d q inside is = search (rules, cases_eq, false≢true, get_or-set_same, get_or-set_other)
 
 hurt-low : (g : Shape) (hurt : List Bool) (d : ℕ) → d < tree_lines g → hurt_with g hurt d ≡ slice_set hurt d true
 hurt-low g hurt d low =
@@ -23,38 +19,15 @@ hurt-tag g hurt d high low =
     ∙ ap (λ (b : Bool). if b then slice_set hurt (d - tree_lines g) true else hurt) (lt-ltb d (tree_lines g + tree_lines g) low)
 
 hurt-past : (g : Shape) (hurt : List Bool) (d : ℕ) → tree_lines g + tree_lines g ≤ d → hurt_with g hurt d ≡ hurt
-hurt-past g hurt d high =
-    ap (λ (b : Bool). if b then slice_set hurt d true else if nat_lt d (tree_lines g + tree_lines g) then slice_set hurt (d - tree_lines g) true else hurt)
-    (le-ltb d (tree_lines g) (omega (arith, high)))
-    ∙ ap (λ (b : Bool). if b then slice_set hurt (d - tree_lines g) true else hurt) (le-ltb d (tree_lines g + tree_lines g) high)
+hurt-past g hurt d high = search (rules, le-ltb)
 
 pub length-hurt_with : (g : Shape) (hurt : List Bool) (d : ℕ) → length (hurt_with g hurt d) ≡ length hurt
-length-hurt_with g hurt d =
-    elim (cases_lt d (tree_lines g)) [
-      | inl low ↦ ap length (hurt-low g hurt d low) ∙ length-set hurt d true
-      | inr high ↦ elim (cases_lt d (tree_lines g + tree_lines g)) [
-        | inl low ↦ ap length (hurt-tag g hurt d high low) ∙ length-set hurt (d - tree_lines g) true
-        | inr past ↦ ap length (hurt-past g hurt d past)
-      ]
-    ]
+length-hurt_with g hurt d = search (rules, cases_lt, hurt-low, length-set, hurt-tag, hurt-past)
 
 -- a line that isn't hurt afterwards wasn't before, and neither its cipher nor its tag was changed
 unhurt : (g : Shape) (hurt : List Bool) (d a : ℕ) → length hurt ≡ tree_lines g → a < tree_lines g → slice_index_or (hurt_with g hurt d) a false ≡ false
     → (a ≢ d) × (line_of_tag g a ≢ d) × (slice_index_or hurt a false ≡ false)
-unhurt g hurt d a count inside is =
-    elim (cases_lt d (tree_lines g)) [
-      | inl low ↦
-          let it = unflagged hurt d a (omega (arith, low, count)) (ap (λ h. slice_index_or h a false) (sym (hurt-low g hurt d low)) ∙ is) in
-          (it.0, (λ e. omega (arith, e, low)), it.1)
-      | inr high ↦ elim (cases_lt d (tree_lines g + tree_lines g)) [
-        | inl low ↦
-            let it = unflagged hurt (d - tree_lines g) a (omega (arith, low, high, count)) (ap (λ h. slice_index_or h a false) (sym (hurt-tag g hurt d high low)) ∙ is) in
-            let other = it.0 in
-            ((λ e. omega (arith, e, high, inside)), (λ e. other (omega (arith, e))), it.1)
-        | inr past ↦
-            ((λ e. omega (arith, e, high, inside)), (λ e. omega (arith, e, past, inside)), ap (λ h. slice_index_or h a false) (sym (hurt-past g hurt d past)) ∙ is)
-      ]
-    ]
+unhurt g hurt d a count inside is = search (rules, cases_lt, unflagged, hurt-low, hurt-tag, hurt-past)
 
 -- ---- what is held
 
@@ -75,24 +48,7 @@ module _ (setup : Setup) (p : TreeParts) (board : BoardMemory) (world : IsTreeWo
   flag q unchanged = unflagged p.tampered d q (omega (arith, inside, world.tampered_count)) unchanged
 
   places_changed : AreTreePlacesKept setup (plain_of_parts setup changed) (rest_in changed)
-  places_changed =
-      let opened_in = open_in setup p world none in
-      record {
-        seals =
-            λ a in_a clear.
-            let it = unhurt setup.shape p.hurt d a world.hurt_count in_a clear in
-            let before : IsTreeSealStored setup.shape (redone p.board.regs.group.items p.board.lines) p.watch a = opened_in.places.seals a in_a it.2 in
-            record {
-              seal = before.seal;
-              last = before.last;
-              cipher = elsewhere a it.0 ∙ before.cipher;
-              tag = ap (λ l. tag_slot l 0) (elsewhere (line_of_tag setup.shape a) it.1) ∙ before.tag;
-            };
-        slots =
-            λ i in_i clear.
-            let it = flag (line_of_slot setup.shape i) clear in
-            elsewhere (line_of_slot setup.shape i) it.0 ∙ opened_in.places.slots i in_i it.1;
-      }
+  places_changed = search (rules, open_in, unhurt, elsewhere, flag)
 
   size_changed : length (slice_set p.board.lines d line) ≡ tree_size setup.shape
   size_changed = length-set p.board.lines d line ∙ world.whole_lines.count

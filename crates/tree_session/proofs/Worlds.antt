@@ -1,6 +1,6 @@
 -- What a session holds, and what a call that goes on, is cut or shows leaves of it.
-use Rattle.std.proofs.Common.{ℕ, ◌≡◌, ◌<◌, ◌≤◌, ◌+◌, true, false, Bool, List, [], length, Option, Some, None, refl, sym, ap, subst, ◌∙◌, arith}
-use Rattle.tree_session.proofs.Common.{Result, IsSome, IsNone, IfSome, MatchOption, All, slice_index_or, not, ◌||◌, if◌then◌else◌, true≢false, Regs, Exhibit, IsLine, IsShape, AreInRange, Setup, Device, AreLinesOf, BoardMemory, device_of, IsExhibit, AreSmallMinors, Plan, Follows, IsOutcome, Outcome, going, cut_short, shown, is_going, tree_lines, tree_slots, tree_size, line_of_slot, WatchState, last_seal_of, IsWatchOf, Taken, device_during, none_taken, steps_in, step_limit, IsWatched, TreeFault, TreeChip, tree_chip_of, TreeState, IsTreeAnchored, TreeEngineParts, tree_parts_of, AreTreeTrusted, HoldsTreeSeal, HoldsSlot, IsTreeUsable, IsWatchReady, TreeCallEffect, KeepsWatch, AnswersTreeDown, before_end, tree_outcome_of, rest_of, IsRestUsable, IsRooted, TreeAnswer, HasTreeCalled, chip_in, watch_in, TreeParts, plain_of_parts, state_of, IsTreeOn, IsTreeOff, IsTreeBy, IsTreeOpen, IsTreeEnded, IsTreeWorld}
+use Rattle.std.proofs.Common.{ℕ, ◌≡◌, ◌<◌, ◌≤◌, ◌+◌, true, false, Bool, List, [], length, Option, Some, None, refl, sym, ap, subst, ◌∙◌, arith, rules}
+use Rattle.tree_session.proofs.Common.{Result, IsSome, IfSome, MatchOption, All, slice_index_or, not, ◌||◌, if◌then◌else◌, true≢false, Regs, Exhibit, IsLine, IsShape, AreInRange, Setup, Device, AreLinesOf, BoardMemory, device_of, IsExhibit, AreSmallMinors, Plan, Follows, IsOutcome, Outcome, going, cut_short, shown, is_going, tree_lines, tree_slots, tree_size, line_of_slot, WatchState, last_seal_of, IsWatchOf, Taken, device_during, none_taken, steps_in, step_limit, IsWatched, TreeFault, TreeChip, tree_chip_of, TreeState, IsTreeAnchored, TreeEngineParts, tree_parts_of, AreTreeTrusted, HoldsTreeSeal, HoldsSlot, IsTreeUsable, IsWatchReady, TreeCallEffect, KeepsWatch, AnswersTreeDown, before_end, tree_outcome_of, rest_of, IsRestUsable, IsRooted, TreeAnswer, HasTreeCalled, chip_in, watch_in, TreeParts, plain_of_parts, state_of, IsTreeOn, IsTreeOff, IsTreeBy, IsTreeOpen, IsTreeEnded, IsTreeWorld, none_is}
 use Rattle.call_plan.specs.Plans as plans
 use Rattle.tree_session.proofs.PlainStates.{plain_is, root-is}
 
@@ -9,10 +9,6 @@ use Rattle.tree_session.proofs.PlainStates.{plain_is, root-is}
 pub some_is : {X : Type 0} (found : Option X) (x : X) → found ≡ Some x → IsSome found
 some_is None x is = absurd (Rattle.std.proofs.lemmas.Option.none-some x is)
 some_is (Some y) x is = refl
-
-pub none_is : {X : Type 0} (found : Option X) → IsNone found → found ≡ None
-none_is None is = refl
-none_is (Some y) is = absurd (Rattle.std.proofs.lemmas.Bool.true≢false is)
 
 -- ---- what is always so
 
@@ -26,28 +22,10 @@ pub record IsFrame (setup : Setup) (p : TreeParts) : Type 0 where
   pub hurt : length p.hurt ≡ tree_lines setup.shape
 
 pub opened : (setup : Setup) (p : TreeParts) → IsFrame setup p → p.watch.exhibit ≡ None → IsTreeOpen setup p → IsTreeWorld setup p
-opened setup p frame none it =
-    record {
-      whole_shape = frame.shape;
-      whole_formulas = frame.formulas;
-      its_watch = frame.watch;
-      whole_lines = frame.lines;
-      tampered_count = frame.tampered;
-      hurt_count = frame.hurt;
-      before_or_after = subst (λ e. MatchOption e (IsTreeOpen setup p) (IsTreeEnded setup p)) (sym none) it;
-    }
+opened setup p frame none it = search rules
 
 pub ended : (setup : Setup) (p : TreeParts) (exhibit : Exhibit) → IsFrame setup p → p.watch.exhibit ≡ Some exhibit → IsTreeEnded setup p exhibit → IsTreeWorld setup p
-ended setup p exhibit frame its it =
-    record {
-      whole_shape = frame.shape;
-      whole_formulas = frame.formulas;
-      its_watch = frame.watch;
-      whole_lines = frame.lines;
-      tampered_count = frame.tampered;
-      hurt_count = frame.hurt;
-      before_or_after = subst (λ e. MatchOption e (IsTreeOpen setup p) (IsTreeEnded setup p)) (sym its) it;
-    }
+ended setup p exhibit frame its it = search rules
 
 pub open_in : (setup : Setup) (p : TreeParts) → IsTreeWorld setup p → p.watch.exhibit ≡ None → IsTreeOpen setup p
 open_in setup p world none = subst (λ e. MatchOption e (IsTreeOpen setup p) (IsTreeEnded setup p)) none world.before_or_after
@@ -78,29 +56,16 @@ watch_ready setup regs watch anchored =
 
 pub usable_on : (setup : Setup) (engine : TreeState) (device : Device) (watch : WatchState) → device.size ≡ tree_size setup.shape
     → AreTreeTrusted setup (tree_parts_of engine device watch) → IsTreeUsable setup.shape (tree_parts_of engine device watch)
-usable_on setup engine device watch size trusted =
-    record {
-      watch = watch_ready setup device.regs watch trusted.anchored;
-      board = record { its_size = size; group = trusted.anchored.group };
-      no_group = λ _. trusted.no_group;
-    }
+usable_on setup engine device watch size trusted = search (rules, watch_ready)
 
 pub usable_off : (setup : Setup) (device : Device) (watch : WatchState) → device.size ≡ tree_size setup.shape → IsTreeAnchored setup device.regs watch
     → IsRestUsable setup.shape (rest_of device watch)
-usable_off setup device watch size anchored =
-    record {
-      watch = watch_ready setup device.regs watch anchored;
-      board = record { its_size = size; group = anchored.group };
-    }
+usable_off setup device watch size anchored = search (rules, watch_ready)
 
 -- ---- rooted
 
 pub rooted_on : (setup : Setup) (p : TreeParts) → IsShape setup.shape → IsTreeAnchored setup p.board.regs p.watch → p.board.regs.group.items ≡ [] → IsRooted setup (plain_of_parts setup p)
-rooted_on setup p shape anchored none =
-    record {
-      root = root-is setup p.watch p.board.regs shape anchored (plain_of_parts setup p) (plain_is setup p p.board.regs shape anchored);
-      no_group = λ _. none;
-    }
+rooted_on setup p shape anchored none = search (rules, root-is, plain_is)
 
 pub rooted_off : (setup : Setup) (p : TreeParts) → IsShape setup.shape → IsTreeAnchored setup p.board.regs p.watch → p.board.powered ≡ false → IsRooted setup (plain_of_parts setup p)
 rooted_off setup p shape anchored off =

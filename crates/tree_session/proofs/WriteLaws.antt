@@ -1,25 +1,23 @@
 -- A write: what is left of the session, and what is answered.
-use Rattle.std.proofs.Common.{ℕ, ◌≡◌, ◌<◌, ◌≤◌, ◌+◌, ◌/◌, ◌⊎◌, false, Bool, inl, inr, List, length, Some, None, Ok, Err, refl, sym, ap, subst, ◌∙◌, arith}
-use Rattle.tree_session.proofs.Common.{Option, Result, IfSome, slice_index_or, slice_set, if◌then◌else◌, cases_eq, le-ltb, lt-ltb, length-set, length-map, get_or-set_other, Line, Regs, Exhibit, IsLine, Shape, Device, IsExhibit, AreSmallMinors, Outcome, going, cut_short, shown, Node, LineSeal, tree_lines, line_of_slot, slot_of, slot_line, node_at, WatchState, steps_in, step_limit, device_during, none_taken, TreeFault, TreeState, write_plan, IsTreeAnchored, line_path, TreeEngineParts, HoldsTreeSeal, TreeCallEffect, HasWrittenTreeLine, IsLineWritten, spilled_nodes, IsCutInNodeFetch, IsCutInGroup, HasFetchedPath, writes_made, with_board, going_unshown, TreeAnswer, IsTreeCalled, plain_said, write_said, plain_of_parts, state_of, IsTreeWorld, IsTreeAnswered, IsRooted, IsEngineShown, SaysOfWrite, AnswersWith, IsNodeExhibit, IsNodeRefusal, AllAreMade, tree_write_bound, IsBoardSpilled}
+use Rattle.std.proofs.Common.{ℕ, ◌≡◌, ◌<◌, ◌≤◌, ◌+◌, ◌⊎◌, false, Bool, inl, inr, List, length, Some, None, Ok, Err, refl, sym, ap, subst, ◌∙◌, arith, rules}
+use Rattle.tree_session.proofs.Common.{Option, Result, IfSome, slice_index_or, slice_set, if◌then◌else◌, cases_eq, le-ltb, lt-ltb, length-set, length-map, get_or-set_other, Line, Regs, Exhibit, IsLine, Shape, Device, IsExhibit, AreSmallMinors, Outcome, going, cut_short, shown, Node, LineSeal, tree_lines, node_at, WatchState, steps_in, step_limit, device_during, none_taken, TreeFault, TreeState, write_plan, IsTreeAnchored, TreeEngineParts, HoldsTreeSeal, TreeCallEffect, HasWrittenTreeLine, IsLineWritten, spilled_nodes, IsCutInNodeFetch, IsCutInGroup, HasFetchedPath, writes_made, with_board, going_unshown, TreeAnswer, IsTreeCalled, plain_said, write_said, plain_of_parts, state_of, IsTreeWorld, IsTreeAnswered, IsRooted, IsEngineShown, SaysOfWrite, AnswersWith, IsNodeExhibit, IsNodeRefusal, AllAreMade, tree_write_bound, IsBoardSpilled, none_is}
+use Rattle.call_plan.proofs.StillCalls.{untouched}
 use Rattle.bonsai_tree.proofs.PathPositions.{length-path_of}
 use Rattle.asit_shadow.specs.declared.fault.TreeFault.TheVariants as Fail
 use Rattle.asit_shadow.specs.Paths.{write_group}
 use Rattle.asit_shadow.specs.Calls as told
 use Rattle.tree_session.specs.declared.commands.TreeCommand.TheVariants as Do
 use Rattle.tree_session.specs.declared.answers.TreeAnswer.TheVariants as Say
-use Rattle.tree_session.proofs.BoardSteps.{goes_on, cut_off, latched, unlatched, untouched, then_rests, taken-exact}
+use Rattle.tree_session.proofs.BoardSteps.{goes_on, cut_off, latched, unlatched, then_rests, taken-exact}
 use Rattle.tree_session.proofs.PlainStates.{plain_is, plain-kept, plain-written, writes-are}
-use Rattle.tree_session.proofs.Worlds.{TreeEngineCall, EndsBy, IsEngineLeft, lit_left, dark_left, called, called_shown, from, to, ended_to, still_up, left, left_resting, trusted_from, powered_from, seals_kept, on_after, rooted_after, off_after, rooted_cut, rooted_still, cut_rooted_still, ended_after, none_is}
+use Rattle.tree_session.proofs.Worlds.{TreeEngineCall, EndsBy, IsEngineLeft, lit_left, dark_left, called, called_shown, from, to, ended_to, still_up, left, left_resting, trusted_from, powered_from, seals_kept, on_after, rooted_after, off_after, rooted_cut, rooted_still, cut_rooted_still, ended_after}
 use Rattle.tree_session.proofs.Spills.{board_spilled, spilled_most, few_steps, board_written, group_kept}
 use Rattle.tree_session.proofs.EngineCalls.{undecided_line, kept_plain, rooted_shown, refused_node, shown_node, forged-minors}
 
 -- a write's group has its line, its tag line and the slot lines of its path
 group-length : (g : Shape) (a : ℕ) (seal : LineSeal) (nodes : List Node) → length (write_group g a seal nodes) ≡ g.levels + 3
 unfolding write_group
-group-length g a seal nodes =
-    let named : ℕ → ℕ × Line = λ x. (line_of_slot g (slot_of g x), slot_line x (node_at nodes x)) in
-    let count = length-map (line_path g a) named ∙ length-path_of g (a / 4) in
-    omega (arith, count)
+group-length g a seal nodes = search (rules, length-map, length-path_of)
 
 -- what the engine said of a write, and that the board followed its plan
 pub record WasWritten (c : TreeEngineCall) (a : ℕ) (line : Line) (answer : Result ℕ TreeFault) : Type 0 where
@@ -280,7 +278,7 @@ module _ (c : TreeEngineCall) (a : ℕ) (within : a < tree_lines c.setup.shape) 
           made-is ∙ (spent.answered (trusted_from c)).0,
           omega (arith, writes, latches),
           plain
-              ∙ ap (with_board (plain_of_parts c.setup c.parts)) (untouched c.parts.board c.board c.taken c.watched (powered_from c) same),
+              ∙ ap (with_board (plain_of_parts c.setup c.parts)) (untouched c.parts.board c.board c.taken c.watched same (powered_from c)),
         )
 
   -- ---- an exhibit

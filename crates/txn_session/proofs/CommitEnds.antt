@@ -1,7 +1,7 @@
 -- How far a commit came, by its answer: how many of its engine writes are done, all their marks, and whether the header's own
 -- seal is among these.
-use Rattle.std.proofs.Common.{ℕ, ◌≡◌, ◌<◌, ◌≤◌, ◌+◌, ◌-◌, ◌*◌, ◌++◌, Bool, true, false, List, [], ◌∷◌, length, take, drop, Some, Result, Ok, Err, refl, sym, ap, subst, ◌∙◌, arith}
-use Rattle.txn_session.proofs.Common.{All, list_any, take-append-add, append-nil, append_assoc, drop_at, take-append-le, All-nil, All-cons, All-take, Line, Posted, Mark, data_lines, zero_line, Shape, Formulas, Setup, Moment, marks_of_writes, drained_marks, Fault, Parts, AreSound, whole_write, Edit, Store, Committed, CommitFault, AreDistinctBelow, header_of, targets_of, bodies_of, AreEdited, IsWholeTxn, body_edits, target_edits, deciding_edits, applying_edits, HasStoreCommitted, HasDecided, HasCommitGoneOn, IsServedAs, IsServedBy, commit_answer_by, deciding_fit, applying_fit, length-deciding, length-applying, Writing, is_own_seal, IsCutAmong, write_steps, memory_now, none_done, Entries, body_writes, commit_writes, most_of_commit, writes_none, writes_own, own_at_cut, cost, AreGone, IsSpentAt, IsCutAt, EndsAt, ends_within, edits_go}
+use Rattle.std.proofs.Common.{ℕ, ◌≡◌, ◌<◌, ◌≤◌, ◌+◌, ◌-◌, ◌*◌, ◌++◌, Bool, true, false, List, [], ◌∷◌, length, take, drop, Some, Result, Ok, Err, refl, sym, ap, subst, ◌∙◌, arith, rules}
+use Rattle.txn_session.proofs.Common.{All, list_any, take-append-add, append-nil, append_assoc, drop_at, take-append-le, All-nil, All-cons, All-take, Line, Posted, Mark, data_lines, zero_line, Shape, Formulas, Setup, Moment, marks_of_writes, drained_marks, Fault, Parts, AreSound, whole_write, Edit, Store, Committed, CommitFault, AreDistinctBelow, header_of, targets_of, bodies_of, AreEdited, IsWholeTxn, body_edits, target_edits, deciding_edits, applying_edits, HasStoreCommitted, HasDecided, HasCommitGoneOn, IsServedAs, commit_answer_by, deciding_fit, applying_fit, length-deciding, length-applying, Writing, is_own_seal, IsCutAmong, write_steps, memory_now, none_done, Entries, body_writes, commit_writes, most_of_commit, writes_none, writes_own, own_at_cut, cost, AreGone, IsSpentAt, IsCutAt, EndsAt, ends_within, edits_go}
 use Rattle.pmem_engine.specs.declared.fault.Fault.TheVariants as Fail
 use Rattle.engine_lines.specs.declared.edits.Edit.TheVariants as Make
 use Rattle.line_txn.specs.declared.store.Committed.TheVariants as Do
@@ -63,23 +63,7 @@ CommitServes txn old new (Err fault) = IsServedAs old.logged.items old.stuck old
 
 pub commit_serves : (setup : Setup) (txn : Entries) (old new : Store) (from to : Parts) (answer : Result Committed CommitFault) → (txn ≡ [] → ⊥)
     → HasStoreCommitted setup txn old new from to answer → CommitServes txn old new answer
-commit_serves setup txn old new from to answer some it = go its.made its.then
-  where
-    its : HasDecided setup txn old new from to answer
-    its = decided_calls setup txn old new from to answer some it
-
-    applied_as : (applied : Result (Unit {0}) Fault) → IsServedBy applied txn old new → CommitServes txn old new (commit_answer_by applied)
-    applied_as (Ok done) served = served
-    applied_as (Err (Fail.Spent page)) served = served
-    applied_as (Err Fail.Cut) served = served
-    applied_as (Err Fail.Down) served = served
-    applied_as (Err (Fail.Meta x)) served = served
-    applied_as (Err (Fail.Tag at)) served = served
-    applied_as (Err Fail.Shown) served = served
-
-    go : (made : Result (Unit {0}) Fault) → HasCommitGoneOn made setup txn old new its.between to answer → CommitServes txn old new answer
-    go (Ok done) then = subst (CommitServes txn old new) (sym then.its_answer) (applied_as then.applied then.served)
-    go (Err fault) then = subst (CommitServes txn old new) (sym then.its_answer) then.served
+commit_serves setup txn old new from to answer some it = search rules
 
 module _ (setup : Setup) (n : ℕ) (txn : Entries) (some : txn ≡ [] → ⊥) (from : Parts) (sound : AreSound setup from)
     (live : from.device.live ≡ true) (size : n + 16 ≡ data_lines setup.shape) (below : AreDistinctBelow n (targets_of txn)) (whole : IsWholeTxn txn) where
@@ -106,9 +90,7 @@ module _ (setup : Setup) (n : ℕ) (txn : Entries) (some : txn ≡ [] → ⊥) (
   first_writes = commit_queue n txn some
 
   later_writes : drop (length deciding) queue ≡ applying_writes n txn
-  later_writes =
-      ap (drop (length deciding)) (commit_queue n txn some)
-      ∙ drop_at (deciding_writes n txn) (applying_writes n txn) (length deciding) (length-deciding_writes n txn ∙ sym (length-deciding n txn))
+  later_writes = search (commit_queue, drop_at, length-deciding_writes, length-deciding)
 
   decided_end : (between : Parts) (made : Result (Unit {0}) Fault) → AreEdited setup deciding from between made
       → EndsAt setup from queue 0 (0 + length deciding) (0 + cost setup.shape deciding) made between
@@ -147,11 +129,7 @@ module _ (setup : Setup) (n : ℕ) (txn : Entries) (some : txn ≡ [] → ⊥) (
       → EndsAt setup from queue (0 + length deciding) (0 + length deciding + length applying)
       (0 + cost setup.shape deciding + cost setup.shape applying) applied to
       → CommitEndsAt setup from queue count most (commit_answer_by applied) to
-  applied_as (Ok done) to gone =
-      subst (λ k. AreGone setup from queue k most to)
-      (let long = length-deciding n txn in let more = length-applying n txn in omega (arith, long, more))
-      (subst (λ m. AreGone setup from queue (0 + length deciding + length applying) m to)
-      (let steps = cost_deciding setup.shape n txn in let more = cost_applying setup.shape n txn in omega (arith, steps, more)) gone)
+  applied_as (Ok done) to gone = search (rules, AreGone, length-deciding, length-applying, cost_deciding, cost_applying)
   applied_as (Err fault) to ends =
       go fault
       (ends_within setup from queue (0 + length deciding) (count + 1) (0 + length deciding + length applying) (2 * count + 2)
@@ -211,10 +189,7 @@ module _ (f : Formulas) (now : Moment) (n : ℕ) (txn : Entries) (some : txn ≡
   before_header k made few drained =
       let all = length-deciding_writes n txn in
       let bodies = length-bodies (n + 1) txn in
-      let front : take k its_queue ≡ take k bodies_first =
-      ap (take k) (commit_queue n txn some)
-      ∙ take-append-le k (deciding_writes n txn) (applying_writes n txn) (omega (arith, few, all))
-      ∙ take-append-le k bodies_first (header ∷ []) (omega (arith, few, bodies)) in
+      let front : take k its_queue ≡ take k bodies_first = search (rules, commit_queue, take-append-le, deciding_writes, applying_writes) in
       writes_none f now (take k bodies_first) made n (sym (ap (marks_of_writes f now) front) ∙ drained)
       (All-take (λ (w : Posted). w.at ≡ n → ⊥) k bodies_first (bodies_apart n (n + 1) (bodies_of txn) (omega arith)))
 
@@ -224,11 +199,7 @@ module _ (f : Formulas) (now : Moment) (n : ℕ) (txn : Entries) (some : txn ≡
       let all = length-deciding_writes n txn in
       let more : ℕ = k - (length txn + 1) in
       let place : k ≡ length (deciding_writes n txn) + more = omega (arith, past, all) in
-      let front : take k its_queue ≡ bodies_first ++ (header ∷ take more (applying_writes n txn)) =
-      ap (take k) (commit_queue n txn some)
-      ∙ ap (λ m. take m (deciding_writes n txn ++ applying_writes n txn)) place
-      ∙ take-append-add (deciding_writes n txn) (applying_writes n txn) more
-      ∙ append_assoc bodies_first (header ∷ []) (take more (applying_writes n txn)) in
+      let front : take k its_queue ≡ bodies_first ++ (header ∷ take more (applying_writes n txn)) = search (rules, commit_queue, deciding_writes, take-append-add, applying_writes, append_assoc) in
       writes_own f now bodies_first header (take more (applying_writes n txn)) made (sym (ap (marks_of_writes f now) front) ∙ drained)
 
   pub own_absent : (writing : Writing) → writing.done ≤ length txn → IsCutAmong f now its_queue writing

@@ -1,5 +1,5 @@
 -- A commit as the session's fields have it: what is held after each of its answers, and what these say.
-use Rattle.std.proofs.Common.{ℕ, ◌≡◌, ◌<◌, ◌≤◌, ◌+◌, ◌*◌, ◌++◌, ◌⊎◌, inl, inr, Bool, true, false, cond, List, [], length, take, drop, Option, Some, None, Result, Ok, Err, refl, sym, ap, subst, ◌∙◌, mul-le-mul_right, arith}
+use Rattle.std.proofs.Common.{ℕ, ◌≡◌, ◌<◌, ◌≤◌, ◌+◌, ◌*◌, ◌++◌, ◌⊎◌, inl, inr, Bool, true, false, cond, List, [], length, take, drop, Option, Some, None, Result, Ok, Err, refl, sym, ap, subst, ◌∙◌, mul-le-mul_right, arith, rules}
 use Rattle.txn_session.proofs.Common.{Committed, nat_lt, unwrap_or, ◌||◌, ◌==◌, list_any, true≢false, cases_lt, le-ltb, lt-ltb, eq-eqb, ne_eqb, length-append, drop_at, Posted, Setup, Fault, Parts, IsCutOrSpent, Store, CommitFault, targets_of, steps_in, step_limit, Writing, is_own_seal, write_steps, setup_under, moment_now, memory_done, TxnAnswer, IsTxnCalled, fault_said, done_said, stuck_said, TxnState, txn_setup_in, moment_in, commit_writes, TxnParts, IsTxnWorld, stuck_in, txn_of, txn_decided, IsTxnAnswered, IsCommitting, EndsCommit, HasTxnCommitted, after_commit, IsCutAt, or_true}
 use Rattle.pmem_engine.specs.declared.fault.Fault.TheVariants as Fail
 use Rattle.line_txn.specs.declared.store.Committed.TheVariants as Make
@@ -199,9 +199,7 @@ module _ (c : CommitCall) where
   fresh = list_any (is_own_seal n) (drop (length c.ledger_before.marks) c.ledger.marks)
 
   fresh_is : (it : CutAt) → fresh ≡ list_any (is_own_seal n) it.writing.made
-  fresh_is it =
-      ap (list_any (is_own_seal n))
-      (ap (drop (length c.ledger_before.marks)) it.cut.marks ∙ drop_at c.ledger_before.marks it.writing.made (length c.ledger_before.marks) refl)
+  fresh_is it = search (rules, list_any, is_own_seal, drop_at)
 
   own_is : state.own c ≡ fresh
   own_is = ap (λ m. list_any (is_own_seal m) (drop (length c.ledger_before.marks) c.ledger.marks)) (sym (state.n_is c))
@@ -261,10 +259,7 @@ module _ (c : CommitCall) where
   pub kept_seen : (committed : Bool) → c.answer ≡ Err (record { fault = Fail.Cut; committed = committed }) → (committed ≡ true) ⊎ (fresh ≡ true)
       → IsTxnAnswered (txn_setup_in c.formulas_of c.now) c.now Do.Commit (Say.CutKept c.said)
       (txn_of (setup_under c.formulas_of c.geometry c.keys) (left_under None))
-  kept_seen committed is why = elim (cut_exit committed is) [
-    | inl kept ↦ kept.0.1
-    | inr lost ↦ elim why [ inl there ↦ absurd (true≢false (sym there ∙ lost.1)) | inr own ↦ absurd (true≢false (sym own ∙ lost.0.1)) ]
-  ]
+  kept_seen committed is why = search (rules, cut_exit, true≢false)
 
   pub lost_seen : (committed : Bool) → c.answer ≡ Err (record { fault = Fail.Cut; committed = committed }) → fresh ≡ false
       → IsTxnAnswered (txn_setup_in c.formulas_of c.now) c.now Do.Commit (Say.CutLost c.said)

@@ -1,6 +1,6 @@
 -- A commit as the session's fields have it: the state once so many of its engine writes are done.
-use Rattle.std.proofs.Common.{ℕ, ◌≡◌, ◌<◌, ◌≤◌, ◌+◌, ◌*◌, Bool, true, false, cond, List, [], ◌∷◌, length, take, Option, Some, None, Result, refl, sym, ap, ap₂, drop, subst, ◌∙◌, arith}
-use Rattle.txn_session.proofs.Common.{nat_lt, ◌==◌, unwrap_or, option_map, if◌then◌else◌, list_any, Posted, Mark, put_lines, Shape, BoardMemory, ended, Follows, LedgerState, Formulas, Setup, Memory, plain_memory, moment_after_writes, Parts, parts_of, Store, Committed, CommitFault, AreTargets, IsLogged, commit_lines_at, targets_at, commit_memory_at, targets_of, IsEditOf, IsWholeTxn, deciding_edits, applying_edits, HasStoreCommitted, logged_lines, whole_at_each_stage, deciding_fit, applying_fit, All-append, Taken, steps_in, step_limit, device_during, none_taken, IsWatched, Writing, at_most, fewer, setup_under, whole_places, moment_now, AreDone, AreCut, edits_memory, is_own_seal, Chip, chip_of, FollowsCommit, commit_plan, has_called, kept_of, TxnAnswer, IsTxnCalled, Said, commit_call, done_said, stuck_said, TxnState, Entries, commit_writes, with_commit, targets_in_force, redone_memory, TxnParts, IsTxnWorld, IsStoreOn, stuck_in, txn_of, IsTxnButForSteps, GoesToTxnState, IsTxnCutOff, after_commit, most_of_commit, few_data, with_marks, txn_without_power}
+use Rattle.std.proofs.Common.{ℕ, ◌≡◌, ◌<◌, ◌≤◌, ◌+◌, ◌*◌, Bool, true, false, cond, List, [], ◌∷◌, length, take, Option, Some, None, Result, refl, sym, ap, ap₂, drop, subst, ◌∙◌, arith, rules}
+use Rattle.txn_session.proofs.Common.{nat_lt, ◌==◌, unwrap_or, option_map, if◌then◌else◌, list_any, Posted, Mark, put_lines, Shape, BoardMemory, ended, Follows, LedgerState, Formulas, Setup, Memory, plain_memory, moment_after_writes, Parts, parts_of, Store, Committed, CommitFault, AreTargets, IsLogged, commit_lines_at, targets_at, commit_memory_at, targets_of, IsEditOf, IsWholeTxn, deciding_edits, applying_edits, HasStoreCommitted, logged_lines, whole_at_each_stage, deciding_fit, applying_fit, All-append, Taken, steps_in, step_limit, device_during, none_taken, IsWatched, Writing, at_most, fewer, setup_under, whole_places, moment_now, AreDone, AreCut, edits_memory, is_own_seal, Chip, chip_of, FollowsCommit, commit_plan, has_called, kept_of, TxnAnswer, IsTxnCalled, Said, commit_call, done_said, stuck_said, TxnState, Entries, commit_writes, with_commit, targets_in_force, redone_memory, TxnParts, IsTxnWorld, IsStoreOn, stuck_in, txn_of, IsTxnButForSteps, GoesToTxnState, IsTxnCutOff, after_commit, most_of_commit, few_data, with_marks}
 use Rattle.pmem_base.specs.Layout as layout
 use Rattle.txn_session.specs.declared.commands.TxnCommand.TheVariants as Do
 use Rattle.txn_session.proofs.Worlds.{targets_held, memory_held, logged_is, IsOpenTxn, on_in, lines_are, on_after, off_after}
@@ -127,10 +127,7 @@ module _ (c : CommitCall) where
   n_is = lines_are setup p c.store on
 
   size : n + 16 ≡ layout.data_lines c.geometry
-  size =
-      let its = c.store.its_lines in
-      let same : layout.data_lines c.store.engine.shape ≡ layout.data_lines c.geometry = ap layout.data_lines on.its_shape in
-      omega (arith, its, same)
+  size = search rules
 
   -- a transaction is open, so none is in force
   free : (c.store.stuck ≡ None) × AreTargets (logged_lines c.geometry) (targets_of c.entries)
@@ -231,16 +228,7 @@ module _ (c : CommitCall) where
             session = with_marks old.session made;
           })
           (txn_of setup (left (Some c.after)))
-      at_page page its_page =
-          record {
-            memory = memory_now_is;
-            in_force = in_force_now;
-            stuck = its_page;
-            txn = refl;
-            power = done.live ∙ sym on.powered;
-            loss = done.loss;
-            marks = done.marks;
-          }
+      at_page page its_page = search (rules, memory_now_is, in_force_now)
 
       pub goes_stuck : (page : ℕ) → c.after.stuck ≡ Some page
           → GoesToTxnState (record (after_commit old c.entries writing) { stuck = Some page }) (steps_in c.taken) limit (txn_of setup (left (Some c.after)))
@@ -264,26 +252,11 @@ module _ (c : CommitCall) where
       cut_world = off_after setup p c.tags_new c.digests_new c.board c.ledger world logged cut.dark cut.durable cut.small_group
 
       pub cuts : IsTxnCutOff (after_commit old c.entries writing) (steps_in c.taken) limit (txn_of setup (left None))
-      cuts = (
-        subst (λ e. IsTxnButForSteps (txn_without_power (record e { session = with_marks old.session made }))
-            (txn_of setup (left None))) (sym (with_commit_is old c.entries k))
-            (record {
-              memory = memory_now_is;
-              in_force = in_force_now;
-              stuck = refl;
-              txn = refl;
-              power = cut.dark;
-              loss = cut.loss;
-              marks = cut.marks;
-            }),
-        fewer c.taken limit c.watched.follows.few cut.takes.sum,
-      )
+      cuts = search (rules, with_marks, with_commit_is, memory_now_is, in_force_now, fewer)
 
   -- the engine is up after a commit that goes on
   pub running_by : (answer : Result Committed CommitFault) → c.answer ≡ answer → is_going (commit_outcome_by answer) ≡ true → c.after.engine.down ≡ false
-  running_by answer is goes =
-      c.down ∙ ap (λ (b : Bool). b || not (is_going (commit_outcome_by c.answer))) on.running
-      ∙ ap (λ (r : Result Committed CommitFault). not (is_going (commit_outcome_by r))) is ∙ ap not goes
+  running_by answer is goes = search rules
 
   -- ---- the call of the session
 
@@ -292,10 +265,7 @@ module _ (c : CommitCall) where
 
   plan_as : FollowsCommit setup c.entries c.store c.after c.before.board.regs chip (chip_of c.after.engine c.ledger c.tags_new c.digests_new)
       (device_during c.before.board none_taken) (device_during c.board c.taken) c.answer
-  plan_as =
-      subst (λ s. FollowsCommit (setup_under c.formulas_of s c.before.keys) c.entries c.store c.after c.before.board.regs chip
-      (chip_of c.after.engine c.ledger c.tags_new c.digests_new) (device_during c.before.board none_taken) (device_during c.board c.taken) c.answer)
-      on.its_shape c.plan
+  plan_as = search (rules, setup_under, chip_of, device_during)
 
   plan_is : commit_plan setup n c.entries chip c.before.board.regs ≡ commit_call setup old c.before.board.regs chip
   plan_is =

@@ -1,6 +1,6 @@
 -- Two answers of one command from one state are the same, and leave the same state and the same log.
-use Rattle.std.proofs.Common.{◌≡◌, List, [], Option, Some, None, sym, ap, ap₂, subst, ◌∙◌}
-use Rattle.txn_session.proofs.Common.{Setup, LineSession, TxnCommand, TxnAnswer, TxnState, txn_left, IsTxnCalled, Said, read_call, read_said, commit_call, commit_said, open_call, open_said, IsTxnAnsweredAs, txn_decided}
+use Rattle.std.proofs.Common.{◌≡◌, List, [], Option, Some, None, sym, ap, ◌∙◌, rules}
+use Rattle.txn_session.proofs.Common.{Setup, TxnCommand, TxnAnswer, TxnState, txn_left, IsTxnCalled, Said, read_call, read_said, commit_call, commit_said, open_call, open_said, IsTxnAnsweredAs, txn_decided}
 use Rattle.line_session.proofs.Outcomes.{called_answer, started_answer, refusal_determined, twin_in}
 use Rattle.txn_session.specs.declared.commands.TxnCommand.TheVariants as Do
 use Rattle.txn_session.specs.Logged.{IsTxnLogged}
@@ -24,10 +24,7 @@ module _ (setup : Setup) (old one other : TxnState) (first second : TxnAnswer) w
   -- sessions that are the same, whose memory and targets the marks say
   same_said : (said ≡ more) × (one.session ≡ other.session) → one ≡ txn_left setup one.session one.stuck one.txn
       → other ≡ txn_left setup other.session other.stuck other.txn → AreSame
-  same_said same it its = (
-    ap (λ (p : Said). p.0) same.0,
-    it ∙ ap₂ (λ (s : LineSession) (p : Said). txn_left setup s p.1.0 p.1.1) same.1 same.0 ∙ sym its,
-  )
+  same_said same it its = search rules
 
   called_by : (command : TxnCommand) → IsTxnCalled setup old command first one → IsTxnCalled setup old command second other → AreSame
   called_by (Do.Read a) it its =
@@ -73,6 +70,4 @@ same_accesses Do.On old new accesses others it its = same_logged (txn_decided ol
 same_accesses command old new accesses others it its = same_Some accesses others (it ∙ sym its)
 
 pub logs_are_determined : (setup : Setup) → TxnLogsAreDetermined setup
-logs_are_determined setup old one other command first second accesses others it its log its_log =
-    let same = (replies_are_determined setup old one other command first second it its).1 in
-    same_accesses command old one accesses others log (subst (λ (s : TxnState). IsTxnLogged command (Some []) old (Some others) s) (sym same) its_log)
+logs_are_determined setup old one other command first second accesses others it its log its_log = search (rules, replies_are_determined, same_accesses)

@@ -1,6 +1,6 @@
 -- A new session: formatting, and the opening of zero lines.
 use Rattle.std.proofs.Common.{ℕ, ◌≡◌, ◌<◌, ◌+◌, inl, inr, List, [], replicate, Some, None, Result, Ok, Err, refl, sym, ap, subst, ◌∙◌, arith, rules}
-use Rattle.txn_session.proofs.Common.{⊤, true≢false, get_or-replicate, Line, Mark, line_at, zero_line, Shape, IsShape, Device, BoardMemory, device_of, LedgerState, AreInRange, Setup, plain_line, plain_memory, Fault, EngineState, IsSound, Parts, parts_of, HasReadLine, HasFormatted, Store, Opened, TxnFault, IsHeader, IsLogged, AreEdited, redoing_edits, HasStoreOpened, HasStoreStarted, HasTargetsRedone, IsOpenedBy, logged_lines, one_header, zero_logged, logged_size, IsNewTxn, targets_in_force, TxnParts, IsTxnWorld, txn_of}
+use Rattle.txn_session.proofs.Common.{true≢false, get_or-replicate, Line, Mark, line_at, zero_line, Shape, IsShape, Device, BoardMemory, device_of, LedgerState, AreInRange, Setup, plain_line, plain_memory, Fault, EngineState, IsSound, Parts, parts_of, HasReadLine, HasFormatted, Store, Opened, TxnFault, IsHeader, IsLogged, AreEdited, HasStoreOpened, HasStoreStarted, HasTargetsRedone, IsOpenedBy, logged_lines, one_header, zero_logged, logged_size, IsNewTxn, targets_in_force, TxnParts, IsTxnWorld, txn_of}
 use Rattle.pmem_base.specs.Layout as layout
 use Rattle.line_session.proofs.NewSessions.{zero_places, marks_stay, sound_after, new_session}
 use Rattle.line_session.specs.State.{IsNewSession}
@@ -94,16 +94,7 @@ module _ (c : NewTxnCall) where
 
   read_alone : (found : List ℕ) (new : Parts) (redone : Result (Unit {0}) Fault) → HasTargetsRedone c.setup found from new redone
       → IsReadAlone found new redone
-  read_alone found new redone it =
-      let none = no_targets it.between it.line found it.was_read it.header in
-      let nothing : AreEdited c.setup [] it.between new redone =
-      subst (λ ts. AreEdited c.setup (redoing_edits n ts) it.between new redone) none it.was_redone in
-      record {
-        line = it.line;
-        was_read = subst (λ q. HasReadLine c.setup n from q (Ok it.line)) (sym nothing.1) it.was_read;
-        none = none;
-        done = nothing.0;
-      }
+  read_alone found new redone it = search (rules, no_targets, AreEdited, HasReadLine)
 
   -- ---- the answers
 
@@ -113,14 +104,10 @@ module _ (c : NewTxnCall) where
   module _ (store : Store) (line : Line) (was : HasReadLine c.setup n from (to store.engine) (Ok line)) (log : store.logged.items ≡ [])
       (unstuck : store.stuck ≡ None) (up : store.engine.down ≡ false) where
     marks : c.ledger.marks ≡ c.ledger_before.marks
-    marks =
-        marks_stay c.setup c.start c.middle c.ledger_middle c.engine c.formatted c.board c.ledger_before c.ledger c.same_ledger store.engine c.tags
-        c.digests c.tags_new c.digests_new n line was
+    marks = search marks_stay
 
     new : IsNewSession c.setup (txn_of c.setup (held store)).session
-    new =
-        new_session c.setup c.start c.middle c.ledger_middle c.engine c.formatted c.board c.ledger_before c.ledger c.same_ledger store.engine c.tags
-        c.digests c.tags_new c.digests_new n line was c.start_writes c.start_latches c.start_cuts c.keys
+    new = search new_session
 
     logged : IsLogged n (plain_memory c.setup c.ledger.marks) [] (replicate n zero_line)
     logged = subst (λ (m : List Mark). IsLogged n (plain_memory c.setup m) [] (replicate n zero_line)) (sym marks) begun
@@ -162,11 +149,7 @@ module _ (c : NewTxnCall) where
       )
 
   fault_none : (fault : Fault) → (let done : Result (Unit {0}) Fault = Ok tt in Err fault ≡ done) → ⊥
-  fault_none fault e = subst IsFault e tt
-    where
-      IsFault : Result (Unit {0}) Fault → Type 0
-      IsFault (Ok done) = ⊥
-      IsFault (Err fault) = ⊤
+  fault_none fault e = search rules
 
   pub new_outcome : (answer : Result (Store × Opened) TxnFault) → c.answer ≡ answer → IsStored answer
   new_outcome answer is = subst IsStored is (go c.answer c.opened c.up)

@@ -1,5 +1,5 @@
 -- Power comes on, as the session's fields have it: what is held after recovery, the opening and its redo, and what is answered.
-use Rattle.std.proofs.Common.{ℕ, ◌≡◌, ◌<◌, ◌≤◌, ◌+◌, ◌⊎◌, inl, inr, true, false, cond, List, [], length, take, Option, Some, None, Result, Ok, Err, refl, sym, ap, ap₂, subst, ◌∙◌, arith}
+use Rattle.std.proofs.Common.{ℕ, ◌≡◌, ◌<◌, ◌≤◌, ◌+◌, ◌⊎◌, inl, inr, true, false, cond, List, [], length, take, Option, Some, None, Result, Ok, Err, refl, sym, ap, ap₂, subst, ◌∙◌, arith, rules}
 use Rattle.txn_session.proofs.Common.{option_map, open_call, counts_of, MatchOption, le-ltb, true≢false, append-nil, Line, Twin, Posted, Device, BoardMemory, LedgerState, Setup, Memory, recovery_bound, Fault, EngineState, Parts, parts_of, HasReadLine, Work, RecFault, SuiteState, HasRecovered, most_recovery_steps, Store, Opened, TxnFault, IsHeader, redoing_edits, HasStoreStarted, HasFailedRedo, IsOpenedBy, steps_in, Writing, read_steps, setup_under, few_recovery, sound_recovered, cut_left, wanted_left, untouched, twin_left, twin_of_last, twin_within, rests, fewer_within, memory_done, read_line, read_cut, StartFault, TxnAnswer, Regs, new_engine, Chip, chip_of, OpeningStop, opened_of, FollowsOpening, IsOpenedAs, LineSession, HasOpenedAfter, started_as, HasOpenedStore, IsTxnCalled, Said, open_said, opened_said, serving_said, TxnState, txn_setup_in, TxnParts, IsTxnWorld, stuck_in, txn_of, IsTxnAnswered, IsTxnShownBy, IsTxnMemoryWanted, GoesToTxnState, HasTxnOpened, after_redo, IsCutAt, EndsAt, refused_from}
 use Rattle.pmem_engine.specs.declared.fault.Fault.TheVariants as Fail
 use Rattle.pmem_recovery.specs.declared.faults.RecFault.TheVariants as Rec
@@ -386,9 +386,7 @@ module _ (c : OnTxnCall) where
 
   module _ (board : BoardMemory) (is_rested : board ≡ rested) where
     rested_as : (P : TxnParts → Type 0) → P (left rested None) → P (record (left board p.store) { txn = p.txn })
-    rested_as P it =
-        subst (λ s. P (record (left board s) { txn = p.txn })) (sym c.there)
-        (subst (λ b. P (record (left b None) { txn = p.txn })) (sym is_rested) (txn_as P rested None it))
+    rested_as P it = search (rules, txn_as)
 
     held_rested : IsTxnWorld setup (left rested None) → IsTxnWorld (setup_under c.formulas_of c.geometry c.keys) (left_under board p.store)
     held_rested it =

@@ -1,9 +1,9 @@
 -- A line that is put into a transaction: where it goes, and which targets the transaction has then.
-use Rattle.std.proofs.Common.{ℕ, suc, ◌≡◌, ◌<◌, ◌≤◌, ◌+◌, ◌++◌, inl, inr, Bool, true, false, cond, [], ◌∷◌, length, drop, Option, Some, None, refl, sym, ap, subst, ◌∙◌, arith}
+use Rattle.std.proofs.Common.{ℕ, ◌≡◌, ◌<◌, ◌≤◌, ◌+◌, ◌++◌, inl, inr, Bool, true, false, cond, [], ◌∷◌, length, Option, Some, None, refl, sym, ap, subst, ◌∙◌, arith, rules}
 use Rattle.std.proofs.lemmas.Iterator.Adapters.{position_from-zero}
 use Rattle.std.proofs.lemmas.List.Quantifiers.{all_pairs_push}
 use Rattle.std.proofs.lemmas.List.Recursion.{is_position_or_len}
-use Rattle.txn_session.proofs.Common.{◌≢◌, All, is_some, not, nat_lt, slice_set, ◌==◌, position_or_len, position_from, refill, eqb-true, eqb-false, cases_lt, lt-ltb, le-ltb, none-some, same_Some, length-append, length-map, length-set, take_at, All-nil, All-cons, All-push, Line, AreTargets, targets_of, Setup, logged_lines, Entries, entry_in, with_put_line, is_txn_full}
+use Rattle.txn_session.proofs.Common.{◌≢◌, All, is_some, not, nat_lt, slice_set, ◌==◌, position_or_len, position_from, refill, eqb-true, eqb-false, cases_lt, lt-ltb, le-ltb, none-some, same_Some, length-append, length-map, length-set, take_at, All-nil, All-push, Line, AreTargets, targets_of, Setup, logged_lines, Entries, entry_in, with_put_line, is_txn_full}
 use Rattle.txn_session.proofs.Worlds.{IsOpenTxn}
 
 -- ---- its targets
@@ -11,34 +11,16 @@ use Rattle.txn_session.proofs.Worlds.{IsOpenTxn}
 with_held : (entries : Entries) (a : ℕ) (line held : Line) → entry_in entries a ≡ Some held
     → targets_of (with_put_line entries a line) ≡ targets_of entries
 with_held [] a line held is = absurd (none-some held is)
-with_held (entry ∷ entries) a line held is = go (entry.0 == a) (eqb-true entry.0 a) (with_held entries a line held) is
-  where
-    go : (b : Bool) → (b ≡ true → entry.0 ≡ a)
-        → (entry_in entries a ≡ Some held → targets_of (with_put_line entries a line) ≡ targets_of entries)
-        → cond b (Some entry.1) (entry_in entries a) ≡ Some held
-        → targets_of (cond b ((a, line) ∷ entries) (entry ∷ with_put_line entries a line)) ≡ entry.0 ∷ targets_of entries
-    go true same rest is = ap (λ t. t ∷ targets_of entries) (sym (same refl))
-    go false same rest is = ap (λ ts. entry.0 ∷ ts) (rest is)
+with_held (entry ∷ entries) a line held is = search (rules, eqb-true, (with_held entries a line held))
 
 -- a line that it hasn't goes to the end
 pub with_new : (entries : Entries) (a : ℕ) (line : Line) → entry_in entries a ≡ None → with_put_line entries a line ≡ entries ++ (a, line) ∷ []
 with_new [] a line none = refl
-with_new (entry ∷ entries) a line none = go (entry.0 == a) (with_new entries a line) none
-  where
-    go : (b : Bool) → (entry_in entries a ≡ None → with_put_line entries a line ≡ entries ++ (a, line) ∷ [])
-        → cond b (Some entry.1) (entry_in entries a) ≡ None
-        → cond b ((a, line) ∷ entries) (entry ∷ with_put_line entries a line) ≡ entry ∷ (entries ++ (a, line) ∷ [])
-    go true rest is = absurd (none-some entry.1 (sym is))
-    go false rest is = ap (λ es. entry ∷ es) (rest is)
+with_new (entry ∷ entries) a line none = search (rules, (with_new entries a line))
 
 new_apart : (entries : Entries) (a : ℕ) → entry_in entries a ≡ None → All (λ t. t ≡ a → ⊥) (targets_of entries)
 new_apart [] a none = All-nil (λ t. t ≡ a → ⊥)
-new_apart (entry ∷ entries) a none = go (entry.0 == a) (eqb-false entry.0 a) (new_apart entries a) none
-  where
-    go : (b : Bool) → (b ≡ false → entry.0 ≡ a → ⊥) → (entry_in entries a ≡ None → All (λ t. t ≡ a → ⊥) (targets_of entries))
-        → cond b (Some entry.1) (entry_in entries a) ≡ None → All (λ t. t ≡ a → ⊥) (entry.0 ∷ targets_of entries)
-    go true other rest is = absurd (none-some entry.1 (sym is))
-    go false other rest is = All-cons (λ t. t ≡ a → ⊥) entry.0 (targets_of entries) (other refl) (rest is)
+new_apart (entry ∷ entries) a none = search (rules, eqb-false, (new_apart entries a))
 
 targets_push : (entries : Entries) (a : ℕ) (line : Line) → targets_of (entries ++ (a, line) ∷ []) ≡ targets_of entries ++ a ∷ []
 targets_push [] a line = refl
@@ -85,37 +67,17 @@ place_is a entries = is_position_or_len (line_place a) (λ (entry : ℕ × Line)
 replaced : (entries : Entries) (a : ℕ) (line : Line) → line_place a entries < length entries
     → (with_put_line entries a line ≡ slice_set entries (line_place a entries) (a, line)) × (is_some (entry_in entries a) ≡ true)
 replaced [] a line inside = absurd (omega (arith, inside))
-replaced (entry ∷ entries) a line inside = go (entry.0 == a) (replaced entries a line) inside
-  where
-    go : (b : Bool)
-        → (line_place a entries < length entries
-        → (with_put_line entries a line ≡ slice_set entries (line_place a entries) (a, line)) × (is_some (entry_in entries a) ≡ true))
-        → cond b 0 (1 + line_place a entries) < length (entry ∷ entries)
-        → (cond b ((a, line) ∷ entries) (entry ∷ with_put_line entries a line) ≡ slice_set (entry ∷ entries) (cond b 0 (1 + line_place a entries)) (a, line))
-        × (is_some (cond b (Some entry.1) (entry_in entries a)) ≡ true)
-    go true rest inside = (refl, refl)
-    go false rest inside =
-        let it = rest (omega (arith, inside)) in
-        let next : suc (line_place a entries) ≡ 1 + line_place a entries = omega arith in
-        (ap (λ es. entry ∷ es) it.0 ∙ ap (λ i. slice_set (entry ∷ entries) i (a, line)) next, it.1)
+replaced (entry ∷ entries) a line inside = search (rules, (replaced entries a line))
 
 absent : (entries : Entries) (a : ℕ) → length entries ≤ line_place a entries → entry_in entries a ≡ None
 absent [] a all = refl
-absent (entry ∷ entries) a all = go (entry.0 == a) (absent entries a) all
-  where
-    go : (b : Bool) → (length entries ≤ line_place a entries → entry_in entries a ≡ None)
-        → length (entry ∷ entries) ≤ cond b 0 (1 + line_place a entries) → cond b (Some entry.1) (entry_in entries a) ≡ None
-    go true rest all = absurd (omega (arith, all))
-    go false rest all = rest (omega (arith, all))
+absent (entry ∷ entries) a all = search (rules, (absent entries a))
 
 -- as it is found
 found_is : (a : ℕ) (entries : Entries)
     → position_from (λ (entry : ℕ × Line). entry.0 == a) 0 entries
     ≡ cond (nat_lt (line_place a entries) (length entries)) (Some (line_place a entries)) None
-found_is a entries =
-    sym
-    (ap (λ k. cond (nat_lt k (length entries)) (Some k) None) (place_is a entries)
-    ∙ position_from-zero (λ (entry : ℕ × Line). entry.0 == a) entries)
+found_is a entries = search (place_is, position_from-zero)
 
 pub seen_as : (seen entries : Entries) (a : ℕ) (found : Option ℕ) (other : Option ℕ) → seen ≡ entries
     → found ≡ position_from (λ (entry : ℕ × Line). entry.0 == a) 0 seen → found ≡ other
@@ -129,25 +91,13 @@ found_at entries a i line is =
     elim (cases_lt (line_place a entries) (length entries)) [
       | inl inside ↦
           let it = replaced entries a line inside in
-          let same : line_place a entries ≡ i =
-          same_Some (line_place a entries) i
-          (sym (found_is a entries ∙ ap (λ b. cond b (Some (line_place a entries)) None) (lt-ltb (line_place a entries) (length entries) inside)) ∙ is) in
+          let same : line_place a entries ≡ i = search (rules, same_Some, found_is, lt-ltb) in
           (it.0 ∙ ap (λ k. slice_set entries k (a, line)) same, it.1, omega (arith, inside, same))
-      | inr all ↦
-          absurd
-          (none-some i
-          (sym (found_is a entries ∙ ap (λ b. cond b (Some (line_place a entries)) None) (le-ltb (line_place a entries) (length entries) all)) ∙ is))
+      | inr all ↦ search (rules, none-some, found_is, le-ltb)
     ]
 
 pub found_none : (entries : Entries) (a : ℕ) → position_from (λ (entry : ℕ × Line). entry.0 == a) 0 entries ≡ None → entry_in entries a ≡ None
-found_none entries a is =
-    elim (cases_lt (line_place a entries) (length entries)) [
-      | inl inside ↦
-          absurd
-          (none-some (line_place a entries)
-          (sym is ∙ (found_is a entries ∙ ap (λ b. cond b (Some (line_place a entries)) None) (lt-ltb (line_place a entries) (length entries) inside))))
-      | inr all ↦ absent entries a all
-    ]
+found_none entries a is = search (rules, cases_lt, none-some, found_is, lt-ltb, absent)
 
 -- whether it is full, where the line is there, and where it isn't
 pub full_is : (entries : Entries) (a : ℕ) (b : Bool) → is_some (entry_in entries a) ≡ b → is_txn_full entries a ≡ cond b false (length entries == 15)
@@ -172,6 +122,4 @@ put_txn setup stuck entries after a line false low put full left its = subst (λ
 
 pub refilled : (items now : Entries) (i : ℕ) (entry : ℕ × Line) → now ≡ items
     → refill (length items) items (slice_set now i entry) ≡ slice_set items i entry
-refilled items now i entry same =
-    take_at (slice_set now i entry) (drop (length (slice_set now i entry)) items) (length items) (length-set now i entry ∙ ap length same)
-    ∙ ap (λ (l : Entries). slice_set l i entry) same
+refilled items now i entry same = search (rules, take_at, slice_set, length-set)

@@ -1,5 +1,5 @@
 -- A read of a data line: it shows memory's line, or power is cut.
-use Rattle.std.proofs.Common.{ℕ, ◌≡◌, ◌<◌, true, false, cond, List, [], Option, Some, None, Result, Ok, Err, refl, sym, ap, ap₂, subst, ◌∙◌, arith}
+use Rattle.std.proofs.Common.{ℕ, ◌≡◌, ◌<◌, true, false, cond, List, [], Option, Some, None, Result, Ok, Err, refl, sym, ap, ap₂, subst, ◌∙◌, arith, rules}
 use Rattle.txn_session.proofs.Common.{unwrap_or, option_map, IfOk, true≢false, append-nil, Line, Mark, line_at, Shape, BoardMemory, ended, Follows, LedgerState, Formulas, Setup, Memory, plain_memory, path_length, Fault, Parts, parts_of, AreTrusted, chip_of, read_plan, going, cut_short, OneLossEffect, HasReadLine, HasLines, Store, IsLogged, IsServedAs, logged_lines, Taken, steps_in, step_limit, device_during, none_taken, IsWatched, at_most, fewer, whole_places, setup_under, has_called, kept_of, TxnAnswer, IsTxnCalled, Said, read_call, read_said, TxnState, Entries, txn_setup_in, entry_in, targets_in_force, redone_memory, TxnParts, IsTxnWorld, IsStoreOn, stuck_in, txn_of, txn_decided, IsTxnAnswered}
 use Rattle.pmem_engine.specs.declared.fault.Fault.TheVariants as Fail
 use Rattle.line_txn.specs.Serving.{served_from}
@@ -10,7 +10,7 @@ use Rattle.txn_session.proofs.AnswerClauses.{read_undecided, served, seen_from, 
 use Rattle.pmem_engine.specs.Engine.{on_chip}
 use Rattle.call_effects.specs.Outcomes.{is_going}
 use Rattle.pmem_engine.specs.Outcomes.{outcome_of}
-use Rattle.std.specs.Prelude.{◌||◌, not, Bool}
+use Rattle.std.specs.Prelude.{◌||◌, not}
 
 -- the session's parts as the read finds them, what it leaves and answers
 pub record ReadTxnCall : Type 0 where
@@ -92,9 +92,7 @@ module _ (c : ReadTxnCall) where
   n_is = lines_are setup p c.store on
 
   read_as : (answer : Result Line Fault) → c.answer ≡ answer → HasReadLine setup place from to answer
-  read_as answer is =
-      subst (λ r. HasReadLine setup place from to r) is
-      (subst (λ s. HasReadLine (setup_under c.formulas_of s p.keys) place from to c.answer) on.its_shape c.was_read)
+  read_as answer is = search (rules, HasReadLine, setup_under)
 
   -- the line is that of memory
   shown : (line : Line) → c.answer ≡ Ok line → line ≡ line_at old.memory c.at
@@ -124,9 +122,7 @@ module _ (c : ReadTxnCall) where
   undecided_now = subst (λ (w : TxnState). txn_decided w (Do.Read c.at) ≡ None) c.is undecided
 
   running_by : (answer : Result Line Fault) → c.answer ≡ answer → is_going (outcome_of answer) ≡ true → c.after.engine.down ≡ false
-  running_by answer is goes =
-      c.down ∙ ap (λ (b : Bool). b || not (is_going (outcome_of c.answer))) on.running
-      ∙ ap (λ (r : Result Line Fault). not (is_going (outcome_of r))) is ∙ ap not goes
+  running_by answer is goes = search rules
 
   -- ---- the call of the session
 
@@ -136,10 +132,7 @@ module _ (c : ReadTxnCall) where
       (ended c.answer (chip_of c.after.engine c.ledger c.tags_new c.digests_new))
 
   follows : FollowsFrom setup (served_from (logged_lines c.geometry) old.in_force c.at)
-  follows =
-      subst (λ ts. FollowsFrom setup (served_from (logged_lines c.geometry) ts c.at)) on.its_log
-      (subst (λ n. FollowsFrom setup (served_from n c.store.logged.items c.at)) n_is
-      (subst (λ s. FollowsFrom (setup_under c.formulas_of s p.keys) place) on.its_shape c.plan))
+  follows = search (rules, setup_under)
 
   called : (store : Option Store) (txn : Option Entries) (said : TxnAnswer) → store ≡ cond c.board.powered (Some c.after) None
       → (c.board.powered ≡ false → steps_in c.taken < step_limit)
@@ -163,9 +156,7 @@ module _ (c : ReadTxnCall) where
   module _ (marks : c.ledger.marks ≡ p.ledger.marks) where
     logged : IsLogged (logged_lines c.geometry) (plain_memory setup c.ledger.marks) (targets_in_force setup (plain_memory setup c.ledger.marks))
         (redone_memory setup (plain_memory setup c.ledger.marks))
-    logged =
-        subst (λ (m : List Mark). IsLogged (logged_lines c.geometry) (plain_memory setup m) (targets_in_force setup (plain_memory setup m))
-        (redone_memory setup (plain_memory setup m))) (sym marks) c.world.logged
+    logged = search (rules, plain_memory)
 
     same_memory : redone_memory setup (plain_memory setup c.ledger.marks) ≡ old.memory
     same_memory = ap (λ (m : List Mark). redone_memory setup (plain_memory setup m)) marks
@@ -252,8 +243,7 @@ module _ (c : ReadTxnCall) where
         (txn_of (setup_under c.formulas_of c.geometry c.keys) (left_under None None))
     cut_seen =
         let levels = c.world.whole_shape.at_most_six_levels in
-        let below : steps_in c.taken < path_length c.geometry =
-        fewer c.taken (path_length c.geometry) c.watched.follows.few (cut.steps_of_path.1 on.powered).sum in
+        let below : steps_in c.taken < path_length c.geometry = search (rules, fewer, path_length) in
         subst (λ (k : ℕ). IsTxnAnswered (txn_setup_in c.formulas_of c.now) c.now (Do.Read c.at) (Say.Cut k)
         (txn_of (setup_under c.formulas_of c.geometry c.keys) (left_under None None))) (sym c.counted)
         (seen_from c.formulas_of c.geometry p (left None None) c.now c.keys (Do.Read c.at) (Say.Cut (steps_in c.taken)) c.is c.same_keys refl

@@ -1,6 +1,6 @@
 -- How long a redo is, and how many steps it takes.
-use Rattle.std.proofs.Common.{ℕ, ◌≡◌, ◌<◌, ◌≤◌, ◌+◌, ◌*◌, ◌++◌, Bool, true, false, cond, List, [], ◌∷◌, length, refl, sym, ap, ◌∙◌, arith}
-use Rattle.txn_session.proofs.Common.{All, nat_lt, if◌then◌else◌, lt-ltb, ne_eqb, length-append, zero_line, Shape, Memory, Edit, copy_edits, redoing_edits, length-copy_edits, read_steps, write_steps, redo_writes, most_of_redo, cost, length-all_posted}
+use Rattle.std.proofs.Common.{ℕ, ◌≡◌, ◌<◌, ◌≤◌, ◌+◌, ◌*◌, ◌++◌, cond, List, [], ◌∷◌, length, refl, sym, ap, ◌∙◌, arith, rules}
+use Rattle.txn_session.proofs.Common.{All, nat_lt, lt-ltb, ne_eqb, length-append, zero_line, Shape, Memory, Edit, copy_edits, redoing_edits, length-copy_edits, read_steps, write_steps, redo_writes, most_of_redo, cost, length-all_posted}
 use Rattle.engine_lines.specs.declared.edits.Edit.TheVariants as Make
 use Rattle.txn_session.proofs.WriteLists.{posted_redo}
 
@@ -20,11 +20,7 @@ few_redone n (t ∷ targets) = let all = length-redoing n t targets in omega (ar
 
 -- once it is through none is in force
 pub none_redone : (n : ℕ) (targets : List ℕ) → cond (nat_lt (length targets) (length (redoing_edits n targets))) [] targets ≡ []
-none_redone n [] = either (nat_lt 0 0)
-  where
-    either : (b : Bool) → (let none : List ℕ = [] in cond b [] none ≡ none)
-    either true = refl
-    either false = refl
+none_redone n [] = search rules
 none_redone n (t ∷ targets) =
     let all = length-redoing n t targets in
     ap (λ b. cond b [] (t ∷ targets)) (lt-ltb (length (t ∷ targets)) (length (redoing_edits n (t ∷ targets))) (omega (arith, all)))
@@ -38,13 +34,4 @@ cost_copies g p (t ∷ targets) more = let rest = cost_copies g (p + 1) targets 
 
 pub cost_redo : (g : Shape) (n : ℕ) (targets : List ℕ) → cost g (redoing_edits n targets) ≡ most_of_redo g (length targets)
 cost_redo g n [] = refl
-cost_redo g n (t ∷ targets) =
-    cost_copies g (n + 1) (t ∷ targets) (Make.Put n zero_line ∷ [])
-    ∙ steps
-    ∙ sym
-    (ap (λ b. if b then 0 else length (t ∷ targets) * (read_steps g + write_steps g) + write_steps g)
-    (ne_eqb (length (t ∷ targets)) 0 (λ e. omega (arith, e))))
-  where
-    steps : length (t ∷ targets) * (read_steps g + write_steps g) + (write_steps g + 0)
-        ≡ length (t ∷ targets) * (read_steps g + write_steps g) + write_steps g
-    steps = omega arith
+cost_redo g n (t ∷ targets) = search (rules, cost_copies, read_steps, ne_eqb)

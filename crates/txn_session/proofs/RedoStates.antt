@@ -1,6 +1,6 @@
 -- Power comes on, as the session's fields have it: the state once so many writes of the redo are done.
-use Rattle.std.proofs.Common.{ℕ, ◌≡◌, ◌<◌, ◌≤◌, ◌+◌, ◌^◌, ◌++◌, true, false, cond, List, [], length, take, Option, Some, None, Result, Ok, refl, sym, ap, subst, ◌∙◌, arith}
-use Rattle.txn_session.proofs.Common.{option_map, nat_lt, le-ltb, append-nil, Line, Mark, Posted, Device, BoardMemory, Setup, Memory, plain_memory, Moment, moment_after_writes, recovery_bound, Fault, EngineState, Parts, parts_of, IsDurable, IsSound, TakesAtMost, TakesFewer, HasReadLine, Work, suite_state, SuiteState, HasRecovered, Store, Opened, TxnFault, AreTargets, IsHeader, IsLogged, lines_opened, targets_opened, AreEdited, redoing_edits, HasTargetsRedone, logged_lines, one_header, kept_by_opening, logged_size, redoing_fit, steps_in, step_limit, device_during, none_taken, IsWatched, at_most, fewer, Writing, IsCutAmong, read_steps, setup_under, recovered, whole_places, memory_now, AreDone, memory_done, read_line, read_done, Regs, ended, Follows, Chip, chip_of, suite_counts, counts_of, OpeningStop, open_plan, StartFault, has_started, TxnAnswer, IsTxnCalled, Said, open_call, open_said, OpeningRelation, HasStartedBy, started_as, IsStoreOpening, TxnState, moment_in, redo_writes, targets_in_force, redone_memory, TxnParts, IsTxnWorld, IsStoreOff, IsStoredBy, stuck_in, txn_of, GoesToTxnState, HasTxnOpened, after_redo, txn_most_of_on, few_data, all_posted, cost, EndsAt, edits_go, edits_memory}
+use Rattle.std.proofs.Common.{ℕ, ◌≡◌, ◌<◌, ◌≤◌, ◌+◌, ◌^◌, ◌++◌, true, false, cond, List, [], length, take, Option, Some, None, Result, Ok, refl, sym, ap, subst, ◌∙◌, arith, rules}
+use Rattle.txn_session.proofs.Common.{option_map, nat_lt, le-ltb, append-nil, Line, Posted, Device, BoardMemory, Setup, Memory, plain_memory, Moment, moment_after_writes, recovery_bound, Fault, EngineState, Parts, parts_of, IsDurable, IsSound, TakesAtMost, TakesFewer, HasReadLine, Work, suite_state, SuiteState, HasRecovered, Store, Opened, TxnFault, AreTargets, IsHeader, IsLogged, lines_opened, targets_opened, AreEdited, redoing_edits, HasTargetsRedone, logged_lines, one_header, kept_by_opening, logged_size, redoing_fit, steps_in, step_limit, device_during, none_taken, IsWatched, at_most, fewer, Writing, IsCutAmong, read_steps, setup_under, recovered, whole_places, memory_now, AreDone, memory_done, read_line, read_done, Regs, ended, Follows, Chip, chip_of, suite_counts, counts_of, OpeningStop, open_plan, StartFault, has_started, TxnAnswer, IsTxnCalled, Said, open_call, open_said, OpeningRelation, HasStartedBy, started_as, IsStoreOpening, TxnState, moment_in, redo_writes, targets_in_force, redone_memory, TxnParts, IsTxnWorld, IsStoreOff, IsStoredBy, stuck_in, txn_of, GoesToTxnState, HasTxnOpened, after_redo, txn_most_of_on, few_data, all_posted, cost, EndsAt, edits_go, edits_memory}
 use Rattle.pmem_base.specs.Layout as layout
 use Rattle.line_session.specs.Started.{start_plan}
 use Rattle.line_session.proofs.StartPlans.{start_follows}
@@ -117,10 +117,7 @@ module _ (c : OnTxnCall) where
   its_targets = world.logged.header.its_targets
 
   long : n + 1 + length targets ≤ length places
-  long =
-      let few = its_targets.few in
-      let size = world.logged.size in
-      omega (arith, few, size)
+  long = search rules
 
   size : n + 16 ≡ layout.data_lines c.geometry
   size = logged_size c.geometry
@@ -142,17 +139,7 @@ module _ (c : OnTxnCall) where
 
   -- where no mark is made
   pub still_come : c.ledger.marks ≡ p.ledger.marks → HasTxnCome (record { done = 0; made = [] })
-  still_come marks =
-      record {
-        marks = marks ∙ sym (append-nil p.ledger.marks);
-        logged =
-            subst (λ (m : List Mark). IsLogged n (plain_memory setup m) (targets_in_force setup (plain_memory setup m))
-            (redone_memory setup (plain_memory setup m))) (sym marks) world.logged;
-        its_memory = ap (λ (m : List Mark). redone_memory setup (plain_memory setup m)) marks;
-        in_force =
-            ap (λ (m : List Mark). targets_in_force setup (plain_memory setup m)) marks
-            ∙ sym (ap (λ b. cond b [] targets) (le-ltb (length targets) 0 (omega arith)));
-      }
+  still_come marks = search (rules, append-nil, plain_memory, le-ltb)
 
   -- where these are done
   module _ (writing : Writing) (marks : c.ledger.marks ≡ p.ledger.marks ++ writing.made)
@@ -197,31 +184,12 @@ module _ (c : OnTxnCall) where
     -- power was cut
     pub cut_seen : IsCutAmong setup.formulas start queue writing → c.board.powered ≡ false → c.board.regs.loss ≡ p.board.regs.loss
         → TakesFewer most from to → HasTxnOpened setup old (Say.Cut (steps_in c.taken)) (txn_of setup (left c.board None))
-    cut_seen came dark loss takes =
-        record {
-          writing = writing;
-          came = came;
-          ends = (
-            record { memory = come.its_memory; in_force = come.in_force; stuck = refl; txn = refl; power = dark; loss = loss; marks = come.marks },
-            fewer c.taken most watched.follows.few takes.sum,
-          );
-        }
+    cut_seen came dark loss takes = search fewer
 
     -- power is on, and the store is stuck at this page, or isn't
     pub goes : (store : Store) → c.board.powered ≡ true → c.board.regs.loss ≡ p.board.regs.loss → TakesAtMost most from to
         → GoesToTxnState (record (after_redo old writing) { stuck = store.stuck }) (steps_in c.taken) most (txn_of setup (left c.board (Some store)))
-    goes store powered loss takes = (
-      record {
-        memory = come.its_memory;
-        in_force = come.in_force;
-        stuck = refl;
-        txn = sym off.no_txn;
-        power = powered;
-        loss = loss;
-        marks = come.marks;
-      },
-      at_most c.taken most watched.follows.few takes.sum,
-    )
+    goes store powered loss takes = search (rules, at_most)
 
     pub lit_world : (store : Store) → c.board.powered ≡ true → store.engine.down ≡ false → IsSound setup (on_chip store.engine) c.board.lines c.board.regs c.ledger
         → store.logged.items ≡ cond (nat_lt (length targets) writing.done) [] targets → IsTxnWorld setup (left c.board (Some store))

@@ -1,6 +1,6 @@
 -- What the answers of a session promise: of one answer, and of each chain of them.
-use Rattle.std.proofs.Common.{ℕ, ◌≡◌, ◌<◌, ◌≤◌, ◌+◌, ◌*◌, Bool, true, false, List, [], ◌∷◌, length, Option, Some, None, refl, sym, ap, subst, ◌∙◌, arith}
-use Rattle.txn_session.proofs.Common.{All, nat_lt, replicate, unwrap_or, MatchOption, ◌==◌, if◌then◌else◌, lt-ltb, le-ltb, All-nil, All-cons, Line, line_at, put_lines, zero_line, Setup, Memory, targets_of, logged_lines, TxnCommand, TxnAnswer, TxnState, Entries, txn_lines_in, moment_in, commit_writes, with_commit, begun_txn, of_open, txn_of_line, is_txn_full, committed, held, line_held, txn_after_decided, HasTxnCommitted, HasTxnRead, HasTxnOpened, IsCommitting, EndsCommit, IsTxnAnswered, IsTxnAnsweredAs, after_commit, most_of_commit}
+use Rattle.std.proofs.Common.{ℕ, ◌≡◌, ◌<◌, ◌≤◌, Bool, true, false, List, [], ◌∷◌, length, Option, Some, None, refl, sym, ap, subst, ◌∙◌, arith, rules}
+use Rattle.txn_session.proofs.Common.{All, nat_lt, replicate, unwrap_or, MatchOption, if◌then◌else◌, lt-ltb, le-ltb, All-nil, All-cons, Line, put_lines, Setup, Memory, TxnCommand, TxnAnswer, TxnState, Entries, txn_lines_in, moment_in, commit_writes, with_commit, begun_txn, of_open, txn_of_line, is_txn_full, committed, held, line_held, txn_after_decided, HasTxnCommitted, HasTxnRead, HasTxnOpened, IsCommitting, EndsCommit, IsTxnAnswered, IsTxnAnsweredAs, after_commit, most_of_commit}
 use Rattle.txn_session.specs.declared.commands.TxnCommand.TheVariants as Do
 use Rattle.txn_session.specs.declared.answers.TxnAnswer.TheVariants as Say
 use Rattle.txn_session.proofs.WriteLists.{length-commit_writes}
@@ -21,9 +21,7 @@ record TxnStep (old : TxnState) (command : TxnCommand) (answer : TxnAnswer) (new
 
 seen_is : (new : TxnState) (memory : Memory) (txn : Option Entries) → new.memory ≡ memory → new.txn ≡ txn
     → seen_in new ≡ (let seen : Seen = record { memory = memory; txn = txn } in seen)
-seen_is new memory txn e f =
-    ap (λ m. (let seen : Seen = record { memory = m; txn = new.txn } in seen)) e
-    ∙ ap (λ t. (let seen : Seen = record { memory = memory; txn = t } in seen)) f
+seen_is new memory txn e f = search rules
 
 -- ---- answers that the state decides
 
@@ -90,36 +88,14 @@ module _ (old : TxnState) where
 
   read_done : (setup : Setup) (a : ℕ) (answer : TxnAnswer) (new : TxnState) → line_held old a ≡ None → HasTxnRead old a answer new
       → TxnStep old (Do.Read a) answer new
-  read_done setup a (Say.Got line steps) new none it =
-      record {
-        seen = seen_is new old.memory old.txn it.1.0.memory it.1.0.txn;
-        its_stuck = it.1.0.stuck;
-        read = subst (λ h. MatchOption h (line ≡ line_at old.memory a) (λ held. (line ≡ held) × (steps ≡ 0))) (sym none) it.0;
-        mended = tt;
-        refused = tt;
-      }
-  read_done setup a (Say.Cut steps) new none it =
-      record {
-        seen = seen_is new old.memory None it.0.memory it.0.txn;
-        its_stuck = it.0.stuck;
-        read = tt;
-        mended = tt;
-        refused = tt;
-      }
+  read_done setup a (Say.Got line steps) new none it = search (rules, seen_is, MatchOption)
+  read_done setup a (Say.Cut steps) new none it = search seen_is
   read_done setup a answer new none it = absurd it
 
   read_line : (setup : Setup) (a : ℕ) (answer : TxnAnswer) (new : TxnState) (inside : Bool) (line : Option Line) → line_held old a ≡ line
       → IsTxnAnsweredAs (if inside then held line else Some Say.Range) setup old (Do.Read a) answer new
       → TxnStep old (Do.Read a) answer new
-  read_line setup a answer new true (Some line) e it =
-      fixed_step (Do.Read a) (Say.Got line 0) answer new it.0 it.1
-      (record {
-        seen = refl;
-        its_stuck = refl;
-        read = subst (λ h. MatchOption h (line ≡ line_at old.memory a) (λ held. (line ≡ held) × ◌≡◌ {A = ℕ} 0 0)) (sym e) (refl, refl);
-        mended = tt;
-        refused = tt;
-      })
+  read_line setup a answer new true (Some line) e it = search (rules, fixed_step, MatchOption)
   read_line setup a answer new true None e it = read_done setup a answer new e it.0
   read_line setup a answer new false line e it =
       fixed_step (Do.Read a) Say.Range answer new it.0 it.1 (record { seen = refl; its_stuck = refl; read = tt; mended = tt; refused = tt })
@@ -134,33 +110,9 @@ module _ (old : TxnState) where
   -- ---- recovery
 
   opened_step : (setup : Setup) (answer : TxnAnswer) (new : TxnState) → HasTxnOpened setup old answer new → TxnStep old Do.On answer new
-  opened_step setup (Say.Opened redone steps) new it =
-      let becomes = it.ends.1.0 in
-      record {
-        seen = seen_is new old.memory old.txn becomes.memory becomes.txn;
-        its_stuck = becomes.stuck;
-        read = tt;
-        mended = tt;
-        refused = tt;
-      }
-  opened_step setup (Say.Stuck page steps) new it =
-      let becomes = it.ends.0 in
-      record {
-        seen = seen_is new old.memory old.txn becomes.memory becomes.txn;
-        its_stuck = becomes.stuck;
-        read = tt;
-        mended = tt;
-        refused = tt;
-      }
-  opened_step setup (Say.Cut steps) new it =
-      let becomes = it.ends.0 in
-      record {
-        seen = seen_is new old.memory None becomes.memory becomes.txn;
-        its_stuck = becomes.stuck;
-        read = tt;
-        mended = tt;
-        refused = tt;
-      }
+  opened_step setup (Say.Opened redone steps) new it = search seen_is
+  opened_step setup (Say.Stuck page steps) new it = search seen_is
+  opened_step setup (Say.Cut steps) new it = search seen_is
   opened_step setup answer new it = absurd it.ends
 
   on_step : (setup : Setup) (answer : TxnAnswer) (new : TxnState) (power : Bool)
@@ -173,26 +125,10 @@ module _ (old : TxnState) where
 
   -- with the header the transaction is in memory, and without it nothing is
   done_memory : (entries : Entries) (done : ℕ) → length entries < done → (with_commit old entries done).memory ≡ put_lines entries old.memory
-  done_memory entries done past =
-      ap (λ b. (let closed : TxnState = record old { txn = None } in
-      let state : TxnState =
-      if b then
-      record closed {
-        memory = put_lines entries old.memory;
-        in_force = if done == 2 * length entries + 2 then [] else targets_of entries;
-      }
-      else closed in state.memory)) (lt-ltb (length entries) done past)
+  done_memory entries done past = search lt-ltb
 
   undone_memory : (entries : Entries) (done : ℕ) → done ≤ length entries → (with_commit old entries done).memory ≡ old.memory
-  undone_memory entries done before =
-      ap (λ b. (let closed : TxnState = record old { txn = None } in
-      let state : TxnState =
-      if b then
-      record closed {
-        memory = put_lines entries old.memory;
-        in_force = if done == 2 * length entries + 2 then [] else targets_of entries;
-      }
-      else closed in state.memory)) (le-ltb (length entries) done before)
+  undone_memory entries done before = search le-ltb
 
   by_done : (b : Bool) (memory : Memory) (in_force : List ℕ)
       → (let state : TxnState = if b then record old { txn = None; memory = memory; in_force = in_force } else record old { txn = None } in
@@ -201,9 +137,7 @@ module _ (old : TxnState) where
   by_done false memory in_force = (refl, refl)
 
   closed_after : (entries : Entries) (done : ℕ) → ((with_commit old entries done).txn ≡ None) × ((with_commit old entries done).stuck ≡ old.stuck)
-  closed_after entries done =
-      by_done (nat_lt (length entries) done) (put_lines entries old.memory)
-      (if done == 2 * length entries + 2 then [] else targets_of entries)
+  closed_after entries done = search by_done
 
 committed_step : (setup : Setup) (old : TxnState) (entry : ℕ × Line) (rest : Entries) (answer : TxnAnswer) (new : TxnState)
     → old.txn ≡ Some (entry ∷ rest) → HasTxnCommitted setup old (entry ∷ rest) answer new → TxnStep old Do.Commit answer new
@@ -283,15 +217,7 @@ committed_step setup old entry rest answer new opened it = go answer it.came it.
 
 commit_step : (setup : Setup) (old : TxnState) (answer : TxnAnswer) (new : TxnState) (power : Bool) (txn : Option Entries) → old.txn ≡ txn
     → IsTxnAnsweredAs (if power then of_open txn committed else Some Say.Off) setup old Do.Commit answer new → TxnStep old Do.Commit answer new
-commit_step setup old answer new true (Some []) e it =
-    fixed_step old Do.Commit (Say.Applied 0) answer new it.0 it.1
-    (record {
-      seen = ap (λ t. (let seen : Seen = record { memory = put_lines (unwrap_or t []) old.memory; txn = None } in seen)) (sym e);
-      its_stuck = refl;
-      read = tt;
-      mended = tt;
-      refused = tt;
-    })
+commit_step setup old answer new true (Some []) e it = search rules
 commit_step setup old answer new true (Some (entry ∷ rest)) e it =
     committed_step setup old entry rest answer new e
     (subst (λ es. HasTxnCommitted setup old es answer new) (ap (λ t. unwrap_or t []) e) it.0)
@@ -317,49 +243,27 @@ step setup old Do.On answer new it = on_step old setup answer new old.session.bo
 reads_of : (setup : Setup) (first last : TxnState) (replies : List TxnReply) → AreTxnAnswered setup first replies last
     → AreReadAsCommitted (seen_in first) replies
 reads_of setup first last [] chain = tt
-reads_of setup first last (reply ∷ replies) chain =
-    let it = step setup first reply.command reply.answer chain.0 chain.1 in
-    (it.read, subst (λ seen. AreReadAsCommitted seen replies) it.seen (reads_of setup chain.0 last replies chain.2))
+reads_of setup first last (reply ∷ replies) chain = search (rules, step, (reads_of setup chain.0 last replies chain.2))
 
 mended_of : (setup : Setup) (first last : TxnState) (replies : List TxnReply) → AreTxnAnswered setup first replies last
     → All (λ reply. IsTxnMendedAnswer reply.command reply.answer) replies
 mended_of setup first last [] chain = All-nil (λ reply. IsTxnMendedAnswer reply.command reply.answer)
-mended_of setup first last (reply ∷ replies) chain =
-    All-cons (λ reply. IsTxnMendedAnswer reply.command reply.answer) reply replies
-    (step setup first reply.command reply.answer chain.0 chain.1).mended (mended_of setup chain.0 last replies chain.2)
+mended_of setup first last (reply ∷ replies) chain = search (rules, All-cons, step, (mended_of setup chain.0 last replies chain.2))
 
 stuck_of : (setup : Setup) (first last : TxnState) (replies : List TxnReply) → AreTxnAnswered setup first replies last
     → AreStuckAnswers first.stuck replies
 stuck_of setup first last [] chain = tt
-stuck_of setup first last (reply ∷ replies) chain =
-    let it = step setup first reply.command reply.answer chain.0 chain.1 in
-    (it.refused, subst (λ stuck. AreStuckAnswers stuck replies) it.its_stuck (stuck_of setup chain.0 last replies chain.2))
+stuck_of setup first last (reply ∷ replies) chain = search (rules, step, (stuck_of setup chain.0 last replies chain.2))
 
 pub txns_kept_always : (setup : Setup) → AreTxnsKept setup
-txns_kept_always setup replies last session =
-    let first = session.first in
-    let new = session.is_new in
-    record {
-      reads =
-          subst (λ seen. AreReadAsCommitted seen replies)
-          (seen_is first (replicate (logged_lines setup.shape) zero_line) None new.memory new.txn)
-          (reads_of setup first last replies session.answered);
-      mended = mended_of setup first last replies session.answered;
-      stuck = subst (λ stuck. AreStuckAnswers stuck replies) new.stuck (stuck_of setup first last replies session.answered);
-    }
+txns_kept_always setup replies last session = search (rules, seen_is, replicate, reads_of, mended_of, stuck_of)
 
 -- ---- used up
 
 module _ (setup : Setup) (first next : TxnState) where
   commit_spent : (answer : TxnAnswer) → HasTxnCommitted setup first (unwrap_or first.txn []) answer next
       → IsTxnSpentAnswer setup first Do.Commit answer next
-  commit_spent (Say.Spent page steps) it =
-      let became = it.ends.0.memory in (
-        it.writing.done,
-        it.came.0,
-        record { used_up = it.came.1.spent; its_page = it.came.1.its_page },
-        became ∙ undone_memory first (unwrap_or first.txn []) it.writing.done it.came.0,
-      )
+  commit_spent (Say.Spent page steps) it = search (rules, undone_memory, unwrap_or)
   commit_spent (Say.Stuck page steps) it =
       (it.writing.done, it.came.0, record { used_up = it.came.1.spent; its_page = it.came.1.its_page })
   commit_spent answer it = tt

@@ -1,6 +1,6 @@
 -- The lines once so many of the changes of a commit or a redo are made: at which stage they are, and what memory they hold.
-use Rattle.std.proofs.Common.{ℕ, zero, suc, ◌≡◌, ◌<◌, ◌≤◌, ◌+◌, ◌-◌, ◌*◌, ◌++◌, inl, inr, Bool, true, false, cond, List, [], ◌∷◌, length, take, refl, sym, ap, ◌∙◌, arith}
-use Rattle.txn_session.proofs.Common.{nat_lt, ◌==◌, slice_set, take-append-add, cases_lt, lt-ltb, le-ltb, eq-eqb, ne_eqb, take-append-le, take_all, length-append, put_lines, zero_line, Memory, Edit, AreTargets, header_of, CommitStage, logged, decided, cleared, commit_lines_at, lines_decided, targets_at, commit_memory_at, with_header, targets_of, bodies_of, Opening, partly, through, lines_opened, targets_opened, all_edited, body_edits, target_edits, copy_edits, deciding_edits, applying_edits, redoing_edits, zero_header, after_bodies, after_all_bodies, after_targets, after_all_targets, after_copies, length-bodies, length-targets, length-deciding, length-applying, length-copy_edits, Entries}
+use Rattle.std.proofs.Common.{ℕ, zero, suc, ◌≡◌, ◌<◌, ◌≤◌, ◌+◌, ◌-◌, ◌*◌, ◌++◌, inl, inr, Bool, true, false, cond, List, [], ◌∷◌, length, take, refl, sym, ap, ◌∙◌, arith, rules}
+use Rattle.txn_session.proofs.Common.{nat_lt, ◌==◌, slice_set, take-append-add, cases_lt, lt-ltb, le-ltb, eq-eqb, ne_eqb, take-append-le, take_all, length-append, put_lines, zero_line, Memory, Edit, AreTargets, CommitStage, logged, decided, cleared, commit_lines_at, lines_decided, targets_at, commit_memory_at, with_header, targets_of, Opening, partly, through, lines_opened, targets_opened, all_edited, target_edits, copy_edits, deciding_edits, applying_edits, redoing_edits, zero_header, after_bodies, after_all_bodies, after_targets, after_all_targets, after_copies, length-bodies, length-targets, length-deciding, length-applying, length-copy_edits, Entries}
 use Rattle.engine_lines.specs.declared.edits.Edit.TheVariants as Make
 use Rattle.engine_lines.proofs.EditStages.{all_edited-append, after_last}
 
@@ -25,9 +25,7 @@ module _ (n : ℕ) (txn : Entries) (lines : Memory) where
   after_header = lines_decided n txn lines
 
   decided_lines : all_edited (deciding_edits n txn) lines ≡ after_header
-  decided_lines =
-      after_last (body_edits (n + 1) (bodies_of txn)) (Make.Put n (header_of (targets_of txn))) lines
-      ∙ ap (with_header n (targets_of txn)) (after_all_bodies (n + 1) (bodies_of txn) lines)
+  decided_lines = search (after_last, after_all_bodies)
 
   cleared_lines : all_edited (applying_edits n txn) after_header ≡ commit_lines_at cleared n txn lines
   cleared_lines =
@@ -42,11 +40,7 @@ module _ (n : ℕ) (txn : Entries) (lines : Memory) where
       let long = length-deciding n txn in
       record {
         stage = logged k;
-        its_lines =
-            ap (λ es. all_edited es lines)
-            (take-append-le k (deciding_edits n txn) (applying_edits n txn) (omega (arith, few, long))
-            ∙ take-append-le k (body_edits (n + 1) (bodies_of txn)) (Make.Put n (header_of (targets_of txn)) ∷ []) (omega (arith, few, bodies)))
-            ∙ after_bodies (n + 1) k (bodies_of txn) lines;
+        its_lines = search (rules, all_edited, take-append-le, after_bodies);
         targets = sym (ap (λ b. cond b (cond (k == 2 * c + 2) [] (targets_of txn)) []) (le-ltb c k few));
         its_memory = λ memory. sym (ap (λ b. cond b (put_lines txn memory) memory) (le-ltb c k few));
       }
@@ -72,10 +66,7 @@ module _ (n : ℕ) (txn : Entries) (lines : Memory) where
             ∙ ap (λ es. all_edited es after_header)
             (take-append-le j (target_edits txn) (Make.Put n zero_line ∷ []) (omega (arith, all, is, below)))
             ∙ after_targets j txn after_header;
-        targets =
-            sym
-            (ap (λ b. cond b (cond (k == 2 * c + 2) [] (targets_of txn)) []) (lt-ltb c k past)
-            ∙ ap (λ b. cond b [] (targets_of txn)) (ne_eqb k (2 * c + 2) (λ e. omega (arith, e, below))));
+        targets = search (rules, lt-ltb, ne_eqb);
         its_memory = λ memory. sym (ap (λ b. cond b (put_lines txn memory) memory) (lt-ltb c k past));
       }
 
@@ -88,10 +79,7 @@ module _ (n : ℕ) (txn : Entries) (lines : Memory) where
             past_header k j is past
             ∙ ap (λ es. all_edited es after_header) (take_all j (applying_edits n txn) (omega (arith, all, is, end)))
             ∙ cleared_lines;
-        targets =
-            sym
-            (ap (λ b. cond b (cond (k == 2 * c + 2) [] (targets_of txn)) []) (lt-ltb c k past)
-            ∙ ap (λ b. cond b [] (targets_of txn)) (eq-eqb k (2 * c + 2) end));
+        targets = search (rules, lt-ltb, eq-eqb);
         its_memory = λ memory. sym (ap (λ b. cond b (put_lines txn memory) memory) (lt-ltb c k past));
       }
 

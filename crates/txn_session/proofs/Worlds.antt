@@ -1,5 +1,5 @@
 -- What a session holds after a call that goes on or is cut.
-use Rattle.std.proofs.Common.{rules, ℕ, ◌≡◌, ◌<◌, ◌≤◌, ◌^◌, true, false, List, length, Option, Some, None, refl, sym, ap, subst, subst₂, ◌∙◌, arith}
+use Rattle.std.proofs.Common.{rules, ℕ, ◌≡◌, ◌<◌, ◌≤◌, ◌^◌, true, false, List, length, Option, Some, None, sym, ap, subst, subst₂, ◌∙◌, arith}
 use Rattle.txn_session.proofs.Common.{IfSome, line_at, Shape, IsShape, BoardMemory, LedgerState, AreInRange, Setup, Memory, plain_memory, IsDurable, IsSound, Store, AreTargets, IsLogged, memory_in, targets_of, logged_lines, targets_of_header, logged_size, sealed_in, places_of, few_data, Entries, targets_in_force, redone_memory, TxnParts, IsTxnWorld, IsStoreOn, IsStoredBy}
 use Rattle.pmem_base.specs.Layout as layout
 use Rattle.pmem_engine.specs.Engine.{on_chip}
@@ -13,9 +13,7 @@ few_lines g shape = let few = few_data g shape in let size = logged_size g in om
 module _ (setup : Setup) (shape : IsShape setup.shape) (lines memory : Memory) (targets : List ℕ)
     (it : IsLogged (logged_lines setup.shape) lines targets memory) where
   pub targets_held : targets_in_force setup lines ≡ targets
-  targets_held =
-      targets_of_header (logged_lines setup.shape) (line_at lines (logged_lines setup.shape)) targets
-      (let few = few_lines setup.shape shape in omega (arith, few)) it.header
+  targets_held = search (rules, targets_of_header, line_at, few_lines)
 
   pub memory_held : redone_memory setup lines ≡ memory
   memory_held = ap (λ ts. memory_in (logged_lines setup.shape) ts lines) targets_held ∙ it.its_memory
@@ -39,27 +37,7 @@ pub on_of : (setup : Setup) (parts : TxnParts) (store : Store) → parts.store �
     → IsTxnWorld setup parts
 on_of setup parts store there shape formulas logged powered running sound log txn =
     let sealed = sealed_in setup parts.board.regs parts.ledger sound.trusted.anchored in
-    let chip : IsStoreOn setup parts store =
-    record {
-      powered = powered;
-      sound = sound;
-      running = running;
-      its_shape = sound.trusted.its_shape;
-      usable =
-          record {
-            ready =
-                record {
-                  its_size = sound.durable.device_whole.count;
-                  valid_regs = sound.trusted.anchored.valid_regs;
-                  no_group = λ up. sound.trusted.no_group;
-                };
-            true_lines = sound.trusted.anchored.of_shape.truth_count;
-            line_count = sound.trusted.anchored.of_shape.line_count;
-            each_sealed = sealed;
-          };
-      its_log = log;
-      its_txn = txn;
-    } in
+    let chip : IsStoreOn setup parts store = search rules in
     record {
       whole_shape = shape;
       whole_formulas = formulas;
@@ -81,27 +59,12 @@ module _ (setup : Setup) (p : TxnParts) (tags digests : ℕ) (board : BoardMemor
   pub on_after : (after : Store) (txn : Option Entries) → board.powered ≡ true → after.engine.down ≡ false → IsSound setup (on_chip after.engine) board.lines board.regs ledger
       → after.logged.items ≡ targets_in_force setup (plain_memory setup ledger.marks) → IsOpenTxn setup after.stuck txn
       → IsTxnWorld setup (record { keys = p.keys; tags = tags; digests = digests; board = board; ledger = ledger; store = Some after; txn = txn })
-  on_after after txn powered running sound log its_txn =
-      on_of setup (record { keys = p.keys; tags = tags; digests = digests; board = board; ledger = ledger; store = Some after; txn = txn }) after refl world.whole_shape
-      world.whole_formulas logged powered running sound log its_txn
+  on_after after txn powered running sound log its_txn = search on_of
 
   -- with power off, where the device is durable
   pub off_after : board.powered ≡ false → IsDurable setup board.lines board.regs ledger → length board.regs.group.items ≤ 3
       → IsTxnWorld setup (record { keys = p.keys; tags = tags; digests = digests; board = board; ledger = ledger; store = None; txn = None })
-  off_after unpowered durable few =
-      let anchored = durable.mendable.anchored in
-      record {
-        whole_shape = world.whole_shape;
-        whole_formulas = world.whole_formulas;
-        whole_lines = durable.device_whole;
-        valid_regs = anchored.valid_regs;
-        few_armed = few;
-        ledger = anchored.of_shape;
-        no_exhibit = search (rules, anchored.no_exhibit);
-        places = places_of setup ledger.marks (sealed_in setup board.regs ledger anchored);
-        logged = logged;
-        chip = record { unpowered = unpowered; durable = durable; no_txn = refl };
-      }
+  off_after unpowered durable few = search (places_of, sealed_in)
 
 -- with power on, what is held of the store
 pub on_in : (setup : Setup) (p : TxnParts) (store : Store) → IsTxnWorld setup p → p.store ≡ Some store → IsStoreOn setup p store
@@ -109,36 +72,9 @@ on_in setup p store world there = subst (λ s. IsStoredBy setup p s) there world
 
 -- there are as many lines as the geometry says
 pub lines_are : (setup : Setup) (p : TxnParts) (store : Store) → IsStoreOn setup p store → store.lines ≡ logged_lines setup.shape
-lines_are setup p store on =
-    let size = store.its_lines in
-    let all = logged_size setup.shape in
-    let same : layout.data_lines store.engine.shape ≡ layout.data_lines setup.shape = ap layout.data_lines on.its_shape in
-    omega (arith, size, same, all)
+lines_are setup p store on = search (rules, logged_size)
 
 -- another transaction is open
 pub put_world : (setup : Setup) (p : TxnParts) (store : Store) (txn : Option Entries) → IsTxnWorld setup p → p.store ≡ Some store
     → IsOpenTxn setup store.stuck txn → IsTxnWorld setup (record p { txn = txn })
-put_world setup p store txn world there its_txn =
-    let on = on_in setup p store world there in
-    let chip : IsStoreOn setup (record p { txn = txn }) store =
-    record {
-      powered = on.powered;
-      sound = on.sound;
-      running = on.running;
-      its_shape = on.its_shape;
-      usable = on.usable;
-      its_log = on.its_log;
-      its_txn = its_txn;
-    } in
-    record {
-      whole_shape = world.whole_shape;
-      whole_formulas = world.whole_formulas;
-      whole_lines = world.whole_lines;
-      valid_regs = world.valid_regs;
-      few_armed = world.few_armed;
-      ledger = world.ledger;
-      no_exhibit = world.no_exhibit;
-      places = world.places;
-      logged = world.logged;
-      chip = subst (λ s. IsStoredBy setup (record p { txn = txn }) s) (sym there) chip;
-    }
+put_world setup p store txn world there its_txn = search (rules, on_in)

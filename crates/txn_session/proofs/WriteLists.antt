@@ -1,6 +1,6 @@
 -- The engine writes of a commit and of a redo, in order: those of the changes that they are made of, and memory once so many
 -- of them are done.
-use Rattle.std.proofs.Common.{ℕ, suc, ◌≡◌, ◌<◌, ◌≤◌, ◌+◌, ◌*◌, ◌++◌, List, [], ◌∷◌, length, drop, drop-cons, refl, sym, ap, ◌∙◌, arith}
+use Rattle.std.proofs.Common.{ℕ, suc, ◌≡◌, ◌<◌, ◌≤◌, ◌+◌, ◌*◌, ◌++◌, List, [], ◌∷◌, length, drop, drop-cons, refl, sym, ap, ◌∙◌, arith, rules}
 use Rattle.txn_session.proofs.Common.{All, zip, append_assoc, length-append, length-map, All-head, All-tail, Line, Posted, line_at, zero_line, Memory, memory_with, whole_write, Edit, header_of, targets_of, bodies_of, body_edits, target_edits, copy_edits, deciding_edits, applying_edits, redoing_edits, Entries, body_writes, target_writes, commit_writes, redo_writes, all_posted}
 use Rattle.pmem_base.proofs.LineSets.{line_at-set_other}
 use Rattle.pmem_base.specs.WaitingWrites.{put_write}
@@ -28,9 +28,7 @@ abbrev pub applying_writes : ℕ → Entries → List Posted
 applying_writes n txn = target_writes txn ++ (whole_write n zero_line ∷ [])
 
 pub posted_deciding : (n : ℕ) (txn : Entries) (memory : Memory) → all_posted memory (deciding_edits n txn) ≡ deciding_writes n txn
-posted_deciding n txn memory =
-    posted_bodies (n + 1) (bodies_of txn) (Make.Put n (header_of (targets_of txn)) ∷ []) memory (whole_write n (header_of (targets_of txn)) ∷ [])
-    (λ m. refl)
+posted_deciding n txn memory = search posted_bodies
 
 pub posted_applying : (n : ℕ) (txn : Entries) (memory : Memory) → all_posted memory (applying_edits n txn) ≡ applying_writes n txn
 posted_applying n txn memory = posted_targets txn (Make.Put n zero_line ∷ []) memory (whole_write n zero_line ∷ []) (λ m. refl)
@@ -38,24 +36,11 @@ posted_applying n txn memory = posted_targets txn (Make.Put n zero_line ∷ []) 
 -- both, as a list of changes
 pub posted_commit : (n : ℕ) (txn : Entries) (memory : Memory)
     → all_posted memory (deciding_edits n txn ++ applying_edits n txn) ≡ deciding_writes n txn ++ applying_writes n txn
-posted_commit n txn memory =
-    let bodies = body_edits (n + 1) (bodies_of txn) in
-    let header = Make.Put n (header_of (targets_of txn)) in
-    ap (all_posted memory) (append_assoc bodies (header ∷ []) (applying_edits n txn))
-    ∙ posted_bodies (n + 1) (bodies_of txn) (header ∷ applying_edits n txn) memory (whole_write n (header_of (targets_of txn)) ∷ applying_writes n txn)
-    (λ m.
-    ap (λ l. whole_write n (header_of (targets_of txn)) ∷ l)
-    (posted_applying n txn (memory_with m (whole_write n (header_of (targets_of txn))))))
-    ∙ sym (append_assoc (body_writes (n + 1) (bodies_of txn)) (whole_write n (header_of (targets_of txn)) ∷ []) (applying_writes n txn))
+posted_commit n txn memory = search (append_assoc, posted_bodies, posted_applying)
 
 pub commit_parts : (n : ℕ) (entry : ℕ × Line) (entries : Entries)
     → commit_writes n (entry ∷ entries) ≡ deciding_writes n (entry ∷ entries) ++ applying_writes n (entry ∷ entries)
-commit_parts n entry entries =
-    let bodies = body_writes (n + 1) (bodies_of (entry ∷ entries)) in
-    let header = whole_write n (header_of (targets_of (entry ∷ entries))) in
-    let targets = target_writes (entry ∷ entries) in
-    append_assoc bodies (header ∷ targets) (whole_write n zero_line ∷ [])
-    ∙ sym (append_assoc bodies (header ∷ []) (targets ++ (whole_write n zero_line ∷ [])))
+commit_parts n entry entries = search append_assoc
 
 pub length-body_writes : (k : ℕ) (bodies : List Line) → length (body_writes k bodies) ≡ length bodies
 length-body_writes k [] = refl
@@ -65,9 +50,7 @@ pub length-bodies : (n : ℕ) (txn : Entries) → length (body_writes n (bodies_
 length-bodies n txn = length-body_writes n (bodies_of txn) ∙ length-map txn (λ e. e.1)
 
 pub length-deciding_writes : (n : ℕ) (txn : Entries) → length (deciding_writes n txn) ≡ length txn + 1
-length-deciding_writes n txn =
-    length-append (body_writes (n + 1) (bodies_of txn)) (whole_write n (header_of (targets_of txn)) ∷ [])
-    ∙ ap (λ k. k + 1) (length-bodies (n + 1) txn)
+length-deciding_writes n txn = search (length-append, length-bodies)
 
 length-applying_writes : (n : ℕ) (txn : Entries) → length (applying_writes n txn) ≡ length txn + 1
 length-applying_writes n txn =
@@ -93,8 +76,7 @@ posted_copies p (t ∷ targets) lines now more ws low long same later =
     let here : line_at now p ≡ line_at lines p = same p (omega arith) in
     let under : t < p = All-head (λ t. t < p) t targets low in
     let others : All (λ t. t < p) targets = All-tail (λ t. t < p) t targets low in
-    let first : drop p lines ≡ line_at lines p ∷ drop (p + 1) lines =
-    drop-cons lines p zero_line (omega (arith, long)) ∙ ap (λ j. line_at lines p ∷ drop j lines) next in
+    let first : drop p lines ≡ line_at lines p ∷ drop (p + 1) lines = search (rules, drop-cons, line_at) in
     let write = whole_write t (line_at now p) in
     ap (λ q. write ∷ q)
     (posted_copies (p + 1) targets lines (memory_with now write) more ws (λ i d l. omega (arith, others i d l)) (omega (arith, long))

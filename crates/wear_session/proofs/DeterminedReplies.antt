@@ -1,6 +1,6 @@
 -- Two answers of one command from one state are the same, and leave the same state and the same log.
-use Rattle.std.proofs.Common.{ℕ, ◌≡◌, List, [], Option, Some, None, sym, ap, ap₂, subst, ◌∙◌}
-use Rattle.wear_session.proofs.Common.{Setup, LineSession, WearCommand, WearAnswer, WearState, wear_left, IsWearCalled, read_call, read_said, write_call, write_said, open_call, open_said, IsWearAnsweredAs, wear_decided}
+use Rattle.std.proofs.Common.{ℕ, ◌≡◌, List, [], Option, Some, None, sym, ap, ◌∙◌, rules}
+use Rattle.wear_session.proofs.Common.{Setup, WearCommand, WearAnswer, WearState, wear_left, IsWearCalled, read_call, read_said, write_call, write_said, open_call, open_said, IsWearAnsweredAs, wear_decided}
 use Rattle.line_session.proofs.Outcomes.{called_answer, started_answer, refusal_determined, twin_in}
 use Rattle.wear_session.specs.declared.commands.WearCommand.TheVariants as Do
 use Rattle.wear_session.specs.Logged.{IsWearLogged}
@@ -24,10 +24,7 @@ module _ (setup : Setup) (old one other : WearState) (first second : WearAnswer)
   -- sessions that are the same, whose memory and wear the marks say
   same_said : (said ≡ more) × (one.session ≡ other.session) → one ≡ wear_left setup old.every one.session one.count
       → other ≡ wear_left setup old.every other.session other.count → AreSame
-  same_said same it its = (
-    ap (λ (p : WearAnswer × ℕ). p.0) same.0,
-    it ∙ ap₂ (λ (s : LineSession) (p : WearAnswer × ℕ). wear_left setup old.every s p.1) same.1 same.0 ∙ sym its,
-  )
+  same_said same it its = search rules
 
   called_by : (command : WearCommand) → IsWearCalled setup old command first one → IsWearCalled setup old command second other → AreSame
   called_by (Do.Read a) it its =
@@ -73,6 +70,4 @@ same_accesses Do.On old new accesses others it its = same_logged (wear_decided o
 same_accesses command old new accesses others it its = same_Some accesses others (it ∙ sym its)
 
 pub logs_are_determined : (setup : Setup) → WearLogsAreDetermined setup
-logs_are_determined setup old one other command first second accesses others it its log its_log =
-    let same = (replies_are_determined setup old one other command first second it its).1 in
-    same_accesses command old one accesses others log (subst (λ (s : WearState). IsWearLogged command (Some []) old (Some others) s) (sym same) its_log)
+logs_are_determined setup old one other command first second accesses others it its log its_log = search (rules, replies_are_determined, same_accesses)

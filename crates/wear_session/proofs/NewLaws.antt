@@ -93,14 +93,10 @@ module _ (c : NewWearCall) where
     was = subst (λ k. HasReadLine c.setup (k + 1) from (to gapped.engine) (Ok line)) read.its_lines read.was_read
 
     marks : c.ledger.marks ≡ c.ledger_middle.marks
-    marks =
-        marks_stay c.setup c.start c.middle c.ledger_middle c.engine c.formatted c.board c.ledger_middle c.ledger refl gapped.engine c.tags c.digests
-        c.tags_new c.digests_new (n + 1) line was
+    marks = search marks_stay
 
     new : IsNewSession c.setup (wear_of c.setup (held gapped)).session
-    new =
-        new_session c.setup c.start c.middle c.ledger_middle c.engine c.formatted c.board c.ledger_middle c.ledger refl gapped.engine c.tags c.digests
-        c.tags_new c.digests_new (n + 1) line was c.start_writes c.start_latches c.start_cuts c.keys
+    new = search new_session
 
     its_wear : gapped.wear ≡ first_wear n
     its_wear =

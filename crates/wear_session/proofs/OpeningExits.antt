@@ -1,7 +1,8 @@
 -- Power comes on, as the session's fields have it: what is held after recovery and the opening, and what is answered.
-use Rattle.std.proofs.Common.{ℕ, ◌≡◌, ◌<◌, ◌≤◌, ◌+◌, ◌++◌, ◌⊎◌, inl, inr, true, false, cond, List, [], length, Option, Some, None, Result, Ok, Err, refl, sym, ap, subst, ◌∙◌, arith}
+use Rattle.std.proofs.Common.{ℕ, ◌≡◌, ◌<◌, ◌≤◌, ◌+◌, ◌++◌, ◌⊎◌, inl, inr, true, false, cond, List, [], length, Option, Some, None, Result, Ok, Err, refl, sym, ap, subst, ◌∙◌, arith, rules}
 use Rattle.wear_session.proofs.Common.{unwrap_or, option_map, if◌then◌else◌, true≢false, none-some, same_Some, append-nil, Line, Mark, Twin, Device, BoardMemory, ended, Follows, LedgerState, Setup, plain_memory, recovery_bound, EngineState, Parts, parts_of, new_engine, Chip, chip_of, IsDurable, TakesAtMost, TakesFewer, HasReadLine, Work, RecFault, suite_state, SuiteState, suite_counts, counts_of, HasRecovered, most_recovery_steps, Wear, Gapped, GapFault, recorded, IsLevelled, HasReadRecord, logical_lines, open_plan, steps_in, step_limit, device_during, none_taken, IsWatched, at_most, fewer, StartFault, WearAnswer, OpeningRelation, HasStartedBy, HasOpenedAfter, started_as, has_started, HasOpenedLevelled, IsLevelledOpening, IsWearCalled, open_call, open_said, WearState, wear_setup_in, wear_in, levelled_memory, WearParts, IsWearWorld, IsLevelledOff, IsLevelledBy, wear_of, IsWearAnswered, IsWearShownBy, IsWearMemoryWanted, HasWearOpened, wear_decided, read_steps, setup_under, fewer_within, AreDone, read_line, read_done, read_cut, refused_from}
 use Rattle.pmem_base.specs.Layout as layout
+use Rattle.call_plan.proofs.StillCalls.{untouched, rests}
 use Rattle.pmem_engine.specs.declared.fault.Fault.TheVariants as Fail
 use Rattle.pmem_recovery.specs.declared.faults.RecFault.TheVariants as Rec
 use Rattle.start_gap.specs.declared.gapped.GapFault.TheVariants as Gap
@@ -14,7 +15,7 @@ use Rattle.wear_session.proofs.Worlds.{on_after, off_after}
 use Rattle.wear_session.proofs.AnswerClauses.{served, seen_from, held_under}
 use Rattle.wear_session.proofs.Starts.{OnWearCall, few_of_on}
 use Rattle.line_session.proofs.Twins.{seal_twin}
-use Rattle.line_session.proofs.Recoveries.{few_recovery, recovered, sound_recovered, cut_left, wanted_left, untouched, rests, twin_left, twin_of_last, twin_within}
+use Rattle.line_session.proofs.Recoveries.{few_recovery, recovered, sound_recovered, cut_left, wanted_left, twin_left, twin_of_last, twin_within}
 use Rattle.pmem_engine.specs.Engine.{on_chip}
 use Rattle.std.specs.Prelude.{IfOk}
 
@@ -120,9 +121,7 @@ module _ (c : OnWearCall) where
   module _ (marks : c.ledger.marks ≡ p.ledger.marks) where
     levelled : IsLevelled (logical_lines c.geometry) (plain_memory setup c.ledger.marks) (wear_in setup (plain_memory setup c.ledger.marks))
         (levelled_memory setup (plain_memory setup c.ledger.marks))
-    levelled =
-        subst (λ (m : List Mark). IsLevelled (logical_lines c.geometry) (plain_memory setup m) (wear_in setup (plain_memory setup m))
-        (levelled_memory setup (plain_memory setup m))) (sym marks) c.world.levelled
+    levelled = search (rules, plain_memory)
 
     same_memory : levelled_memory setup (plain_memory setup c.ledger.marks) ≡ old.memory
     same_memory = ap (λ (m : List Mark). levelled_memory setup (plain_memory setup m)) marks
@@ -137,22 +136,12 @@ module _ (c : OnWearCall) where
     -- power was cut
     cut_seen : c.board.powered ≡ false → c.board.regs.loss ≡ p.board.regs.loss → TakesFewer most from to
         → HasWearOpened old (Say.Cut (steps_in c.taken)) (wear_of setup (left c.board None))
-    cut_seen dark loss takes = (
-      record { memory = same_memory; wear = same_wear; count = refl; power = dark; loss = loss; marks = marks },
-      fewer c.taken most watched.follows.few takes.sum,
-    )
+    cut_seen dark loss takes = search (same_memory, same_wear, fewer)
 
     open_seen : (gapped : Gapped) → c.board.powered ≡ true → c.board.regs.loss ≡ p.board.regs.loss → TakesAtMost most from to
         → gapped.count ≡ 0 → gapped.wear ≡ old.wear
         → HasWearOpened old (Say.Opened gapped.wear.start gapped.wear.gap (steps_in c.taken)) (wear_of setup (left c.board (Some gapped)))
-    open_seen gapped powered loss takes none its_wear = (
-      ap (λ (w : Wear). w.start) its_wear,
-      ap (λ (w : Wear). w.gap) its_wear,
-      (
-        record { memory = same_memory; wear = same_wear; count = none; power = powered; loss = loss; marks = marks },
-        at_most c.taken most watched.follows.few takes.sum,
-      ),
-    )
+    open_seen gapped powered loss takes none its_wear = search (same_memory, same_wear, at_most)
 
   -- ---- recovery is done
 
@@ -168,10 +157,7 @@ module _ (c : OnWearCall) where
     recovered_to = recovered setup p.ledger lit between suite_old suite_between engine work it off.durable refl c.world.few_armed
 
     record_inside : logical_lines c.geometry + 1 < layout.data_lines c.geometry
-    record_inside =
-        let size = c.world.levelled.size in
-        let count = c.world.places.count in
-        omega (arith, size, count)
+    record_inside = search rules
 
     -- the record is that of the wear
     record_read : (new : Parts) (line : Line) → HasReadLine setup (logical_lines c.geometry + 1) parts_between new (Ok line)
@@ -241,8 +227,7 @@ module _ (c : OnWearCall) where
     opened_exit gapped line read along up =
         let start = parts_from between suite_between engine work it in
         let middle = parts_between between suite_between engine work it in
-        let was : HasReadLine setup (logical_lines c.geometry + 1) middle (parts_to gapped.engine) (Ok line) =
-        subst (λ n. HasReadLine setup (n + 1) middle (parts_to gapped.engine) (Ok line)) read.its_lines read.was_read in
+        let was : HasReadLine setup (logical_lines c.geometry + 1) middle (parts_to gapped.engine) (Ok line) = search (rules, HasReadLine) in
         let done = read_done setup start middle [] [] bound (recovered_to between suite_between engine work it) (logical_lines c.geometry + 1) (parts_to gapped.engine) line was in
         let marks = no_marks [] done.marks in
         let its_wear : gapped.wear ≡ old.wear =

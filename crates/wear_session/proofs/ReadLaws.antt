@@ -1,5 +1,5 @@
 -- A read of a logical line as the session's fields have it: it shows memory's line, or power is cut.
-use Rattle.std.proofs.Common.{ℕ, ◌≡◌, ◌<◌, ◌++◌, true, false, List, [], Option, Some, None, Ok, Err, refl, sym, ap, subst, ◌∙◌, arith, cond}
+use Rattle.std.proofs.Common.{ℕ, ◌≡◌, ◌<◌, ◌++◌, true, false, List, [], Option, Some, None, Ok, Err, refl, sym, ap, subst, ◌∙◌, arith, cond, rules}
 use Rattle.wear_session.proofs.Common.{unwrap_or, option_map, Result, append-nil, same_Some, Line, Mark, line_at, BoardMemory, LedgerState, Setup, plain_memory, path_length, Parts, parts_of, going, cut_short, OneLossEffect, HasReadLine, Gapped, place_of, HasWear, logical_lines, IsLevelled, places, Taken, steps_in, step_limit, device_during, none_taken, IsWatched, at_most, fewer, wear_in, levelled_memory, WearState, wear_setup_in, place_in, WearParts, IsWearWorld, IsLevelledOn, wear_of, HasWearRead, wear_of_line, wear_decided, IsWearAnswered, true≢false, Shape, ended, Follows, Formulas, Fault, chip_of, read_plan, setup_under, has_called, kept_of, WearAnswer, IsWearCalled, read_call, read_said}
 use Rattle.wear_session.proofs.Worlds.{on_in, lines_are, on_after, off_after}
 use Rattle.wear_session.proofs.AnswerClauses.{of_line_is, served, seen_from, held_under}
@@ -10,7 +10,7 @@ use Rattle.wear_session.specs.declared.commands.WearCommand.TheVariants as Do
 use Rattle.pmem_engine.specs.Engine.{on_chip}
 use Rattle.call_effects.specs.Outcomes.{is_going}
 use Rattle.pmem_engine.specs.Outcomes.{outcome_of}
-use Rattle.std.specs.Prelude.{◌||◌, not, Bool}
+use Rattle.std.specs.Prelude.{◌||◌, not}
 
 -- the session's parts as the read finds them, what it leaves and answers
 pub record ReadWearCall : Type 0 where
@@ -79,14 +79,10 @@ module _ (c : ReadWearCall) where
   n_is = lines_are setup p c.gapped on
 
   running_by : (answer : Result Line Fault) → c.answer ≡ answer → is_going (outcome_of answer) ≡ true → c.after.engine.down ≡ false
-  running_by answer is goes =
-      c.down ∙ ap (λ (b : Bool). b || not (is_going (outcome_of c.answer))) on.running
-      ∙ ap (λ (r : Result Line Fault). not (is_going (outcome_of r))) is ∙ ap not goes
+  running_by answer is goes = search rules
 
   read_as : (answer : Result Line Fault) → c.answer ≡ answer → HasReadLine setup place from to answer
-  read_as answer is =
-      subst (λ r. HasReadLine setup place from to r) is
-      (subst (λ s. HasReadLine (setup_under c.formulas_of s p.keys) place from to c.answer) on.its_shape c.was_read)
+  read_as answer is = search (rules, HasReadLine, setup_under)
 
   undecided : wear_of_line old c.at None ≡ None
   undecided = let n = n_is in let low = c.within in of_line_is old c.at None on.powered (omega (arith, n, low))
@@ -145,9 +141,7 @@ module _ (c : ReadWearCall) where
 
     levelled : IsLevelled (logical_lines c.geometry) (plain_memory setup c.ledger.marks) (wear_in setup (plain_memory setup c.ledger.marks))
         (levelled_memory setup (plain_memory setup c.ledger.marks))
-    levelled =
-        subst (λ (m : List Mark). IsLevelled (logical_lines c.geometry) (plain_memory setup m) (wear_in setup (plain_memory setup m))
-        (levelled_memory setup (plain_memory setup m))) (sym marks) c.world.levelled
+    levelled = search (rules, plain_memory)
 
     same_memory : levelled_memory setup (plain_memory setup c.ledger.marks) ≡ old.memory
     same_memory = ap (λ (m : List Mark). levelled_memory setup (plain_memory setup m)) marks

@@ -1,6 +1,6 @@
 -- What the answers of a session promise: of one answer, and of each chain of them.
-use Rattle.std.proofs.Common.{ℕ, ◌≡◌, ◌<◌, ◌≤◌, ◌+◌, ◌%◌, ◌≢◌, ◌++◌, ◌⊎◌, inl, inr, Bool, true, false, cond, List, [], ◌∷◌, length, Some, None, refl, sym, ap, subst, subst₂, ◌∙◌, arith}
-use Rattle.wear_session.proofs.Common.{All, nat_lt, slice_set, ◌==◌, if◌then◌else◌, mod-eq_of_lt, true≢false, cases_eq, eq-eqb, ne_eqb, same_Some, append-nil, All-nil, All-cons, Line, Posted, Setup, Memory, memory_with, IsSpentNext, Wear, next_wear, logical_lines, WearCommand, WearAnswer, WearState, wear_lines_in, places_in, place_in, is_due, moment_in, moving_writes, own_write, engine_writes, Writing, IsWearButForSteps, wear_without_power, IsWriting, HasWearWritten, HasWearRead, HasWearOpened, EndsWriting, IsWearAnswered, IsWearAnsweredAs, after_writing}
+use Rattle.std.proofs.Common.{ℕ, ◌≡◌, ◌<◌, ◌≤◌, ◌+◌, ◌%◌, ◌≢◌, ◌⊎◌, inl, inr, Bool, true, false, cond, List, [], ◌∷◌, length, Some, None, refl, sym, ap, subst, ◌∙◌, arith, rules}
+use Rattle.wear_session.proofs.Common.{All, nat_lt, slice_set, ◌==◌, if◌then◌else◌, mod-eq_of_lt, true≢false, cases_eq, ne_eqb, All-nil, All-cons, Line, Posted, Setup, Memory, Wear, next_wear, logical_lines, WearCommand, WearAnswer, WearState, wear_lines_in, place_in, is_due, moment_in, engine_writes, Writing, IsWearButForSteps, wear_without_power, IsWriting, HasWearWritten, HasWearRead, HasWearOpened, EndsWriting, IsWearAnswered, IsWearAnsweredAs, after_writing}
 use Rattle.wear_session.specs.declared.commands.WearCommand.TheVariants as Do
 use Rattle.wear_session.specs.declared.answers.WearAnswer.TheVariants as Say
 use Rattle.wear_session.proofs.AnswerClauses.{kept_always}
@@ -32,9 +32,7 @@ record IsStill (first next : WearState) : Type 0 where
   count : next.session.board.powered ≡ true → (first.session.board.powered ≡ true) × (next.count ≡ first.count)
 
 still_same : (first next : WearState) → next ≡ first → IsStill first next
-still_same first next is =
-    subst (λ (s : WearState). IsStill first s) (sym is)
-    (record { memory = refl; wear = refl; count = λ lit. (lit, refl) })
+still_same first next is = search rules
 
 still_cut : (first next : WearState) → IsWearButForSteps (wear_without_power first) next → IsStill first next
 still_cut first next it = record { memory = it.memory; wear = it.wear; count = λ lit. absurd (true≢false (sym lit ∙ it.power)) }
@@ -47,30 +45,14 @@ still_step : (first next : WearState) (w : ℕ) (command : WearCommand) (answer 
     → memory_with_reply first.memory command answer ≡ first.memory
     → ((new : Turning) → (new.wear ≡ first.wear) × (new.written ≡ w) → TurnsTo (wear_lines_in first) first.every (turning_of first w) command answer new)
     → IsWearMendedAnswer command answer → Counts first.every first w → IsStill first next → IsWearStep first next w command answer
-still_step first next w command answer read memory turns mended counts same =
-    record {
-      read = read;
-      memory = same.memory ∙ sym memory;
-      after = w;
-      turns = turns (turning_of next w) (same.wear, refl);
-      count = still_counts first next w counts same;
-      mended = mended;
-    }
+still_step first next w command answer read memory turns mended counts same = search (rules, still_counts)
 
 -- an answer by which power goes off, and nothing else of that changes
 dark_step : (first next : WearState) (w : ℕ) (command : WearCommand) (answer : WearAnswer) → IsWearReadOf first.memory command answer
     → memory_with_reply first.memory command answer ≡ first.memory
     → ((new : Turning) → (new.wear ≡ first.wear) × (new.written ≡ 0) → TurnsTo (wear_lines_in first) first.every (turning_of first w) command answer new)
     → IsWearMendedAnswer command answer → next.session.board.powered ≡ false → IsStill first next → IsWearStep first next w command answer
-dark_step first next w command answer read memory turns mended dark same =
-    record {
-      read = read;
-      memory = same.memory ∙ sym memory;
-      after = 0;
-      turns = turns (turning_of next 0) (same.wear, refl);
-      count = λ lit. absurd (true≢false (sym lit ∙ dark));
-      mended = mended;
-    }
+dark_step first next w command answer read memory turns mended dark same = search (rules, true≢false)
 
 -- ---- a write
 
@@ -84,28 +66,14 @@ record IsLeft (first next : WearState) (a : ℕ) (plain : Line) (k : ℕ) : Type
 
 left_going : (first next : WearState) (a : ℕ) (plain : Line) (writing : Writing) → IsWearButForSteps (after_writing first a plain writing) next
     → IsLeft first next a plain writing.done
-left_going first next a plain writing it =
-    let is = with_writes_is first a plain writing.done in
-    record {
-      memory = it.memory ∙ ap (λ (s : WearState). s.memory) is;
-      wear = it.wear ∙ ap (λ (s : WearState). s.wear) is;
-      count = λ lit. (sym it.power ∙ lit, it.count ∙ ap (λ (s : WearState). s.count) is);
-    }
+left_going first next a plain writing it = search (rules, with_writes_is)
 
 left_cut : (first next : WearState) (a : ℕ) (plain : Line) (writing : Writing)
     → IsWearButForSteps (wear_without_power (after_writing first a plain writing)) next → IsLeft first next a plain writing.done
-left_cut first next a plain writing it =
-    let is = with_writes_is first a plain writing.done in
-    record {
-      memory = it.memory ∙ ap (λ (s : WearState). s.memory) is;
-      wear = it.wear ∙ ap (λ (s : WearState). s.wear) is;
-      count = λ lit. absurd (true≢false (sym lit ∙ it.power));
-    }
+left_cut first next a plain writing it = search (rules, with_writes_is, true≢false)
 
 still_left : (first next : WearState) (a : ℕ) (plain : Line) (k : ℕ) → k ≡ 0 → IsLeft first next a plain k → IsStill first next
-still_left first next a plain k none left =
-    let it : IsLeft first next a plain 0 = subst (IsLeft first next a plain) none left in
-    record { memory = it.memory; wear = it.wear; count = it.count }
+still_left first next a plain k none left = search rules
 
 module _ (setup : Setup) (first next : WearState) (w a : ℕ) (plain : Line) (some : 1 ≤ first.every) (lit : first.session.board.powered ≡ true) (counts : Counts first.every first w) where
   abbrev writes : List Posted
@@ -119,13 +87,7 @@ module _ (setup : Setup) (first next : WearState) (w a : ℕ) (plain : Line) (so
 
   -- three engine writes where a move is due, and else one
   writes_long : (due : Bool) → is_due first ≡ due → length writes ≡ (if due then 3 else 1)
-  writes_long due is = long (is_due first) is
-    where
-      long : (d : Bool) → d ≡ due
-          → length (own_write first a plain ∷ (if d then moving_writes (wear_lines_in first) first.wear (memory_with (places_in setup first.session) (own_write first a plain)) else []))
-          ≡ (if due then 3 else 1)
-      long true e = ap (λ b. if b then 3 else 1) e
-      long false e = ap (λ b. if b then 3 else 1) e
+  writes_long due is = search rules
 
   -- the line is written
   written_step : (k : ℕ) (answer : WearAnswer) → 0 < k → IsLeft first next a plain k
@@ -156,22 +118,15 @@ module _ (setup : Setup) (first next : WearState) (w a : ℕ) (plain : Line) (so
 
   wear_moved : (k : ℕ) → k ≡ 3 → is_due first ≡ true → IsLeft first next a plain k
       → next.wear ≡ wear_turned (wear_lines_in first) first.every (turning_of first w)
-  wear_moved k all due left =
-      wear_left k (omega (arith, all)) left
-      ∙ ap (λ b. cond b (next_wear (wear_lines_in first) first.wear) first.wear) (eq-eqb k 3 all)
-      ∙ sym (ap (λ b. if b then next_wear (wear_lines_in first) first.wear else first.wear) (its_turn ∙ due))
+  wear_moved k all due left = search its_turn
 
   wear_unturned : (k : ℕ) → 0 < k → k ≢ 3 → is_due first ≡ false → IsLeft first next a plain k
       → next.wear ≡ wear_turned (wear_lines_in first) first.every (turning_of first w)
-  wear_unturned k done other early left =
-      wear_kept k done other left
-      ∙ sym (ap (λ b. if b then next_wear (wear_lines_in first) first.wear else first.wear) (its_turn ∙ early))
+  wear_unturned k done other early left = search (rules, wear_kept, its_turn)
 
   all_step : (writing : Writing) (steps : ℕ) (due : Bool) → is_due first ≡ due → writing.done ≡ length writes
       → IsLeft first next a plain writing.done → IsWearStep first next w (Do.Write a plain) (Say.Written steps)
-  all_step writing steps true is all left =
-      let three : writing.done ≡ 3 = all ∙ writes_long true is in
-      written_step writing.done (Say.Written steps) (omega (arith, three)) left refl tt tt (wear_moved writing.done three is left, refl)
+  all_step writing steps true is all left = search (rules, writes_long, written_step, wear_moved)
   all_step writing steps false is all left =
       let one : writing.done ≡ 1 = all ∙ writes_long false is in
       written_step writing.done (Say.Written steps) (omega (arith, one)) left refl tt tt
@@ -179,13 +134,8 @@ module _ (setup : Setup) (first next : WearState) (w a : ℕ) (plain : Line) (so
 
   held_step : (writing : Writing) (page steps : ℕ) (due : Bool) → is_due first ≡ due → 0 < writing.done → writing.done < length writes
       → IsLeft first next a plain writing.done → IsWearStep first next w (Do.Write a plain) (Say.Held page steps)
-  held_step writing page steps true is done waits left =
-      let long = writes_long true is in
-      written_step writing.done (Say.Held page steps) done left refl tt tt
-      (its_turn ∙ is, wear_kept writing.done done (omega (arith, long, waits)) left, refl)
-  held_step writing page steps false is done waits left =
-      let long = writes_long false is in
-      absurd (omega (arith, long, waits, done))
+  held_step writing page steps true is done waits left = search (rules, writes_long, written_step, its_turn, wear_kept)
+  held_step writing page steps false is done waits left = search (rules, writes_long)
 
   kept_step : (writing : Writing) (steps : ℕ) (due : Bool) → is_due first ≡ due → 0 < writing.done → writing.done ≤ length writes
       → next.session.board.powered ≡ false → IsLeft first next a plain writing.done → IsWearStep first next w (Do.Write a plain) (Say.CutKept steps)
@@ -245,16 +195,7 @@ module _ (setup : Setup) (first next : WearState) (w : ℕ) (some : 1 ≤ first.
   read_step a answer it = absurd it
 
   open_step : (answer : WearAnswer) → HasWearOpened first answer next → IsWearStep first next w Do.On answer
-  open_step (Say.Opened start gap steps) it =
-      let goes = it.2.0 in
-      record {
-        read = tt;
-        memory = goes.memory;
-        after = 0;
-        turns = (it.0, it.1, goes.wear, refl);
-        count = λ lit. goes.count ∙ sym (mod-eq_of_lt some);
-        mended = tt;
-      }
+  open_step (Say.Opened start gap steps) it = search (rules, mod-eq_of_lt)
   open_step (Say.Cut steps) it =
       dark_step first next w Do.On (Say.Cut steps) tt refl (λ new h. h) tt it.0.power (still_cut first next it.0)
   open_step answer it = absurd it
@@ -264,80 +205,34 @@ module _ (setup : Setup) (first next : WearState) (w : ℕ) (some : 1 ≤ first.
       → IsWearAnsweredAs (if p then (if b then None else Some Say.Range) else Some Say.Off) setup first (Do.Write a plain) answer next
       → IsWearStep first next w (Do.Write a plain) answer
   write_by true true a plain answer lit it = write_step setup first next w a plain some lit counts answer it.0
-  write_by true false a plain answer lit it =
-      subst (IsWearStep first next w (Do.Write a plain)) (sym it.0)
-      (still_step first next w (Do.Write a plain) Say.Range tt refl (λ new h. h) tt counts (still_same first next it.1))
-  write_by false b a plain answer lit it =
-      subst (IsWearStep first next w (Do.Write a plain)) (sym it.0)
-      (still_step first next w (Do.Write a plain) Say.Off tt refl (λ new h. h) tt counts (still_same first next it.1))
+  write_by true false a plain answer lit it = search (rules, still_step, still_same)
+  write_by false b a plain answer lit it = search (rules, still_step, still_same)
 
   read_by : (p b : Bool) (a : ℕ) (answer : WearAnswer)
       → IsWearAnsweredAs (if p then (if b then None else Some Say.Range) else Some Say.Off) setup first (Do.Read a) answer next
       → IsWearStep first next w (Do.Read a) answer
   read_by true true a answer it = read_step a answer it.0
-  read_by true false a answer it =
-      subst (IsWearStep first next w (Do.Read a)) (sym it.0)
-      (still_step first next w (Do.Read a) Say.Range tt refl (λ new h. h) tt counts (still_same first next it.1))
-  read_by false b a answer it =
-      subst (IsWearStep first next w (Do.Read a)) (sym it.0)
-      (still_step first next w (Do.Read a) Say.Off tt refl (λ new h. h) tt counts (still_same first next it.1))
+  read_by true false a answer it = search (rules, still_step, still_same)
+  read_by false b a answer it = search (rules, still_step, still_same)
 
   place_by : (p b : Bool) (a : ℕ) (answer : WearAnswer)
       → IsWearAnsweredAs (if p then (if b then Some (Say.At (place_in first a)) else Some Say.Range) else Some Say.Off) setup first (Do.Place a) answer next
       → IsWearStep first next w (Do.Place a) answer
-  place_by true true a answer it =
-      let same = still_same first next it.1 in
-      subst (IsWearStep first next w (Do.Place a)) (sym it.0)
-      (record {
-        read = tt;
-        memory = same.memory;
-        after = w;
-        turns = (refl, ap (λ (s : WearState). turning_of s w) it.1);
-        count = still_counts first next w counts same;
-        mended = tt;
-      })
-  place_by true false a answer it =
-      subst (IsWearStep first next w (Do.Place a)) (sym it.0)
-      (still_step first next w (Do.Place a) Say.Range tt refl (λ new h. h) tt counts (still_same first next it.1))
-  place_by false b a answer it =
-      subst (IsWearStep first next w (Do.Place a)) (sym it.0)
-      (still_step first next w (Do.Place a) Say.Off tt refl (λ new h. h) tt counts (still_same first next it.1))
-
-  off_by : (p : Bool) (answer : WearAnswer) → first.session.board.powered ≡ p
-      → (fixed : WearAnswer) → fixed ≡ (if p then Say.Ok else Say.Off) → answer ≡ fixed
-      → next ≡ (if p then wear_without_power first else first)
-      → IsWearStep first next w Do.Off answer
-  off_by true answer lit fixed same is it =
-      subst (IsWearStep first next w Do.Off) (sym (is ∙ same))
-      (dark_step first next w Do.Off Say.Ok tt refl (λ new h. h) tt (ap (λ (s : WearState). s.session.board.powered) it)
-      (subst (λ (s : WearState). IsStill first s) (sym it)
-      (record { memory = refl; wear = refl; count = λ lit. absurd (true≢false (sym lit)) })))
-  off_by false answer dark fixed same is it =
-      subst (IsWearStep first next w Do.Off) (sym (is ∙ same))
-      (still_step first next w Do.Off Say.Off tt refl (λ new h. h) tt counts (still_same first next it))
+  place_by true true a answer it = search (rules, still_same, still_counts)
+  place_by true false a answer it = search (rules, still_step, still_same)
+  place_by false b a answer it = search (rules, still_step, still_same)
 
   on_by : (p : Bool) (answer : WearAnswer) → IsWearAnsweredAs (if p then Some Say.Already else None) setup first Do.On answer next
       → IsWearStep first next w Do.On answer
-  on_by true answer it =
-      subst (IsWearStep first next w Do.On) (sym it.0)
-      (still_step first next w Do.On Say.Already tt refl (λ new h. h) tt counts (still_same first next it.1))
+  on_by true answer it = search (rules, still_step, still_same)
   on_by false answer it = open_step answer it.0
 
   step : (command : WearCommand) (answer : WearAnswer) → IsWearAnswered setup first command answer next → IsWearStep first next w command answer
   step (Do.Write a plain) answer it = write_by first.session.board.powered (nat_lt a (wear_lines_in first)) a plain answer refl it
   step (Do.Read a) answer it = read_by first.session.board.powered (nat_lt a (wear_lines_in first)) a answer it
   step (Do.Place a) answer it = place_by first.session.board.powered (nat_lt a (wear_lines_in first)) a answer it
-  step (Do.Cut n) answer it =
-      subst (IsWearStep first next w (Do.Cut n)) (sym it.0)
-      (still_step first next w (Do.Cut n) Say.Ok tt refl (λ new h. h) tt counts
-      (subst (λ (s : WearState). IsStill first s) (sym it.1)
-      (record { memory = refl; wear = refl; count = λ lit. (lit, refl) })))
-  step Do.Off answer it = off_as first.session.board.powered refl it
-    where
-      off_as : (p : Bool) → first.session.board.powered ≡ p
-          → IsWearAnsweredAs (if p then Some Say.Ok else Some Say.Off) setup first Do.Off answer next → IsWearStep first next w Do.Off answer
-      off_as true lit it = off_by true answer lit Say.Ok refl it.0 (it.1 ∙ ap (λ b. if b then wear_without_power first else first) lit)
-      off_as false dark it = off_by false answer dark Say.Off refl it.0 (it.1 ∙ ap (λ b. if b then wear_without_power first else first) dark)
+  step (Do.Cut n) answer it = search (rules, still_step)
+  step Do.Off answer it = search rules
   step Do.On answer it = on_by first.session.board.powered answer it
 
 -- ---- chains
@@ -359,8 +254,7 @@ say_all setup first last (reply ∷ replies) w some counts chain =
     let kept = kept_always setup first next reply.command reply.answer chain.1 in
     let later =
     say_all setup next last replies it.after (subst (λ e. 1 ≤ e) (sym kept.every) some) (subst (λ e. Counts e next it.after) (sym kept.every) it.count) chain.2 in
-    let turned : AreTurned (wear_lines_in first) first.every (turning_of next it.after) replies later.last =
-    subst₂ (λ n e. AreTurned n e (turning_of next it.after) replies later.last) (ap logical_lines kept.shape) kept.every later.turned in
+    let turned : AreTurned (wear_lines_in first) first.every (turning_of next it.after) replies later.last = search rules in
     record {
       reads = (it.read, subst (λ m. AreReadAsWritten m replies) it.memory later.reads);
       last = later.last;
@@ -379,44 +273,15 @@ wear_kept_always setup every replies last session =
     record {
       reads = subst (λ m. AreReadAsWritten m replies) new.memory all.reads;
       turning = all.last;
-      turned =
-          subst (λ t. AreTurned (logical_lines setup.shape) every t replies all.last) begins
-          (subst₂ (λ n e. AreTurned n e (turning_of first 0) replies all.last) n_is new.its_every all.turned);
+      turned = search rules;
       mended = all.mended;
     }
 
 -- ---- what is used up
 
-spent_by : (setup : Setup) (first next : WearState) (a : ℕ) (plain : Line) (answer : WearAnswer) → HasWearWritten setup first a plain answer next
-    → IsWearSpentAnswer setup first (Do.Write a plain) answer next
-spent_by setup first next a plain answer it = go answer it.came it.ends
-  where
-    writing : Writing
-    writing = it.writing
-
-    go : (answer : WearAnswer) → IsWriting setup.formulas (moment_in setup first.session) (engine_writes setup first a plain) writing answer
-        → EndsWriting (after_writing first a plain writing) answer first next → IsWearSpentAnswer setup first (Do.Write a plain) answer next
-    go (Say.Held page steps) came ends = (writing.done, came.0, record { used_up = came.1.spent; its_page = came.1.its_page })
-    go (Say.Spent page steps) came ends =
-        let next_spent = subst (λ k. IsSpentNext setup.formulas (moment_in setup first.session) (engine_writes setup first a plain) k page writing.made) came.0 came.1 in
-        let same = still_left first next a plain writing.done came.0 (left_going first next a plain writing ends.0) in
-        let none : writing.made ≡ [] = sym (same_Some [] writing.made next_spent.all_drained) in (
-          record { used_up = next_spent.spent; its_page = next_spent.its_page },
-          same.memory,
-          same.wear,
-          ends.0.marks ∙ ap (λ m. first.session.ledger.marks ++ m) none ∙ append-nil first.session.ledger.marks,
-        )
-    go answer came ends = tt
-
 spent_answer : (setup : Setup) (first next : WearState) (command : WearCommand) (answer : WearAnswer) → IsWearAnswered setup first command answer next
     → IsWearSpentAnswer setup first command answer next
-spent_answer setup first next (Do.Write a plain) answer it = by_line first.session.board.powered (nat_lt a (wear_lines_in first)) it
-  where
-    by_line : (p b : Bool) → IsWearAnsweredAs (if p then (if b then None else Some Say.Range) else Some Say.Off) setup first (Do.Write a plain) answer next
-        → IsWearSpentAnswer setup first (Do.Write a plain) answer next
-    by_line true true it = spent_by setup first next a plain answer it.0
-    by_line true false it = subst (λ r. IsWearSpentAnswer setup first (Do.Write a plain) r next) (sym it.0) tt
-    by_line false b it = subst (λ r. IsWearSpentAnswer setup first (Do.Write a plain) r next) (sym it.0) tt
+spent_answer setup first next (Do.Write a plain) answer it = search (rules, nat_lt)
 spent_answer setup first next command answer it = tt
 
 all_spent : (setup : Setup) (first last : WearState) (replies : List WearReply) → AreWearAnswered setup first replies last

@@ -1,5 +1,5 @@
 -- Writes that are counted, and the moves that are due by the count.
-use Rattle.std.proofs.Common.{ℕ, ◌≡◌, ◌<◌, ◌≤◌, ◌+◌, ◌*◌, ◌/◌, ◌%◌, inl, inr, true, false, sym, ap, ◌∙◌, arith}
+use Rattle.std.proofs.Common.{ℕ, ◌≡◌, ◌<◌, ◌≤◌, ◌+◌, ◌*◌, ◌/◌, ◌%◌, inl, inr, false, sym, ap, ◌∙◌, arith, rules}
 use Rattle.wear_session.proofs.Common.{nat_lt, not, ◌==◌, if◌then◌else◌, mod-lt, mod-eq_of_lt, mul-add-mod_self_left, div-add-mod, add-mod_left, cases_lt, lt-ltb, le-ltb, ne_eqb}
 
 next_mod : (w every : ℕ) → 1 ≤ every → (w + 1) % every ≡ (w % every + 1) % every
@@ -17,17 +17,10 @@ counted_by every count w some is =
     let below : w % every < every = mod-lt w some in
     let step : (w + 1) % every ≡ (count + 1) % every = next_mod w every some ∙ ap (λ k. (k + 1) % every) (sym is) in
     elim (cases_lt (count + 1) every) [
-      | inl early ↦
-          let rest : (w + 1) % every ≡ count + 1 = step ∙ mod-eq_of_lt early in
-          let low : nat_lt (count + 1) every ≡ true = lt-ltb (count + 1) every early in
-          record {
-            turn = ap not low ∙ sym (ne_eqb (count + 1) 0 (λ none. omega (arith, none))) ∙ sym (ap (λ k. k == 0) rest);
-            next = ap (λ b. if not b then 0 else count + 1) low ∙ sym rest;
-          }
+      | inl early ↦ search (rules, mod-eq_of_lt, lt-ltb, ne_eqb)
       | inr late ↦
           let all : count + 1 ≡ every + 0 = omega (arith, is, below, late) in
-          let rest : (w + 1) % every ≡ 0 =
-          step ∙ ap (λ k. k % every) all ∙ add-mod_left every 0 ∙ mod-eq_of_lt (omega (arith, some)) in
+          let rest : (w + 1) % every ≡ 0 = search (rules, add-mod_left, mod-eq_of_lt) in
           let high : nat_lt (count + 1) every ≡ false = le-ltb (count + 1) every late in
           record {
             turn = ap not high ∙ sym (ap (λ k. k == 0) rest);

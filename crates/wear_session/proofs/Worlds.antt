@@ -1,5 +1,5 @@
 -- What a session holds after a call that goes on or is cut.
-use Rattle.std.proofs.Common.{rules, ℕ, ◌≡◌, ◌≤◌, true, false, length, Some, None, refl, sym, ap, subst, arith}
+use Rattle.std.proofs.Common.{rules, ℕ, ◌≡◌, ◌≤◌, true, false, length, Some, None, sym, ap, subst, arith}
 use Rattle.wear_session.proofs.Common.{IsShape, BoardMemory, LedgerState, AreInRange, Setup, plain_memory, IsDurable, IsSound, sealed_in, places_of, Gapped, IsLevelled, logical_lines, wear_in, levelled_memory, WearParts, IsWearWorld, IsLevelledOn, IsLevelledBy}
 use Rattle.pmem_base.specs.Layout as layout
 use Rattle.pmem_engine.specs.Engine.{on_chip}
@@ -12,10 +12,7 @@ on_in setup p gapped world there = subst (λ g. IsLevelledBy setup p g) there wo
 
 -- there are as many lines as the geometry says
 pub lines_are : (setup : Setup) (p : WearParts) (gapped : Gapped) → IsLevelledOn setup p gapped → gapped.lines ≡ logical_lines setup.shape
-lines_are setup p gapped on =
-    let size = gapped.its_lines in
-    let same : layout.data_lines gapped.engine.shape ≡ layout.data_lines setup.shape = ap layout.data_lines on.its_shape in
-    omega (arith, size, same)
+lines_are setup p gapped on = search rules
 
 -- with power on, where all is sound
 pub on_of : (setup : Setup) (parts : WearParts) (gapped : Gapped) → parts.gapped ≡ Some gapped → IsShape setup.shape → AreInRange setup.formulas
@@ -26,27 +23,7 @@ pub on_of : (setup : Setup) (parts : WearParts) (gapped : Gapped) → parts.gapp
     → gapped.wear ≡ wear_in setup (plain_memory setup parts.ledger.marks) → IsWearWorld setup parts
 on_of setup parts gapped there shape formulas some levelled powered running sound every wear =
     let sealed = sealed_in setup parts.board.regs parts.ledger sound.trusted.anchored in
-    let chip : IsLevelledOn setup parts gapped =
-    record {
-      powered = powered;
-      sound = sound;
-      running = running;
-      its_shape = sound.trusted.its_shape;
-      usable =
-          record {
-            ready =
-                record {
-                  its_size = sound.durable.device_whole.count;
-                  valid_regs = sound.trusted.anchored.valid_regs;
-                  no_group = λ up. sound.trusted.no_group;
-                };
-            true_lines = sound.trusted.anchored.of_shape.truth_count;
-            line_count = sound.trusted.anchored.of_shape.line_count;
-            each_sealed = sealed;
-          };
-      its_every = every;
-      its_wear = wear;
-    } in
+    let chip : IsLevelledOn setup parts gapped = search rules in
     record {
       whole_shape = shape;
       whole_formulas = formulas;
@@ -69,25 +46,9 @@ module _ (setup : Setup) (p : WearParts) (tags digests : ℕ) (board : BoardMemo
   pub on_after : (after : Gapped) → board.powered ≡ true → after.engine.down ≡ false → IsSound setup (on_chip after.engine) board.lines board.regs ledger → after.every ≡ p.every
       → after.wear ≡ wear_in setup (plain_memory setup ledger.marks)
       → IsWearWorld setup (record { keys = p.keys; tags = tags; digests = digests; every = p.every; board = board; ledger = ledger; gapped = Some after })
-  on_after after powered running sound every wear =
-      on_of setup (record { keys = p.keys; tags = tags; digests = digests; every = p.every; board = board; ledger = ledger; gapped = Some after }) after refl world.whole_shape
-      world.whole_formulas world.some_every levelled powered running sound every wear
+  on_after after powered running sound every wear = search on_of
 
   -- with power off, where the device is durable
   pub off_after : board.powered ≡ false → IsDurable setup board.lines board.regs ledger → length board.regs.group.items ≤ 3
       → IsWearWorld setup (record { keys = p.keys; tags = tags; digests = digests; every = p.every; board = board; ledger = ledger; gapped = None })
-  off_after unpowered durable few =
-      let anchored = durable.mendable.anchored in
-      record {
-        whole_shape = world.whole_shape;
-        whole_formulas = world.whole_formulas;
-        some_every = world.some_every;
-        whole_lines = durable.device_whole;
-        valid_regs = anchored.valid_regs;
-        few_armed = few;
-        ledger = anchored.of_shape;
-        no_exhibit = search (rules, anchored.no_exhibit);
-        places = places_of setup ledger.marks (sealed_in setup board.regs ledger anchored);
-        levelled = levelled;
-        chip = record { unpowered = unpowered; durable = durable };
-      }
+  off_after unpowered durable few = search (places_of, sealed_in)

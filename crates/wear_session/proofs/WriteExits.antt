@@ -1,5 +1,5 @@
 -- A write of a logical line as the session's fields have it: what is held after each of its answers, and what these say.
-use Rattle.std.proofs.Common.{ℕ, zero, suc, ◌≡◌, ◌<◌, ◌≤◌, ◌+◌, ◌++◌, ◌⊎◌, inl, inr, Bool, true, false, cond, List, [], length, take, drop, Option, Some, None, Ok, Err, refl, sym, ap, subst, ◌∙◌, arith}
+use Rattle.std.proofs.Common.{ℕ, zero, suc, ◌≡◌, ◌<◌, ◌≤◌, ◌+◌, ◌++◌, ◌⊎◌, inl, inr, Bool, true, false, cond, List, [], length, take, drop, Option, Some, None, Ok, Err, refl, sym, ap, subst, ◌∙◌, arith, rules}
 use Rattle.wear_session.proofs.Common.{Result, Moved, ◌||◌, ◌==◌, list_any, true≢false, length-append, drop_at, Posted, Mark, Setup, Memory, path_length, Fault, Parts, whole_write, Wear, Gapped, WriteFault, place_of, wear_at, IsCutOrSpent, Writing, is_own_seal, write_steps, moment_now, memory_done, AreGone, IsCutAt, IsStoppedAt, steps_in, step_limit, WearAnswer, WearState, wear_setup_in, moment_in, WearParts, IsWearWorld, wear_of, IsWearAnswered, is_due, IsWriting, EndsWriting, after_writing, or_true, IsWearCalled, fault_said, move_said, setup_under}
 use Rattle.pmem_engine.specs.declared.fault.Fault.TheVariants as Fail
 use Rattle.start_gap.specs.declared.gapped.Moved.TheVariants as Move
@@ -180,9 +180,7 @@ module _ (c : WriteWearCall) where
   fresh = list_any (is_own_seal (place_of n wear c.at)) (drop (length c.ledger_before.marks) c.ledger.marks)
 
   fresh_is : (made : List Mark) → c.ledger.marks ≡ c.ledger_before.marks ++ made → fresh ≡ list_any (is_own_seal (place_of n wear c.at)) made
-  fresh_is made marks =
-      ap (list_any (is_own_seal (place_of n wear c.at)))
-      (ap (drop (length c.ledger_before.marks)) marks ∙ drop_at c.ledger_before.marks made (length c.ledger_before.marks) refl)
+  fresh_is made marks = search (rules, list_any, is_own_seal, drop_at)
 
   own_is : state.own c ≡ fresh
   own_is = ap (λ a. list_any (is_own_seal a) (drop (length c.ledger_before.marks) c.ledger.marks)) (state.place_is c)

@@ -1,6 +1,6 @@
 -- A write of a logical line as the session's fields have it: what is held once so many of its engine writes are done, and
 -- its call.
-use Rattle.std.proofs.Common.{ℕ, ◌≡◌, ◌<◌, ◌≤◌, ◌+◌, Bool, true, false, cond, List, length, take, drop, Option, Some, None, Result, refl, sym, ap, ap₂, subst, subst₂, ◌∙◌, arith}
+use Rattle.std.proofs.Common.{ℕ, ◌≡◌, ◌<◌, ◌≤◌, ◌+◌, Bool, true, false, cond, List, length, take, drop, Option, Some, None, Result, refl, sym, ap, ap₂, subst, subst₂, ◌∙◌, arith, rules}
 use Rattle.wear_session.proofs.Common.{not, nat_lt, unwrap_or, option_map, slice_set, ◌==◌, list_any, Line, Posted, Mark, IsLine, Shape, BoardMemory, ended, Follows, LedgerState, Formulas, Setup, Memory, plain_memory, moment_after_writes, Parts, parts_of, Chip, chip_of, Wear, Gapped, Moved, WriteFault, place_of, next_wear, IsLevelled, write_lines_at, wear_at, write_memory_at, Writing, is_own_seal, whole_places, moment_now, AreDone, AreCut, HasLevelledWrite, logical_lines, FollowsWrite, levelled_plan, write_answer_of, count_after, Taken, steps_in, step_limit, device_during, none_taken, IsWatched, at_most, fewer, WearAnswer, has_called, kept_of, WearState, wear_lines_in, is_due, engine_writes, place_in, wear_in, levelled_memory, WearParts, IsWearWorld, IsLevelledOn, wear_of, IsWearCalled, write_call, move_said, IsWearButForSteps, GoesToWearState, IsWearCutOff, after_writing, most_of_write, wear_of_line, wear_decided, setup_under, with_marks, wear_without_power}
 use Rattle.pmem_base.specs.Layout as layout
 use Rattle.wear_session.specs.declared.commands.WearCommand.TheVariants as Do
@@ -100,18 +100,13 @@ module _ (c : WriteWearCall) where
 
   -- the engine is up after a write that goes on
   pub running_by : (answer : Result Moved WriteFault) → c.answer ≡ answer → is_going (write_outcome_by answer) ≡ true → c.after.engine.down ≡ false
-  running_by answer is goes =
-      c.down ∙ ap (λ (b : Bool). b || not (is_going (write_outcome_by c.answer))) on.running
-      ∙ ap (λ (r : Result Moved WriteFault). not (is_going (write_outcome_by r))) is ∙ ap not goes
+  running_by answer is goes = search (rules, not)
 
   pub n_is : n ≡ logical_lines c.geometry
   n_is = lines_are setup p c.gapped on
 
   pub size : n + 2 ≡ layout.data_lines c.geometry
-  size =
-      let its = c.gapped.its_lines in
-      let same : layout.data_lines c.gapped.engine.shape ≡ layout.data_lines c.geometry = ap layout.data_lines on.its_shape in
-      omega (arith, its, same)
+  size = search rules
 
   -- ---- the session's words for the levelled lines'
 
@@ -119,9 +114,7 @@ module _ (c : WriteWearCall) where
   count_is = ap (λ (g : Option Gapped). unwrap_or (option_map (λ (k : Gapped). k.count) g) 0) c.there
 
   pub due_is : is_due old ≡ due
-  due_is =
-      ap (λ k. not (nat_lt (k + 1) c.before.every)) count_is
-      ∙ ap (λ k. not (nat_lt (c.gapped.count + 1) k)) (sym on.its_every)
+  due_is = search (rules, not, nat_lt)
 
   pub queue_is : engine_writes setup old c.at c.plain ≡ queue
   queue_is =
@@ -205,9 +198,7 @@ module _ (c : WriteWearCall) where
             (record {
               memory = memory_now_is;
               wear = wear_now;
-              count =
-                  count ∙ ap (λ m. cond (k == 0) m (cond due 0 (m + 1))) (sym count_is)
-                  ∙ ap (λ d. cond (k == 0) old.count (cond d 0 (old.count + 1))) (sym due_is);
+              count = search rules;
               power = done.live ∙ sym on.powered;
               loss = done.loss;
               marks = done.marks;
@@ -259,10 +250,7 @@ module _ (c : WriteWearCall) where
 
   pub plan_as : FollowsWrite setup c.at c.plain c.gapped c.after c.before.board.regs (chip_of c.gapped.engine c.ledger_before c.before.tags c.before.digests)
       (chip_of c.after.engine c.ledger c.tags_new c.digests_new) (device_during c.before.board none_taken) (device_during c.board c.taken) c.answer
-  plan_as =
-      subst (λ s. FollowsWrite (setup_under c.formulas_of s c.before.keys) c.at c.plain c.gapped c.after c.before.board.regs
-      (chip_of c.gapped.engine c.ledger_before c.before.tags c.before.digests) (chip_of c.after.engine c.ledger c.tags_new c.digests_new)
-      (device_during c.before.board none_taken) (device_during c.board c.taken) c.answer) on.its_shape c.plan
+  plan_as = search (rules, setup_under, chip_of, device_during)
 
   abbrev pub chip : Chip
   chip = chip_of c.gapped.engine c.ledger_before c.before.tags c.before.digests

@@ -1,6 +1,5 @@
 -- What a fetch answers, by its end.
 use Rattle.std.proofs.Common.{rules, ℕ, ◌≡◌, ◌<◌, ◌≤◌, ◌+◌, true, false, Option, Some, None, Ok, Err, refl, sym, ap, subst, subst₂, ◌∙◌, arith}
-use Rattle.std.specs.Prelude.{is_some}
 use Rattle.std.proofs.lemmas.Bool.{true≢false}
 use Rattle.pmem_base.specs.declared.lines.Line.{Line}
 use Rattle.pmem_base.specs.declared.answers.Exhibit.{Exhibit}
@@ -30,6 +29,7 @@ use Rattle.pmem_engine.specs.Inner.{HasFetched}
 use Rattle.call_effects.proofs.ToldLines.{told_gives}
 use Rattle.pmem_engine.proofs.CheckedReads.PathCosts.{length_spilled}
 use Rattle.pmem_engine.proofs.CheckedReads.FetchEnds.{IsFetchOver, done_going, done_cut, done_shown, few_steps, dirty_steps, fewer_dirty_steps, read_is_true, read_was_there}
+use Rattle.call_effects.proofs.ResultLaws.{none_is}
 
 -- what a shown clash names
 abbrev shown_position : Option Exhibit → ℕ
@@ -39,10 +39,6 @@ shown_position shown = 0
 abbrev shown_line : Option Exhibit → Line
 shown_line (Some (Clash x first second)) = first
 shown_line shown = zero_line
-
-none_of : {A : Type 0} (o : Option A) → is_some o ≡ false → o ≡ None
-none_of None it = refl
-none_of (Some x) it = absurd (true≢false it)
 
 -- ---- the answers
 
@@ -270,7 +266,7 @@ module _ (setup : Setup) (page : ℕ) (old new : ChipState) (ledger noted : Ledg
       read_here trusted = fetched_line trusted it.n it.line it.read.on_path it.read.absent it.read.tells
 
       none_kept : AreTrusted setup start → ledger.exhibit ≡ None
-      none_kept trusted = none_of ledger.exhibit trusted.anchored.no_exhibit
+      none_kept trusted = none_is ledger.exhibit trusted.anchored.no_exhibit
 
       clash : AreTrusted setup start → IsClashShown setup page start finish
       clash trusted =

@@ -1,9 +1,10 @@
--- The exits of a reseal: its line isn't unsealed, its group is cut, or the line is sealed anew.
-use Rattle.std.proofs.Common.{rules, ℕ, ◌≡◌, ◌<◌, ◌+◌, ◌++◌, inl, inr, true, false, cond, [], ◌∷◌, length, get_or, Some, Ok, Err, refl, sym, ap, subst, ◌∙◌, arith}
+-- The ends of a reseal: its line isn't unsealed, its group is cut, or the line is sealed anew.
+use Rattle.std.proofs.Common.{rules, ℕ, ◌≡◌, ◌<◌, ◌+◌, ◌-◌, ◌++◌, inl, inr, true, false, cond, [], ◌∷◌, length, get_or, Some, Result, Ok, Err, refl, sym, ap, subst, ◌∙◌, arith}
 use Rattle.std.proofs.lemmas.Bool.{true≢false, eq-eqb, and_from}
 use Rattle.std.proofs.lemmas.Option.{same_Some, get_or_from_slice_get}
 use Rattle.std.proofs.lemmas.List.Elements.{All-nil, All-cons}
 use Rattle.std.proofs.lemmas.List.Sums.{sum_by-cons}
+use Rattle.pmem_base.specs.declared.faults.Cut.{Cut}
 use Rattle.pmem_base.specs.declared.lines.Ctr.{Ctr}
 use Rattle.pmem_base.specs.declared.registers.Progress.{Progress}
 use Rattle.pmem_base.specs.declared.answers.Mark.{Mark}
@@ -17,6 +18,8 @@ use Rattle.suite.specs.Formulas.{AreInRange}
 use Rattle.suite.specs.Setup.{Setup}
 use Rattle.board.specs.Counts.{RisesBy}
 use Rattle.board.specs.Device.{Device, IsDevice}
+use Rattle.board.specs.Steps.{WasCut}
+use Rattle.call_plan.specs.Plans.{mapped_end}
 use Rattle.meta_path.specs.Work.{told_line}
 use Rattle.page_reencrypt.specs.Registers.{register_held}
 use Rattle.page_reencrypt.proofs.DoneBits.{not_done-not_done}
@@ -39,8 +42,8 @@ use Rattle.call_effects.specs.Outcomes.{going, cut_short, is_going}
 use Rattle.pmem_engine.specs.Outcomes.{is_sealed_by, NeverFalls, TakesSteps, TakesFewer}
 use Rattle.pmem_engine.specs.CallFacts.{IsUsableWith, IsMemory, moment_in, IsUnderMinorZero}
 use Rattle.pmem_engine.specs.Inner.{HasUnsealed, IsLastCounter}
-use Rattle.pmem_engine.specs.Committing.{next_seal_of, entries_of}
-use Rattle.pmem_engine.specs.Resealing.{IsNextHeld, HasLineSealed, HasResealCommitted, IsCutUnarmed, IsResealCutArmed, IsResealCut, line_of_page, HasResealMarks, AnswersReseal, CountsReseal, HasResealed}
+use Rattle.pmem_engine.specs.Committing.{next_seal_of, entries_of, HasCommitted, IsCutArmed}
+use Rattle.pmem_engine.specs.Resealing.{IsNextHeld, HasLineSealed, HasResealEnded, line_of_page, HasResealMarks, AnswersReseal, CountsReseal, HasResealed}
 use Rattle.pmem_engine.proofs.CallEnds.ErrorAnswers.{line_unrefused}
 use Rattle.pmem_engine.proofs.CallEnds.StillParts.{sound_trusted}
 use Rattle.pmem_engine.proofs.CallEnds.CallChains.{done_chained}
@@ -198,9 +201,9 @@ module _ (setup : Setup) (n : ℕ) (engine : ChipState) (old : Device) (before :
     -- ---- the group is cut before it was armed
 
     cut_unarmed : (new : Device) (after : LedgerState) (tags_now digests_now : ℕ) → tags_now ≡ risen tags_mid
-        → digests_now ≡ digests_mid → IsCutUnarmed mid new ledger after
+        → digests_now ≡ digests_mid → WasCut mid new → after ≡ ledger
         → HasResealed setup n start (parts_with engine new after tags_now digests_now) (Err AtLine.Cut)
-    cut_unarmed new after tags_now digests_now more_tags same_digests was_cut =
+    cut_unarmed new after tags_now digests_now more_tags same_digests was_cut told =
         record {
           place = next.place;
           lowest = next.lowest;
@@ -210,7 +213,7 @@ module _ (setup : Setup) (n : ℕ) (engine : ChipState) (old : Device) (before :
           marks = λ trusted memory was. inl refl;
           memory_kept =
               λ trusted memory was a within.
-              ap (λ seals. plain_line setup.formulas seals.marks a) (was_cut.ledger ∙ same_ledger) ∙ was a within;
+              ap (λ seals. plain_line setup.formulas seals.marks a) (told ∙ same_ledger) ∙ was a within;
           line_sealed = tt;
           answered = λ trusted. tt;
           unrefused = λ sound. tt;
@@ -223,8 +226,8 @@ module _ (setup : Setup) (n : ℕ) (engine : ChipState) (old : Device) (before :
           meta_lines = λ ok. absurd (true≢false (sym ok));
           minors = All-nil IsUnderMinorZero;
           engine = refl;
-          truth = λ unshown. ap (λ seals. seals.truth) (was_cut.ledger ∙ same_ledger);
-          root = ap (λ regs. regs.root) (was_cut.device.regs ∙ it.regs);
+          truth = λ unshown. ap (λ seals. seals.truth) (told ∙ same_ledger);
+          root = ap (λ regs. regs.root) (was_cut.regs ∙ it.regs);
           digests = same_digests ∙ it.digests;
         }
       where
@@ -249,116 +252,108 @@ module _ (setup : Setup) (n : ℕ) (engine : ChipState) (old : Device) (before :
       held_sealing : IsResealing setup sealing register mid
       held_sealing = search (rules, unarmed, held_in_range, holds, still_unarmed, mid_size)
 
-      commit : HasLineSealed setup.shape sealing mid new ledger after
-          → IsCommit setup (entries_of setup.shape sealing) mark (page_of sealing.at) false zero_line middle final
-      commit done =
-          resealing setup sealing register engine mid new ledger after tags_mid digests_mid tags_now digests_now held_sealing done
-          never_tags never_digests
+      module _ (done : HasLineSealed setup.shape sealing mid new ledger after) where
+        commit : IsCommit setup (entries_of setup.shape sealing) mark (page_of sealing.at) false zero_line middle final
+        commit =
+            resealing setup sealing register engine mid new ledger after tags_mid digests_mid tags_now digests_now held_sealing done
+            never_tags never_digests
 
-      truth_is : HasLineSealed setup.shape sealing mid new ledger after → after.truth ≡ before.truth
-      truth_is done = done.mark.truth ∙ ap (λ seals. seals.truth) same_ledger
+        truth_is : after.truth ≡ before.truth
+        truth_is = done.mark.truth ∙ ap (λ seals. seals.truth) same_ledger
 
-      root_is : HasLineSealed setup.shape sealing mid new ledger after → new.regs.root ≡ old.regs.root
-      root_is done = done.line_done.root ∙ ap (λ regs. regs.root) it.regs
+        root_is : new.regs.root ≡ old.regs.root
+        root_is = done.line_done.root ∙ ap (λ regs. regs.root) it.regs
 
-      -- ---- or while it was armed
+        -- ---- or while it was armed
 
-      cut_armed : IsDevice new → IsResealCutArmed setup.shape sealing mid new ledger after
-          → HasResealed setup n start (parts_with engine new after tags_now digests_now) (Err AtLine.Cut)
-      cut_armed device_now was_cut =
-          record {
-            place = next.place;
-            lowest = next.lowest;
-            made = mark ∷ [];
-            done =
-                done_chained setup cut_short [] (mark ∷ []) start middle final it.done
-                (done_cut setup (entries_of setup.shape sealing) mark (page_of sealing.at) false zero_line middle final
-                (commit was_cut.line_sealed) device_now was_cut.device);
-            marks = λ trusted memory was. inr (ap (λ m. m ∷ []) (mark_is trusted memory was));
-            memory_kept =
-                λ trusted memory was.
-                memory_now in_range whole after was_cut.line_sealed.fits was_cut.line_sealed.mark.marks trusted memory was;
-            line_sealed = tt;
-            answered = λ trusted. tt;
-            unrefused = λ sound. tt;
-            few = omega arith;
-            sealed_before = λ trusted a within made. stored_sealed trusted a made;
-            counts =
-                search rules;
-            one_seal = λ ok. absurd (true≢false (sym ok));
-            work = λ ok. absurd (true≢false (sym ok));
-            meta_lines = λ ok. absurd (true≢false (sym ok));
-            minors = All-cons IsUnderMinorZero mark [] (ap (λ (ctr : Ctr). ctr.minor) next.next) (All-nil IsUnderMinorZero);
-            engine = refl;
-            truth = λ unshown. truth_is was_cut.line_sealed;
-            root = root_is was_cut.line_sealed;
-            digests = same_digests ∙ it.digests;
-          }
-        where
-          fewer : new.writes < last_count → new.latches < last_count
-              → new.writes + new.latches < old.writes + old.latches + 4
-          fewer one two = search rules
+        cut_armed : IsDevice new → IsCutArmed (entries_of setup.shape sealing) mid new
+            → HasResealed setup n start final (Err AtLine.Cut)
+        cut_armed device_now armed =
+            record {
+              place = next.place;
+              lowest = next.lowest;
+              made = mark ∷ [];
+              done =
+                  done_chained setup cut_short [] (mark ∷ []) start middle final it.done
+                  (done_cut setup (entries_of setup.shape sealing) mark (page_of sealing.at) false zero_line middle final
+                  commit device_now armed);
+              marks = λ trusted memory was. inr (ap (λ m. m ∷ []) (mark_is trusted memory was));
+              memory_kept =
+                  λ trusted memory was.
+                  memory_now in_range whole after done.fits done.mark.marks trusted memory was;
+              line_sealed = tt;
+              answered = λ trusted. tt;
+              unrefused = λ sound. tt;
+              few = omega arith;
+              sealed_before = λ trusted a within made. stored_sealed trusted a made;
+              counts =
+                  search rules;
+              one_seal = λ ok. absurd (true≢false (sym ok));
+              work = λ ok. absurd (true≢false (sym ok));
+              meta_lines = λ ok. absurd (true≢false (sym ok));
+              minors = All-cons IsUnderMinorZero mark [] (ap (λ (ctr : Ctr). ctr.minor) next.next) (All-nil IsUnderMinorZero);
+              engine = refl;
+              truth = λ unshown. truth_is;
+              root = root_is;
+              digests = same_digests ∙ it.digests;
+            }
+          where
+            fewer : new.writes < last_count → new.latches < last_count
+                → new.writes + new.latches < old.writes + old.latches + 4
+            fewer one two = search rules
 
-      -- ---- the line is sealed anew
+        -- ---- the line is sealed anew
 
-      resealed : (answer : ℕ × ℕ) → answer.0 ≡ held.at → answer.1 + 1 ≡ length (not_done register)
-          → HasResealCommitted setup.shape sealing mid new ledger after
-          → HasResealed setup n start (parts_with engine new after tags_now digests_now) (Ok answer)
-      resealed answer at_is left_is committed =
-          record {
-            place = next.place;
-            lowest = next.lowest;
-            made = mark ∷ [];
-            done =
-                done_chained setup going [] (mark ∷ []) start middle final it.done
-                (done_committed setup (entries_of setup.shape sealing) mark (page_of sealing.at) false zero_line middle final
-                (commit committed.line_sealed) committed.device);
-            marks = λ trusted memory was. ap (λ m. m ∷ []) (mark_is trusted memory was);
-            memory_kept =
-                λ trusted memory was.
-                memory_now in_range whole after committed.line_sealed.fits committed.line_sealed.mark.marks trusted memory was;
-            line_sealed =
-                search rules;
-            answered = λ trusted. tt;
-            unrefused = λ sound. tt;
-            few = omega arith;
-            sealed_before = λ trusted a within made. stored_sealed trusted a made;
-            counts = search rules;
-            one_seal = λ ok. (refl, sum_by-cons (λ m. cond (is_seal m) 1 0) mark []);
-            work =
-                λ ok.
-                record {
-                  reads = subst (λ count. RisesBy 2 old.reads count) (sym committed.device.reads) (it.two_reads refl);
-                  no_read = λ none. absurd (omega (arith, none));
-                  writes = subst (λ count. RisesBy 2 count new.writes) it.writes committed.device.writes;
-                  no_write = λ none. absurd (omega (arith, none));
-                  latches = subst (λ count. RisesBy 2 count new.latches) it.latches committed.device.latches;
-                  no_latch = λ none. absurd (omega (arith, none));
-                  tags = more_tags ∙ ap risen (it.one_tag refl);
-                  digests = same_digests ∙ it.digests;
-                };
-            meta_lines =
-                λ ok x within.
-                committed_at (entries_of setup.shape sealing) mid new (layout.meta_line setup.shape x)
-                (meta_off setup.shape sealing x held_in_range) committed.device
-                ∙ ap (λ told. told_line told (layout.meta_line setup.shape x)) it.lines;
-            minors = All-cons IsUnderMinorZero mark [] (ap (λ (ctr : Ctr). ctr.minor) next.next) (All-nil IsUnderMinorZero);
-            engine = refl;
-            truth = λ unshown. truth_is committed.line_sealed;
-            root = root_is committed.line_sealed;
-            digests = same_digests ∙ it.digests;
-          }
+        resealed : HasCommitted (entries_of setup.shape sealing) mid new
+            → HasResealed setup n start final (Ok (held.at, length (not_done register) - 1))
+        resealed finished =
+            record {
+              place = next.place;
+              lowest = next.lowest;
+              made = mark ∷ [];
+              done =
+                  done_chained setup going [] (mark ∷ []) start middle final it.done
+                  (done_committed setup (entries_of setup.shape sealing) mark (page_of sealing.at) false zero_line middle final
+                  commit finished);
+              marks = λ trusted memory was. ap (λ m. m ∷ []) (mark_is trusted memory was);
+              memory_kept =
+                  λ trusted memory was.
+                  memory_now in_range whole after done.fits done.mark.marks trusted memory was;
+              line_sealed = record { at = next.its_line; left = omega (arith, in_use.some_left); line_done = search rules };
+              answered = λ trusted. tt;
+              unrefused = λ sound. tt;
+              few = omega arith;
+              sealed_before = λ trusted a within made. stored_sealed trusted a made;
+              counts = search rules;
+              one_seal = λ ok. (refl, sum_by-cons (λ m. cond (is_seal m) 1 0) mark []);
+              work =
+                  λ ok.
+                  record {
+                    reads = subst (λ count. RisesBy 2 old.reads count) (sym finished.reads) (it.two_reads refl);
+                    no_read = λ none. absurd (omega (arith, none));
+                    writes = subst (λ count. RisesBy 2 count new.writes) it.writes finished.writes;
+                    no_write = λ none. absurd (omega (arith, none));
+                    latches = subst (λ count. RisesBy 2 count new.latches) it.latches finished.latches;
+                    no_latch = λ none. absurd (omega (arith, none));
+                    tags = more_tags ∙ ap risen (it.one_tag refl);
+                    digests = same_digests ∙ it.digests;
+                  };
+              meta_lines =
+                  λ ok x within.
+                  committed_at (entries_of setup.shape sealing) mid new (layout.meta_line setup.shape x)
+                  (meta_off setup.shape sealing x held_in_range) finished
+                  ∙ ap (λ told. told_line told (layout.meta_line setup.shape x)) it.lines;
+              minors = All-cons IsUnderMinorZero mark [] (ap (λ (ctr : Ctr). ctr.minor) next.next) (All-nil IsUnderMinorZero);
+              engine = refl;
+              truth = λ unshown. truth_is;
+              root = root_is;
+              digests = same_digests ∙ it.digests;
+            }
 
-      -- every exit
-      pub resealing_exits :
-          (IsDevice new → IsResealCut setup.shape sealing mid new ledger after → HasResealed setup n start final (Err AtLine.Cut))
-          × ((answer : ℕ × ℕ) → answer.0 ≡ held.at → answer.1 + 1 ≡ length (not_done register)
-          → HasResealCommitted setup.shape sealing mid new ledger after → HasResealed setup n start final (Ok answer))
-      resealing_exits = (
-        λ device_now cut.
-            elim cut [
-              | inl was ↦ cut_unarmed new after tags_now digests_now more_tags same_digests was
-              | inr was ↦ cut_armed device_now was
-            ],
-        resealed,
-      )
+      -- however its group ended
+      pub reseal_ended : IsDevice new → (end : Result (Unit {0}) Cut) → HasResealEnded setup.shape sealing mid new ledger after end
+          → HasResealed setup n start final
+          (mapped_end (λ cut. AtLine.Cut) (λ value. (held.at, length (not_done register) - 1)) end)
+      reseal_ended device_now (Ok value) was = resealed was.1 was.0
+      reseal_ended device_now (Err cut) (inl was) = cut_unarmed new after tags_now digests_now more_tags same_digests was.0 was.1
+      reseal_ended device_now (Err cut) (inr was) = cut_armed was.1 device_now was.0

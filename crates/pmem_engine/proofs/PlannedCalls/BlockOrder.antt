@@ -1,19 +1,18 @@
 -- The dirty counter blocks are written the oldest first: wherever that ends, the first of them are written and clean.
-use Rattle.std.proofs.Common.{ℕ, ◌≡◌, ◌∷◌, ◌++◌, [], List, Option, Some, None, Result, Ok, Err, length, refl, sym, ap, subst, ◌∙◌}
+use Rattle.std.proofs.Common.{ℕ, ◌≡◌, ◌∷◌, ◌++◌, [], List, Result, Ok, Err, length, refl, sym, ap, subst, ◌∙◌}
 use Rattle.std.proofs.lemmas.List.{append-nil, append_assoc, length-append}
 use Rattle.pmem_base.specs.declared.faults.Cut.{Cut}
 use Rattle.pmem_base.specs.declared.lines.Line.{Line}
 use Rattle.pmem_base.specs.Counts.{risen, risen_times}
 use Rattle.pmem_base.specs.Layout as layout
 use Rattle.pmem_base.proofs.CountLemmas.{risen_times-add}
-use Rattle.pmem_base.proofs.LineSets.{put_lines-append}
 use Rattle.board.specs.Device.{Device}
 use Rattle.board.specs.Steps.{HasWritten, WasCut, with_line}
 use Rattle.call_plan.specs.Plans.{for_each}
 use Rattle.call_plan.specs.Bounds.{Leaves, AtEnd}
 use Rattle.call_plan.proofs.Leaves.{leaves, leaves_mapped, leaves_more, leaves_for_each}
 use Rattle.commit_regs.specs.Groups.{redone_told}
-use Rattle.commit_regs.proofs.GroupLemmas.{redone-nil}
+use Rattle.commit_regs.proofs.GroupLemmas.{redone-nil, redone-more}
 use Rattle.meta_path.specs.Blocks.{line_in}
 use Rattle.meta_path.specs.Plans.{cleaned, write_back_plan}
 use Rattle.pmem_engine.specs.Engine.{ChipState}
@@ -32,11 +31,6 @@ entries-more [] x engine = refl
 entries-more (y ∷ front) x engine =
     ap (λ (entries : List (ℕ × Line)). (layout.meta_line engine.shape y, line_in engine.shape engine.cache engine.shape.levels y) ∷ entries)
     (entries-more front x (with_cache engine (cleaned (cache_of engine) engine.shape.levels y)))
-
-pub redone-more : (front : List (ℕ × Line)) (entry : ℕ × Line) (told : Option (List Line))
-    → redone_told (front ++ entry ∷ []) told ≡ with_line (redone_told front told) entry.0 entry.1
-redone-more front entry None = refl
-redone-more front entry (Some lines) = ap Some (put_lines-append front (entry ∷ []) lines)
 
 module _ (first : ChipState) (old : Device) where
   abbrev blocks : List ℕ

@@ -5,15 +5,14 @@ use Rattle.std.proofs.lemmas.Bool.{false≢true, cond-true}
 use Rattle.pmem_base.specs.declared.lines.Line.{Line}
 use Rattle.pmem_base.specs.declared.registers.Regs.{Regs}
 use Rattle.pmem_base.specs.declared.answers.Exhibit.TheVariants.{Clash}
-use Rattle.pmem_base.specs.Counts.{HasRisen, risen, risen_times}
+use Rattle.pmem_base.specs.Counts.{risen, risen_times}
 use Rattle.pmem_base.specs.Shape.{Shape, IsShape}
 use Rattle.pmem_base.specs.Layout.{pages, meta_line}
-use Rattle.pmem_base.specs.Lines.{IsLine, line_at, same_bytes}
+use Rattle.pmem_base.specs.Lines.{IsLine, line_at, same_bytes, line_of}
 use Rattle.pmem_base.proofs.ByteLaws.{same_bytes-from, same_bytes-true}
-use Rattle.board.specs.Counts.{RisesBy}
 use Rattle.board.specs.Device.{Device}
 use Rattle.board.specs.Steps.{Tells, HasRead, WasCut}
-use Rattle.board.proofs.CountLemmas.{RisesBy-once, HasRisen-once}
+use Rattle.board.proofs.CountLemmas.{RisesBy-once}
 use Rattle.call_plan.specs.Plans.{Plan, done, stop, bind}
 use Rattle.call_plan.specs.Bounds.{Leaves}
 use Rattle.call_plan.proofs.Leaves.{leaves_bind, leaves_mapped, leaves_if, leaves_repeated}
@@ -74,10 +73,6 @@ worked_read old at line new was =
       steady = λ s. was.steady ∙ s;
       live = λ l. was.live ∙ l;
     }
-
--- a line is its bytes
-line_is : (a b : Line) → a.0 ≡ b.0 → a ≡ b
-line_is a b same = ap (λ (bytes : List ℕ). let l : Line = record { 0 = bytes } in l) same
 
 -- ---- the path
 
@@ -222,17 +217,10 @@ module _ (g : Shape) (f : Formulas) (page : ℕ) (banks : Banks) (ledger : Ledge
                 cache = refl;
                 tries = 1;
                 at_most_one = omega arith;
-                reads = subst (λ k. RisesBy 1 now.reads k) (sym cut.reads) (RisesBy-once was.reads);
                 digests = refl;
-                unsteady = sym was.steady ∙ cut.unsteady;
-                off = cut.off;
-                never_falls = let rose = cut.cuts.never_falls in let same = was.cuts in omega arith;
-                rose = subst (λ k. HasRisen k new.cuts) was.cuts (HasRisen-once cut.cuts);
-                size = cut.size ∙ was.size;
-                lines = cut.lines ∙ was.lines;
-                regs = cut.regs ∙ was.regs;
-                writes = cut.writes ∙ was.writes;
-                latches = cut.latches ∙ was.latches;
+                mid = mid;
+                read = worked_read now (meta_line g x) line mid was;
+                cut = cut;
                 victim = λ live. dirty;
               },
               refl,
@@ -241,7 +229,7 @@ module _ (g : Shape) (f : Formulas) (page : ℕ) (banks : Banks) (ledger : Ledge
         module _ (known : same_bytes line.0 (line_at l.truth x).0 ≡ true) where
           is_true : line ≡ line_at ledger.truth x
           is_true =
-              line_is line (line_at l.truth x) (same_bytes-true line.0 (line_at l.truth x).0 known)
+              ap line_of (same_bytes-true line.0 (line_at l.truth x).0 known)
               ∙ ap (λ (k : LedgerState). line_at k.truth x) come.same
 
           placed_so : (room : Banks) (new : Device) → HasRoomMade g i x cache (of_shape g room) mid new → IsCacheOf g room

@@ -107,6 +107,8 @@ module _ (f : Formulas) (page : ℕ) (first : Chip) (start : Device) (whole : Ha
               cache = of_engine all parts come.fetched.cache;
               lines = come.fetched.work.lines;
               writes = come.fetched.work.writes;
+              latches = come.fetched.work.latches;
+              regs = come.fetched.work.regs;
             };
         live = come.fetched.work.live;
       }
@@ -122,6 +124,8 @@ module _ (f : Formulas) (page : ℕ) (first : Chip) (start : Device) (whole : Ha
               cache = of_engine it.0.n parts it.0.cache;
               lines = it.0.lines;
               writes = it.0.writes;
+              latches = it.0.latches;
+              regs = it.0.regs;
             };
         as_far = λ on. record { next = record { on_path = it.0.on_path; absent = it.0.absent }; victim = it.0.victim on };
       }
@@ -134,6 +138,8 @@ module _ (f : Formulas) (page : ℕ) (first : Chip) (start : Device) (whole : Ha
               cache = of_engine it.0.n parts it.0.read.cache;
               lines = it.0.read.work.lines;
               writes = it.0.read.work.writes;
+              latches = it.0.read.work.latches;
+              regs = it.0.read.work.regs;
             };
         as_far = (record { on_path = it.0.read.on_path; absent = it.0.read.absent }, it.0.position);
       }
@@ -146,6 +152,8 @@ module _ (f : Formulas) (page : ℕ) (first : Chip) (start : Device) (whole : Ha
               cache = of_engine it.n parts it.read.cache;
               lines = it.read.work.lines;
               writes = it.read.work.writes;
+              latches = it.read.work.latches;
+              regs = it.read.work.regs;
             };
         as_far = inl (record { on_path = it.read.on_path; absent = it.read.absent });
       }
@@ -155,14 +163,16 @@ module _ (f : Formulas) (page : ℕ) (first : Chip) (start : Device) (whole : Ha
   abbrev After : Chip × LineFault → Device → Type 0
   After left now = FetchesFirst {A = Line} page first start now (Err (left.0, fault_of_line left.1))
 
-  still : (chip : Chip) (now new : Device) → new.lines ≡ now.lines → new.writes ≡ now.writes → HasFetchedLevels page all first chip.engine start now
-      → HasFetchedLevels page all first chip.engine start new
-  still chip now new lines writes so =
+  still : (chip : Chip) (now new : Device) → new.lines ≡ now.lines → new.writes ≡ now.writes → new.latches ≡ now.latches → new.regs ≡ now.regs
+      → HasFetchedLevels page all first chip.engine start now → HasFetchedLevels page all first chip.engine start new
+  still chip now new lines writes latches regs so =
       record {
         on_path = so.on_path;
         cache = so.cache;
         lines = lines ∙ so.lines;
         writes = subst (λ n. RisesBy (length (spilled first.engine.shape first.engine.cache page all)) start.writes n) (sym writes) so.writes;
+        latches = latches ∙ so.latches;
+        regs = regs ∙ so.regs;
       }
 
   -- none is left to fetch
@@ -176,9 +186,9 @@ module _ (f : Formulas) (page : ℕ) (first : Chip) (start : Device) (whole : Ha
       → Leaves (unseal_plan setup at ctr chip) (λ end d. IsFetched end.0 d) After now
   unsealed_so setup =
       unseal_leaves setup IsFetched After
-      (λ chip at line now new was so. record { levels = still chip now new was.lines was.writes so.levels; live = λ on. was.live ∙ so.live on })
+      (λ chip at line now new was so. record { levels = still chip now new was.lines was.writes was.latches was.regs so.levels; live = λ on. was.live ∙ so.live on })
       (λ chip tags now so. record { levels = so.levels; live = so.live })
-      (λ chip now new was off so. left_so chip AtLine.Cut new (still chip now new was.lines was.writes so.levels)
+      (λ chip now new was off so. left_so chip AtLine.Cut new (still chip now new was.lines was.writes was.latches was.regs so.levels)
       (λ cut on. on_and_off now.live (so.live on) off))
       (λ chip at now so. left_so chip (AtLine.Tag at) now so.levels (λ cut on. absurd (cc)))
       (λ chip exhibit now so. left_so (with_ledger chip (shown chip.ledger exhibit)) AtLine.Shown now so.levels (λ cut on. absurd (cc)))

@@ -1,11 +1,13 @@
--- What a write is made of: groups of data lines and tag lines alone, and what is kept beside the lines that a plan writes.
-use Rattle.std.proofs.Common.{ℕ, zero, suc, ◌≡◌, ◌<◌, ◌∷◌, ◌++◌, [], Bool, true, false, List, length, get_or, refl, sym, ap, ap₂, subst, ◌∙◌, inl, inr, arith, ◌⊎◌}
-use Rattle.std.specs.Prelude.{All, map, ◌||◌, slice_get, slice_set, unwrap_or}
+-- What a write is made of: groups of data lines and tag lines alone, names in the shadow lines; and what is kept beside
+-- the lines that a plan writes.
+use Rattle.std.proofs.Common.{ℕ, zero, suc, ◌≡◌, ◌<◌, ◌≤◌, ◌+◌, ◌∷◌, ◌++◌, [], Bool, true, false, List, length, get_or, refl, sym, ap, ap₂, subst, ◌∙◌, inl, inr, arith, ◌⊎◌}
+use Rattle.std.specs.Prelude.{All, map, ◌||◌, slice_get, slice_set, unwrap_or, if◌then◌else◌}
 use Rattle.std.specs.List.{list_any}
 use Rattle.std.proofs.lemmas.Bool.{cases_lt, true≢false}
 use Rattle.std.proofs.lemmas.List.Elements.{All-weaker}
 use Rattle.std.proofs.lemmas.List.Folds.{list_any-append}
 use Rattle.std.proofs.lemmas.List.{get_or_past}
+use Rattle.pmem_base.specs.declared.faults.Cut.{Cut}
 use Rattle.pmem_base.specs.declared.lines.Line.{Line}
 use Rattle.pmem_base.specs.declared.registers.Progress.{Progress}
 use Rattle.pmem_base.specs.declared.registers.Regs.{Regs}
@@ -18,15 +20,18 @@ use Rattle.call_plan.specs.Plans.{Plan, done, stop, read, write, latch, bind, fo
 use Rattle.commit_regs.specs.Plans.{lines_plan, finish_plan, group_plan}
 use Rattle.board.specs.Steps.{WasCut, HasLatched}
 use Rattle.call_plan.specs.Bounds.{MakesOnly, writes_within, Leaves}
-use Rattle.call_plan.proofs.Keeping.{line_told-set}
+use Rattle.call_plan.proofs.Keeping.{line_told-set, makes_repeated}
 use Rattle.call_plan.proofs.Leaves.{leaves_mapped, leaves_more}
 use Rattle.page_reencrypt.specs.Registers.{registers_with_done}
 use Rattle.page_reencrypt.proofs.DoneBits.{not_done-small}
 use Rattle.page_reencrypt.proofs.Holding.{All-registers_with_done, with_done-page}
+use Rattle.shadow_tables.specs.Naming.{entry_line, naming_line, with_named}
 use Rattle.meta_cache.specs.declared.slot.Slot.{Slot}
-use Rattle.meta_cache.specs.Banks.{set_of, set_index}
+use Rattle.meta_cache.specs.Banks.{Banks, set_of, set_index}
 use Rattle.meta_cache.specs.State.{CacheState, bank_of, with_slots}
 use Rattle.meta_path.specs.Blocks.{path_at, slots_at}
+use Rattle.meta_path.specs.Naming.{path_number, is_slot_named}
+use Rattle.meta_path.specs.Plans.{slot_plan, naming_turn, naming_plan}
 use Rattle.meta_path.specs.Storing.{new_line, stored_set, stored_mark, stored_levels}
 use Rattle.meta_path.specs.Work.{told_line}
 use Rattle.pmem_engine.specs.declared.resealing.NextSeal.{NextSeal}
@@ -115,6 +120,30 @@ module _ (g : Shape) where
     where
       two_lines : LowOnly (bind (lines_plan (entries_of g next)) (λ written. latch the_cut (without_group armed) (done (tt {0}))))
       two_lines = (omega (arith, low), (low_tag next.at low, (tt, tt)))
+
+-- ---- the shadow lines
+
+module _ (g : Shape) where
+  abbrev pub High : ℕ → Type 0
+  High at = layout.shadow_line g 0 ≤ at
+
+  slot_high : (bank n x : ℕ) (mirror : List Line) → MakesOnly (writes_within High) (slot_plan g bank n x mirror)
+  unfolding MakesOnly slot_plan
+  slot_high bank n x mirror =
+      by (is_slot_named g mirror bank n x)
+    where
+      by : (named : Bool) → MakesOnly {E = List Line × Cut} {T = List Line × Unit {0}} (writes_within High)
+          (if named then done (mirror, tt)
+          else write (with_named g mirror bank n x, the_cut) (layout.shadow_line g (entry_line g bank n)) (naming_line g mirror bank n x)
+          (done (with_named g mirror bank n x, tt)))
+      by true = tt
+      by false = (omega arith, tt)
+
+  -- a path's naming writes no others
+  pub naming_high : (cache : Banks) (page : ℕ) (mirror : List Line) → MakesOnly (writes_within High) (naming_plan g cache page mirror)
+  naming_high cache page mirror =
+      makes_repeated (writes_within High) (naming_turn g cache page) 0 (g.levels + 1) (mirror, tt)
+      (λ j before. slot_high j (path_number g cache page j) (path_at g page j) before.0)
 
 -- ---- the lines that registers hold
 

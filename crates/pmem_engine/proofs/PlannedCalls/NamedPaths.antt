@@ -14,7 +14,7 @@ use Rattle.call_plan.specs.Plans.{done, write, the_cut}
 use Rattle.call_plan.specs.Bounds.{Leaves, AtEnd}
 use Rattle.call_plan.proofs.Leaves.{leaves, leaves_mapped, leaves_more, leaves_if, leaves_repeated}
 use Rattle.commit_regs.specs.Groups.{redone_told}
-use Rattle.commit_regs.proofs.GroupLemmas.{redone-nil}
+use Rattle.commit_regs.proofs.GroupLemmas.{redone-nil, redone-more}
 use Rattle.shadow_tables.specs.Naming.{entry_line, naming_line, with_named}
 use Rattle.meta_path.specs.Blocks.{path_at}
 use Rattle.meta_path.specs.Naming.{path_number, is_slot_named, named_path, naming_writes}
@@ -22,7 +22,6 @@ use Rattle.meta_path.specs.Plans.{slot_plan, naming_turn, naming_plan}
 use Rattle.pmem_engine.specs.Engine.{ChipState}
 use Rattle.pmem_engine.specs.Plans.{with_mirror, name_plan}
 use Rattle.pmem_engine.specs.NameLaws.{AreNamed, IsNamedInOrder, PathsAreNamedInOrder}
-use Rattle.pmem_engine.proofs.PlannedCalls.BlockOrder.{redone-more}
 
 module _ (page : ℕ) (first : ChipState) (old : Device) where
   abbrev g : Shape

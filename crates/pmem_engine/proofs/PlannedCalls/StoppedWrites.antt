@@ -1,9 +1,7 @@
 -- What a write comes to, wherever its plan ends: what a refusal and a cut leave, and when its page's counter block is written.
-use Rattle.std.proofs.Common.{ℕ, ◌≡◌, ◌<◌, ◌≤◌, ◌+◌, ◌-◌, ◌^◌, ◌%◌, ◌∷◌, ◌++◌, [], Bool, true, false, List, length, map, Option, Some, None, Result, Ok, Err, refl, sym, ap, subst, ◌∙◌, inr, arith}
+use Rattle.std.proofs.Common.{ℕ, ◌≡◌, ◌<◌, ◌≤◌, ◌+◌, ◌-◌, ◌^◌, ◌%◌, Bool, true, false, List, Result, Ok, Err, refl, sym, ap, subst, ◌∙◌, arith}
 use Rattle.std.specs.Prelude.{IsOk, if◌then◌else◌, nat_lt, ◌==◌}
 use Rattle.std.proofs.lemmas.Bool.{true≢false, eq-eqb, and_from}
-use Rattle.std.proofs.lemmas.List.{append-nil, append_assoc}
-use Rattle.pmem_base.specs.declared.faults.Cut.{Cut}
 use Rattle.pmem_base.specs.declared.lines.Line.{Line}
 use Rattle.pmem_base.specs.declared.lines.Ctr.{Ctr}
 use Rattle.pmem_base.specs.declared.commands.Posted.{Posted}
@@ -13,59 +11,49 @@ use Rattle.pmem_base.specs.declared.answers.Mark.TheVariants.{Begin, Seal}
 use Rattle.pmem_base.specs.Layout as layout
 use Rattle.pmem_base.specs.Layout.{page_of, index_in_page}
 use Rattle.pmem_base.specs.Counts.{risen}
-use Rattle.pmem_base.specs.Registers.{IsValidRegs, not_done, without_group}
+use Rattle.pmem_base.specs.Registers.{IsValidRegs, without_group}
 use Rattle.pmem_base.specs.Shape.{Shape}
 use Rattle.bonsai_tree.specs.Positions.{counter_position}
 use Rattle.bonsai_tree.proofs.PathPositions.{path_of-block}
 use Rattle.board.specs.Device.{Device}
-use Rattle.call_plan.specs.Plans.{done, write, lifted, the_cut}
+use Rattle.call_plan.specs.Plans.{done, lifted}
 use Rattle.call_plan.specs.Following.{Follows}
-use Rattle.call_plan.specs.Bounds.{MakesOnly, writes_within, IsFront, Leaves, AtEnd}
-use Rattle.call_plan.proofs.Keeping.{makes_repeated}
-use Rattle.call_plan.proofs.Leaves.{leaves, leaves_bind, leaves_mapped, leaves_more, leaves_if, leaves_repeated}
+use Rattle.call_plan.specs.Bounds.{MakesOnly, writes_within, Leaves, AtEnd}
+use Rattle.call_plan.proofs.Leaves.{leaves, leaves_bind, leaves_mapped, leaves_more, leaves_if}
 use Rattle.commit_regs.specs.Plans.{finish_plan, group_plan}
 use Rattle.split_counters.specs.declared.Block.{Block}
 use Rattle.split_counters.specs.Blocks.{packed, minor_of, next_block}
 use Rattle.page_reencrypt.specs.Registers.{begun}
-use Rattle.seal_ledger.specs.Ledger.{LedgerState}
-use Rattle.seal_ledger.specs.Notes.{shown}
-use Rattle.shadow_tables.specs.Naming.{entry_line, naming_line, with_named}
-use Rattle.meta_cache.specs.Banks.{set_of}
-use Rattle.meta_path.specs.Naming.{path_number, is_slot_named}
-use Rattle.meta_path.specs.Plans.{slot_plan, naming_turn, naming_plan}
+use Rattle.meta_path.specs.Plans.{naming_plan}
 use Rattle.meta_path.proofs.PathFacts.{path_at-lt}
 use Rattle.plain_model.specs.Bounds.{path_length}
 use Rattle.suite.specs.Formulas.{Formulas}
 use Rattle.suite.specs.Setup.{Setup}
-use Rattle.meta_path.specs.Blocks.{path_at}
-use Rattle.meta_path.specs.Fetching.{HasFetchedSets}
 use Rattle.meta_path.specs.Work.{told_line}
 use Rattle.pmem_engine.specs.declared.fault.Fault.{Fault}
 use Rattle.pmem_engine.specs.declared.fault.Fault.TheVariants as Fail
 use Rattle.pmem_engine.specs.declared.fault.LineFault.{LineFault}
-use Rattle.pmem_engine.specs.declared.fault.LineFault.TheVariants as AtLine
 use Rattle.pmem_engine.specs.Engine.{ChipState}
 use Rattle.pmem_engine.specs.Flushed.{cache_of}
 use Rattle.pmem_engine.specs.Inner.{cached_block}
-use Rattle.pmem_engine.specs.CallFacts.{masked, KeepsButPath}
-use Rattle.pmem_engine.specs.Writing.{overflow_of, register_to_finish}
+use Rattle.pmem_engine.specs.Writing.{overflow_of}
 use Rattle.pmem_engine.specs.Outcomes.{fault_of_cut, fault_of_line, fault_of_path}
 use Rattle.pmem_engine.specs.KeptLaws.{left_at}
-use Rattle.pmem_engine.specs.declared.reading.Unsealed.{Unsealed}
-use Rattle.pmem_engine.specs.declared.resealing.HeldLine.{HeldLine}
 use Rattle.pmem_engine.specs.declared.resealing.NextSeal.{NextSeal}
 use Rattle.pmem_engine.specs.Committing.{next_seal_of}
 use Rattle.pmem_engine.specs.Sealing.{next_counter_of, raised_block}
-use Rattle.pmem_engine.specs.Plans.{Chip, chip_with, with_engine, with_ledger, with_mirror, with_tags, with_fetched, with_seal, armed, fetch_path_plan, its_counter, unseal_plan, register_at, held_of, commit_plan, seal_anew_plan, reseal_plan, name_plan}
+use Rattle.pmem_engine.specs.Plans.{Chip, chip_with, with_engine, with_mirror, with_tags, with_fetched, fetch_path_plan, name_plan}
 use Rattle.pmem_engine.specs.SealPlans.{next_lines, next_root, with_path_digests, with_marked_path, seal_armed, commit_seal_plan, seal_next_plan, begin_armed, begin_page_plan, begin_for_plan}
-use Rattle.pmem_engine.specs.WritePlans.{overflow_end, overflow_plan, plain_plan, with_next_done, finish_turn, finish_page_plan, finish_found_plan, finish_for_plan, write_plan}
-use Rattle.pmem_engine.specs.FetchLaws.{HasWholeCache, NamesNothing, IsStoppedUnnamed, StopsAsTold, setup_of_chip, is_persisting, IsBlockWrittenWhereDue, StoppedWritesAreTold, BlocksAreWrittenWhereDue}
+use Rattle.pmem_engine.specs.WritePlans.{overflow_end, overflow_plan, write_plan}
+use Rattle.pmem_engine.specs.FetchLaws.{HasWholeCache, StopsAsTold, setup_of_chip, is_persisting, IsBlockWrittenWhereDue, StoppedWritesAreTold, BlocksAreWrittenWhereDue}
 use Rattle.pmem_engine.proofs.PlannedCalls.FetchedLevels.{fetch_so}
-use Rattle.pmem_engine.proofs.PlannedCalls.FetchedReads.{Comes, Ends, unseal_leaves}
+use Rattle.pmem_engine.proofs.PlannedCalls.FetchedReads.{Comes, Ends}
 use Rattle.pmem_engine.proofs.PlannedCalls.PostedPlans.{to_plain, to_overflow}
 use Rattle.pmem_engine.proofs.PlannedCalls.TurnLines.{of_all}
 use Rattle.pmem_engine.proofs.PlannedCalls.StoppedFetches as fetches
-use Rattle.pmem_engine.proofs.PlannedCalls.LowWrites.{group_leaves, none_of, all_pages, KeepsBeside, keeps_beside, Low, low_finish, ArePages, held_low, pages_done, stored_kept}
+use Rattle.pmem_engine.proofs.PlannedCalls.StoppedFinishes.{front_more}
+use Rattle.pmem_engine.proofs.PlannedCalls.StoppedFinishes as finishes
+use Rattle.pmem_engine.proofs.PlannedCalls.LowWrites.{group_leaves, none_of, all_pages, KeepsBeside, keeps_beside, Low, low_finish, High, naming_high, ArePages, stored_kept}
 
 module _ (f : Formulas) (w : Posted) (first : Chip) (start : Device) (whole : HasWholeCache first.engine)
     (inside : page_of w.at < layout.pages first.engine.shape) where
@@ -97,197 +85,28 @@ module _ (f : Formulas) (w : Posted) (first : Chip) (start : Device) (whole : Ha
   its_line : w.at < layout.data_lines g
   its_line = omega (arith, inside)
 
-  -- ---- after it
+  -- ---- after the fetch
 
   module _ (c : Chip) (mid : Device) (ready : IsReady c mid) where
-    -- only data lines and tag lines were written since, and the cache and the copy of the shadow lines stay
-    record IsUnnamed (chip : Chip) (now : Device) : Type 0 where
-      engine : chip.engine ≡ c.engine
-      made : IsFront first.ledger.marks chip.ledger.marks
-      low : KeepsBeside (Low g) mid now
-
-    names_nothing : (chip : Chip) (now : Device) → IsUnnamed chip now → NamesNothing first.engine chip.engine start now
-    names_nothing chip now so =
-        record {
-          mirror = ap (λ (e : ChipState). e.mirror) so.engine ∙ ready.mirror;
-          shadow = λ at high. so.low at (λ below. absurd (omega (arith, high, below))) ∙ fetches.shadow_stays f w first start whole inside all mid at ready.levels.lines high;
-        }
+    abbrev IsUnnamed : Chip → Device → Type 0
+    IsUnnamed chip now = finishes.IsUnnamed f w first start whole inside c mid ready chip now
 
     block_so : (now : Device) → KeepsBeside (Low g) mid now → told_line now.lines block_at ≡ told_line start.lines block_at
-    block_so now low = low block_at (λ below. absurd (omega (arith, below))) ∙ fetches.block_stays f w first start whole inside all mid ready.levels.lines
-
-    unnamed_due : (chip : Chip) (now : Device) → IsUnnamed chip now → Due chip now
-    unnamed_due chip now so = record { made = so.made; kept = λ none. block_so now so.low }
-
-    begins : IsUnnamed c mid
-    begins =
-        record {
-          engine = refl;
-          made = record { later = []; all_of = ready.marks ∙ sym (append-nil first.ledger.marks) };
-          low = λ at apart. refl;
-        }
-
-    spent_so : Stop (c, Fail.Spent page) mid
-    spent_so = (
-      record { levels = all; fetched = ready.levels; as_far = refl; marks = ready.marks; unnamed = names_nothing c mid begins },
-      unnamed_due c mid begins,
-    )
+    block_so = finishes.block_so f w first start whole inside c mid ready
 
     -- ---- the counter isn't used up
 
     module _ (unspent : IsOk (overflow_of (cached_block g c.engine page) page (index_in_page w.at))) where
-      -- no block came in or gave way
-      record IsPast (chip : Chip) (now : Device) : Type 0 where
-        kept : KeepsButPath g page c.engine.cache chip.engine.cache
-        due : Due chip now
+      abbrev IsPast : Chip → Device → Type 0
+      IsPast chip now = finishes.IsPast f w first start whole inside c mid ready unspent chip now
 
       past_cut : (chip : Chip) (now : Device) → IsPast chip now → Stop (chip, Fail.Cut) now
-      past_cut chip now so = (
-        inr (record { fetched = c.engine; path_fetched = ready.levels.cache; path_cached = ready.cached; unspent = unspent; kept = so.kept }),
-        so.due,
-      )
-
-      unnamed_past : (chip : Chip) (now : Device) → IsUnnamed chip now → IsPast chip now
-      unnamed_past chip now so =
-          record {
-            kept = λ bank set. ap (λ (e : ChipState). map (masked (path_at g page bank)) (set_of e.cache bank set)) so.engine;
-            due = unnamed_due chip now so;
-          }
-
-      unnamed_stop : (chip : Chip) (now : Device) → IsUnnamed chip now → IsStoppedUnnamed page first.engine chip.engine first.ledger.truth start now
-      unnamed_stop chip now so =
-          record {
-            cache =
-                subst (λ (e : ChipState). HasFetchedSets g first.ledger.truth page all (cache_of first.engine) (cache_of e)) (sym so.engine) ready.levels.cache;
-            metadata = λ at high. so.low at (λ below. absurd (omega (arith, high, below))) ∙ ap (λ lines. told_line lines at) ready.levels.lines;
-            unnamed = names_nothing chip now so;
-          }
-
-      stopped : (chip : Chip) (fault : LineFault) (now : Device) → IsUnnamed chip now → Stop (chip, fault_of_line fault) now
-      stopped chip AtLine.Cut now so = past_cut chip now (unnamed_past chip now so)
-      stopped chip (AtLine.Tag at) now so = (unnamed_stop chip now so, unnamed_due chip now so)
-      stopped chip AtLine.Shown now so = (inr (unnamed_stop chip now so), unnamed_due chip now so)
+      past_cut = finishes.past_cut f w first start whole inside c mid ready unspent
 
       abbrev AtFault : Chip × LineFault → Device → Type 0
       AtFault left now = Stop (left.0, fault_of_line left.1) now
 
-      still : (chip : Chip) (now new : Device) → new.lines ≡ now.lines → IsUnnamed chip now → IsUnnamed chip new
-      still chip now new same so =
-          record { engine = so.engine; made = so.made; low = λ at apart. ap (λ lines. told_line lines at) same ∙ so.low at apart }
-
-      -- a line unsealed
-      unsealed_so : (at : ℕ) (ctr : Ctr) (chip : Chip) (now : Device) → IsUnnamed chip now
-          → Leaves (unseal_plan setup at ctr chip) (λ end d. IsUnnamed end.0 d) AtFault now
-      unsealed_so =
-          unseal_leaves setup IsUnnamed AtFault (λ chip at line now new was so. still chip now new was.lines so)
-          (λ chip tags now so. record { engine = so.engine; made = so.made; low = so.low })
-          (λ chip now new was off so. stopped chip AtLine.Cut new (still chip now new was.lines so))
-          (λ chip at now so. stopped chip (AtLine.Tag at) now so)
-          (λ chip exhibit now so. stopped (with_ledger chip (shown chip.ledger exhibit)) AtLine.Shown now
-          (record { engine = so.engine; made = so.made; low = so.low }))
-
-      plain_so : (regs : Regs) → Leaves (plain_plan setup regs w c) (λ end d. IsUnnamed end.0 d) AtFault mid
-      unfolding Leaves plain_plan
-      plain_so regs =
-          leaves_if (λ end d. IsUnnamed end.0 d) AtFault (w.len == 64) (done (c, w.line)) _ mid (λ line. begins)
-          (λ part. leaves_mapped _ _ (λ end d. IsUnnamed end.0 d) AtFault _ mid (unsealed_so w.at (its_counter setup regs w.at c) c mid begins))
-
-      -- ---- a page finished
-
-      more_marks : (chip : Chip) (mark : Mark) → IsFront first.ledger.marks chip.ledger.marks → IsFront first.ledger.marks (chip.ledger.marks ++ mark ∷ [])
-      more_marks chip mark made =
-          record {
-            later = made.later ++ mark ∷ [];
-            all_of = ap (λ (marks : List Mark). marks ++ mark ∷ []) made.all_of ∙ append_assoc first.ledger.marks made.later (mark ∷ []);
-          }
-
-      abbrev LedgerSo : Chip → LedgerState → Device → Type 0
-      LedgerSo chip ledger now = IsUnnamed (chip_with chip.engine ledger (risen chip.tags) chip.digests) now
-
-      anew_so : (held : HeldLine) (left : ℕ) (regs : Regs) (before : Chip × Unsealed) (now : Device) → held.at < layout.data_lines g
-          → IsUnnamed before.0 now → Leaves (seal_anew_plan setup held left regs before) (λ end d. IsUnnamed end.0 d) AtFault now
-      unfolding commit_plan
-      anew_so held left regs before now low so =
-          let next = next_seal_of f held.at held.next before.1.plain before.1.tag_line in
-          let mark : Mark = Seal next.at next.ctr next.cipher next.tag in
-          let made = more_marks before.0 mark so.made in
-          leaves_mapped _ _ (λ end d. IsUnnamed end.0 d) AtFault _ now
-          (leaves_mapped _ _ (λ end d. LedgerSo before.0 end.0 d)
-          (λ end d. AtFault (chip_with before.0.engine end.0 (risen before.0.tags) before.0.digests, AtLine.Cut) d) _ now
-          (leaves_more (λ end d. LedgerSo before.0 end.0 d × (end.1 ≡ without_group (armed g next regs))) (λ end d. LedgerSo before.0 end.0 d)
-          (λ left d. LedgerSo before.0 left.0 d)
-          (λ left d. AtFault (chip_with before.0.engine left.0 (risen before.0.tags) before.0.digests, AtLine.Cut) d) _ now
-          (λ end d it. it.0) (λ left d it. stopped (chip_with before.0.engine left.0 (risen before.0.tags) before.0.digests) AtLine.Cut d it)
-          (group_leaves (LedgerSo before.0) (LedgerSo before.0) (armed g next regs) before.0.ledger (with_seal before.0.ledger next) now
-          (λ new was. record { engine = so.engine; made = so.made; low = (still before.0 now new was.lines so).low })
-          (λ later was. leaves_more (λ t d. KeepsBeside (Low g) mid d) (λ t d. LedgerSo before.0 (with_seal before.0.ledger next) d)
-          (λ left d. KeepsBeside (Low g) mid d) (λ left d. LedgerSo before.0 (with_seal before.0.ledger next) d) (finish_plan (armed g next regs)) later
-          (λ t d kept. record { engine = so.engine; made = made; low = kept }) (λ left d kept. record { engine = so.engine; made = made; low = kept })
-          (keeps_beside (Low g) mid (finish_plan (armed g next regs)) later (low_finish g (armed g next regs) next low refl)
-          (still before.0 now later was.lines so).low)))))
-
-      -- the registers' pages are of the geometry, and the number is as it was
-      record IsFinishing (at : Chip × Regs) (now : Device) : Type 0 where
-        unnamed : IsUnnamed at.0 now
-        pages : ArePages g at.1.progress.items
-        loss : at.1.loss ≡ start.regs.loss
-
-      some_pages : 0 < layout.pages g
-      some_pages = omega (arith, inside)
-
-      reseal_so : (n : ℕ) (at : Chip × Regs) (now : Device) → IsFinishing at now
-          → Leaves (reseal_plan setup n at.1 at.0) (λ end d. IsUnnamed end.0 d) AtFault now
-      unfolding reseal_plan
-      reseal_so n at now so =
-          let held = held_of (register_at at.1 n) in
-          let left = length (not_done (register_at at.1 n)) in
-          leaves_bind (λ end d. IsUnnamed end.0 d) AtFault (unseal_plan setup held.at held.now at.0) (seal_anew_plan setup held left at.1) now
-          (leaves_more (λ end d. IsUnnamed end.0 d) (λ end d. Leaves (seal_anew_plan setup held left at.1 end) (λ end d. IsUnnamed end.0 d) AtFault d)
-          AtFault AtFault (unseal_plan setup held.at held.now at.0) now
-          (λ before d its. anew_so held left at.1 before d (held_low g some_pages at.1 n so.pages) its) (λ left d it. it)
-          (unsealed_so held.at held.now at.0 now so.unnamed))
-
-      turn_so : (n : ℕ) (at : Chip × Regs) (now : Device) → IsFinishing at now → Leaves (finish_turn setup n 0 at) IsFinishing AtFault now
-      turn_so n at now so =
-          leaves_mapped _ _ IsFinishing AtFault (reseal_plan setup n at.1 at.0) now
-          (leaves_more (λ end d. IsUnnamed end.0 d) (λ end d. IsFinishing (end.0, with_next_done n at.1) d) AtFault AtFault (reseal_plan setup n at.1 at.0) now
-          (λ end d its. record {
-            unnamed = its;
-            pages = pages_done g at.1.progress.items (held_of (register_at at.1 n)).at so.pages;
-            loss = so.loss;
-          }) (λ left d it. it) (reseal_so n at now so))
-
-      found_so : (regs : Regs) (chip : Chip) (found : Option ℕ) (now : Device) → IsFinishing (chip, regs) now
-          → Leaves (finish_found_plan setup regs chip found) IsFinishing AtFault now
-      unfolding Leaves finish_found_plan finish_page_plan
-      found_so regs chip None now so = so
-      found_so regs chip (Some n) now so =
-          leaves_repeated (λ i at d. IsFinishing at d) AtFault (finish_turn setup n) (length (not_done (register_at regs n))) 0
-          (length (not_done (register_at regs n))) (chip, regs) now (omega arith) (λ i at d low its. turn_so n at d its) so
-
-      finish_so : (overflows : Bool) (regs : Regs) (chip : Chip) (now : Device) → IsFinishing (chip, regs) now
-          → Leaves (finish_for_plan setup page overflows regs chip) IsFinishing AtFault now
-      unfolding Leaves finish_for_plan
-      finish_so overflows regs chip now so =
-          leaves_if IsFinishing AtFault overflows (finish_found_plan setup regs chip (register_to_finish regs.progress.items page)) (done (chip, regs)) now
-          (λ over. found_so regs chip (register_to_finish regs.progress.items page) now so) (λ same. so)
-
       -- ---- the path named
-
-      abbrev High : ℕ → Type 0
-      High at = layout.shadow_line g 0 ≤ at
-
-      slot_high : (s : Shape) (bank n x : ℕ) (mirror : List Line) → s ≡ g → MakesOnly (writes_within High) (slot_plan s bank n x mirror)
-      unfolding MakesOnly slot_plan
-      slot_high s bank n x mirror is =
-          by (is_slot_named s mirror bank n x)
-        where
-          by : (named : Bool) → MakesOnly {E = List Line × Cut} {T = List Line × Unit {0}} (writes_within High)
-              (if named then done (mirror, tt)
-              else write (with_named s mirror bank n x, the_cut) (layout.shadow_line s (entry_line s bank n)) (naming_line s mirror bank n x)
-              (done (with_named s mirror bank n x, tt)))
-          by true = tt
-          by false = (subst (λ (k : Shape). layout.shadow_line k 0 ≤ layout.shadow_line s (entry_line s bank n)) is (omega arith), tt)
 
       name_so : (chip : Chip) (now : Device) → IsUnnamed chip now
           → Leaves (lifted (with_engine chip) fault_of_cut (name_plan page chip.engine)) (λ end d. IsPast end.0 d) Stop now
@@ -295,22 +114,21 @@ module _ (f : Formulas) (w : Posted) (first : Chip) (start : Device) (whole : Ha
       name_so chip now so =
           leaves_mapped _ _ (λ end d. IsPast end.0 d) Stop _ now
           (leaves_mapped _ _ (λ end d. IsPast (with_engine chip end.0) d) (λ left d. Stop (with_engine chip left.0, fault_of_cut left.1) d) _ now
-          (leaves_more (λ end d. KeepsBeside High now d) (λ end d. IsPast (with_engine chip (with_mirror chip.engine end.0)) d)
-          (λ left d. KeepsBeside High now d) (λ left d. Stop (with_engine chip (with_mirror chip.engine left.0), Fail.Cut) d) _ now
+          (leaves_more (λ end d. KeepsBeside (High g) now d) (λ end d. IsPast (with_engine chip (with_mirror chip.engine end.0)) d)
+          (λ left d. KeepsBeside (High g) now d) (λ left d. Stop (with_engine chip (with_mirror chip.engine left.0), Fail.Cut) d) _ now
           (λ end d kept. named end.0 d kept) (λ left d kept. past_cut (with_engine chip (with_mirror chip.engine left.0)) d (named left.0 d kept))
-          (keeps_beside High now (naming_plan chip.engine.shape chip.engine.cache page chip.engine.mirror) now
-          (makes_repeated (writes_within High) (naming_turn chip.engine.shape chip.engine.cache page) 0 (chip.engine.shape.levels + 1) (chip.engine.mirror, tt)
-          (λ j before. slot_high chip.engine.shape j (path_number chip.engine.shape chip.engine.cache page j) (path_at chip.engine.shape page j) before.0
-          (ap (λ (e : ChipState). e.shape) so.engine ∙ ready.shape)))
+          (keeps_beside (High g) now (naming_plan chip.engine.shape chip.engine.cache page chip.engine.mirror) now
+          (subst (λ (s : Shape). MakesOnly (writes_within (High g)) (naming_plan s chip.engine.cache page chip.engine.mirror))
+          (sym (ap (λ (e : ChipState). e.shape) so.engine ∙ ready.shape)) (naming_high g chip.engine.cache page chip.engine.mirror))
           (λ at apart. refl))))
         where
           not_high : layout.shadow_line g 0 ≤ block_at → ⊥
           not_high high = absurd (omega (arith, high, path_at-lt g page g.levels inside (omega arith), path_of-block g page))
 
-          named : (mirror : List Line) (d : Device) → KeepsBeside High now d → IsPast (with_engine chip (with_mirror chip.engine mirror)) d
+          named : (mirror : List Line) (d : Device) → KeepsBeside (High g) now d → IsPast (with_engine chip (with_mirror chip.engine mirror)) d
           named mirror d kept =
               record {
-                kept = (unnamed_past chip now so).kept;
+                kept = (finishes.unnamed_past f w first start whole inside c mid ready unspent chip now so).kept;
                 due = record { made = so.made; kept = λ none. kept block_at (λ high. not_high high) ∙ block_so now so.low };
               }
 
@@ -320,13 +138,13 @@ module _ (f : Formulas) (w : Posted) (first : Chip) (start : Device) (whole : Ha
       marked_so : (mark : Mark) (persisted : Bool) (lines : List (ℕ × Line)) (chip : Chip) (now d : Device) → IsPast chip now
           → ((is_persisting start.regs.loss w.at mark ≡ false) → told_line d.lines block_at ≡ told_line now.lines block_at)
           → IsPast (with_marked_path g mark page persisted lines chip) d
-      unfolding more_marks
+      unfolding front_more
       marked_so mark persisted lines chip now d so same =
           record {
             kept = λ bank set. stored_kept g page persisted lines (path_length g) (cache_of chip.engine) bank set ∙ so.kept bank set;
             due =
                 record {
-                  made = more_marks chip mark so.due.made;
+                  made = front_more first.ledger.marks chip.ledger.marks mark so.due.made;
                   kept = λ none.
                       let parts = none_of start.regs.loss w.at so.due.made.later mark none in same parts.1 ∙ so.due.kept parts.0;
                 };
@@ -425,10 +243,11 @@ module _ (f : Formulas) (w : Posted) (first : Chip) (start : Device) (whole : Ha
       rest_so overflows pages =
           leaves_bind _ Stop _ _ mid
           (leaves_mapped _ _ _ Stop _ mid
-          (leaves_more (λ made d. IsUnnamed made.0 d) _ AtFault AtFault _ mid (λ made d unnamed.
+          (leaves_more (λ made d. finishes.IsAnew f w first start whole inside c mid ready unspent 0 0 made.0 d) _ AtFault AtFault _ mid
+          (λ made d anew.
           leaves_bind _ Stop _ _ d
           (leaves_mapped _ _ _ Stop _ d
-          (leaves_more IsFinishing _ AtFault AtFault _ d (λ finished d2 its.
+          (leaves_more (finishes.IsFinished f w first start whole inside c mid ready unspent) _ AtFault AtFault _ d (λ finished d2 its.
           leaves_bind _ Stop _ _ d2
           (leaves_more (λ named d3. IsPast named.0 d3) _ Stop Stop _ d2 (λ named d3 past.
           leaves_bind _ Stop _ _ d3
@@ -437,8 +256,8 @@ module _ (f : Formulas) (w : Posted) (first : Chip) (start : Device) (whole : Ha
           (seal_so made.1 begun.1 begun.0 d4 it.1 it.0))
           (λ left d4 so. so) (begin_so overflows finished.1 named.0 d3 its.loss past)))
           (λ left d3 so. so) (name_so finished.0 d2 its.unnamed)))
-          (λ left d2 so. so) (finish_so overflows start.regs made.0 d (record { unnamed = unnamed; pages = pages; loss = refl })))))
-          (λ left d so. so) (plain_so start.regs)))
+          (λ left d2 so. so) (finishes.finish_so f w first start whole inside c mid ready unspent made.0 d pages anew overflows))))
+          (λ left d so. so) (finishes.plain_so f w first start whole inside c mid ready unspent start.regs)))
 
     -- ---- the counter
 
@@ -452,10 +271,11 @@ module _ (f : Formulas) (w : Posted) (first : Chip) (start : Device) (whole : Ha
         block = cached_block g c.engine page
 
         by : (low last : Bool) → nat_lt (minor_of block (index_in_page w.at)) 127 ≡ low → (block.major == 2 ^ 64 - 1) ≡ last
-            → Leaves (overflow_end c (if low then Ok false else if last then Err (Fail.Spent page) else Ok true)) (λ overflows d. Leaves (to_plain setup start.regs w (c, tt) overflows) (λ end d. Due end.0 d) Stop d) Stop mid
+            → Leaves (overflow_end c (if low then Ok false else if last then Err (Fail.Spent page) else Ok true))
+            (λ overflows d. Leaves (to_plain setup start.regs w (c, tt) overflows) (λ end d. Due end.0 d) Stop d) Stop mid
         by true last low its =
             rest_so (subst (λ t. IsOk (if t then Ok false else if block.major == 2 ^ 64 - 1 then Err (Fail.Spent page) else Ok true)) (sym low) refl) false pages
-        by false true low its = spent_so
+        by false true low its = finishes.spent_so f w first start whole inside c mid ready
         by false false low its =
             rest_so (subst (λ t. IsOk (if t then Ok false else if block.major == 2 ^ 64 - 1 then Err (Fail.Spent page) else Ok true)) (sym low)
             (subst (λ t. IsOk (if t then Err (Fail.Spent page) else Ok true)) (sym its) refl)) true pages

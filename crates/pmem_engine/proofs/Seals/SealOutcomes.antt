@@ -1,5 +1,5 @@
--- The exits of a seal under the next counter: its tag line isn't read, its group is cut, or the line is sealed.
-use Rattle.std.proofs.Common.{rules, ℕ, ◌≡◌, ◌<◌, ◌≤◌, ◌%◌, ◌++◌, inl, inr, Bool, true, false, List, [], ◌∷◌, length, IsTrue, Some, Ok, Err, cond, refl, sym, ap, subst, subst₂, ◌∙◌, arith}
+-- The ends of a seal under the next counter: its tag line isn't read, its group is cut, or the line is sealed.
+use Rattle.std.proofs.Common.{rules, ℕ, ◌≡◌, ◌<◌, ◌≤◌, ◌%◌, ◌++◌, inl, inr, Bool, true, false, List, [], ◌∷◌, length, IsTrue, Some, Result, Ok, Err, cond, refl, sym, ap, subst, subst₂, ◌∙◌, arith}
 use Rattle.std.specs.Prelude.{option_map, ◌↔◌, ◌==◌, if◌then◌else◌}
 use Rattle.std.proofs.lemmas.Bool.{true≢false, cond-true, cond-false}
 use Rattle.pmem_base.specs.declared.faults.Cut.{Cut}
@@ -20,6 +20,7 @@ use Rattle.board.proofs.CountLemmas.{RisesBy-once, HasRisen-once}
 use Rattle.board.specs.Counts.{RisesBy}
 use Rattle.board.specs.Device.{Device, IsDevice}
 use Rattle.board.specs.Steps.{HasRead, WasCut}
+use Rattle.call_plan.specs.Plans.{mapped_end}
 use Rattle.commit_regs.specs.Groups.{redone_told}
 use Rattle.seal_ledger.specs.Ledger.{LedgerState}
 use Rattle.meta_path.specs.Blocks.{IsPathCached, AreCachedTrue}
@@ -30,13 +31,13 @@ use Rattle.plain_model.specs.Bounds.{path_length}
 use Rattle.pmem_engine.specs.declared.resealing.NextSeal.{NextSeal}
 use Rattle.pmem_engine.specs.Engine.{ChipState}
 use Rattle.pmem_engine.specs.Invariants.{IsTrusted}
-use Rattle.pmem_engine.specs.Parts.{Parts, parts_with, lines_redone, AreTrusted}
+use Rattle.pmem_engine.specs.Parts.{Parts, parts_with, regs_of, lines_redone, AreTrusted}
 use Rattle.call_effects.specs.Outcomes.{going, cut_short}
-use Rattle.pmem_engine.specs.Outcomes.{is_sealed_by, NeverFalls, OneLossEffect}
-use Rattle.pmem_engine.specs.CallFacts.{IsUsableWith, IsPathNamedInMirror}
+use Rattle.pmem_engine.specs.Outcomes.{is_sealed_by, NeverFalls, OneLossEffect, TakesFewer}
+use Rattle.pmem_engine.specs.CallFacts.{IsUsableWith, IsPathNamedInMirror, KeepsButPath}
 use Rattle.pmem_engine.specs.Committing.{next_seal_of, HasCommitted, IsCutArmed}
 use Rattle.pmem_engine.specs.Inner.{cached_block}
-use Rattle.pmem_engine.specs.Sealing.{next_counter_of, raised_block, seal_steps, seal_group, HasPathSealed, HasSealCommitted, IsNothingDone, IsSealCut, HasSealedNext}
+use Rattle.pmem_engine.specs.Sealing.{next_counter_of, raised_block, seal_steps, seal_group, HasPathSealed, HasSealEnded, HasNextMarks, HasSealedNext}
 use Rattle.pmem_engine.proofs.CallEnds.CallChains.{done_chained}
 use Rattle.pmem_engine.proofs.Laws.PlainLines.{plain_line-sealed, plain_line-other}
 use Rattle.pmem_engine.proofs.CheckedReads.UnsealedLines.{risen_never_falls}
@@ -48,31 +49,41 @@ use Rattle.pmem_engine.proofs.CallEnds.MetaLines.{committed_at, seal_off_meta}
 use Rattle.pmem_engine.proofs.Seals.GroupCommits.{IsCommit, block_true, comes_committed, done_committed, done_cut}
 use Rattle.pmem_engine.proofs.Seals.PathSeals.{IsPathSealing, sealing}
 
+-- it was cut
+seal_stopped : (setup : Setup) (at : ℕ) (plain : Line) (old new : Parts) (made : List Mark) (cut : Cut)
+    → OneLossEffect setup cut_short made old new
+    → HasNextMarks setup.formulas at (next_counter_of setup.shape old.engine at) plain made (Err cut)
+    → ((a : ℕ) → plain_line setup.formulas new.ledger.marks a
+    ≡ (if is_sealed_by made a then Some plain else plain_line setup.formulas old.ledger.marks a))
+    → TakesFewer (seal_steps (regs_of old).loss (next_counter_of setup.shape old.engine at)) old.device new.device
+    → KeepsButPath setup.shape (page_of at) old.engine.cache new.engine.cache → HasSealedNext setup at plain old new (Err cut)
+seal_stopped setup at plain old new made cut done marks plain_now steps cache =
+    record {
+      made = made;
+      done = done;
+      marks = marks;
+      plain_now = plain_now;
+      path_cached = λ ok. absurd (true≢false (sym ok));
+      path_named = λ ok. absurd (true≢false (sym ok));
+      steps = steps;
+      work = tt;
+      cache = cache;
+      meta_lines = λ ok. absurd (true≢false (sym ok));
+      block_written = λ trusted ok. absurd (true≢false (sym ok));
+    }
+
 module _ (setup : Setup) (at : ℕ) (plain : Line) (engine : ChipState) (old : Device) (before : LedgerState) (tags digests : ℕ)
     (usable : IsUsableWith setup.shape false old before) where
   abbrev start : Parts
   start = parts_with engine old before tags digests
 
-  -- the board was cut, and nothing done
+  -- its tag line wasn't read
   pub seal_unread : (new : Device) (tags_now digests_now : ℕ) → tags_now ≡ tags → NeverFalls digests digests_now → (cut : Cut) → WasCut old new
       → 4 ≤ seal_steps old.regs.loss (next_counter_of setup.shape engine at)
       → HasSealedNext setup at plain start (parts_with engine new before tags_now digests_now) (Err cut)
   seal_unread new tags_now digests_now same_tags never_digests cut was some =
-      record {
-        made = [];
-        done =
-            search (rules, HasRisen-once);
-        marks = inl refl;
-        plain_now = λ a. refl;
-        path_cached = λ ok. absurd (true≢false (sym ok));
-        path_named = λ ok. absurd (true≢false (sym ok));
-        steps =
-            search rules;
-        work = tt;
-        cache = kept_same setup.shape (page_of at) engine.cache engine.cache refl;
-        meta_lines = λ ok. absurd (true≢false (sym ok));
-        block_written = λ trusted ok. absurd (true≢false (sym ok));
-      }
+      seal_stopped setup at plain start (parts_with engine new before tags_now digests_now) [] cut (search (rules, HasRisen-once)) (inl refl)
+      (λ a. refl) (search rules) (kept_same setup.shape (page_of at) engine.cache engine.cache refl)
 
 -- how many lines its group has
 group_length : (g : Shape) (next : NextSeal) (block : Line) (persisted : Bool)
@@ -170,27 +181,15 @@ module _ (setup : Setup) (at : ℕ) (plain tag_line : Line) (persisted : Bool) (
     trusted_mid trusted = was_read.gone.trusted trusted
 
     -- cut while its group was armed
-    pub seal_cut : (cut : Cut) → IsDevice new → IsCutArmed group mid new → HasSealedNext setup at plain first final (Err cut)
+    seal_cut : (cut : Cut) → IsDevice new → IsCutArmed group mid new → HasSealedNext setup at plain first final (Err cut)
     seal_cut cut device_now armed =
-        record {
-          made = mark ∷ [];
-          done =
-              done_chained setup cut_short [] (mark ∷ []) first middle final was_read
-              (done_cut setup group mark (page_of at) persisted block middle final commit device_now armed);
-          marks = inr refl;
-          plain_now = plain_after done.noted.marks;
-          path_cached = λ ok. absurd (true≢false (sym ok));
-          path_named = λ ok. absurd (true≢false (sym ok));
-          steps =
-              search rules;
-          work = tt;
-          cache = done.stored.kept;
-          meta_lines = λ ok. absurd (true≢false (sym ok));
-          block_written = λ trusted ok. absurd (true≢false (sym ok));
-        }
+        seal_stopped setup at plain first final (mark ∷ []) cut
+        (done_chained setup cut_short [] (mark ∷ []) first middle final was_read
+        (done_cut setup group mark (page_of at) persisted block middle final commit device_now armed))
+        (inr refl) (plain_after done.noted.marks) (search rules) done.stored.kept
 
     -- sealed
-    pub seal_done : HasCommitted group mid new → HasSealedNext setup at plain first final (Ok ctr)
+    seal_done : HasCommitted group mid new → HasSealedNext setup at plain first final (Ok ctr)
     seal_done finished =
         record {
           made = mark ∷ [];
@@ -242,35 +241,16 @@ module _ (setup : Setup) (at : ℕ) (plain tag_line : Line) (persisted : Bool) (
         path_named = kept_named setup.shape (page_of at) persisted lines engine engine_now done.stored cached named
 
   -- a cut before its group was armed
-  pub seal_undone : (cut : Cut) → IsNothingDone engine engine_now mid new before after → HasSealedNext setup at plain first final (Err cut)
-  seal_undone cut was =
-      record {
-        made = [];
-        done =
-            search (rules, never_digests);
-        marks = inl refl;
-        plain_now = λ a. ap (λ ledger. plain_line setup.formulas ledger.marks a) was.ledger;
-        path_cached = λ ok. absurd (true≢false (sym ok));
-        path_named = λ ok. absurd (true≢false (sym ok));
-        steps =
-            search rules;
-        work = tt;
-        cache =
-            kept_same setup.shape (page_of at) engine.cache engine_now.cache (ap (λ (e : ChipState). e.cache) was.engine);
-        meta_lines = λ ok. absurd (true≢false (sym ok));
-        block_written = λ trusted ok. absurd (true≢false (sym ok));
-      }
+  seal_undone : (cut : Cut) → WasCut mid new → engine_now ≡ engine → after ≡ before → HasSealedNext setup at plain first final (Err cut)
+  seal_undone cut was same told =
+      seal_stopped setup at plain first final [] cut (search (rules, never_digests)) (inl refl)
+      (λ a. ap (λ ledger. plain_line setup.formulas ledger.marks a) told) (search rules)
+      (kept_same setup.shape (page_of at) engine.cache engine_now.cache (ap (λ (e : ChipState). e.cache) same))
 
-  -- both exits
-  pub seal_exits : ((e : Cut) → IsDevice new → IsSealCut setup.shape next persisted block lines root engine engine_now mid new before after
-      → HasSealedNext setup at plain first final (Err e))
-      × (HasSealCommitted setup.shape next persisted block lines root engine engine_now mid new before after
-      → HasSealedNext setup at plain first final (Ok ctr))
-  seal_exits = (
-    λ e device_now cut.
-        elim cut [
-          | inl was ↦ seal_undone e was
-          | inr was ↦ seal_cut was.path_sealed e device_now was.device
-        ],
-    λ was. seal_done was.path_sealed was.device,
-  )
+  -- however it ended
+  pub seal_ended : IsDevice new → (end : Result (Unit {0}) Cut)
+      → HasSealEnded setup.shape next persisted block lines root engine engine_now mid new before after end
+      → HasSealedNext setup at plain first final (mapped_end (λ cut. cut) (λ value. ctr) end)
+  seal_ended whole_now (Ok value) was = seal_done was.1 was.0
+  seal_ended whole_now (Err cut) (inl was) = seal_undone cut was.0 was.1.0 was.1.1
+  seal_ended whole_now (Err cut) (inr was) = seal_cut was.1 cut whole_now was.0

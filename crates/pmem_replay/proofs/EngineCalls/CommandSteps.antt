@@ -19,6 +19,7 @@ use Rattle.pmem_engine.specs.declared.fault.Fault.{Fault}
 use Rattle.pmem_engine.specs.declared.fault.Fault.TheVariants as Fail
 use Rattle.pmem_engine.specs.Parts.{Parts}
 use Rattle.call_effects.specs.Outcomes.{Outcome, going, cut_short, shown, HasPower}
+use Rattle.call_effects.proofs.PowerLaws.{going_uncut}
 use Rattle.pmem_engine.specs.Outcomes.{outcome_of}
 use Rattle.watched_board.specs.declared.taken.Taken.{Taken}
 use Rattle.watched_board.specs.Watching.{none_taken, steps_in, step_limit, device_during}
@@ -29,7 +30,7 @@ use Rattle.pmem_replay.specs.EngineCalls.{is_outcome_shown, is_outcome_cut, call
 use Rattle.pmem_replay.specs.Given.{HasMarkRoom}
 use Rattle.pmem_replay.specs.Stepped.{HasStepped, HasCalled, IsCommandDone, IsSeenOnDevice}
 use Rattle.pmem_replay.specs.World.{WorldState, IsOn, IsWorld, setup_of_world}
-use Rattle.pmem_replay.proofs.Steps.WorldsAfterCalls.{on_in, going_uncut, cut_counted, uncut_counted}
+use Rattle.pmem_replay.proofs.Steps.WorldsAfterCalls.{on_in, cut_counted, uncut_counted}
 use Rattle.pmem_replay.proofs.Steps.GoodReplies.{IsGood}
 use Rattle.pmem_replay.proofs.Steps.ReservedRoom.{same_room}
 use Rattle.pmem_replay.proofs.Steps.WorldSteps.{stepped_by_engine}

@@ -17,6 +17,7 @@ use Rattle.seal_ledger.specs.Ledger.{IsMark}
 use Rattle.plain_model.specs.State.{PlainState, no_flags, is_flagged, with_flag}
 use Rattle.plain_model.specs.After.{after_mark, after_marks}
 use Rattle.pmem_engine.specs.Outcomes.{is_touching, IsTouchedBy}
+use Rattle.pmem_replay.proofs.Boards.FlagLemmas.{length-no_flags}
 
 -- the flags of touched pages, and of flushed positions, once a mark is made, and once marks are
 abbrev pub touched_after_mark : List Bool → Mark → List Bool
@@ -59,10 +60,6 @@ after_marks-is g state (mark ∷ marks) =
     ∙ after_marks-is g (with_flags state (touched_after_mark state.touched mark) (flushed_after_mark g state.flushed mark)) marks
 
 -- ---- lengths
-
-pub length-no_flags : (n : ℕ) → length (no_flags n) ≡ n
-unfolding no_flags
-length-no_flags n = length-replicate n false
 
 pub length-touched_after : (touched : List Bool) (marks : List Mark) → length (touched_after touched marks) ≡ length touched
 length-touched_after touched [] = refl

@@ -30,7 +30,8 @@ use Rattle.pmem_replay.specs.Flagged.{Tampering, Dirtying, no_tampering, no_dirt
 use Rattle.pmem_replay.specs.World.{WorldState, WorldParts, IsOn, IsPowered, IsWorld, state_in, world_of, lines_in}
 use Rattle.pmem_replay.specs.During.{WasFormatted}
 use Rattle.pmem_replay.specs.Stepped.{IsNewWorld}
-use Rattle.pmem_replay.proofs.Marks.AfterMarks.{length-no_flags, unflagged}
+use Rattle.pmem_replay.proofs.Marks.AfterMarks.{unflagged}
+use Rattle.pmem_replay.proofs.Boards.FlagLemmas.{length-no_flags}
 use Rattle.pmem_replay.proofs.Power.OnLaws.{nothing_dirty}
 use Rattle.pmem_replay.proofs.Power.RecoveryCalls.{whole_empty}
 use Rattle.pmem_replay.proofs.Steps.MarklessCalls.{HasQueues-none}

@@ -38,11 +38,11 @@ use Rattle.watched_board.specs.declared.taken.Taken.{Taken}
 use Rattle.watched_board.specs.Watching.{AreInCount, none_taken, steps_in, device_during, FollowsOn}
 use Rattle.watched_board.proofs.StepLaws.{few_exact}
 use Rattle.pmem_replay.proofs.Steps.WorldsAfterCalls.{steps-taken}
-use Rattle.pmem_replay.proofs.Marks.AfterMarks.{length-no_flags}
 use Rattle.pmem_replay.proofs.Steps.MarklessCalls.{HasQueues-none}
 use Rattle.pmem_replay.proofs.Steps.SameWorld.{same_world}
 use Rattle.pmem_replay.specs.Replies.{without_marks}
 use Rattle.pmem_replay.proofs.Steps.GoodReplies.{IsGood, good}
+use Rattle.pmem_replay.proofs.Boards.FlagLemmas.{length-no_flags}
 
 -- ---- an empty cache
 

@@ -21,6 +21,7 @@ use Rattle.pmem_base.specs.WaitingWrites.{no_writes}
 use Rattle.board.specs.Memory.{BoardMemory}
 use Rattle.call_plan.specs.Plans.{ended}
 use Rattle.call_plan.specs.Following.{Follows}
+use Rattle.call_plan.proofs.StillCalls.{untouched, rests}
 use Rattle.commit_regs.specs.Groups.{finishing_latches}
 use Rattle.meta_cache.specs.Banks.{IsBanksOf}
 use Rattle.suite.specs.Setup.{Setup}
@@ -58,11 +59,6 @@ use Rattle.pmem_replay.proofs.Steps.WorldSteps.{stepped_by_engine}
 use Rattle.pmem_replay.proofs.Table.UnchangedSteps.{dark_in}
 use Rattle.pmem_replay.proofs.Steps.CallSurroundings.{called}
 use Rattle.pmem_replay.proofs.Power.RecoveryCalls.{whole_empty, apart_ok, apart_err, RecoveryCall}
-
--- a board is its fields
-same_board : (a b : BoardMemory) → a.lines ≡ b.lines → a.regs ≡ b.regs → a.powered ≡ b.powered → a.fuse ≡ b.fuse → a.snapshot ≡ b.snapshot
-    → a.reads ≡ b.reads → a.writes ≡ b.writes → a.latches ≡ b.latches → a.cuts ≡ b.cuts → a.accesses ≡ b.accesses → a ≡ b
-same_board a b lines regs powered fuse snapshot reads writes latches cuts accesses = grind arith
 
 module _ (s : RecoveryCall) where
   abbrev setup : Setup
@@ -406,24 +402,10 @@ module _ (s : RecoveryCall) where
 
   -- ---- no memory
 
-  -- as many steps as none
-  no_steps : (fuse : Option ℕ) (n : ℕ) → n ≡ 0 → option_map (λ k. k - n) fuse ≡ fuse
-  no_steps None n none = refl
-  no_steps (Some k) n none = ap (λ (m : ℕ). Some m) (omega (arith, none))
-
   unmoved : Has (Err Fail.Memory) → dim ≡ s.parts.board
   unmoved has =
-      let same = has.unchanged in
-      let lasting : s.board.powered ≡ true = ap (λ d. d.live) same in
-      let writes : s.taken.writes ≡ 0 = ap (λ d. d.writes) same in
-      let latches : s.taken.latches ≡ 0 = ap (λ d. d.latches) same in
-      let its_writes : s.board.writes ≡ s.parts.board.writes = omega (arith, s.served.watched.follows.writes, writes, s.served.watched.in_count.writes) in
-      let its_latches : s.board.latches ≡ s.parts.board.latches = omega (arith, s.served.watched.follows.latches, latches, s.served.watched.in_count.latches) in
-      let fuse : s.board.fuse ≡ s.parts.board.fuse =
-      s.served.watched.follows.burnt lasting ∙ no_steps s.parts.board.fuse (steps_in s.taken) (omega (arith, writes, latches)) in
-      same_board dim s.parts.board (same_Some s.board.lines s.parts.board.lines (ap (λ d. d.lines) same)) (ap (λ d. d.regs) same) (sym its_off.unpowered)
-      fuse s.served.watched.follows.snapshot (ap (λ d. d.reads) same) its_writes its_latches (s.served.watched.follows.uncut lasting)
-      (same_Some s.board.accesses s.parts.board.accesses (ap (λ d. d.accesses) same))
+      rests s.parts.board (lit s.parts.board) s.board refl its_off.unpowered
+      (untouched (lit s.parts.board) s.board s.taken s.served.watched has.unchanged refl)
 
   -- nothing has changed
   pub on-memory : (rested : BoardMemory) → s.outcome ≡ Err Fail.Memory → rested ≡ dim → left_with s.engine rested ≡ s.parts

@@ -1,7 +1,6 @@
 -- Two new worlds of one geometry, of the same keys and counts: formatting's plan leaves one device.
-use Rattle.std.proofs.Common.{ℕ, ◌≡◌, false, inl, inr, List, Option, Some, None, refl, sym, ap, ap₂, subst, ◌∙◌}
+use Rattle.std.proofs.Common.{ℕ, ◌≡◌, false, inl, inr, List, Option, Some, refl, sym, ap, ap₂, subst, ◌∙◌}
 use Rattle.std.specs.Prelude.{Ok, is_some, slice_set}
-use Rattle.std.proofs.lemmas.Bool.{true≢false}
 use Rattle.std.proofs.lemmas.Option.{same_Some}
 use Rattle.pmem_base.specs.declared.lines.Line.{Line}
 use Rattle.pmem_base.specs.declared.answers.Mark.{Mark}
@@ -14,6 +13,7 @@ use Rattle.call_plan.specs.Plans.{Plan, done, stop, read, write, latch}
 use Rattle.call_plan.specs.Following.{Took}
 use Rattle.call_plan.proofs.Determined.{same_line, read_is_determined, write_is_determined, latch_is_determined}
 use Rattle.suite.specs.Setup.{Setup}
+use Rattle.call_effects.proofs.ResultLaws.{none_is}
 use Rattle.seal_ledger.specs.Ledger.{LedgerState}
 use Rattle.plain_model.specs.State.{PlainState, start_state}
 use Rattle.pmem_replay.specs.World.{WorldState}
@@ -48,10 +48,6 @@ done_alike (latch left regs later) lines old a b t u told (inl s) (inr r) = let 
 done_alike (latch left regs later) lines old a b t u told (inr s) its = let no = s.ends in absurd (cc)
 
 -- ---- parts
-
-none_is : {T : Type 0} (o : Option T) → is_some o ≡ false → o ≡ None
-none_is None none = refl
-none_is (Some x) none = absurd (true≢false none)
 
 boards_alike : (a b : BoardMemory) → device_of a ≡ device_of b → a.fuse ≡ b.fuse → a.snapshot ≡ b.snapshot → a ≡ b
 boards_alike a b device fuse snapshot =

@@ -3,7 +3,6 @@ use Rattle.std.proofs.Common.{rules}
 use Rattle.std.proofs.Common.{ℕ, ◌≡◌, ◌≢◌, ◌<◌, ◌≤◌, ◌+◌, ◌-◌, ◌++◌, ◌⊎◌, inl, inr, true, false, List, length, IsTrue, Some, None, sym, ap, subst, subst₂, ◌∙◌, arith}
 use Rattle.std.specs.Prelude.{Bool, not, IfSome, option_map}
 use Rattle.std.proofs.lemmas.Option.{same_Some}
-use Rattle.std.proofs.lemmas.Bool.{true≢false}
 use Rattle.pmem_base.specs.declared.answers.Mark.{Mark}
 use Rattle.pmem_base.specs.Counts.{last_count, HasRisen}
 use Rattle.pmem_base.specs.Layout as layout
@@ -21,7 +20,8 @@ use Rattle.plain_model.specs.View.{IsMemoryOf}
 use Rattle.pmem_engine.specs.Engine.{EngineState}
 use Rattle.pmem_engine.specs.Invariants.{IsCounterStored}
 use Rattle.pmem_engine.specs.Parts.{Parts}
-use Rattle.call_effects.specs.Outcomes.{going, cut_short, is_going}
+use Rattle.call_effects.specs.Outcomes.{going, cut_short}
+use Rattle.call_effects.proofs.PowerLaws.{going_uncut}
 use Rattle.pmem_engine.specs.Outcomes.{is_sealed_by, KeepsPlaces, CallEffect}
 use Rattle.pmem_replay.specs.World.{WorldState, AreKept, HasFlags, HasQueues, HasBoard, HasSteps, IsOn, IsOff, IsWorld, IsPowered, IsOtherCipher, lines_in}
 use Rattle.watched_board.specs.declared.taken.Taken.{Taken}
@@ -34,9 +34,6 @@ use Rattle.pmem_engine.proofs.PostedWrites.WriteParts.{last_seal-unsealed}
 -- a world with power on
 pub on_in : (setup : Setup) (world : WorldState) (engine : EngineState) → IsWorld setup world → world.engine ≡ Some engine → IsOn setup world engine
 on_in setup world engine whole there = subst (λ e. IsPowered setup world e) there whole.chip
-
-pub going_uncut : going ≢ cut_short
-going_uncut e = absurd (true≢false (ap is_going e))
 
 -- the flags of tampering that a call leaves, by the seals that it made
 pub record IsHealed (setup : Setup) (made : List Mark) (old new : PlainState) : Type 0 where

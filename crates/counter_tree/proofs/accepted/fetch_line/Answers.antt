@@ -1,21 +1,7 @@
 -- A line whose tag fits.
-use Rattle.std.proofs.Common.{ℕ, ◌≡◌, ◌≢◌, List, Option, Some, None, Result, Ok, Err, sym, ap, subst, ◌∙◌}
-use Rattle.std.specs.Prelude.{IfSome}
-use Rattle.pmem_base.specs.declared.lines.Line.{Line}
-use Rattle.pmem_base.specs.Geo.{shape_of}
-use Rattle.pmem_base.specs.Lines.{tag_slot}
-use Rattle.pmem_base.specs.declared.answers.Exhibit.TheVariants.{Forged}
-use Rattle.board.specs.Steps.{HasRead}
-use Rattle.suite.specs.Setup.{Setup}
-use Rattle.line_seal.specs.Seals.{unsealed}
-use Rattle.call_plan.proofs.Steps.{ended_err}
-use Rattle.counter_tree.specs.Nodes.{version_counter}
-use Rattle.counter_tree.specs.Watch.{WatchState, last_seal_of, HasShown}
-use Rattle.counter_tree.specs.declared.watch.LineSeal.{LineSeal}
-use Rattle.counter_tree.specs.declared.accepted.FetchFault.{FetchFault}
+use Rattle.std.proofs.Common.{ℕ, ◌≡◌, ◌≢◌, List, Option, Some, None, Result, Ok, Err, subst, ◌∙◌, rules}
+use Rattle.counter_tree.proofs.Common.{IfSome, Line, shape_of, tag_slot, Forged, HasRead, Setup, unsealed, ended_err, version_counter, WatchState, last_seal_of, HasShown, LineSeal, FetchFault, line_of_tag, ReadParts, read_parts}
 use Rattle.counter_tree.specs.declared.accepted.FetchFault.TheVariants as Fail
-use Rattle.counter_tree.specs.Layout.{line_of_tag}
-use Rattle.counter_tree.specs.Plans.{ReadParts, read_parts}
 use Rattle.counter_tree.proofs.AcceptedLemmas.{unsealed-some}
 use Rattle.counter_tree.proofs.ReadPlans.{watch_shown, leaving, seal_of, line_unread, line_half_read, line_refused, line_accepted, line_shown}
 use Rattle.counter_tree.proofs.accepted.fetch_line.Given.{Over}
@@ -80,28 +66,17 @@ module _ (g : Over) (c : After-tag_at-tag g) where
 
   second : HasRead (g.B.Board.device c.read_line.new.self) (line_of_tag setup.shape c.args.at) c.in_ok-tag_line.tag_line
       (g.B.Board.device c.read_line-2.new.self)
-  second =
-      subst (λ (p : ℕ). HasRead (g.B.Board.device c.read_line.new.self) p c.in_ok-tag_line.tag_line (g.B.Board.device c.read_line-2.new.self)) c.tag_place.ensures.value
-      c.in_ok-tag_line.ensures.ok
+  second = search rules
 
   opened : (plain : Option Line) → plain ≡ unsealed setup.formulas c.args.at (version_counter c.args.counter) c.in_ok-cipher.cipher c.tag_at-tag.result
       → unsealed setup.formulas c.args.at (version_counter c.args.counter) c.in_ok-cipher.cipher (tag_slot c.in_ok-tag_line.tag_line 0) ≡ plain
-  opened plain is =
-      ap (unsealed setup.formulas c.args.at (version_counter c.args.counter) c.in_ok-cipher.cipher) (sym c.tag_at-tag.ensures) ∙ sym is
+  opened plain is = search rules
 
 pub returns-in_err-cipher-clause-plan : goal.returns-in_err-cipher-clause-plan
-returns-in_err-cipher-clause-plan g c =
-    ended_err c.from_residual.result c.from_residual.ensures.1
-    (line_unread (record { shape = shape_of c.args.geo.now; formulas = g.S.Suite.formulas_of (g.S.Suite.keys c.args.suite.now) }) c.args.at c.args.counter
-    (read_parts (g.W.Watch.watched c.args.watch.now) (g.S.Suite.pads c.args.suite.now) (g.S.Suite.tags c.args.suite.now))
-    c.in_err-cipher.ensures.cut c.in_err-cipher.ensures.only_off)
+returns-in_err-cipher-clause-plan g c = search (rules, ended_err, line_unread)
 
 pub returns-in_err-tag_line-clause-plan : goal.returns-in_err-tag_line-clause-plan
-returns-in_err-tag_line-clause-plan g c =
-    ended_err c.from_residual-in_err-tag_line.result c.from_residual-in_err-tag_line.ensures.1
-    (line_half_read (record { shape = shape_of c.args.geo.now; formulas = g.S.Suite.formulas_of (g.S.Suite.keys c.args.suite.now) }) c.args.at c.args.counter
-    (read_parts (g.W.Watch.watched c.args.watch.now) (g.S.Suite.pads c.args.suite.now) (g.S.Suite.tags c.args.suite.now))
-    c.in_ok-cipher.ensures.ok c.is_whole.ensures c.in_err-tag_line.ensures.cut c.in_err-tag_line.ensures.only_off)
+returns-in_err-tag_line-clause-plan g c = search (rules, ended_err, line_half_read)
 
 pub returns-in-None-clause-plan : goal.returns-in-None-clause-plan
 returns-in-None-clause-plan g c =

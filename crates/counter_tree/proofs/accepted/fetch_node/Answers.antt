@@ -1,16 +1,7 @@
 -- A node's position is below 5461; and the node's plan at each end.
-use Rattle.std.proofs.Common.{Result, Ok, Err, sym, subst, arith}
-use Rattle.pmem_base.specs.Geo.{shape_of}
-use Rattle.pmem_base.proofs.LayoutLemmas.{meta_lines-most}
-use Rattle.board.specs.Steps.{HasRead}
-use Rattle.suite.specs.Setup.{Setup}
-use Rattle.call_plan.proofs.Steps.{ended_err}
-use Rattle.counter_tree.specs.declared.nodes.Node.{Node}
-use Rattle.counter_tree.specs.declared.accepted.FetchFault.{FetchFault}
+use Rattle.std.proofs.Common.{Result, Ok, Err, sym, arith, rules}
+use Rattle.counter_tree.proofs.Common.{shape_of, meta_lines-most, HasRead, Setup, ended_err, Node, FetchFault, line_of_node, WatchState, forged_node, ReadParts, read_parts}
 use Rattle.counter_tree.specs.declared.accepted.FetchFault.TheVariants as Fail
-use Rattle.counter_tree.specs.Layout.{line_of_node}
-use Rattle.counter_tree.specs.Watch.{WatchState, forged_node}
-use Rattle.counter_tree.specs.Plans.{ReadParts, read_parts}
 use Rattle.counter_tree.proofs.ReadPlans.{watch_shown, leaving, node_cut, node_refused, node_accepted, node_shown}
 use Rattle.counter_tree.proofs.accepted.fetch_node.Given.{Over}
 use Rattle.counter_tree.proofs.accepted.fetch_node.Goals.{After-read_node}
@@ -36,16 +27,10 @@ module _ (g : Over) (c : After-read_node g) where
   after watch = read_parts watch (g.S.Suite.pads c.read_node.new.suite) (g.S.Suite.tags c.read_node.new.suite)
 
   was : HasRead (g.B.Board.device c.args.board.now) (line_of_node setup.shape c.args.x) c.in_ok-line.line (g.B.Board.device c.read_line.new.self)
-  was =
-      subst (λ n. HasRead (g.B.Board.device c.args.board.now) n c.in_ok-line.line (g.B.Board.device c.read_line.new.self)) c.node_place.ensures.value
-      c.in_ok-line.ensures.ok
+  was = search rules
 
 pub returns-in_err-line-clause-plan : goal.returns-in_err-line-clause-plan
-returns-in_err-line-clause-plan g c =
-    ended_err c.from_residual.result c.from_residual.ensures.1
-    (node_cut (record { shape = shape_of c.args.geo.now; formulas = g.S.Suite.formulas_of (g.S.Suite.keys c.args.suite.now) }) c.args.x c.args.version
-    (read_parts (g.W.Watch.watched c.args.watch.now) (g.S.Suite.pads c.args.suite.now) (g.S.Suite.tags c.args.suite.now))
-    c.in_err-line.ensures.cut c.in_err-line.ensures.only_off)
+returns-in_err-line-clause-plan g c = search (rules, ended_err, node_cut)
 
 pub returns-in-None-clause-plan : goal.returns-in-None-clause-plan
 returns-in-None-clause-plan g c =

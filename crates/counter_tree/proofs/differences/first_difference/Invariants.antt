@@ -1,6 +1,6 @@
 -- Before the next place the lists are equal.
 use Rattle.std.proofs.Common.{ℕ, ◌≡◌, ◌<◌}
-use Rattle.pmem_base.specs.Lines.{line_at}
+use Rattle.counter_tree.proofs.Common.{line_at}
 use Rattle.counter_tree.proofs.differences.first_difference.Given as goal
 
 abbrev pub invariant-slots : goal.invariant-slots

@@ -1,7 +1,6 @@
 -- The highest difference so far.
 use Rattle.std.proofs.Common.{◌≡◌, ◌+◌}
-use Rattle.pmem_base.specs.Layout.{level_start}
-use Rattle.counter_tree.specs.Shadow.{up, IsTopDifference}
+use Rattle.counter_tree.proofs.Common.{level_start, up, IsTopDifference}
 use Rattle.counter_tree.proofs.differences.top_difference.Given as goal
 
 abbrev pub invariant-levels : goal.invariant-levels

@@ -1,6 +1,5 @@
 use Rattle.std.proofs.Common.{arith}
-use Rattle.std.proofs.Math.Nat.{one-le-pow}
-use Rattle.pmem_base.proofs.LayoutLemmas.{pages-most}
+use Rattle.counter_tree.proofs.Common.{one-le-pow, pages-most}
 use Rattle.counter_tree.proofs.shadow.first_of_level.Goals as goal
 
 pub pow-requires : goal.pow-requires

@@ -1,7 +1,6 @@
 -- The height by the number of slots.
 use Rattle.std.proofs.Common.{sym, arith}
-use Rattle.pmem_base.specs.Geo.{shape_of}
-use Rattle.counter_tree.specs.Layout.{tree_slots}
+use Rattle.counter_tree.proofs.Common.{shape_of, tree_slots}
 use Rattle.counter_tree.proofs.HeightLemmas.{height_one, height_two, height_three, height_four, height_five, low-heights}
 use Rattle.counter_tree.proofs.shadow.shadow_height.Goals as goal
 

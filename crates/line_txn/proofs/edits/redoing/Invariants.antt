@@ -1,6 +1,5 @@
 use Rattle.std.proofs.Common.{◌≡◌, ◌+◌, take}
-use Rattle.arrayvec.specs.ArrayVec.{array_vec_len}
-use Rattle.line_txn.specs.Edits.{copy_edits}
+use Rattle.line_txn.proofs.Common.{array_vec_len, copy_edits}
 use Rattle.line_txn.proofs.edits.redoing.Given as goal
 
 abbrev pub invariant-targets : goal.invariant-targets

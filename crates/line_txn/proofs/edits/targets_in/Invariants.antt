@@ -1,6 +1,5 @@
 use Rattle.std.proofs.Common.{◌≡◌, take}
-use Rattle.arrayvec.specs.ArrayVec.{array_vec_len}
-use Rattle.line_txn.specs.Logged.{targets_of}
+use Rattle.line_txn.proofs.Common.{array_vec_len, targets_of}
 use Rattle.line_txn.proofs.edits.targets_in.Given as goal
 
 abbrev pub invariant-entries : goal.invariant-entries

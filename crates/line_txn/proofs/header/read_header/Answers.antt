@@ -1,7 +1,6 @@
 use Rattle.std.proofs.Common.{◌≡◌, false, sym, ap, subst, ◌∙◌, rules, arith}
-use Rattle.std.specs.Prelude.{IsTrue}
-use Rattle.std.proofs.lemmas.Bool.{false≢true}
-use Rattle.line_txn.specs.Header.{AreDistinctBelow, header_of}
+use Rattle.line_txn.proofs.Common.{IsTrue, false≢true, AreDistinctBelow}
+use Rattle.line_txn.specs.Header.{header_of}
 use Rattle.line_txn.proofs.Headers.{too_many, read_of_header}
 use Rattle.line_txn.proofs.header.read_header.Goals as goal
 use Rattle.line_txn.proofs.header.read_header.Goals.{else-are_targets-via-then-are_targets+else-eq, else-are_targets-via-else-are_targets}

@@ -1,7 +1,6 @@
 -- Two runs of one plan end alike, and the answer is by the end.
 use Rattle.std.proofs.Common.{sym, ap, ◌∙◌}
-use Rattle.call_plan.proofs.DeterminedCalls.{call_is_determined}
-use Rattle.line_txn.specs.Plans.{opened_of}
+use Rattle.line_txn.proofs.Common.{call_is_determined, opened_of}
 use Rattle.line_txn.proofs.laws.opening_is_determined.Goals as goal
 
 pub returns : goal.returns

@@ -12,7 +12,7 @@ use Rattle.call_plan.proofs.Steps.{ended_err}
 use Rattle.call_plan.proofs.Loops.{turns_start, turn_ok, turn_err, turns_end}
 use Rattle.shadow_tables.specs.Naming.{Names}
 use Rattle.meta_path.specs.Blocks.{path_at, number_in}
-use Rattle.meta_path.specs.Naming.{path_number, IsSlotNamed, IsSlotCut, IsNamedTo}
+use Rattle.meta_path.specs.Naming.{path_number, IsNamedTo}
 use Rattle.meta_path.specs.Plans.{slot_plan, naming_turn}
 use Rattle.meta_path.proofs.PathFacts.{position_is, all_levels}
 use Rattle.meta_path.proofs.NameLemmas.{IsNamedTo-more, IsNamingCut-at, on_err, path_number_low, length-naming_writes}
@@ -73,9 +73,8 @@ returns-in_err-name_level-clause-cut g c =
     (IsNamingCut-at (low g place) c.levels.invariant.named
     (subst (λ x. Names shape c.levels.mirror c.name_level.new.mirror c.levels.bank (number_in shape c.args.cache.now.banks c.levels.bank x) x)
     (at g place) c.name_level.ensures.names) (le g place)
-    (subst (λ x. IsSlotCut shape c.levels.bank (number_in shape c.args.cache.now.banks c.levels.bank x) x c.levels.mirror
-    c.name_level.new.mirror (g.B.Board.device c.levels.board) (g.B.Board.device c.name_level.new.board)) (at g place)
-    c.in_err-name_level.ensures.cut))
+    (subst (FollowsLevel g place (g.B.Board.device c.name_level.new.board) (Err (c.name_level.new.mirror, the_cut))) (at g place)
+    c.in_err-name_level.ensures.plan))
 
 pub returns-in_err-name_level-clause-one_a_level :
     goal.returns-in_err-name_level-clause-one_a_level
@@ -87,18 +86,15 @@ pub levels-preserved : goal.levels-preserved
 levels-preserved g c =
     let shape = shape_of c.args.geo.now in
     let place = (goal.at.levels-preserved g c).After-from in
+    let level = subst (FollowsLevel g place (g.B.Board.device c.name_level.new.board) (Ok (c.name_level.new.mirror, tt))) (at g place)
+    c.in_ok-name_level.ensures.plan in
     record {
       named =
           IsNamedTo-more (low g place) c.levels.invariant.named
           (subst (λ x. Names shape c.levels.mirror c.name_level.new.mirror c.levels.bank (number_in shape c.args.cache.now.banks c.levels.bank x) x)
           (at g place) c.name_level.ensures.names)
-          (subst (λ x. IsSlotNamed shape c.levels.bank (number_in shape c.args.cache.now.banks c.levels.bank x) x c.levels.mirror
-          c.name_level.new.mirror (g.B.Board.device c.levels.board) (g.B.Board.device c.name_level.new.board)) (at g place)
-          c.in_ok-name_level.ensures.ok);
-      reached =
-          turn_ok c.levels.invariant.reached (levels_end g place)
-          (subst (FollowsLevel g place (g.B.Board.device c.name_level.new.board) (Ok (c.name_level.new.mirror, tt))) (at g place)
-          c.in_ok-name_level.ensures.plan);
+          level;
+      reached = turn_ok c.levels.invariant.reached (levels_end g place) level;
       long = c.name_level.ensures.long;
     }
 

@@ -6,8 +6,7 @@ use Rattle.call_plan.specs.Following.{Follows}
 use Rattle.call_plan.proofs.Steps.{ended_err}
 use Rattle.shadow_tables.specs.Naming.{Names}
 use Rattle.meta_path.specs.Blocks.{number_in}
-use Rattle.meta_path.specs.Naming.{IsSlotNamed, IsSlotCut}
-use Rattle.meta_path.proofs.NameLemmas.{unnamed, IsSlotNamed-written, IsSlotNamed-already, IsSlotCut-from, on_err, number_is}
+use Rattle.meta_path.proofs.NameLemmas.{unnamed, number_is}
 use Rattle.meta_path.specs.Plans.{slot_plan}
 use Rattle.meta_path.proofs.NamePlans.{slot_already, slot_written, slot_cut}
 use Rattle.meta_path.proofs.naming.name_level.Given.{Over}
@@ -21,45 +20,15 @@ module _ (g : Over) (c : After-name_slot g) where
       sym (number_is (shape_of c.args.geo.now) c.args.cache.now c.args.bank c.args.x c.slot_of-slot.result c.requires.shape
       c.slot_of-slot.ensures.value)
 
-pub returns-in_err-write_line-clause-cut : goal.returns-in_err-write_line-clause-cut
-returns-in_err-write_line-clause-cut g c =
-    let shape = shape_of c.args.geo.now in
-    on_err c.from_residual.result _
-    (subst (λ n. IsSlotCut shape c.args.bank n c.args.x c.args.mirror.now c.name_slot.new.self
-    (g.B.Board.device c.args.board.now) (g.B.Board.device c.write_line.new.self)) (number g (goal.at.returns-in_err-write_line-clause-cut g c).After-name_slot)
-    (IsSlotCut-from shape c.args.bank c.slot_of-slot.result c.args.x c.args.mirror.now c.name_slot.new.self
-    (g.B.Board.device c.args.board.now) (g.B.Board.device c.write_line.new.self)
-    (unnamed shape c.args.mirror.now c.args.bank c.slot_of-slot.result c.args.x c.name_slot.result _ c.in-Some.is c.name_slot.ensures.already)
-    c.in-Some.ensures.written c.in_err-write_line.ensures.cut))
-
 pub returns-in_err-write_line-clause-names : goal.returns-in_err-write_line-clause-names
 returns-in_err-write_line-clause-names g c =
     let shape = shape_of c.args.geo.now in
     subst (λ n. Names shape c.args.mirror.now c.name_slot.new.self c.args.bank n c.args.x) (number g (goal.at.returns-in_err-write_line-clause-names g c).After-name_slot) c.name_slot.ensures.names
 
-pub returns-in_ok-write_line-clause-ok : goal.returns-in_ok-write_line-clause-ok
-returns-in_ok-write_line-clause-ok g c =
-    let shape = shape_of c.args.geo.now in
-    subst (λ n. IsSlotNamed shape c.args.bank n c.args.x c.args.mirror.now c.name_slot.new.self
-    (g.B.Board.device c.args.board.now) (g.B.Board.device c.write_line.new.self)) (number g (goal.at.returns-in_ok-write_line-clause-ok g c).After-name_slot)
-    (IsSlotNamed-written shape c.args.bank c.slot_of-slot.result c.args.x c.args.mirror.now c.name_slot.new.self
-    (g.B.Board.device c.args.board.now) (g.B.Board.device c.write_line.new.self) c.in-Some.at c.in-Some.line
-    (unnamed shape c.args.mirror.now c.args.bank c.slot_of-slot.result c.args.x c.name_slot.result _ c.in-Some.is c.name_slot.ensures.already)
-    c.in-Some.ensures.written c.in-Some.ensures.place c.in-Some.ensures.bytes c.in_ok-write_line.ensures.ok)
-
 pub returns-in_ok-write_line-clause-names : goal.returns-in_ok-write_line-clause-names
 returns-in_ok-write_line-clause-names g c =
     let shape = shape_of c.args.geo.now in
     subst (λ n. Names shape c.args.mirror.now c.name_slot.new.self c.args.bank n c.args.x) (number g (goal.at.returns-in_ok-write_line-clause-names g c).After-name_slot) c.name_slot.ensures.names
-
-pub returns-in_default-clause-ok : goal.returns-in_default-clause-ok
-returns-in_default-clause-ok g c =
-    let shape = shape_of c.args.geo.now in
-    subst (λ n. IsSlotNamed shape c.args.bank n c.args.x c.args.mirror.now c.name_slot.new.self
-    (g.B.Board.device c.args.board.now) (g.B.Board.device c.args.board.now)) (number g (goal.at.returns-in_default-clause-ok g c).After-name_slot)
-    (IsSlotNamed-already shape c.args.bank c.slot_of-slot.result c.args.x c.args.mirror.now c.name_slot.new.self
-    (g.B.Board.device c.args.board.now) (c.in_default.ensures.already.0 refl)
-    c.in_default.ensures.same)
 
 pub returns-in_err-write_line-clause-plan : goal.returns-in_err-write_line-clause-plan
 returns-in_err-write_line-clause-plan g c =

@@ -1,7 +1,7 @@
 -- Two runs of one write end alike, and all else is by the end.
 use Rattle.std.proofs.Common.{sym, ap, ◌∙◌}
+use Rattle.start_gap.proofs.Common.{is_move_due, write_answer_of, wear_after, count_after}
 use Rattle.call_plan.proofs.DeterminedCalls.{call_is_determined}
-use Rattle.start_gap.specs.Plans.{is_move_due, write_answer_of, wear_after, count_after}
 use Rattle.start_gap.proofs.laws.levelled_write_is_determined.Goals as goal
 
 pub returns : goal.returns

@@ -1,10 +1,6 @@
 -- The two trees show the clash.
-use Rattle.std.proofs.Common.{◌≡◌, List, length, sym, ap, subst, ◌∙◌}
-use Rattle.pmem_base.specs.declared.lines.Line.{Line}
-use Rattle.pmem_base.specs.declared.answers.Exhibit.TheVariants.{Clash}
-use Rattle.pmem_base.specs.Geo.{shape_of}
-use Rattle.pmem_base.specs.Lines.{line_at}
-use Rattle.counter_tree.specs.Shadow.{IsShadowTree}
+use Rattle.std.proofs.Common.{◌≡◌, List, length, sym, ap, subst, ◌∙◌, rules}
+use Rattle.counter_tree.proofs.Common.{Line, Clash, shape_of, line_at, IsShadowTree}
 use Rattle.counter_tree.specs.BookView.{watch_of}
 use Rattle.counter_tree.proofs.BookLemmas.{slots-fit, slot-fits, slots-differ, clash-is}
 use Rattle.counter_tree.proofs.book.WatchBook.clash.Goals as goal
@@ -38,12 +34,8 @@ pub returns-clause-clash : goal.returns-clause-clash
 returns-clause-clash g c =
     let watch = watch_of g.S.Suite.formulas_of g.S.Suite.keys c.args.self.now in
     let h = c.fill.new.self.height in
-    let to_kept : c.args.self.now.kept.height ≡ h =
-    c.args.self.now.trees.kept_height ∙ sym (c.fill.ensures.height ∙ c.args.self.now.trees.seen_height) in
-    let second : IsShadowTree (g.S.Suite.formulas_of (g.S.Suite.keys c.args.self.now.suite)) h c.args.self.now.slots.items c.fill-2.new.self.lines =
-    subst (λ n. IsShadowTree (g.S.Suite.formulas_of (g.S.Suite.keys c.args.self.now.suite)) n c.args.self.now.slots.items c.fill-2.new.self.lines) to_kept
-    (subst (λ slots. IsShadowTree (g.S.Suite.formulas_of (g.S.Suite.keys c.args.self.now.suite)) c.args.self.now.kept.height slots c.fill-2.new.self.lines) c.deref.ensures.value
-    (subst (λ keys. IsShadowTree (g.S.Suite.formulas_of keys) c.args.self.now.kept.height c.deref.result.now c.fill-2.new.self.lines) c.fill.ensures.keys c.fill-2.ensures.tree)) in
+    let to_kept : c.args.self.now.kept.height ≡ h = search rules in
+    let second : IsShadowTree (g.S.Suite.formulas_of (g.S.Suite.keys c.args.self.now.suite)) h c.args.self.now.slots.items c.fill-2.new.self.lines = search rules in
     clash-is watch c.args.lines.now c.fill.new.self.lines c.fill-2.new.self.lines h c.args.i c.top_difference-x.result
     (Clash c.top_difference-x.result c.line.result.now c.line-2.result.now)
     (c.fill.ensures.height ∙ c.args.self.now.trees.seen_height)

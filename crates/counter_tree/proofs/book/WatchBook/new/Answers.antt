@@ -1,10 +1,7 @@
 -- A new watch has its geometry's counts, zero nodes and zero lines.
 use Rattle.std.proofs.Common.{replicate, ap, ◌∙◌}
-use Rattle.std.specs.Prelude.{None}
-use Rattle.pmem_base.specs.Geo.{shape_of}
+use Rattle.counter_tree.proofs.Common.{None, shape_of, zero_node, ChipTree}
 use Rattle.pmem_base.specs.Lines.{zero_line}
-use Rattle.counter_tree.specs.Nodes.{zero_node}
-use Rattle.counter_tree.specs.Shadow.{ChipTree}
 use Rattle.counter_tree.proofs.BookLemmas.{none-copied, new-counts, zero-nodes, zero-lines}
 use Rattle.counter_tree.proofs.book.WatchBook.new.Goals as goal
 

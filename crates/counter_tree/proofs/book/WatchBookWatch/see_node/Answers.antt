@@ -1,7 +1,6 @@
 -- A position of the tree is below 5461.
 use Rattle.std.proofs.Common.{arith}
-use Rattle.pmem_base.specs.Geo.{shape_of}
-use Rattle.pmem_base.proofs.LayoutLemmas.{meta_lines-most}
+use Rattle.counter_tree.proofs.Common.{shape_of, meta_lines-most}
 use Rattle.counter_tree.proofs.book.WatchBookWatch.see_node.Goals as goal
 
 pub forged_node-requires : goal.forged_node-requires

@@ -1,11 +1,6 @@
 -- The line goes in after the path above it.
-use Rattle.std.proofs.Common.{suc, ◌≡◌, ◌+◌, ◌-◌, List, length, sym, ap, ◌∙◌, arith}
-use Rattle.pmem_base.specs.declared.lines.Line.{Line}
-use Rattle.pmem_base.proofs.LineSets.{length-put_lines}
-use Rattle.pmem_base.specs.Lines.{line_at, put_lines}
-use Rattle.pmem_base.specs.Counts.{risen_times}
-use Rattle.bonsai_tree.specs.Paths.{new_path, new_root}
-use Rattle.pmem_base.proofs.CountLemmas.{risen_times-add}
+use Rattle.std.proofs.Common.{suc, ◌≡◌, ◌+◌, ◌-◌, List, length, sym, ap, ◌∙◌, arith, rules}
+use Rattle.counter_tree.proofs.Common.{Line, length-put_lines, line_at, risen_times, new_path, new_root, risen_times-add}
 use Rattle.counter_tree.proofs.ChipLemmas.{level-within, level-above, level-low, put-more, root-more, node-is}
 use Rattle.counter_tree.proofs.shadow.ShadowTree.+put_at.Goals as goal
 
@@ -39,16 +34,7 @@ set_line-requires-2 g t c =
     )
 
 pub returns-clause-lines : goal.returns-clause-lines
-returns-clause-lines g t c =
-    let f = g.S.Suite.formulas_of (g.S.Suite.keys c.args.suite.now) in
-    let lines : List Line = c.args.self.now.lines in
-    c.set_line-2.ensures.lines
-    ∙ put-more f lines c.put_at-root.new.self.lines c.args.level (c.args.level - 1) c.args.x c.parent-above.result c.args.line.now c.set_child.new.node
-    (omega arith) c.parent-above.ensures.value
-    (node-is f lines c.args.x c.child_slot.result c.parent-above.result c.args.line.now c.line.result.now c.set_child.new.node c.digest-digest.result
-    c.parent-above.ensures.value c.child_slot.ensures.value c.line.ensures c.digest-digest.ensures.digest c.set_child.ensures.value)
-    (c.put_at-root.ensures.lines
-    ∙ ap (λ keys. put_lines (new_path (g.S.Suite.formulas_of keys) (line_at lines) (c.args.level - 1) c.parent-above.result c.set_child.new.node) lines) c.digest-digest.ensures.keys)
+returns-clause-lines g t c = search (rules, put-more, node-is)
 
 pub returns-clause-root : goal.returns-clause-root
 returns-clause-root g t c =

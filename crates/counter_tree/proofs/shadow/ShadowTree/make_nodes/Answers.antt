@@ -1,13 +1,6 @@
 -- One node more.
-use Rattle.std.proofs.Common.{◌-◌, ◌*◌, List, length, length-set, sym, ap, ◌∙◌, arith}
-use Rattle.pmem_base.specs.declared.lines.Line.{Line}
-use Rattle.pmem_base.specs.Counts.{risen_times}
-use Rattle.pmem_base.specs.Layout.{level_start}
-use Rattle.pmem_base.specs.Lines.{line_at}
-use Rattle.pmem_base.proofs.LineSets.{line_at-set_other}
-use Rattle.bonsai_tree.specs.Nodes.{node_over}
-use Rattle.bonsai_tree.proofs.Levels.{level_start-suc}
-use Rattle.pmem_base.proofs.CountLemmas.{risen_times-add}
+use Rattle.std.proofs.Common.{◌-◌, ◌*◌, List, length, length-set, sym, ap, ◌∙◌, arith, rules}
+use Rattle.counter_tree.proofs.Common.{Line, risen_times, level_start, line_at, line_at-set_other, node_over, level_start-suc, risen_times-add}
 use Rattle.counter_tree.proofs.ChipLemmas.{nodes-more}
 use Rattle.counter_tree.proofs.shadow.ShadowTree.make_nodes.Goals as goal
 
@@ -27,10 +20,7 @@ nodes-preserved g c =
           c.set_line.ensures.lines
           (λ z low in_nodes. inv.made_so_far z (omega (arith, low)) in_nodes)
           y (omega (arith, from)) within;
-      leaves =
-          λ y low.
-          ap (λ ls. line_at ls y) c.set_line.ensures.lines
-          ∙ (line_at-set_other c.nodes.self.lines x y c.node-node.result (λ e. absurd (omega (arith, e, low, c.nodes-test.true))) ∙ inv.leaves y low);
+      leaves = search (rules, line_at-set_other);
       digests =
           c.node-node.ensures.digests ∙ (ap (risen_times 4) inv.digests
           ∙ (sym (risen_times-add (4 * c.nodes.made) 4 (g.S.Suite.digests c.args.suite.now))

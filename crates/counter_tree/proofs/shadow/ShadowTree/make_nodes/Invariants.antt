@@ -1,8 +1,6 @@
 -- The nodes so far, from the last one up.
 use Rattle.std.proofs.Common.{ℕ, ◌≡◌, ◌<◌, ◌≤◌, ◌+◌, ◌*◌, length}
-use Rattle.pmem_base.specs.Counts.{risen_times}
-use Rattle.pmem_base.specs.Lines.{line_at}
-use Rattle.bonsai_tree.specs.Nodes.{node_over}
+use Rattle.counter_tree.proofs.Common.{risen_times, line_at, node_over}
 use Rattle.counter_tree.proofs.shadow.ShadowTree.make_nodes.Given as goal
 
 abbrev pub invariant-nodes : goal.invariant-nodes

@@ -1,6 +1,6 @@
 -- Zero lines are lines, and the vector has them all.
 use Rattle.std.proofs.Common.{suc, ◌≡◌, ◌+◌, replicate, ap, ◌∙◌, arith}
-use Rattle.pmem_base.specs.Layout.{level_start}
+use Rattle.counter_tree.proofs.Common.{level_start}
 use Rattle.counter_tree.proofs.ChipLemmas.{zero_tree}
 use Rattle.counter_tree.proofs.shadow.ShadowTree.new.Goals as goal
 

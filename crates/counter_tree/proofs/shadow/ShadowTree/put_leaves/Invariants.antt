@@ -1,6 +1,6 @@
 -- The leaves so far.
 use Rattle.std.proofs.Common.{ℕ, ◌≡◌, ◌<◌, ◌+◌, length}
-use Rattle.pmem_base.specs.Lines.{line_at}
+use Rattle.counter_tree.proofs.Common.{line_at}
 use Rattle.counter_tree.proofs.shadow.ShadowTree.put_leaves.Given as goal
 
 abbrev pub invariant-leaves : goal.invariant-leaves

@@ -1,9 +1,6 @@
 -- The engine is down, or the calls of a commit are made, and what they make of the lines.
 use Rattle.std.proofs.Common.{◌∙◌, refl, sym}
-use Rattle.suite.specs.Setup.{Setup}
-use Rattle.pmem_engine.specs.Engine.{EngineState}
-use Rattle.pmem_engine.specs.Parts.{Parts, parts_of}
-use Rattle.pmem_engine.proofs.CallEnds.EngineCalls.{guarded_up, guarded_down}
+use Rattle.line_txn.proofs.Common.{Setup, EngineState, Parts, parts_of, guarded_up, guarded_down}
 use Rattle.line_txn.proofs.Commits.{left_logged, commit_trusted, commit_sound, spent_undecided}
 use Rattle.line_txn.proofs.store.Store.commit.Given.{Over}
 use Rattle.line_txn.proofs.store.Store.commit.Goals as goal

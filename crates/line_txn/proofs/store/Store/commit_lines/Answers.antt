@@ -1,22 +1,8 @@
 -- The bodies and the header are written or not, and then the targets and the zero header.
 use Rattle.std.proofs.Common.{true, not, Ok, Err, refl, sym, ap, subst, ◌∙◌}
-use Rattle.std.specs.Prelude.{All}
-use Rattle.pmem_base.specs.Layout.{data_lines}
-use Rattle.suite.specs.Setup.{Setup}
-use Rattle.pmem_engine.specs.declared.fault.Fault.{Fault}
+use Rattle.line_txn.proofs.Common.{All, data_lines, Setup, Fault, EngineState, Parts, parts_of, Chip, chip_of, is_going, outcome_of_fault, down_after, up_after, edits_as, edits_follow_under, targets_of, AreEdited, IsEditOf, edits_under, IsWholeTxn, deciding_edits, applying_edits}
 use Rattle.pmem_engine.specs.declared.fault.Fault.TheVariants as Fail
-use Rattle.pmem_engine.specs.Engine.{EngineState}
-use Rattle.pmem_engine.specs.Parts.{Parts, parts_of}
-use Rattle.pmem_engine.specs.Plans.{Chip, chip_of}
-use Rattle.call_effects.specs.Outcomes.{is_going}
-use Rattle.pmem_engine.specs.Outcomes.{outcome_of_fault}
-use Rattle.pmem_engine.proofs.CallEnds.EngineCalls.{down_after, up_after}
-use Rattle.engine_lines.proofs.EditPlans.{edits_as, edits_follow_under}
 use Rattle.line_txn.specs.declared.store.Committed.TheVariants as Do
-use Rattle.line_txn.specs.Logged.{targets_of}
-use Rattle.engine_lines.specs.Edits.{AreEdited, IsEditOf}
-use Rattle.engine_lines.proofs.EditLaws.{edits_under}
-use Rattle.line_txn.specs.Edits.{IsWholeTxn, deciding_edits, applying_edits}
 use Rattle.line_txn.proofs.EditStages.{deciding_fit, applying_fit}
 use Rattle.line_txn.proofs.Commits.{empty_list, some_list, no_txn, refused_by, applied_by, fault_answer, fault_served}
 use Rattle.line_txn.proofs.StorePlans.{edits_fault, nothing_committed, undecided, decided_then}

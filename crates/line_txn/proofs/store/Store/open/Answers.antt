@@ -1,9 +1,6 @@
 -- The engine is down, or the calls of an opening are made, and what they make of the lines.
 use Rattle.std.proofs.Common.{◌∙◌, refl, sym}
-use Rattle.std.proofs.lemmas.Bool.{true≢false}
-use Rattle.suite.specs.Setup.{Setup}
-use Rattle.pmem_engine.specs.Engine.{EngineState}
-use Rattle.pmem_engine.specs.Parts.{Parts, parts_of}
+use Rattle.line_txn.proofs.Common.{true≢false, Setup, EngineState, Parts, parts_of}
 use Rattle.pmem_engine.proofs.CallEnds.StillParts.{left_alone}
 use Rattle.line_txn.proofs.Openings.{logged_size, opened_logged, opened_trusted, opened_sound}
 use Rattle.line_txn.proofs.store.Store.open.Given.{Over}

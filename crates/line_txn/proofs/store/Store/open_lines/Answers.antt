@@ -1,28 +1,10 @@
 -- The header is read, and its transaction redone.
 use Rattle.std.proofs.Common.{not, ◌≡◌, ◌+◌, ◌-◌, inl, inr, ℕ, Some, None, Ok, Err, rules, refl, ap, sym, subst, ◌∙◌, arith}
-use Rattle.std.specs.Prelude.{All}
-use Rattle.pmem_base.specs.Shape.{Shape}
+use Rattle.line_txn.proofs.Common.{All, Shape, data_lines, Setup, Fault, EngineState, Parts, parts_of, HasReadLine, Chip, chip_of, is_going, outcome_of_fault, down_after, up_after, edits_as, edits_follow_under, AreEdited, IsEditOf, least_lines, edits_under, redoing_edits, logged_lines, HasTargetsRedone, header_in}
 use Rattle.pmem_base.specs.Geo.{shape_of}
-use Rattle.pmem_base.specs.Layout.{data_lines}
-use Rattle.suite.specs.Setup.{Setup}
-use Rattle.pmem_engine.specs.declared.fault.Fault.{Fault}
 use Rattle.pmem_engine.specs.declared.fault.Fault.TheVariants as Fail
-use Rattle.pmem_engine.specs.Engine.{EngineState}
-use Rattle.pmem_engine.specs.Parts.{Parts, parts_of}
-use Rattle.pmem_engine.specs.Calls.{HasReadLine}
-use Rattle.pmem_engine.specs.Plans.{Chip, chip_of}
-use Rattle.call_effects.specs.Outcomes.{is_going}
-use Rattle.pmem_engine.specs.Outcomes.{outcome_of_fault}
-use Rattle.pmem_engine.proofs.CallEnds.EngineCalls.{down_after, up_after}
-use Rattle.engine_lines.proofs.EditPlans.{edits_as, edits_follow_under}
-use Rattle.engine_lines.specs.Edits.{AreEdited, IsEditOf}
-use Rattle.engine_lines.proofs.EngineLines.{least_lines}
-use Rattle.engine_lines.proofs.EditLaws.{edits_under}
-use Rattle.line_txn.specs.Edits.{redoing_edits}
-use Rattle.line_txn.specs.Store.{logged_lines, HasTargetsRedone}
 use Rattle.line_txn.proofs.EditStages.{redoing_fit}
 use Rattle.line_txn.proofs.Openings.{logged_size, none_by, redone_by, some_none, unspent_fault}
-use Rattle.line_txn.specs.Header.{header_in}
 use Rattle.line_txn.proofs.HeaderReads.{header_found, header_none}
 use Rattle.line_txn.proofs.StorePlans.{edits_fault, header_unread, header_refused, header_redone, unredone_fault}
 use Rattle.line_txn.proofs.store.Store.open_lines.Given.{Over}

@@ -1,5 +1,5 @@
 use Rattle.std.proofs.Common.{◌≡◌, ◌+◌, drop}
-use Rattle.line_txn.specs.Serving.{body_or_place, served_from}
+use Rattle.line_txn.proofs.Common.{body_or_place, served_from}
 use Rattle.line_txn.proofs.store.Store.place.Given as goal
 
 abbrev pub invariant-targets : goal.invariant-targets

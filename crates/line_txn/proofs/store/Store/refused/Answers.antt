@@ -1,9 +1,7 @@
 -- A transaction without lines, or with some.
 use Rattle.std.proofs.Common.{Ok, List, ℕ, refl, sym, subst, ◌∙◌}
-use Rattle.pmem_base.specs.declared.lines.Line.{Line}
+use Rattle.line_txn.proofs.Common.{Line, IsWholeTxn, IsCommitRefused}
 use Rattle.line_txn.specs.declared.store.Committed.TheVariants as Do
-use Rattle.line_txn.specs.Edits.{IsWholeTxn}
-use Rattle.line_txn.specs.Promised.{IsCommitRefused}
 use Rattle.line_txn.proofs.Commits.{empty_list, some_list, no_txn, refused_some}
 use Rattle.line_txn.proofs.store.Store.refused.Goals as goal
 

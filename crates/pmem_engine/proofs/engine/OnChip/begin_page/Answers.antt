@@ -5,7 +5,7 @@ use Rattle.pmem_base.specs.declared.registers.Regs.{Regs}
 use Rattle.call_plan.specs.Following.{Follows}
 use Rattle.call_plan.specs.Plans.{mapped_end}
 use Rattle.bonsai_tree.specs.Paths.{root_with}
-use Rattle.pmem_engine.specs.Outcomes.{fault_of_cut}
+use Rattle.pmem_engine.specs.Outcomes.{fault_of_cut, of_cut}
 use Rattle.pmem_engine.specs.Plans.{Chip, chip_with, chip_with_at}
 use Rattle.pmem_engine.specs.SealPlans.{commit_begin_plan, begin_page_plan, with_path_digests}
 use Rattle.pmem_engine.proofs.PlannedCalls.Chips.{same_chip, ended_with_err}
@@ -13,7 +13,6 @@ use Rattle.pmem_engine.proofs.PlannedCalls.SealPlans.{lines_over, root_over, beg
 use Rattle.pmem_base.specs.Counts.{risen_times}
 use Rattle.suite.specs.Setup.{Setup}
 use Rattle.plain_model.specs.Bounds.{path_length}
-use Rattle.board.specs.Device.{IsDevice}
 use Rattle.split_counters.specs.declared.Block.{Block}
 use Rattle.split_counters.specs.Blocks.{packed, next_block, IsBlock}
 use Rattle.page_reencrypt.specs.Registers.{begun}
@@ -24,11 +23,11 @@ use Rattle.pmem_engine.specs.declared.fault.Fault.TheVariants as Fail
 use Rattle.pmem_engine.specs.Engine.{ChipState}
 use Rattle.pmem_engine.specs.Parts.{Parts, parts_with}
 use Rattle.pmem_engine.specs.Inner.{cached_block}
-use Rattle.pmem_engine.specs.Sealing.{HasBeginCommitted, IsBeginCut, HasBegunPage}
+use Rattle.pmem_engine.specs.Sealing.{HasBeginEnded, HasBegunPage}
 use Rattle.call_effects.proofs.ResultLaws.{is_err_of}
 use Rattle.pmem_engine.proofs.Seals.NextPaths.{rolled-next}
 use Rattle.pmem_engine.proofs.Seals.BegunBlocks.{rolled_block}
-use Rattle.pmem_engine.proofs.Seals.BeginOutcomes.{page_exits}
+use Rattle.pmem_engine.proofs.Seals.BeginOutcomes.{begin_ended}
 use Rattle.pmem_engine.proofs.engine.OnChip.begin_page.Given.{Over}
 use Rattle.pmem_engine.proofs.engine.OnChip.begin_page.Goals.{After-commit_begin}
 use Rattle.pmem_engine.proofs.engine.OnChip.begin_page.Goals as goal
@@ -58,14 +57,12 @@ module _ (g : Over) (c : After-commit_begin g) where
       c.pack-block.ensures
       ∙ ap packed (rolled-next c.block.result c.in_ok-block.block c.in_ok-block.ensures.block ∙ ap next_block c.block.ensures.cached)
 
-  exits : (IsDevice new.device → IsBeginCut setup.shape c.args.page (begun c.args.page (packed cached)) (packed (next_block cached))
-      c.next_path-path.result.lines.items c.next_path-path.result.root old.engine new.engine old.device new.device old.ledger new.ledger
-      → HasBegunPage setup c.args.page old new (Err Fail.Cut))
-      × (HasBeginCommitted setup.shape c.args.page (begun c.args.page (packed cached)) (packed (next_block cached))
-      c.next_path-path.result.lines.items c.next_path-path.result.root old.engine new.engine old.device new.device old.ledger new.ledger
-      → HasBegunPage setup c.args.page old new (Ok tt))
-  exits =
-      page_exits setup c.args.page old.engine new.engine old.device new.device old.ledger new.ledger old.tags old.digests new.tags
+  begun_so : (end : Result (Unit {0}) Cut)
+      → HasBeginEnded setup.shape c.args.page c.in_ok-block.register c.pack-block.result c.next_path-path.result.lines.items
+      c.next_path-path.result.root old.engine new.engine old.device new.device old.ledger new.ledger end
+      → HasBegunPage setup c.args.page old new (of_cut end)
+  begun_so end was =
+      begin_ended setup c.args.page old.engine new.engine old.device new.device old.ledger new.ledger old.tags old.digests new.tags
       new.digests c.next_path-path.result.lines.items c.next_path-path.result.root c.requires.usable
       (subst (λ (e : ChipState). e.shape.levels ≤ 6) c.self.view_is c.self.inside.geo.has_levels.1)
       (g.met.S.Suite.in_range c.args.suite.now) c.requires.page c.requires.cached c.requires.named c.requires.closed c.requires.major
@@ -82,35 +79,28 @@ module _ (g : Over) (c : After-commit_begin g) where
       c.next_path-path.ensures.tags
       (c.next_path-path.ensures.digests
       ∙ ap (λ (e : ChipState). risen_times (path_length e.shape) (g.S.Suite.digests c.args.suite.now)) c.self.view_is)
-      (g.met.B.Board.whole c.args.board.now)
+      (g.met.B.Board.whole c.args.board.now) (g.met.B.Board.whole c.commit_begin.new.board) end
+      (subst₂
+      (λ r line. HasBeginEnded setup.shape c.args.page r line c.next_path-path.result.lines.items c.next_path-path.result.root
+      old.engine new.engine old.device new.device old.ledger new.ledger end) register_is block_is was)
 
 pub returns-in_err-commit_begin-clause-begun : goal.returns-in_err-commit_begin-clause-begun
 returns-in_err-commit_begin-clause-begun g c =
     let end : After-commit_begin g = (goal.at.returns-in_err-commit_begin-clause-begun g c).After-commit_begin in
     subst (HasBegunPage (setup g end) c.args.page (old g end) (new g end))
     (sym (is_err_of c.from_residual-in_err-commit_begin.result Fail.Cut c.from_residual-in_err-commit_begin.ensures.1))
-    ((exits g end).0 (g.met.B.Board.whole c.commit_begin.new.board)
-    (subst₂
-    (λ r line. IsBeginCut c.args.self.now.shape c.args.page r line c.next_path-path.result.lines.items c.next_path-path.result.root
-    c.args.self.now c.commit_begin.new.self (old g end).device (new g end).device (old g end).ledger (new g end).ledger)
-    (register_is g end) (block_is g end) c.in_err-commit_begin.ensures.cut))
+    (begun_so g end (Err c.in_err-commit_begin.field-0.0) c.in_err-commit_begin.ensures.ended)
 
 pub returns-clause-begun : goal.returns-clause-begun
 returns-clause-begun g c =
-    let end : After-commit_begin g = (goal.at.returns-clause-begun g c).After-commit_begin in
-    (exits g end).1
-    (subst₂
-    (λ r line. HasBeginCommitted c.args.self.now.shape c.args.page r line c.next_path-path.result.lines.items
-    c.next_path-path.result.root c.args.self.now c.commit_begin.new.self (old g end).device (new g end).device (old g end).ledger
-    (new g end).ledger)
-    (register_is g end) (block_is g end) c.in_ok-commit_begin.ensures.ok)
+    begun_so g (goal.at.returns-clause-begun g c).After-commit_begin (Ok tt) c.in_ok-commit_begin.ensures.ended
 
 pub returns-clause-rolled : goal.returns-clause-rolled
 returns-clause-rolled g c =
     let end : After-commit_begin g = (goal.at.returns-clause-rolled g c).After-commit_begin in
     rolled_block c.args.self.now.shape (setup g end).formulas (cached_line c.args.self.now.shape c.args.self.now.cache) c.args.page
     c.next_path-path.result.lines.items c.args.self.now c.commit_begin.new.self
-    c.in_ok-commit_begin.ensures.ok.page_begun.stored c.requires.major
+    c.in_ok-commit_begin.ensures.ended.1.stored c.requires.major
     (subst
     (λ (e : ChipState). c.next_path-path.result.lines.items
     ≡ path_with e.shape (setup g end).formulas (cached_line e.shape e.cache) c.args.page c.pack-block.result)

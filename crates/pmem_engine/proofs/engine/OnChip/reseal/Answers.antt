@@ -1,5 +1,5 @@
 -- The line isn't unsealed, or its group is cut, or it is sealed anew.
-use Rattle.std.proofs.Common.{ℕ, ◌≡◌, ◌≤◌, ◌+◌, ◌-◌, [], Result, Ok, Err, get_or, length, refl, sym, ap, ap₂, subst, subst₂, ◌∙◌, arith}
+use Rattle.std.proofs.Common.{ℕ, ◌≡◌, ◌≤◌, ◌-◌, [], Result, Ok, Err, get_or, length, refl, sym, ap, ap₂, subst, subst₂, ◌∙◌, arith}
 use Rattle.std.proofs.lemmas.List.{get_or_default}
 use Rattle.pmem_base.specs.declared.faults.Cut.{Cut}
 use Rattle.pmem_base.specs.declared.registers.Progress.{Progress}
@@ -8,9 +8,10 @@ use Rattle.pmem_base.specs.Layout.{pages}
 use Rattle.pmem_base.specs.Registers.{not_done, empty_progress}
 use Rattle.pmem_base.proofs.LayoutLemmas.{pages-most}
 use Rattle.suite.specs.Setup.{Setup}
-use Rattle.board.specs.Device.{Device, IsDevice}
+use Rattle.board.specs.Device.{Device}
 use Rattle.seal_ledger.specs.Ledger.{LedgerState}
 use Rattle.pmem_base.specs.declared.registers.Regs.{Regs}
+use Rattle.call_plan.specs.Plans.{mapped_end}
 use Rattle.call_plan.specs.Following.{Follows}
 use Rattle.call_plan.proofs.Steps.{ended_err}
 use Rattle.pmem_engine.specs.declared.fault.LineFault.TheVariants as AtLine
@@ -18,12 +19,12 @@ use Rattle.pmem_engine.specs.declared.resealing.HeldLine.{HeldLine}
 use Rattle.pmem_engine.specs.declared.resealing.NextSeal.{NextSeal}
 use Rattle.pmem_engine.specs.Parts.{Parts, parts_with, setup_with_at}
 use Rattle.pmem_engine.specs.Committing.{next_seal_of}
-use Rattle.pmem_engine.specs.Resealing.{IsNextHeld, IsResealCut, HasResealCommitted, HasResealed}
+use Rattle.pmem_engine.specs.Resealing.{IsNextHeld, HasResealEnded, HasResealed}
 use Rattle.pmem_engine.specs.Plans.{Chip, chip_with, chip_with_at, held_of, register_at, unseal_plan, commit_plan, reseal_plan}
 use Rattle.pmem_engine.proofs.PlannedCalls.Chips.{same_chip}
 use Rattle.pmem_engine.proofs.PlannedCalls.ResealPlans.{held_is, reseal_unopened, reseal_cut, reseal_done}
 use Rattle.call_effects.proofs.ResultLaws.{is_err_of}
-use Rattle.pmem_engine.proofs.PageLines.ResealOutcomes.{not_unsealed, resealing_exits}
+use Rattle.pmem_engine.proofs.PageLines.ResealOutcomes.{not_unsealed, reseal_ended}
 use Rattle.pmem_engine.proofs.engine.OnChip.reseal.Given.{Over}
 use Rattle.pmem_engine.proofs.engine.OnChip.reseal.Goals.{After-held_line-held, After-commit_reseal}
 use Rattle.pmem_engine.proofs.engine.OnChip.reseal.Goals as goal
@@ -103,37 +104,34 @@ module _ (g : Over) (c : After-commit_reseal g) where
       c.in_ok-unsealed.unsealed.plain c.in_ok-unsealed.unsealed.tag_line)
       c.in_ok-unsealed.ensures.keys
 
-  exits :
-      (IsDevice new.device → IsResealCut setup.shape next mid.device new.device mid.ledger new.ledger
-      → HasResealed setup c.args.n old new (Err AtLine.Cut))
-      × ((answer : ℕ × ℕ) → answer.0 ≡ c.held_line-held.result.at
-      → answer.1 + 1 ≡ length (not_done (get_or old.device.regs.progress.items c.args.n empty_progress))
-      → HasResealCommitted setup.shape next mid.device new.device mid.ledger new.ledger → HasResealed setup c.args.n old new (Ok answer))
-  exits =
-      resealing_exits setup c.args.n old.engine old.device old.ledger old.tags old.digests c.held_line-held.result c.requires.usable
+  abbrev number : ℕ
+  number = length (not_done (get_or old.device.regs.progress.items c.args.n empty_progress))
+
+  resealed_so : (end : Result (Unit {0}) Cut)
+      → HasResealEnded setup.shape c.next_seal-next.result mid.device new.device mid.ledger new.ledger end
+      → HasResealed setup c.args.n old new (mapped_end (λ cut. AtLine.Cut) (λ value. (c.held_line-held.result.at, number - 1)) end)
+  resealed_so end was =
+      reseal_ended setup c.args.n old.engine old.device old.ledger old.tags old.digests c.held_line-held.result c.requires.usable
       c.requires.register
       (subst (λ register. IsNextHeld register c.held_line-held.result) same c.held_line-held.ensures)
       mid.device mid.ledger mid.tags mid.digests c.in_ok-unsealed.unsealed c.in_ok-unsealed.ensures.unsealed new.device new.ledger new.tags
       new.digests c.next_seal-next.ensures.tags c.next_seal-next.ensures.digests (g.met.S.Suite.in_range c.args.suite.now)
-      c.next_seal-next.ensures.whole (g.met.B.Board.whole c.unseal_line.new.board)
+      c.next_seal-next.ensures.whole (g.met.B.Board.whole c.unseal_line.new.board) (g.met.B.Board.whole c.commit_reseal.new.board) end
+      (subst (λ (next : NextSeal). HasResealEnded setup.shape next mid.device new.device mid.ledger new.ledger end) sealing was)
 
 pub returns-in_err-commit_reseal-clause-resealed : goal.returns-in_err-commit_reseal-clause-resealed
 returns-in_err-commit_reseal-clause-resealed g c =
     let end : After-commit_reseal g = (goal.at.returns-in_err-commit_reseal-clause-resealed g c).After-commit_reseal in
     subst (HasResealed (setup g end) c.args.n (old g end) (new g end))
     (sym (is_err_of c.from_residual-in_err-commit_reseal.result AtLine.Cut c.from_residual-in_err-commit_reseal.ensures.1))
-    ((exits g end).0 (g.met.B.Board.whole c.commit_reseal.new.board)
-    (subst (λ (next : NextSeal). IsResealCut c.args.self.now.shape next (mid g end).device (new g end).device (mid g end).ledger
-    (new g end).ledger) (sealing g end) c.in_err-commit_reseal.ensures.cut))
+    (resealed_so g end (Err c.in_err-commit_reseal.field-0.0) c.in_err-commit_reseal.ensures.ended)
 
 pub returns-clause-resealed : goal.returns-clause-resealed
 returns-clause-resealed g c =
     let end : After-commit_reseal g = (goal.at.returns-clause-resealed g c).After-commit_reseal in
-    let left = c.left.ensures.number ∙ ap (λ register. length (not_done register)) (same g end) in
-    let some = (c.requires.usable.ready.valid_regs.each_page c.args.n empty_progress c.requires.register).some_left in
-    (exits g end).1 (c.held_line-held.result.at, c.left.result - 1) refl (omega (arith, left, some))
-    (subst (λ (next : NextSeal). HasResealCommitted c.args.self.now.shape next (mid g end).device (new g end).device
-    (mid g end).ledger (new g end).ledger) (sealing g end) c.in_ok-commit_reseal.ensures.ok)
+    subst (λ (n : ℕ). HasResealed (setup g end) c.args.n (old g end) (new g end) (Ok (c.held_line-held.result.at, n - 1)))
+    (sym (c.left.ensures.number ∙ ap (λ register. length (not_done register)) (same g end)))
+    (resealed_so g end (Ok tt) c.in_ok-commit_reseal.ensures.ended)
 
 -- ---- the plan
 

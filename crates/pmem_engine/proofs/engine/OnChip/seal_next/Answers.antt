@@ -15,7 +15,7 @@ use Rattle.call_plan.specs.Following.{Follows}
 use Rattle.call_plan.proofs.Steps.{ended_err}
 use Rattle.meta_path.specs.Blocks.{cached_line}
 use Rattle.suite.specs.Setup.{Setup}
-use Rattle.board.specs.Device.{Device, IsDevice}
+use Rattle.board.specs.Device.{Device}
 use Rattle.board.specs.Steps.{HasRead}
 use Rattle.plain_model.specs.Bounds.{path_length}
 use Rattle.seal_ledger.specs.Ledger.{LedgerState}
@@ -29,10 +29,10 @@ use Rattle.pmem_engine.specs.Parts.{Parts, parts_with}
 use Rattle.pmem_engine.specs.Plans.{Chip, chip_with, chip_with_at, with_tags}
 use Rattle.pmem_engine.specs.SealPlans.{commit_seal_plan, seal_next_plan, with_path_digests}
 use Rattle.pmem_engine.specs.Committing.{next_seal_of}
-use Rattle.pmem_engine.specs.Sealing.{next_counter_of, raised_block, HasSealCommitted, IsSealCut, HasSealedNext}
+use Rattle.pmem_engine.specs.Sealing.{next_counter_of, raised_block, HasSealEnded, HasSealedNext}
 use Rattle.call_effects.proofs.ResultLaws.{is_err_of}
 use Rattle.pmem_engine.proofs.Seals.NextPaths.{times_never_fall}
-use Rattle.pmem_engine.proofs.Seals.SealOutcomes.{seal_unread, some_steps, seal_exits}
+use Rattle.pmem_engine.proofs.Seals.SealOutcomes.{seal_unread, some_steps, seal_ended}
 use Rattle.pmem_engine.proofs.PlannedCalls.Chips.{same_chip}
 use Rattle.pmem_engine.proofs.PlannedCalls.SealPlans.{due_is, lines_over, root_over, seal_unread as tag_line_unread, seal_end}
 use Rattle.pmem_engine.proofs.engine.OnChip.seal_next.Given.{Over}
@@ -109,14 +109,13 @@ module _ (g : Over) (c : After-commit_seal g) where
       subst₂ (λ (x : Ctr) (n : ℕ). IsTrue c.due-persisted.result ↔ (x.minor % n ≡ 0)) ctr
       (ap (λ regs. regs.loss) (c.regs.ensures ∙ read.regs)) c.due-persisted.ensures
 
-  exits : ((e : Cut) → IsDevice new.device → IsSealCut setup.shape next c.due-persisted.result block c.next_path-path.result.lines.items
-      c.next_path-path.result.root old.engine new.engine mid new.device old.ledger new.ledger
-      → HasSealedNext setup c.args.at c.args.plain.now old new (Err e))
-      × (HasSealCommitted setup.shape next c.due-persisted.result block c.next_path-path.result.lines.items
-      c.next_path-path.result.root old.engine new.engine mid new.device old.ledger new.ledger
-      → HasSealedNext setup c.args.at c.args.plain.now old new (Ok (next_counter_of setup.shape c.args.self.now c.args.at)))
-  exits =
-      seal_exits setup c.args.at c.args.plain.now c.in_ok-tag_line.tag_line c.due-persisted.result old.engine new.engine old.device mid
+  sealed_so : (end : Result (Unit {0}) Cut)
+      → HasSealEnded setup.shape c.next_seal-next.result c.due-persisted.result c.next_counter.result.1 c.next_path-path.result.lines.items
+      c.next_path-path.result.root old.engine new.engine mid new.device old.ledger new.ledger end
+      → HasSealedNext setup c.args.at c.args.plain.now old new
+      (mapped_end (λ cut. cut) (λ value. next_counter_of setup.shape c.args.self.now c.args.at) end)
+  sealed_so end was =
+      seal_ended setup c.args.at c.args.plain.now c.in_ok-tag_line.tag_line c.due-persisted.result old.engine new.engine old.device mid
       new.device old.ledger new.ledger old.tags old.digests new.tags new.digests c.next_path-path.result.lines.items
       c.next_path-path.result.root c.requires.usable
       (subst (λ (e : ChipState). e.shape.levels ≤ 6) c.self.view_is c.self.inside.geo.has_levels.1)
@@ -134,30 +133,23 @@ module _ (g : Over) (c : After-commit_seal g) where
       read due (c.next_seal-next.ensures.tags ∙ ap risen c.next_path-path.ensures.tags)
       (c.next_seal-next.ensures.digests ∙ c.next_path-path.ensures.digests
       ∙ ap (λ (e : ChipState). risen_times (path_length e.shape) (g.S.Suite.digests c.args.suite.now)) c.self.view_is)
-      (g.met.B.Board.whole c.read_line.new.self)
+      (g.met.B.Board.whole c.read_line.new.self) (g.met.B.Board.whole c.commit_seal.new.board) end
+      (subst₂
+      (λ (next : NextSeal) line. HasSealEnded setup.shape next c.due-persisted.result line c.next_path-path.result.lines.items
+      c.next_path-path.result.root old.engine new.engine mid new.device old.ledger new.ledger end) sealing block_is was)
 
 pub returns-in_err-commit_seal-clause-sealed : goal.returns-in_err-commit_seal-clause-sealed
 returns-in_err-commit_seal-clause-sealed g c =
     let end : After-commit_seal g = (goal.at.returns-in_err-commit_seal-clause-sealed g c).After-commit_seal in
     subst (HasSealedNext (setup g end) c.args.at c.args.plain.now (old g end) (new g end))
     (sym (is_err_of c.from_residual-in_err-commit_seal.result c.in_err-commit_seal.field-0.0 c.from_residual-in_err-commit_seal.ensures.1))
-    ((exits g end).0 c.in_err-commit_seal.field-0.0 (g.met.B.Board.whole c.commit_seal.new.board)
-    (subst₂
-    (λ (next : NextSeal) line. IsSealCut c.args.self.now.shape next c.due-persisted.result line c.next_path-path.result.lines.items
-    c.next_path-path.result.root c.args.self.now c.commit_seal.new.self (mid g end) (new g end).device (old g end).ledger
-    (new g end).ledger)
-    (sealing g end) (block_is g end) c.in_err-commit_seal.ensures.cut))
+    (sealed_so g end (Err c.in_err-commit_seal.field-0.0) c.in_err-commit_seal.ensures.ended)
 
 pub returns-clause-sealed : goal.returns-clause-sealed
 returns-clause-sealed g c =
     let end : After-commit_seal g = (goal.at.returns-clause-sealed g c).After-commit_seal in
     subst (λ x. HasSealedNext (setup g end) c.args.at c.args.plain.now (old g end) (new g end) (Ok x)) (sym (ctr g end))
-    ((exits g end).1
-    (subst₂
-    (λ (next : NextSeal) line. HasSealCommitted c.args.self.now.shape next c.due-persisted.result line
-    c.next_path-path.result.lines.items c.next_path-path.result.root c.args.self.now c.commit_seal.new.self (mid g end)
-    (new g end).device (old g end).ledger (new g end).ledger)
-    (sealing g end) (block_is g end) c.in_ok-commit_seal.ensures.ok))
+    (sealed_so g end (Ok tt) c.in_ok-commit_seal.ensures.ended)
 
 -- ---- the plan
 

@@ -1,6 +1,6 @@
 -- A fault that isn't that a line is spent.
 use Rattle.std.proofs.Common.{sym, ap, ◌∙◌}
-use Rattle.start_gap.specs.Gapped.{write_answer_by}
+use Rattle.start_gap.proofs.Common.{write_answer_by}
 use Rattle.start_gap.proofs.LevelledCalls.{fault_of_move}
 use Rattle.start_gap.proofs.gapped.Gapped.answer_of_move.Goals as goal
 

@@ -1,21 +1,7 @@
 -- The changes of a move are made in order.
 use Rattle.std.proofs.Common.{◌∙◌, List, not, Result, Ok, Err, sym, ap, subst}
-use Rattle.std.specs.Prelude.{All}
-use Rattle.call_plan.specs.Following.{Follows}
-use Rattle.suite.specs.Setup.{Setup}
-use Rattle.pmem_engine.specs.declared.fault.Fault.{Fault}
-use Rattle.pmem_engine.specs.Parts.{Parts, parts_at, setup_at}
-use Rattle.call_effects.specs.Outcomes.{is_going}
-use Rattle.pmem_engine.specs.Outcomes.{outcome_of}
-use Rattle.commit_regs.specs.Plans.{ended_with}
-use Rattle.pmem_engine.specs.Plans.{chip_in}
-use Rattle.pmem_engine.proofs.CallEnds.EngineCalls.{down_after}
+use Rattle.start_gap.proofs.Common.{All, Follows, Setup, Fault, Parts, parts_at, setup_at, is_going, outcome_of, ended_with, chip_in, down_after, Edit, AreEdited, IsEditOf, edits_plan, edits_as, move_edits}
 use Rattle.call_effects.proofs.ResultLaws.{is_err_of}
-use Rattle.engine_lines.specs.declared.edits.Edit.{Edit}
-use Rattle.engine_lines.specs.Edits.{AreEdited, IsEditOf}
-use Rattle.engine_lines.specs.Plans.{edits_plan}
-use Rattle.engine_lines.proofs.EditPlans.{edits_as}
-use Rattle.start_gap.specs.Logical.{move_edits}
 use Rattle.start_gap.proofs.LevelledWrites.{move_fits}
 use Rattle.start_gap.proofs.gapped.Gapped.move_gap.Given.{Over}
 use Rattle.start_gap.proofs.gapped.Gapped.move_gap.Goals.{After-edit_all}

@@ -1,6 +1,6 @@
 -- The engine is down, or the record is read.
 use Rattle.std.proofs.Common.{refl, sym, ◌∙◌}
-use Rattle.std.proofs.lemmas.Bool.{true≢false}
+use Rattle.start_gap.proofs.Common.{true≢false}
 use Rattle.pmem_engine.proofs.CallEnds.StillParts.{left_alone}
 use Rattle.start_gap.proofs.LevelledReads.{wear_read}
 use Rattle.start_gap.proofs.gapped.Gapped.open.Goals as goal

@@ -1,18 +1,8 @@
 -- The number of logical lines, and the wear that was read.
 use Rattle.std.proofs.Common.{ℕ, ◌≡◌, ◌-◌, ◌+◌, Ok, Err, refl, ap, sym, subst, ◌∙◌, arith}
-use Rattle.pmem_base.specs.Shape.{Shape}
-use Rattle.suite.specs.Setup.{Setup}
-use Rattle.pmem_engine.specs.Engine.{EngineState}
-use Rattle.pmem_engine.specs.Parts.{Parts, parts_at}
-use Rattle.pmem_engine.specs.Calls.{HasReadLine}
-use Rattle.pmem_engine.specs.Plans.{Chip, chip_of}
+use Rattle.start_gap.proofs.Common.{Shape, Setup, EngineState, Parts, parts_at, HasReadLine, Chip, chip_of, data_lines, up_after, least_lines, recorded, logical_lines}
 use Rattle.pmem_base.specs.Geo.{shape_of}
-use Rattle.pmem_base.specs.Layout.{data_lines}
 use Rattle.start_gap.proofs.Records.{recorded-IsWear}
-use Rattle.pmem_engine.proofs.CallEnds.EngineCalls.{up_after}
-use Rattle.engine_lines.proofs.EngineLines.{least_lines}
-use Rattle.start_gap.specs.Record.{recorded}
-use Rattle.start_gap.specs.Gapped.{logical_lines}
 use Rattle.start_gap.proofs.LevelledPlans.{not_read, no_record, found_record}
 use Rattle.start_gap.proofs.gapped.Gapped.open_up.Given.{Over}
 use Rattle.start_gap.proofs.gapped.Gapped.open_up.Goals as goal

@@ -1,9 +1,6 @@
 -- The engine is down, or the calls of a write are made, and what they make of the lines.
 use Rattle.std.proofs.Common.{◌∙◌, refl, sym}
-use Rattle.suite.specs.Setup.{Setup}
-use Rattle.pmem_engine.specs.Engine.{EngineState}
-use Rattle.pmem_engine.specs.Parts.{Parts, parts_of}
-use Rattle.pmem_engine.proofs.CallEnds.EngineCalls.{guarded_up, guarded_down}
+use Rattle.start_gap.proofs.Common.{Setup, EngineState, Parts, parts_of, guarded_up, guarded_down}
 use Rattle.start_gap.proofs.LevelledWrites.{left_levelled}
 use Rattle.start_gap.proofs.LevelledEnds.{trusted_after, sound_after}
 use Rattle.start_gap.proofs.gapped.Gapped.write.Given.{Over}

@@ -1,16 +1,6 @@
 -- The line was written, and then a move is due or not.
 use Rattle.std.proofs.Common.{◌∙◌, not, Result, refl, sym, ap, arith}
-use Rattle.suite.specs.Setup.{Setup}
-use Rattle.pmem_engine.specs.Engine.{EngineState}
-use Rattle.pmem_engine.specs.Parts.{Parts, parts_of}
-use Rattle.pmem_engine.specs.Plans.{Chip, chip_of}
-use Rattle.call_effects.specs.Outcomes.{is_going}
-use Rattle.pmem_engine.proofs.CallEnds.EngineCalls.{down_after, up_after}
-use Rattle.engine_lines.proofs.EngineLines.{few_marks}
-use Rattle.engine_lines.proofs.EditPlans.{edits_follow_under}
-use Rattle.start_gap.specs.declared.gapped.Moved.{Moved}
-use Rattle.start_gap.specs.declared.gapped.WriteFault.{WriteFault}
-use Rattle.start_gap.specs.Gapped.{write_outcome_by}
+use Rattle.start_gap.proofs.Common.{Setup, EngineState, Parts, parts_of, Chip, chip_of, is_going, down_after, up_after, few_marks, edits_follow_under, Moved, WriteFault, write_outcome_by}
 use Rattle.start_gap.proofs.LevelledPlans.{follows_refused, follows_counted, follows_tried}
 use Rattle.start_gap.proofs.LevelledCalls.{write_at, move_as, move_outcome, wear_over, refused, counted, tried_as}
 use Rattle.start_gap.proofs.gapped.Gapped.write_and_move.Given.{Over}
