@@ -4,17 +4,16 @@ use Rattle.std.specs.Prelude.{option_map, unwrap_or}
 use Rattle.std.proofs.lemmas.Bool.{cases_eq, both_ways}
 use Rattle.std.proofs.lemmas.List.{append-nil}
 use Rattle.pmem_base.specs.declared.lines.Line.{Line}
-use Rattle.pmem_base.specs.declared.answers.Exhibit.TheVariants.{Clash}
 use Rattle.pmem_base.specs.Counts.{HasRisen, risen_times}
 use Rattle.pmem_base.specs.Shape.{Shape}
 use Rattle.pmem_base.specs.Layout.{pages, meta_line}
 use Rattle.pmem_base.specs.Lines.{line_at, zero_line}
 use Rattle.suite.specs.Formulas.{Formulas}
 use Rattle.board.specs.Counts.{RisesBy}
-use Rattle.board.specs.Steps.{Tells}
+use Rattle.board.specs.Device.{Device}
+use Rattle.board.specs.Steps.{Tells, WasCut}
 use Rattle.board.proofs.CountLemmas.{HasRisen-once}
 use Rattle.seal_ledger.specs.Ledger.{LedgerState}
-use Rattle.seal_ledger.specs.Notes.{HasExhibit}
 use Rattle.bonsai_tree.specs.Positions.{parent, child_slot}
 use Rattle.bonsai_tree.specs.Nodes.{child_digest}
 use Rattle.meta_cache.specs.declared.slot.Slot.{Slot}
@@ -25,7 +24,7 @@ use Rattle.meta_path.specs.declared.faults.PathFault.{PathFault}
 use Rattle.meta_path.specs.declared.faults.PathFault.TheVariants as Fault
 use Rattle.meta_path.specs.Blocks.{path_at, slots_at, IsPathCached, AreInTheirBanks}
 use Rattle.meta_path.specs.Work.{HasWorked, FetchState}
-use Rattle.meta_path.specs.Levels.{expected_digest, HasParent, room_write, level_write, level_reads, fetched_set, HasDirtyVictim, IsLevelFetched, IsLevelRead, IsLevelCut, IsLevelFault}
+use Rattle.meta_path.specs.Levels.{expected_digest, HasParent, room_write, level_write, level_reads, fetched_set, HasDirtyVictim, IsLevelFetched, IsLevelRead}
 use Rattle.meta_path.specs.Fetching.{absent_count, spilled, HasFetchedSets, AreLevelsChecked, IsFetchedTo, IsReadAt, IsCutAt, IsPathFault}
 use Rattle.pmem_base.proofs.CountLemmas.{risen_times-add}
 use Rattle.meta_path.proofs.WorkLemmas.{not_steady, HasWorked-then}
@@ -163,87 +162,45 @@ module _ {g : Shape} {f : Formulas} {truth : List Line} {page n : ℕ} {old mid 
 -- ---- a level that isn't fetched
 
 -- the first n levels, and a line read at the next one
-read_at : (g : Shape) (f : Formulas) (truth : List Line) (page n : ℕ) (line : Line) (old mid new : FetchState)
+pub read_at : (g : Shape) (f : Formulas) (truth : List Line) (page n : ℕ) (line : Line) (old mid new : FetchState)
     → n ≤ g.levels → IsFetchedTo g f truth page n old mid → IsLevelRead g n (path_at g page n) line mid new
     → IsReadAt g f truth page n line old new
 read_at g f truth page n line old mid new le before level = search rules
 
--- the digest that it has to have, as it was when it was read
-expected_at : (g : Shape) (f : Formulas) (truth : List Line) (page n : ℕ) (old mid new : FetchState)
-    → IsFetchedTo g f truth page n old mid → new.cache ≡ mid.cache
-    → expected_digest g mid.device.regs.root mid.cache.banks n (path_at g page n)
-    ≡ expected_digest g old.device.regs.root new.cache.banks n (path_at g page n)
-expected_at g f truth page n old mid new before same = search rules
-
-cut_at : (g : Shape) (f : Formulas) (truth : List Line) (page n : ℕ) (old mid new : FetchState)
-    → n ≤ g.levels → IsFetchedTo g f truth page n old mid → IsLevelCut g n (path_at g page n) mid new
-    → IsCutAt g f truth page old new
-cut_at g f truth page n old mid new le before level =
+-- or a cut came at the next one, which isn't cached: before its read, or once it was read
+pub cut_at : {g : Shape} {truth : List Line} {n : ℕ} (f : Formulas) (page : ℕ) (old mid : FetchState) (new : Device) (tries : ℕ) (between : Device)
+    → n ≤ g.levels → IsFetchedTo g f truth page n old mid → is_cached g mid.cache.banks n (path_at g page n) ≡ false → tries ≤ 1
+    → HasWorked tries [] mid.device between → WasCut between new
+    → (mid.device.live ≡ true → HasDirtyVictim g (slots_at g mid.cache.banks n (path_at g page n)))
+    → IsCutAt g f truth page old (record { cache = mid.cache; device = new; digests = risen_times tries mid.digests })
+cut_at {g = g} {n = n} f page old mid new tries between le before absent few read cut victim =
     let same = same_here before in
-    let work : HasWorked (absent_count g old.cache.banks page n + level.tries) (spilled g old.cache.banks page n) old.device level.mid =
-    subst (λ entries. HasWorked (absent_count g old.cache.banks page n + level.tries) entries old.device level.mid)
+    let work : HasWorked (absent_count g old.cache.banks page n + tries) (spilled g old.cache.banks page n) old.device between =
+    subst (λ entries. HasWorked (absent_count g old.cache.banks page n + tries) entries old.device between)
     (append-nil (spilled g old.cache.banks page n))
-    (HasWorked-then _ level.tries (spilled g old.cache.banks page n) [] old.device mid.device level.mid before.work level.read) in
+    (HasWorked-then _ tries (spilled g old.cache.banks page n) [] old.device mid.device between before.work read) in
     record {
       n = n;
       on_path = le;
-      absent = sym (is_cached-same g mid.cache.banks old.cache.banks n (path_at g page n) same) ∙ level.absent;
-      cache = subst (HasFetchedSets g truth page n old.cache) (sym level.cache) before.cache;
-      levels =
-          record {
-            told = before.levels.told;
-            checked = λ j h absent.
-                before.levels.checked j h absent
-                ∙ ap (λ (cache : CacheState). expected_digest g old.device.regs.root cache.banks j (path_at g page j)) (sym level.cache);
-          };
-      tries = absent_count g old.cache.banks page n + level.tries;
+      absent = sym (is_cached-same g mid.cache.banks old.cache.banks n (path_at g page n) same) ∙ absent;
+      cache = before.cache;
+      levels = record { told = before.levels.told; checked = before.levels.checked };
+      tries = absent_count g old.cache.banks page n + tries;
       at_least = omega arith;
-      at_most = omega (arith, level.at_most_one);
-      reads = subst (RisesBy (absent_count g old.cache.banks page n + level.tries) old.device.reads) (sym level.cut.reads) work.reads;
+      at_most = omega (arith, few);
+      reads = subst (RisesBy (absent_count g old.cache.banks page n + tries) old.device.reads) (sym cut.reads) work.reads;
       digests =
-          level.digests ∙ ap (risen_times level.tries) before.digests
-          ∙ sym (risen_times-add (absent_count g old.cache.banks page n) level.tries old.digests);
-      lines = level.cut.lines ∙ work.lines;
-      writes = subst (RisesBy (length (spilled g old.cache.banks page n)) old.device.writes) (sym level.cut.writes) work.writes;
-      unsteady = not_steady work.steady level.cut.unsteady;
-      off = level.cut.off;
-      never_falls = omega (arith, level.cut.cuts.never_falls, work.cuts);
-      rose = subst (λ count. HasRisen count new.device.cuts) work.cuts (HasRisen-once level.cut.cuts);
-      size = level.cut.size ∙ work.size;
-      regs = level.cut.regs ∙ work.regs;
-      latches = level.cut.latches ∙ work.latches;
-      victim = λ live. subst (HasDirtyVictim g) same (level.victim (before.work.live live));
-    }
-
--- the fault of a level is the fault of the path
-pub IsPathFault-at : (g : Shape) (f : Formulas) (page n : ℕ) (old mid new : FetchState)
-    (old_ledger mid_ledger new_ledger : LedgerState) (fault : PathFault)
-    → n ≤ g.levels → IsFetchedTo g f old_ledger.truth page n old mid → mid_ledger ≡ old_ledger
-    → IsLevelFault g f n (path_at g page n) mid new mid_ledger new_ledger fault
-    → IsPathFault g f page old new old_ledger new_ledger fault
-IsPathFault-at g f page n old mid new old_ledger mid_ledger new_ledger Fault.Cut le before same level =
-    (cut_at g f old_ledger.truth page n old mid new le before level.0, level.1 ∙ same)
-IsPathFault-at g f page n old mid new old_ledger mid_ledger new_ledger (Fault.Meta x) le before same level = (
-  record {
-    n = n;
-    line = level.1.line;
-    position = level.0;
-    read = read_at g f old_ledger.truth page n level.1.line old mid new le before level.1.read;
-    differs = λ e.
-        level.1.differs (e ∙ sym (expected_at g f old_ledger.truth page n old mid new before level.1.read.cache));
-  },
-  level.2 ∙ same,
-)
-IsPathFault-at g f page n old mid new old_ledger mid_ledger new_ledger Fault.Shown le before same level =
-    record {
-      n = n;
-      line = level.line;
-      read = read_at g f old_ledger.truth page n level.line old mid new le before level.read;
-      same_digest = level.same_digest ∙ expected_at g f old_ledger.truth page n old mid new before level.read.cache;
-      differs = λ e. level.differs (e ∙ ap (λ (ledger : LedgerState). line_at ledger.truth (path_at g page n)) (sym same));
-      shown =
-          subst (λ (ledger : LedgerState). HasExhibit ledger new_ledger (Clash (path_at g page n) level.line (line_at ledger.truth (path_at g page n))))
-          same level.shown;
+          ap (risen_times tries) before.digests ∙ sym (risen_times-add (absent_count g old.cache.banks page n) tries old.digests);
+      lines = cut.lines ∙ work.lines;
+      writes = subst (RisesBy (length (spilled g old.cache.banks page n)) old.device.writes) (sym cut.writes) work.writes;
+      unsteady = not_steady work.steady cut.unsteady;
+      off = cut.off;
+      never_falls = omega (arith, cut.cuts.never_falls, work.cuts);
+      rose = subst (λ count. HasRisen count new.cuts) work.cuts (HasRisen-once cut.cuts);
+      size = cut.size ∙ work.size;
+      regs = cut.regs ∙ work.regs;
+      latches = cut.latches ∙ work.latches;
+      victim = λ live. subst (HasDirtyVictim g) same (victim (before.work.live live));
     }
 
 -- ---- what the next level rests on

@@ -1,6 +1,6 @@
 -- One level fetched: the read, the room, and the place.
-use Rattle.std.proofs.Common.{rules, ◌≡◌, ℕ, ◌≤◌, Bool, true, false, cond, List, [], ◌∷◌, refl, sym, ap, ap₂, subst, subst₂, ◌∙◌, ◌⊎◌, inl, inr, Option, Some, None, Result, Ok, Err}
-use Rattle.std.specs.Prelude.{IfSome, IfErr, IsErrAnd, option_map, unwrap_or}
+use Rattle.std.proofs.Common.{◌≡◌, ℕ, ◌≤◌, Bool, true, false, cond, List, [], ◌∷◌, refl, sym, ap, ap₂, subst, subst₂, ◌∙◌, ◌⊎◌, inl, inr, Option, Some, None}
+use Rattle.std.specs.Prelude.{IfSome, option_map, unwrap_or}
 use Rattle.std.proofs.lemmas.Bool.{cases_Bool, cond-true, cond-false}
 use Rattle.std.proofs.lemmas.Option.{none-some, same_Some}
 use Rattle.std.proofs.lemmas.List.Elements.{All-contains}
@@ -11,7 +11,7 @@ use Rattle.pmem_base.specs.Lines.{line_at, zero_line}
 use Rattle.pmem_base.specs.Counts.{risen_times}
 use Rattle.suite.specs.Formulas.{Formulas}
 use Rattle.board.specs.Device.{Device}
-use Rattle.board.specs.Steps.{Tells, WasCut}
+use Rattle.board.specs.Steps.{Tells}
 use Rattle.commit_regs.proofs.GroupLemmas.{redone-nil}
 use Rattle.meta_cache.specs.declared.slot.Slot.{Slot}
 use Rattle.meta_cache.specs.Banks.{Banks, set_of, set_index, is_cached}
@@ -19,27 +19,12 @@ use Rattle.meta_cache.specs.Sets.{holds, slot_with, with_mark, victim_of, placed
 use Rattle.meta_cache.specs.State.{CacheState, slots_of, with_slots, ChangesSet}
 use Rattle.meta_cache.proofs.CacheLemmas.{with_slots-own, with_slots-twice}
 use Rattle.meta_cache.proofs.WayLemmas.{KeepsWays-placed}
-use Rattle.meta_path.specs.declared.faults.PathFault.{PathFault}
-use Rattle.meta_path.specs.declared.faults.PathFault.TheVariants as Fault
 use Rattle.meta_path.specs.Blocks.{slots_at, line_in}
 use Rattle.meta_path.specs.Work.{HasWorked, FetchState}
-use Rattle.meta_path.specs.Levels.{expected_digest, dirty_position, victim_write, room_write, without_dirty, HasRoomMade, IsLevelFetched, IsLevelRead, IsLevelCut}
+use Rattle.meta_path.specs.Levels.{expected_digest, dirty_position, victim_write, room_write, without_dirty, HasRoomMade, IsLevelFetched, IsLevelRead}
 use Rattle.meta_path.specs.Storing.{IsCleaned}
 use Rattle.meta_path.proofs.SetFacts.{holds_slot, victim_contained, slot_with-victim, placed-without_dirty, clean_victim, holds-without_dirty}
 use Rattle.meta_path.proofs.WorkLemmas.{HasWorked-none, HasWorked-written, HasWorked-then}
-
--- an answer that turns a cut into the fault has what the fault says
-pub fault_of_cut : {X : Type 0} (answer : Result X PathFault) (P : PathFault → Type 0)
-    → IsErrAnd answer (λ fault. fault ≡ Fault.Cut) → P Fault.Cut → IfErr answer P
-fault_of_cut (Ok value) P is holds = absurd is
-fault_of_cut (Err fault) P is holds = subst P (sym is) holds
-
--- a cut at the read comes where power is off
-pub cut_at_read : (g : Shape) (bank x : ℕ) (cache : CacheState) (old new : Device) (digests : ℕ)
-    → is_cached g cache.banks bank x ≡ false → WasCut old new → old.live ≡ false
-    → IsLevelCut g bank x (record { cache = cache; device = old; digests = digests })
-    (record { cache = cache; device = new; digests = digests })
-cut_at_read g bank x cache old new digests absent cut dead = search (rules, HasWorked-none)
 
 -- ---- room
 

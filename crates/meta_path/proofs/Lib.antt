@@ -8,6 +8,7 @@ pub mod NameLemmas
 pub mod NamePlans
 pub mod WritePlans
 pub mod FetchPlans
+pub mod FetchedLevels
 pub mod PathFacts
 pub mod SetFacts
 pub mod RenewalLemmas

@@ -1,7 +1,7 @@
 -- One set of slots: its slots, its dirty ones, and the block to give way.
 use Rattle.std.proofs.lemmas.Grind.{common_steps}
 use Rattle.std.proofs.Common.{◌≡◌, ◌≢◌, ℕ, zero, suc, ◌+◌, ◌-◌, ◌<◌, ◌≤◌, Bool, true, false, cond, List, [], ◌∷◌, ◌++◌, length, get_or, take, drop, map, refl, sym, ap, ap₂, subst, ◌∙◌, ◌⊎◌, inl, inr, arith, Option, Some, None}
-use Rattle.std.specs.Prelude.{◌==◌, ◌||◌, nat_lt, not, filter, slice_get, All, AllPairs, Contains, IfSome}
+use Rattle.std.specs.Prelude.{◌==◌, ◌||◌, nat_lt, not, filter, slice_get, All, Contains, IfSome}
 use Rattle.std.proofs.lemmas.Bool.{cases_Bool, cases_lt, eq-eqb, eqb-true, ne_eqb, cond-true, cond-false, both_ways, le-ltb, lt-ltb, not_from_false}
 use Rattle.std.proofs.lemmas.Option.{slice_get_within, slice_get-get_or, get_or_from_slice_get, none-some, slice_get_read}
 use Rattle.std.proofs.lemmas.List.{drop_all, length-append, length-take-le, take-append-drop, drop_more, get_or_append_left, get_or-append_right, map-append}

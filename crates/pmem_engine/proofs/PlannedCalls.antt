@@ -17,7 +17,6 @@ pub mod TreeBlocks
 pub mod KeptLines
 pub mod TurnLines
 pub mod BlockOrder
-pub mod FetchedLevels
 pub mod FetchedReads
 pub mod LowWrites
 pub mod GroupEnds

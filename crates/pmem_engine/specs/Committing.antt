@@ -1,16 +1,15 @@
 -- What arming and finishing a group makes of a device, and the registers and lines that a seal arms.
-use Rattle.std.specs.Prelude.{ℕ, ◌≡◌, ◌⊎◌, true, false, List, [], ◌∷◌, length, Result, Ok, Err}
+use Rattle.std.specs.Prelude.{ℕ, ◌≡◌, ◌⊎◌, true, List, [], ◌∷◌, length, Result, Ok, Err}
 use Rattle.pmem_base.specs.declared.faults.Cut.{Cut}
 use Rattle.pmem_base.specs.declared.lines.Line.{Line}
 use Rattle.pmem_base.specs.declared.lines.Ctr.{Ctr}
 use Rattle.pmem_base.specs.declared.registers.Regs.{Regs}
-use Rattle.pmem_base.specs.Counts.{HasRisen}
 use Rattle.pmem_base.specs.Shape.{Shape}
 use Rattle.pmem_base.specs.Layout.{tag_line}
 use Rattle.board.specs.Counts.{RisesBy}
 use Rattle.board.specs.Device.{Device}
-use Rattle.board.specs.Steps.{WasCut}
-use Rattle.commit_regs.specs.Groups.{RisesAtMost, redone_told}
+use Rattle.board.specs.Steps.{HasLatched, WasCut}
+use Rattle.commit_regs.specs.Groups.{IsInterrupted, redone_told}
 use Rattle.line_seal.specs.Seals.{with_tag}
 use Rattle.page_reencrypt.specs.Registers.{registers_with_done}
 use Rattle.suite.specs.Formulas.{Formulas, cipher_of}
@@ -50,20 +49,10 @@ pub record HasCommitted (group : List (ℕ × Line)) (old new : Device) : Type 0
   pub steady : old.steady ≡ true → new.steady ≡ true
   pub live : old.live ≡ true → new.live ≡ true
 
--- a cut came while the group was armed
-pub record IsCutArmed (group : List (ℕ × Line)) (old new : Device) : Type 0 where
-  pub again : redone_told group new.lines ≡ redone_told group old.lines
-  pub armed : new.regs.group.items ≡ group
-  pub writes : RisesAtMost (length group) old.writes new.writes
-  pub latches : RisesBy 1 old.latches new.latches
-  pub size : new.size ≡ old.size
-  pub reads : new.reads ≡ old.reads
-  pub unsteady : old.steady ≡ false
-  pub off : new.live ≡ false
-  pub rose : HasRisen old.cuts new.cuts
-
 -- How a group ended: with what goes with it done, or a cut came before it was armed, and left that undone, or while it
 -- was armed.
 abbrev pub HasGroupEnded : List (ℕ × Line) → Type 0 → Type 0 → Device → Device → Result (Unit {0}) Cut → Type 0
 HasGroupEnded group Undone Done old new (Ok value) = HasCommitted group old new × Done
-HasGroupEnded group Undone Done old new (Err cut) = (WasCut old new × Undone) ⊎ (IsCutArmed group old new × Done)
+HasGroupEnded group Undone Done old new (Err cut) =
+    (WasCut old new × Undone)
+    ⊎ ((mid : Device) × HasLatched old new.regs mid × (new.regs.group.items ≡ group) × IsInterrupted group mid new × Done)

@@ -75,14 +75,6 @@ pub record HasMadeWay (n count : ℕ) (old new : ChipState) (before after : Devi
       n < before.regs.loss
       → IsBankClean new new.shape.levels × (count ≡ bank_dirty_count old.shape old.cache old.shape.levels)
 
--- a cut came before one of these writes
-pub record IsCutInBlocks (n : ℕ) (old new : ChipState) (before after : Device) : Type 0 where
-  pub count : ℕ
-  pub mid : Device
-  pub written : HasWrittenBlocks count old new before mid
-  pub greater : before.regs.loss < n → count ≡ 0
-  pub cut : WasCut mid after
-
 -- the registers with another number, and no group
 abbrev pub with_loss : Regs → ℕ → Regs
 with_loss regs n = record (without_group regs) { loss = n }
@@ -95,9 +87,12 @@ pub record IsLossLatched (n steps : ℕ) (old new : ChipState) (before after : D
   pub way : HasMadeWay n count old new before mid
   pub latched : HasLatched mid (with_loss mid.regs n) after
 
+-- it was so already, or is latched, or a cut came before the latch or one of these writes
 abbrev pub HasChangedLoss : ℕ → ChipState → ChipState → Device → Device → Result ℕ Cut → Type 0
 HasChangedLoss n old new before after (Ok steps) =
     ((n ≡ before.regs.loss) × (steps ≡ 0) × (new ≡ old) × (after ≡ before))
     ⊎ ((n ≢ before.regs.loss) × IsLossLatched n steps old new before after)
 HasChangedLoss n old new before after (Err cut) =
-    (n ≢ before.regs.loss) × IsCutInBlocks n old new before after
+    (n ≢ before.regs.loss)
+    × ((count : ℕ) × (mid : Device) × HasWrittenBlocks count old new before mid × (before.regs.loss < n → count ≡ 0)
+    × WasCut mid after)

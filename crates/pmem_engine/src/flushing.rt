@@ -1,5 +1,5 @@
 //! Writing back what is dirty, and the stop-loss number.
-ghost use Rattle.std.specs.Prelude.{ℕ, ◌≡◌, ◌<◌, ◌≤◌, ◌+◌, ◌∷◌, Some, IfOk, IfSome, IsNone, OnOk, OnErr, IsTrue, option_map};
+ghost use Rattle.std.specs.Prelude.{ℕ, ◌≡◌, ◌<◌, ◌≤◌, ◌+◌, ◌∷◌, Some, Err, IfOk, IfErr, IfSome, IsNone, OnOk, OnErr, IsTrue, option_map};
 ghost use Rattle.pmem_base.specs.Shape.{is_loss};
 ghost use Rattle.pmem_base.specs.Layout.{device_lines};
 ghost use Rattle.board.specs.Steps.{WasCut};
@@ -10,7 +10,7 @@ ghost use Rattle.call_plan.specs.Plans.{ended};
 ghost use Rattle.call_plan.specs.Following.{Follows};
 ghost use Rattle.pmem_engine.specs.Plans.{oldest_block_plan, block_plan, counter_blocks_plan, make_way_plan, latch_loss_plan};
 ghost use Rattle.pmem_engine.specs.DirtyOrder.{dirty_order};
-ghost use Rattle.pmem_engine.specs.Flushed.{HasWrittenBack, HasWrittenOldest, HasWrittenBlocks, HasMadeWay, IsCutInBlocks, HasChangedLoss, with_loss, IsBankClean};
+ghost use Rattle.pmem_engine.specs.Flushed.{HasWrittenBack, HasWrittenOldest, HasWrittenBlocks, HasMadeWay, HasChangedLoss, with_loss, IsBankClean};
 
 use crate::engine::OnChip;
 use board::Board;
@@ -57,7 +57,7 @@ impl OnChip {
         requires size { (B.device board.old).size ≡ device_lines self.old.shape }
         ensures ok { IfOk result (λ count. HasMadeWay n count self.old self.new (B.device board.old) (B.device board.new)) }
         ensures few { IfOk result (λ count. count ≤ 512) }
-        ensures cut { OnErr result (IsCutInBlocks n self.old self.new (B.device board.old) (B.device board.new)) }
+        ensures cut { IfErr result (λ cut. HasChangedLoss n self.old self.new (B.device board.old) (B.device board.new) (Err cut)) }
         ensures plan { Follows (make_way_plan n (B.device board.old).regs self.old) (B.device board.old) (B.device board.new)
             (ended result self.new) }
     {
@@ -75,7 +75,7 @@ impl OnChip {
         ensures all { IfOk result (λ count. count ≡ bank_dirty_count self.old.shape self.old.cache self.old.shape.levels) }
         ensures few { IfOk result (λ count. count ≤ 512) }
         ensures cut { (n : ℕ) → n < (B.device board.old).regs.loss
-            → OnErr result (IsCutInBlocks n self.old self.new (B.device board.old) (B.device board.new)) }
+            → IfErr result (λ cut. HasChangedLoss n self.old self.new (B.device board.old) (B.device board.new) (Err cut)) }
         ensures plan { Follows (counter_blocks_plan self.old) (B.device board.old) (B.device board.new) (ended result self.new) }
     {
         self.cache.are_banks();

@@ -197,9 +197,9 @@ module _ (setup : Setup) (n : ℕ) (old new : ChipState) (before after : Device)
       (latch_gone setup n new it.1.mid after ledger tags digests known (group_kept it.1.count it.1.mid it.1.way.written) it.1.latched
       (way_serves it.1.count it.1.mid it.1.way it.0))
   loss_gone (Err cut) it =
-      gone_chained setup cut_short [] [] call_start (parts_with new it.1.mid ledger tags digests) call_finish
-      (it.1.written.done setup ledger tags digests (sym its_shape)).gone
-      (cut_still setup new it.1.mid after ledger tags digests it.1.cut).gone
+      gone_chained setup cut_short [] [] call_start (parts_with new it.1.1 ledger tags digests) call_finish
+      (it.1.2.done setup ledger tags digests (sym its_shape)).gone
+      (cut_still setup new it.1.1 after ledger tags digests it.1.4).gone
 
   loss_counters : (answer : Result ℕ Cut) → HasChangedLoss n old new before after answer → AreTrusted setup call_start
       → (page : ℕ) → page < layout.pages setup.shape
@@ -214,8 +214,8 @@ module _ (setup : Setup) (n : ℕ) (old new : ChipState) (before after : Device)
       ((first.gone.metadata trusted).true_or_dirty (counter_position setup.shape page) (counter_position-lt setup.shape page within) meta)
       (first.counters trusted page within held)
   loss_counters (Err cut) it trusted page within meta held =
-      let first = it.1.written.done setup ledger tags digests (sym its_shape) in
-      let last = cut_still setup new it.1.mid after ledger tags digests it.1.cut in
+      let first = it.1.2.done setup ledger tags digests (sym its_shape) in
+      let last = cut_still setup new it.1.1 after ledger tags digests it.1.4 in
       last.counters (first.gone.trusted trusted) page within (first.counters trusted page within held)
 
   -- ---- steps
@@ -239,10 +239,9 @@ module _ (setup : Setup) (n : ℕ) (old new : ChipState) (before after : Device)
     ap (λ regs. regs.loss) it.1.latched.regs,
   )
   loss_answer (Err cut) it = (
-    cut_steps dirty before.regs.loss n it.1.count call_start call_finish it.1.mid
-        it.0 it.1.greater (few it.1.count it.1.mid it.1.written) it.1.written.writes it.1.written.latches it.1.cut.latches
-        it.1.cut.writes,
-    ap (λ regs. regs.loss) (it.1.cut.regs ∙ it.1.written.regs),
+    cut_steps dirty before.regs.loss n it.1.0 call_start call_finish it.1.1 it.0 it.1.3 (few it.1.0 it.1.1 it.1.2)
+        it.1.2.writes it.1.2.latches it.1.4.latches it.1.4.writes,
+    ap (λ regs. regs.loss) (it.1.4.regs ∙ it.1.2.regs),
   )
     where
       few : (count : ℕ) (mid : Device) → HasWrittenBlocks count old new before mid → count ≤ dirty
@@ -274,7 +273,7 @@ module _ (setup : Setup) (n : ℕ) (old new : ChipState) (before after : Device)
   loss_greater (Ok steps) (inl it) least = ap (λ (e : ChipState). e.cache) it.2
   loss_greater (Ok steps) (inr it) least =
       it.1.way.written.none (it.1.way.greater (let other = it.0 in omega (arith, least, other)))
-  loss_greater (Err cut) it least = it.1.written.none (it.1.greater (let other = it.0 in omega (arith, least, other)))
+  loss_greater (Err cut) it least = it.1.2.none (it.1.3 (let other = it.0 in omega (arith, least, other)))
 
   loss_regs : (answer : Result ℕ Cut) → HasChangedLoss n old new before after answer
       → record after.regs { loss = n } ≡ record before.regs { loss = n }
@@ -283,7 +282,7 @@ module _ (setup : Setup) (n : ℕ) (old new : ChipState) (before after : Device)
       ap (λ (regs : Regs). record regs { loss = n }) it.1.latched.regs
       ∙ ap (λ (regs : Regs). record (with_loss regs n) { loss = n }) it.1.way.written.regs
       ∙ ap (λ items. record before.regs { group = record { items = items }; loss = n }) (sym no_group)
-  loss_regs (Err cut) it = ap (λ (regs : Regs). record regs { loss = n }) (it.1.cut.regs ∙ it.1.written.regs)
+  loss_regs (Err cut) it = ap (λ (regs : Regs). record regs { loss = n }) (it.1.4.regs ∙ it.1.2.regs)
 
   pub loss_set : (answer : Result ℕ Cut) → Follows (latch_loss_plan n before.regs old) before after (ended answer new)
       → HasChangedLoss n old new before after answer

@@ -18,7 +18,8 @@ use Rattle.suite.specs.Formulas.{AreInRange}
 use Rattle.suite.specs.Setup.{Setup}
 use Rattle.board.specs.Counts.{RisesBy}
 use Rattle.board.specs.Device.{Device, IsDevice}
-use Rattle.board.specs.Steps.{WasCut}
+use Rattle.board.specs.Steps.{HasLatched, WasCut}
+use Rattle.commit_regs.specs.Groups.{IsInterrupted}
 use Rattle.call_plan.specs.Plans.{mapped_end}
 use Rattle.meta_path.specs.Work.{told_line}
 use Rattle.page_reencrypt.specs.Registers.{register_held}
@@ -42,7 +43,7 @@ use Rattle.call_effects.specs.Outcomes.{going, cut_short, is_going}
 use Rattle.pmem_engine.specs.Outcomes.{is_sealed_by, NeverFalls, TakesSteps, TakesFewer}
 use Rattle.pmem_engine.specs.CallFacts.{IsUsableWith, IsMemory, moment_in, IsUnderMinorZero}
 use Rattle.pmem_engine.specs.Inner.{HasUnsealed, IsLastCounter}
-use Rattle.pmem_engine.specs.Committing.{next_seal_of, entries_of, HasCommitted, IsCutArmed}
+use Rattle.pmem_engine.specs.Committing.{next_seal_of, entries_of, HasCommitted}
 use Rattle.pmem_engine.specs.Resealing.{IsNextHeld, HasLineSealed, HasResealEnded, line_of_page, HasResealMarks, AnswersReseal, CountsReseal, HasResealed}
 use Rattle.pmem_engine.proofs.CallEnds.ErrorAnswers.{line_unrefused}
 use Rattle.pmem_engine.proofs.CallEnds.StillParts.{sound_trusted}
@@ -266,9 +267,9 @@ module _ (setup : Setup) (n : ℕ) (engine : ChipState) (old : Device) (before :
 
         -- ---- or while it was armed
 
-        cut_armed : IsDevice new → IsCutArmed (entries_of setup.shape sealing) mid new
-            → HasResealed setup n start final (Err AtLine.Cut)
-        cut_armed device_now armed =
+        cut_armed : IsDevice new → (between : Device) → HasLatched mid new.regs between → new.regs.group.items ≡ entries_of setup.shape sealing
+            → IsInterrupted (entries_of setup.shape sealing) between new → HasResealed setup n start final (Err AtLine.Cut)
+        cut_armed device_now between latched armed was =
             record {
               place = next.place;
               lowest = next.lowest;
@@ -276,7 +277,7 @@ module _ (setup : Setup) (n : ℕ) (engine : ChipState) (old : Device) (before :
               done =
                   done_chained setup cut_short [] (mark ∷ []) start middle final it.done
                   (done_cut setup (entries_of setup.shape sealing) mark (page_of sealing.at) false zero_line middle final
-                  commit device_now armed);
+                  commit between latched armed was device_now);
               marks = λ trusted memory was. inr (ap (λ m. m ∷ []) (mark_is trusted memory was));
               memory_kept =
                   λ trusted memory was.
@@ -356,4 +357,4 @@ module _ (setup : Setup) (n : ℕ) (engine : ChipState) (old : Device) (before :
           (mapped_end (λ cut. AtLine.Cut) (λ value. (held.at, length (not_done register) - 1)) end)
       reseal_ended device_now (Ok value) was = resealed was.1 was.0
       reseal_ended device_now (Err cut) (inl was) = cut_unarmed new after tags_now digests_now more_tags same_digests was.0 was.1
-      reseal_ended device_now (Err cut) (inr was) = cut_armed was.1 device_now was.0
+      reseal_ended device_now (Err cut) (inr was) = cut_armed was.4 device_now was.0 was.1 was.2 was.3

@@ -42,7 +42,7 @@ use Rattle.pmem_engine.specs.Outcomes.{fault_of_line, fault_of_path}
 use Rattle.pmem_engine.specs.Plans.{Chip, with_tags, with_ledger, with_fetched, fetch_parts_of, fetch_path_plan, its_counter, opened_plan, unseal_plan, read_plan}
 use Rattle.pmem_engine.specs.KeptLaws.{left_at}
 use Rattle.pmem_engine.specs.FetchLaws.{HasWholeCache, HasFetchedLevels, FetchesFirst, ReadsFetchFirst, TakesNoStep, CachedReadsTakeNoStep}
-use Rattle.pmem_engine.proofs.PlannedCalls.FetchedLevels.{HasCome, Stopped, fetch_so}
+use Rattle.meta_path.proofs.FetchedLevels.{HasCome, Stopped, IsBegun, state, fetch_so}
 
 -- ---- a line unsealed: two reads
 
@@ -80,11 +80,23 @@ module _ (setup : Setup) (holds : Chip → Device → Type 0) (err : Chip × Lin
 module _ (f : Formulas) (page : ℕ) (first : Chip) (start : Device) (whole : HasWholeCache first.engine) (inside : page < layout.pages first.engine.shape) where
   abbrev pub Comes : ℕ → FetchParts → Device → Type 0
   Comes n parts now =
-      HasCome first.engine.shape f page first.engine.cache first.ledger first.digests start whole.geometry inside whole.form whole.its_banks n parts now
+      HasCome first.engine.shape f page (state (cache_of first.engine) start first.digests) first.ledger n parts now
 
   abbrev pub Ends : FetchParts × PathFault → Device → Type 0
   Ends left now =
-      Stopped first.engine.shape f page first.engine.cache first.ledger first.digests start whole.geometry inside whole.form whole.its_banks left now
+      Stopped first.engine.shape f page (state (cache_of first.engine) start first.digests) first.ledger left now
+
+  pub fetch_start : IsBegun first.engine.shape page (cache_of first.engine)
+  fetch_start =
+      record {
+        its_page = inside;
+        few = whole.geometry.at_most_six_levels;
+        some_set = whole.geometry.at_least_one_set;
+        some_way = whole.geometry.at_least_one_way;
+        shape = refl;
+        form = whole.form;
+        its_banks = whole.its_banks;
+      }
 
   abbrev all : ℕ
   all = first.engine.shape.levels + 1
@@ -212,7 +224,8 @@ module _ (setup : Setup) (a : ℕ) (first : Chip) (start : Device) (whole : HasW
       (λ left d. Left (with_fetched first left.0, fault_of_path left.1) d) _ start
       (λ end d come. is_fetched setup.formulas (page_of a) first start whole inside end.0 d come)
       (λ left d it. isnt_fetched setup.formulas (page_of a) first start whole inside left.0 left.1 d it)
-      (fetch_so first.engine.shape setup.formulas (page_of a) first.engine.cache first.ledger first.digests start whole.geometry inside whole.form whole.its_banks))
+      (fetch_so first.engine.shape setup.formulas (page_of a) (state (cache_of first.engine) start first.digests) first.ledger
+      (fetch_start setup.formulas (page_of a) first start whole inside)))
 
   read_so : Leaves (read_plan setup start.regs a first) (λ end d. Done end.0 d) Left start
   unfolding read_plan

@@ -46,8 +46,8 @@ use Rattle.pmem_engine.specs.Plans.{Chip, chip_with, with_engine, with_mirror, w
 use Rattle.pmem_engine.specs.SealPlans.{next_lines, next_root, with_path_digests, with_marked_path, seal_armed, commit_seal_plan, seal_next_plan, begin_armed, begin_page_plan, begin_for_plan}
 use Rattle.pmem_engine.specs.WritePlans.{overflow_end, overflow_plan, write_plan}
 use Rattle.pmem_engine.specs.FetchLaws.{HasWholeCache, StopsAsTold, setup_of_chip, is_persisting, IsBlockWrittenWhereDue, StoppedWritesAreTold, BlocksAreWrittenWhereDue}
-use Rattle.pmem_engine.proofs.PlannedCalls.FetchedLevels.{fetch_so}
-use Rattle.pmem_engine.proofs.PlannedCalls.FetchedReads.{Comes, Ends}
+use Rattle.meta_path.proofs.FetchedLevels.{state, fetch_so}
+use Rattle.pmem_engine.proofs.PlannedCalls.FetchedReads.{Comes, Ends, fetch_start}
 use Rattle.pmem_engine.proofs.PlannedCalls.PostedPlans.{to_plain, to_overflow}
 use Rattle.pmem_engine.proofs.PlannedCalls.TurnLines.{of_all}
 use Rattle.pmem_engine.proofs.PlannedCalls.StoppedFetches as fetches
@@ -292,7 +292,7 @@ module _ (f : Formulas) (w : Posted) (first : Chip) (start : Device) (whole : Ha
       (λ left d. Stop (with_fetched first left.0, fault_of_path left.1) d) _ start
       (λ end d come. overflow_so (with_fetched first end.0) d (fetches.is_ready f w first start whole inside end.0 d come) pages)
       (λ left d it. fetches.isnt_so f w first start whole inside left.0 left.1 d it)
-      (fetch_so g f page first.engine.cache first.ledger first.digests start whole.geometry inside whole.form whole.its_banks))))
+      (fetch_so g f page (state (cache_of first.engine) start first.digests) first.ledger (fetch_start f page first start whole inside)))))
 
 -- ---- the laws
 

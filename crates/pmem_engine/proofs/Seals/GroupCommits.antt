@@ -7,9 +7,10 @@ use Rattle.pmem_base.specs.declared.answers.Mark.{Mark}
 use Rattle.pmem_base.specs.Layout as layout
 use Rattle.pmem_base.specs.Lines.{line_at}
 use Rattle.pmem_base.specs.Registers.{IsGroup, IsValidRegs}
-use Rattle.board.specs.Device.{IsDevice, AreLinesOf}
+use Rattle.board.specs.Device.{Device, IsDevice, AreLinesOf}
+use Rattle.board.specs.Steps.{HasLatched}
 use Rattle.meta_cache.specs.Banks.{is_cached_dirty}
-use Rattle.commit_regs.specs.Groups.{redone, redone_told}
+use Rattle.commit_regs.specs.Groups.{IsInterrupted, redone, redone_told}
 use Rattle.commit_regs.proofs.GroupLemmas.{redone-nil, AreLinesOf-redone, IsGroup-nil}
 use Rattle.suite.specs.Setup.{Setup}
 use Rattle.bonsai_tree.specs.Positions.{counter_position}
@@ -17,7 +18,7 @@ use Rattle.pmem_engine.specs.Invariants.{IsAnchored, IsSound, IsDurable}
 use Rattle.pmem_engine.specs.Parts.{Parts, regs_of, lines_redone, AreTrusted, AreSound, AreDurable, HoldsCounters, meta_line_in}
 use Rattle.call_effects.specs.Outcomes.{going, cut_short}
 use Rattle.pmem_engine.specs.Outcomes.{IsTouchedBy, NeverFalls, KeepsPlaces, KeepsMeta, OneLossEffect}
-use Rattle.pmem_engine.specs.Committing.{HasCommitted, IsCutArmed}
+use Rattle.pmem_engine.specs.Committing.{HasCommitted}
 use Rattle.pmem_engine.specs.Sealing.{HasNotedPath}
 use Rattle.pmem_engine.proofs.Laws.DeviceSteps.{writes_block, IsDeviceStep}
 use Rattle.pmem_engine.proofs.Laws.TruthSteps.{IsTruthStep}
@@ -63,10 +64,6 @@ module _ (setup : Setup) (group : List (ℕ × Line)) (mark : Mark) (page : ℕ)
   -- finished, it comes to the lines with the group redone
   pub comes_committed : HasCommitted group old.device new.device → lines_redone new ≡ redone_told group old.device.lines
   comes_committed done = search rules
-
-  -- armed, it comes to the same
-  pub comes_armed : IsCutArmed group old.device new.device → lines_redone new ≡ redone_told group old.device.lines
-  comes_armed armed = ap (λ items. redone_told items new.device.lines) armed.armed ∙ armed.again
 
   abbrev Keeps : List Line → Type 0
   Keeps lines = KeepsOver setup mark (regs_of old).loss old.engine new.engine old.ledger new.ledger lines (redone group lines)
@@ -140,30 +137,34 @@ module _ (setup : Setup) (group : List (ℕ × Line)) (mark : Mark) (page : ℕ)
           subst (IsGroup (layout.device_lines setup.shape)) (sym done.no_group) (IsGroup-nil (layout.device_lines setup.shape))
 
   -- .. or was cut while the group was armed
-  cut_amid : IsCutArmed group old.device new.device
-      → (AreTrusted setup old → IsAnchored setup (regs_of new) new.ledger)
-      → (AreSound setup old → AreDurable setup new) → (AreTrusted setup old → KeepsPlaces setup (mark ∷ []) old new)
-      → (AreTrusted setup old → (page : ℕ) → page < layout.pages setup.shape → HoldsCounters setup old page → HoldsCounters setup new page)
-      → IsGroup (layout.device_lines setup.shape) (regs_of new).group.items → OneLossEffect setup cut_short (mark ∷ []) old new
-  cut_amid armed anchored durable places counters group = search rules
+  module _ (mid : Device) (latched : HasLatched old.device (regs_of new) mid) (armed : (regs_of new).group.items ≡ group)
+      (was : IsInterrupted group mid new.device) where
+    -- it comes to the same
+    comes_armed : lines_redone new ≡ redone_told group old.device.lines
+    comes_armed = ap (λ items. redone_told items new.device.lines) armed ∙ was.again ∙ ap (redone_told group) latched.lines
 
-  durable_over : IsCutArmed group old.device new.device → IsDevice new.device
-      → ((lines : List Line) → old.device.lines ≡ Some lines → IsSound setup old.engine lines (regs_of old) old.ledger
-      → IsDurable setup lines (regs_of new) new.ledger)
-      → AreSound setup old → AreDurable setup new
-  durable_over armed whole each sound = search rules
+    cut_amid : (AreTrusted setup old → IsAnchored setup (regs_of new) new.ledger)
+        → (AreSound setup old → AreDurable setup new) → (AreTrusted setup old → KeepsPlaces setup (mark ∷ []) old new)
+        → (AreTrusted setup old → (page : ℕ) → page < layout.pages setup.shape → HoldsCounters setup old page → HoldsCounters setup new page)
+        → IsGroup (layout.device_lines setup.shape) (regs_of new).group.items → OneLossEffect setup cut_short (mark ∷ []) old new
+    cut_amid anchored durable places counters group = search rules
 
-  pub done_cut : IsDevice new.device → IsCutArmed group old.device new.device → OneLossEffect setup cut_short (mark ∷ []) old new
-  done_cut whole armed =
-      cut_amid armed (λ trusted. it.anchored trusted armed_group)
-      (durable_over armed whole
-      (λ lines told sound.
-      durable_while_armed setup mark page written block old.engine new.engine (regs_of old) old.ledger new.ledger lines
-      (redone group lines) (step_over lines told) (it.truth sound.trusted) it.noted.marks sound group (regs_of new) refl
-      armed.armed it.loss (it.anchored sound.trusted armed_group)))
-      (λ trusted. places_kept (comes_armed armed) (keeps trusted))
-      (λ trusted other within. counters_kept (comes_armed armed) other (keeps trusted))
-      armed_group
-    where
-      armed_group : IsGroup (layout.device_lines setup.shape) (regs_of new).group.items
-      armed_group = subst (IsGroup (layout.device_lines setup.shape)) (sym armed.armed) it.is_group
+    durable_over : IsDevice new.device
+        → ((lines : List Line) → old.device.lines ≡ Some lines → IsSound setup old.engine lines (regs_of old) old.ledger
+        → IsDurable setup lines (regs_of new) new.ledger)
+        → AreSound setup old → AreDurable setup new
+    durable_over whole each sound = search (rules, comes_armed)
+
+    armed_group : IsGroup (layout.device_lines setup.shape) (regs_of new).group.items
+    armed_group = subst (IsGroup (layout.device_lines setup.shape)) (sym armed) it.is_group
+
+    pub done_cut : IsDevice new.device → OneLossEffect setup cut_short (mark ∷ []) old new
+    done_cut whole =
+        cut_amid (λ trusted. it.anchored trusted armed_group)
+        (durable_over whole
+        (λ lines told sound.
+        durable_while_armed setup mark page written block old.engine new.engine (regs_of old) old.ledger new.ledger lines
+        (redone group lines) (step_over lines told) (it.truth sound.trusted) it.noted.marks sound group (regs_of new) refl
+        armed it.loss (it.anchored sound.trusted armed_group)))
+        (λ trusted. places_kept comes_armed (keeps trusted)) (λ trusted other within. counters_kept comes_armed other (keeps trusted))
+        armed_group

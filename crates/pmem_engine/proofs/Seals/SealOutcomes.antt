@@ -19,9 +19,9 @@ use Rattle.bonsai_tree.specs.Positions.{counter_position}
 use Rattle.board.proofs.CountLemmas.{RisesBy-once, HasRisen-once}
 use Rattle.board.specs.Counts.{RisesBy}
 use Rattle.board.specs.Device.{Device, IsDevice}
-use Rattle.board.specs.Steps.{HasRead, WasCut}
+use Rattle.board.specs.Steps.{HasRead, HasLatched, WasCut}
 use Rattle.call_plan.specs.Plans.{mapped_end}
-use Rattle.commit_regs.specs.Groups.{redone_told}
+use Rattle.commit_regs.specs.Groups.{IsInterrupted, redone_told}
 use Rattle.seal_ledger.specs.Ledger.{LedgerState}
 use Rattle.meta_path.specs.Blocks.{IsPathCached, AreCachedTrue}
 use Rattle.meta_path.specs.Work.{told_line}
@@ -35,7 +35,7 @@ use Rattle.pmem_engine.specs.Parts.{Parts, parts_with, regs_of, lines_redone, Ar
 use Rattle.call_effects.specs.Outcomes.{going, cut_short}
 use Rattle.pmem_engine.specs.Outcomes.{is_sealed_by, NeverFalls, OneLossEffect, TakesFewer}
 use Rattle.pmem_engine.specs.CallFacts.{IsUsableWith, IsPathNamedInMirror, KeepsButPath}
-use Rattle.pmem_engine.specs.Committing.{next_seal_of, HasCommitted, IsCutArmed}
+use Rattle.pmem_engine.specs.Committing.{next_seal_of, HasCommitted}
 use Rattle.pmem_engine.specs.Inner.{cached_block}
 use Rattle.pmem_engine.specs.Sealing.{next_counter_of, raised_block, seal_steps, seal_group, HasPathSealed, HasSealEnded, HasNextMarks, HasSealedNext}
 use Rattle.pmem_engine.proofs.CallEnds.CallChains.{done_chained}
@@ -181,11 +181,12 @@ module _ (setup : Setup) (at : ℕ) (plain tag_line : Line) (persisted : Bool) (
     trusted_mid trusted = was_read.gone.trusted trusted
 
     -- cut while its group was armed
-    seal_cut : (cut : Cut) → IsDevice new → IsCutArmed group mid new → HasSealedNext setup at plain first final (Err cut)
-    seal_cut cut device_now armed =
+    seal_cut : (cut : Cut) → IsDevice new → (between : Device) → HasLatched mid new.regs between → new.regs.group.items ≡ group
+        → IsInterrupted group between new → HasSealedNext setup at plain first final (Err cut)
+    seal_cut cut device_now between latched armed was =
         seal_stopped setup at plain first final (mark ∷ []) cut
         (done_chained setup cut_short [] (mark ∷ []) first middle final was_read
-        (done_cut setup group mark (page_of at) persisted block middle final commit device_now armed))
+        (done_cut setup group mark (page_of at) persisted block middle final commit between latched armed was device_now))
         (inr refl) (plain_after done.noted.marks) (search rules) done.stored.kept
 
     -- sealed
@@ -253,4 +254,4 @@ module _ (setup : Setup) (at : ℕ) (plain tag_line : Line) (persisted : Bool) (
       → HasSealedNext setup at plain first final (mapped_end (λ cut. cut) (λ value. ctr) end)
   seal_ended whole_now (Ok value) was = seal_done was.1 was.0
   seal_ended whole_now (Err cut) (inl was) = seal_undone cut was.0 was.1.0 was.1.1
-  seal_ended whole_now (Err cut) (inr was) = seal_cut was.1 cut whole_now was.0
+  seal_ended whole_now (Err cut) (inr was) = seal_cut was.4 cut whole_now was.0 was.1 was.2 was.3

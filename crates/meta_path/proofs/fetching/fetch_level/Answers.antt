@@ -5,12 +5,13 @@ use Rattle.pmem_base.specs.Geo.{shape_of}
 use Rattle.meta_cache.specs.Banks.{set_index, is_cached}
 use Rattle.meta_cache.specs.Sets.{IsSetOf}
 use Rattle.meta_path.specs.Blocks.{slots_at}
-use Rattle.meta_path.proofs.LevelLemmas.{room_absent, room_clean, IsLevelFetched-placed}
+use Rattle.meta_path.proofs.LevelLemmas.{room_absent, room_clean}
 use Rattle.suite.specs.Formulas.{Formulas}
 use Rattle.board.specs.Device.{Device}
 use Rattle.call_plan.specs.Plans.{the_cut}
 use Rattle.call_plan.specs.Following.{Follows}
 use Rattle.call_plan.proofs.Steps.{ended_err}
+use Rattle.call_plan.proofs.Keeping.{follows_size}
 use Rattle.meta_cache.specs.State.{CacheState}
 use Rattle.meta_path.specs.FetchPlans.{FetchParts, fetch_parts, level_plan}
 use Rattle.meta_path.proofs.FetchPlans.{level_cached, level_unread, level_placed}
@@ -36,27 +37,8 @@ place-requires-clause-clean g c =
     (c.are_banks.ensures.cache.each_set c.args.bank (set_index shape c.args.x)))
     c.in_ok-make_room.ensures.ok
 
-pub returns-clause-ok : goal.returns-clause-ok
-returns-clause-ok g c =
-    let cache = c.args.cache.now in
-    let shape = shape_of c.args.geo.now in
-    IsLevelFetched-placed shape (g.S.Suite.formulas_of (g.S.Suite.keys c.args.suite.now))
-    (g.A.Audit.ledger c.args.audit.now).truth c.args.bank c.args.x c.in_ok-line.line
-    (record { cache = cache; device = g.B.Board.device c.args.board.now; digests = g.S.Suite.digests c.args.suite.now })
-    (record { cache = cache; device = g.B.Board.device c.read_checked.new.board; digests = g.S.Suite.digests c.read_checked.new.suite })
-    c.make_room.new.cache c.place.new.self (g.B.Board.device c.make_room.new.board)
-    (record {
-      its_shape = c.requires.shape;
-      some_way = c.args.geo.now.has_ways.0;
-      form =
-          subst (λ (k : Shape). IsSetOf k (set_index shape c.args.x) (slots_at shape cache.banks c.args.bank c.args.x)) c.requires.shape
-          (c.are_banks.ensures.cache.each_set c.args.bank (set_index shape c.args.x));
-      was_read = c.in_ok-line.ensures.read;
-      digest = c.in_ok-line.ensures.digest;
-      is_true = c.in_ok-line.ensures.line;
-      made = c.in_ok-make_room.ensures.ok;
-      was_placed = c.place.ensures;
-    })
+pub make_room-requires-clause-size : goal.make_room-requires-clause-size
+make_room-requires-clause-size g c = follows_size c.in_ok-line.ensures.plan ∙ c.requires.size
 
 -- ---- its plan
 

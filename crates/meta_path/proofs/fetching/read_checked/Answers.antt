@@ -1,8 +1,6 @@
 -- A cut at the read; a line that is refused, shown, or the true one.
 use Rattle.std.proofs.Common.{◌≡◌, true, Ok, Err, refl, sym, ap, subst, ◌∙◌}
 use Rattle.std.proofs.lemmas.Bool.{false≢true}
-use Rattle.pmem_base.specs.Geo.{shape_of}
-use Rattle.meta_path.proofs.LevelLemmas.{fault_of_cut, cut_at_read}
 use Rattle.pmem_base.specs.Layout.{meta_line}
 use Rattle.pmem_base.specs.Lines.{same_bytes}
 use Rattle.pmem_base.proofs.ByteLaws.{same_bytes-from}
@@ -19,17 +17,6 @@ use Rattle.meta_path.proofs.FetchPlans.{same_parts, check_cut, check_refused, ch
 use Rattle.meta_path.proofs.fetching.read_checked.Given.{Over}
 use Rattle.meta_path.proofs.fetching.read_checked.Goals.{After-has_expected}
 use Rattle.meta_path.proofs.fetching.read_checked.Goals as goal
-
-pub returns-in_err-line-clause-fault : goal.returns-in_err-line-clause-fault
-returns-in_err-line-clause-fault g c =
-    fault_of_cut c.from_residual.result _ c.from_residual.ensures.1 (
-      cut_at_read (shape_of c.args.geo.now) c.args.bank c.args.x c.args.cache.now (g.B.Board.device c.args.board.now)
-          (g.B.Board.device c.read_line.new.self) (g.S.Suite.digests c.args.suite.now) c.requires.absent
-          c.in_err-line.ensures.cut c.in_err-line.ensures.only_off,
-      refl,
-    )
-
--- ---- its plan
 
 module _ (g : Over) (c : After-has_expected g) where
   abbrev at : FetchParts
