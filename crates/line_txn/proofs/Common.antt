@@ -1,6 +1,5 @@
 -- The names that most proofs of this crate cite, passed on from one place. Declares nothing.
 pub use Rattle.arrayvec.specs.ArrayVec.{array_vec_len}
-pub use Rattle.call_effects.specs.Outcomes.{is_going}
 pub use Rattle.call_plan.proofs.DeterminedCalls.{call_is_determined}
 pub use Rattle.engine_lines.proofs.EditLaws.{AfterEdits, LeftTrusted, LeftSound, trusted_after_edits, sound_after_edits, edits_leave, LeavesAll, edits_under}
 pub use Rattle.engine_lines.proofs.EditPlans.{edits_as, edits_follow_under}
@@ -30,9 +29,9 @@ pub use Rattle.pmem_base.specs.declared.lines.Line.{Line}
 pub use Rattle.pmem_engine.proofs.CallEnds.EngineCalls.{down_after, up_after, guarded_up, guarded_down}
 pub use Rattle.pmem_engine.specs.Calls.{HasReadLine}
 pub use Rattle.pmem_engine.specs.Engine.{EngineState}
-pub use Rattle.pmem_engine.specs.Outcomes.{outcome_of_fault, LeavesTrusted, LeavesSound}
-pub use Rattle.pmem_engine.specs.Parts.{Parts, AreTrusted, AreSound, parts_of}
-pub use Rattle.pmem_engine.specs.Plans.{Chip, chip_of, read_plan}
+pub use Rattle.pmem_engine.specs.Outcomes.{LeavesTrusted, LeavesSound}
+pub use Rattle.pmem_engine.specs.Parts.{Parts, AreTrusted, AreSound}
+pub use Rattle.pmem_engine.specs.Plans.{Chip, read_plan}
 pub use Rattle.pmem_engine.specs.declared.fault.Fault.{Fault}
 pub use Rattle.std.proofs.Math.Seq.{take-append_seam, drop-append_seam, take-set-lt}
 pub use Rattle.std.proofs.lemmas.Bool.{eqb-true, eqb-false, cases_Bool, eq-eqb, false≢true, lt-ltb, ltb-true, le-leb, leb-true, ne_eqb, and_parts, and_from, not_from_false, not-true, true≢false}
@@ -41,5 +40,5 @@ pub use Rattle.std.proofs.lemmas.List.Elements.{All-nil, All-cons, All-head, All
 pub use Rattle.std.proofs.lemmas.List.Folds.{list_any_at, list_any_none}
 pub use Rattle.std.proofs.lemmas.List.Kept.{AllPairs-cons}
 pub use Rattle.std.specs.List.{zip, AllPairs, list_any, flat_map, Contains}
-pub use Rattle.std.specs.Prelude.{All, slice_set, ◌==◌, slice_index, nat_lt, ◌&&◌, slice_range, ⊤, IfOk, IsTrue}
+pub use Rattle.std.specs.Prelude.{All, slice_set, ◌==◌, slice_index, nat_lt, ◌&&◌, slice_range, ⊤, IfOk}
 pub use Rattle.suite.specs.Setup.{Setup}

@@ -1,6 +1,6 @@
 -- The lines after so many of the changes that a commit or a redo is made of, and which changes these are.
-use Rattle.std.proofs.Common.{ℕ, zero, suc, ◌≡◌, ◌<◌, ◌≤◌, ◌+◌, List, [], ◌∷◌, ◌++◌, length, take, drop, drop-cons, refl, sym, ap, ◌∙◌, arith, rules}
-use Rattle.line_txn.proofs.Common.{All, slice_set, zip, length-append, length-map, All-nil, All-cons, All-head, All-tail, All-append, Line, IsLine, line_at, put_lines, IsLine-zero_line, line_at-set_other, Edit, AreDistinctBelow, redone_to, with_bodies, targets_of, bodies_of, IsEditOf, all_edited, body_edits, target_edits, copy_edits, deciding_edits, applying_edits, redoing_edits}
+use Rattle.std.proofs.Common.{subst, Result, Err, ℕ, zero, suc, ◌≡◌, ◌<◌, ◌≤◌, ◌+◌, List, [], ◌∷◌, ◌++◌, length, take, drop, drop-cons, refl, sym, ap, ◌∙◌, arith, rules}
+use Rattle.line_txn.proofs.Common.{Setup, Parts, Fault, AreEdited, All, slice_set, zip, length-append, length-map, All-nil, All-cons, All-head, All-tail, All-append, Line, IsLine, line_at, put_lines, IsLine-zero_line, line_at-set_other, Edit, AreDistinctBelow, redone_to, with_bodies, targets_of, bodies_of, IsEditOf, all_edited, body_edits, target_edits, copy_edits, deciding_edits, applying_edits, redoing_edits}
 use Rattle.pmem_base.specs.Lines.{zero_line}
 use Rattle.engine_lines.specs.declared.edits.Edit.TheVariants as Make
 use Rattle.line_txn.specs.Header.{header_of}
@@ -116,3 +116,13 @@ length-applying n txn = length-append (target_edits txn) (Make.Put n zero_line �
 pub length-redoing : (n : ℕ) (targets : List ℕ) → length targets ≤ 15 → length (redoing_edits n targets) ≤ 16
 length-redoing n [] few = omega arith
 length-redoing n (t ∷ targets) few = search (rules, length-append, length-copy_edits)
+
+-- ---- the same changes, or their fault, in other words
+
+pub edited_as : (setup : Setup) (edits made : List Edit) (old new : Parts) (answer : Result (Unit {0}) Fault)
+    → edits ≡ made → AreEdited setup edits old new answer → AreEdited setup made old new answer
+edited_as setup edits made old new answer same it = subst (λ (es : List Edit). AreEdited setup es old new answer) same it
+
+pub edited_fault : (setup : Setup) (edits : List Edit) (old new : Parts) (fault other : Fault)
+    → fault ≡ other → AreEdited setup edits old new (Err fault) → AreEdited setup edits old new (Err other)
+edited_fault setup edits old new fault other same it = subst (λ (f : Fault). AreEdited setup edits old new (Err f)) same it

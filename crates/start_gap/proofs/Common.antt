@@ -19,8 +19,8 @@ pub use Rattle.pmem_engine.proofs.CallEnds.EngineCalls.{down_after, up_after, gu
 pub use Rattle.pmem_engine.specs.Calls.{whole_write, HasWrittenLine, HasReadLine}
 pub use Rattle.pmem_engine.specs.Engine.{EngineState}
 pub use Rattle.pmem_engine.specs.Outcomes.{outcome_of, LeavesTrusted, LeavesSound}
-pub use Rattle.pmem_engine.specs.Parts.{Parts, AreTrusted, parts_at, parts_of, AreSound, setup_at}
-pub use Rattle.pmem_engine.specs.Plans.{Chip, chip_of, read_plan, chip_in}
+pub use Rattle.pmem_engine.specs.Parts.{Parts, AreTrusted, parts_at, AreSound, setup_at}
+pub use Rattle.pmem_engine.specs.Plans.{Chip, read_plan, chip_in}
 pub use Rattle.pmem_engine.specs.declared.fault.Fault.{Fault}
 pub use Rattle.start_gap.specs.Gapped.{HasLevelledWrite, HasWear, wear_by, write_answer_by, write_outcome_by, HasWriteGoneOn, HasCounted, HasTriedMove, logical_lines, IsSoundWriteAnswer, HasGappedOpened, HasWearOf, IsWriteEnd, IsLeftLevelled}
 pub use Rattle.start_gap.specs.Logical.{move_edits, IsLevelled, begun, written, copied, moved, IsSafeAtEachStage, IsSameUnderNext, MoveStage, write_lines_at, ArePlaces}

@@ -1,6 +1,6 @@
 -- The plan of a node's reading, in the words of a call.
-use Rattle.std.proofs.Common.{ap}
-use Rattle.asit_shadow.proofs.Common.{mapped_follows, with_read, fault_of_node}
+use Rattle.std.proofs.Common.{rules}
+use Rattle.asit_shadow.proofs.Common.{mapped_follows}
 use Rattle.asit_shadow.proofs.FetchPlans.{lifted_err}
 use Rattle.asit_shadow.proofs.fetching.taken.Goals as goal
 
@@ -8,13 +8,10 @@ pub returns-in-Ok-clause-plan : goal.returns-in-Ok-clause-plan
 returns-in-Ok-clause-plan g c = λ chip. mapped_follows _ _ c.in-Ok.ensures.plan
 
 pub returns-in-Err-Cut-clause-plan : goal.returns-in-Err-Cut-clause-plan
-returns-in-Err-Cut-clause-plan g c =
-    λ chip. lifted_err (with_read chip) (fault_of_node c.args.x) _ (ap (fault_of_node c.args.x) c.in-Err-Cut.field-0-is) c.in-Err-Cut.ensures.plan
+returns-in-Err-Cut-clause-plan g c = search (rules, lifted_err)
 
 pub returns-in-Err-Refused-clause-plan : goal.returns-in-Err-Refused-clause-plan
-returns-in-Err-Refused-clause-plan g c =
-    λ chip. lifted_err (with_read chip) (fault_of_node c.args.x) _ (ap (fault_of_node c.args.x) c.in-Err-Refused.field-0-is) c.in-Err-Refused.ensures.plan
+returns-in-Err-Refused-clause-plan g c = search (rules, lifted_err)
 
 pub returns-in-Err-Shown-clause-plan : goal.returns-in-Err-Shown-clause-plan
-returns-in-Err-Shown-clause-plan g c =
-    λ chip. lifted_err (with_read chip) (fault_of_node c.args.x) _ (ap (fault_of_node c.args.x) c.in-Err-Shown.field-0-is) c.in-Err-Shown.ensures.plan
+returns-in-Err-Shown-clause-plan g c = search (rules, lifted_err)

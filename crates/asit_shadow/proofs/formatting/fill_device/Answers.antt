@@ -1,6 +1,6 @@
 -- All lines are written and told, and the root is latched.
-use Rattle.std.proofs.Common.{ℕ, suc, ◌≡◌, ◌≤◌, ◌+◌, ◌^◌, List, length, sym, ap, subst, ◌∙◌, arith}
-use Rattle.asit_shadow.proofs.Common.{Ok, option_map, Line, shape_of, level_start, meta_lines, tree_lines, tree_slots, IsShadowTree, root_of, shadow_digests, shadow_height, risen_times, Follows, suite_state, SuiteRise, shadow_height-room, SuiteRise-then, SuiteRise-as, rest_of, nodes_plan, naming_plan, node_lines_written, slot_lines_written, AreSlotsTold}
+use Rattle.std.proofs.Common.{ℕ, suc, ◌≡◌, ◌≤◌, ◌+◌, ◌^◌, List, length, sym, ap, subst, ◌∙◌, arith, rules}
+use Rattle.asit_shadow.proofs.Common.{Line, shape_of, level_start, meta_lines, tree_lines, tree_slots, IsShadowTree, shadow_digests, shadow_height, risen_times, suite_state, SuiteRise, shadow_height-room, SuiteRise-then, SuiteRise-as, rest_of, AreSlotsTold}
 use Rattle.asit_shadow.proofs.FormatSteps.{first_slots-count}
 use Rattle.asit_shadow.proofs.FormatEnds.{device-formatted}
 use Rattle.asit_shadow.proofs.formatting.fill_device.Goals as goal
@@ -32,29 +32,17 @@ returns-clause-formatted g c =
       seals_written = c.seal_lines.ensures.lines;
       seals_told = c.seal_lines.ensures.told;
       nodes_steady = c.write_nodes.ensures.steady;
-      nodes_written =
-          subst (λ (k : List ℕ). (g.B.Board.device c.write_nodes.new.board).lines ≡ option_map (node_lines_written (record { shape = shape_of c.args.geo.now; formulas = g.S.Suite.formulas_of k }) (meta_lines (shape_of c.args.geo.now))) (g.B.Board.device c.seal_lines.new.board).lines)
-          c.seal_lines.ensures.keys c.write_nodes.ensures.lines;
+      nodes_written = search rules;
       nodes_told = c.write_nodes.ensures.told;
       slots_steady = c.write_slots.ensures.steady;
-      slots_written =
-          subst (λ (slots : List Line). (g.B.Board.device c.write_slots.new.board).lines ≡ option_map (slot_lines_written (shape_of c.args.geo.now) slots (tree_slots (shape_of c.args.geo.now))) (g.B.Board.device c.write_nodes.new.board).lines)
-          c.requires.first c.write_slots.ensures.lines;
+      slots_written = search rules;
       slots_told =
           subst (λ (slots : List Line). AreSlotsTold slots (tree_slots (shape_of c.args.geo.now)) (g.W.Watch.watched c.write_nodes.new.watch) (g.W.Watch.watched c.write_slots.new.watch)) c.requires.first c.write_slots.ensures.told;
       seals_followed = c.seal_lines.ensures.plan;
-      nodes_followed =
-          subst (λ (k : List ℕ). Follows (nodes_plan (record { shape = shape_of c.args.geo.now; formulas = g.S.Suite.formulas_of k })) (g.B.Board.device c.seal_lines.new.board)
-          (g.B.Board.device c.write_nodes.new.board) (Ok tt)) c.seal_lines.ensures.keys c.write_nodes.ensures.plan;
-      slots_followed =
-          subst (λ (slots : List Line). Follows (naming_plan (shape_of c.args.geo.now) slots) (g.B.Board.device c.write_nodes.new.board)
-          (g.B.Board.device c.write_slots.new.board) (Ok tt)) c.requires.first c.write_slots.ensures.plan;
+      nodes_followed = search rules;
+      slots_followed = search rules;
       latched = c.latch_root.ensures;
-      its_root =
-          c.fill-root.ensures.root
-          ∙ (ap (λ (k : List ℕ). root_of (g.S.Suite.formulas_of k) c.args.tree.now.height c.args.slots.now) keys
-          ∙ (ap (λ h. root_of (g.S.Suite.formulas_of (g.S.Suite.keys c.args.suite.now)) h c.args.slots.now) c.requires.height
-          ∙ ap (root_of (g.S.Suite.formulas_of (g.S.Suite.keys c.args.suite.now)) (shadow_height (shape_of c.args.geo.now))) c.requires.first));
+      its_root = search rules;
     })
     (c.fill-root.ensures.height ∙ c.requires.height)
     (subst (λ (slots : List Line). IsShadowTree (g.S.Suite.formulas_of (g.S.Suite.keys c.args.suite.now)) (shadow_height (shape_of c.args.geo.now)) slots c.fill-root.new.self.lines) c.requires.first

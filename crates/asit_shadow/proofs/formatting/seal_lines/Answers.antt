@@ -1,21 +1,17 @@
 -- A line sealed more.
-use Rattle.std.proofs.Common.{ℕ, ◌≡◌, ◌+◌, ◌*◌, List, length, Some, ap, subst, ◌∙◌, arith}
-use Rattle.asit_shadow.proofs.Common.{Option, Ok, option_map, shape_of, with_line, LineSeal, tree_lines, line_of_tag, HasSealNoted, Follows, turn_ok, turns_end, StaysSteady, StaysSteady-then, SuiteRise-then, SuiteRise-as, tag_only, sealing_turn, first_tree_seal, tree_sealed_lines, AreSealsTold}
+use Rattle.std.proofs.Common.{ℕ, ◌≡◌, ◌+◌, ◌*◌, List, subst, ◌∙◌, arith, rules}
+use Rattle.asit_shadow.proofs.Common.{Ok, shape_of, with_line, line_of_tag, HasSealNoted, Follows, turn_ok, turns_end, StaysSteady-then, SuiteRise-then, SuiteRise-as, tag_only, sealing_turn, first_tree_seal}
 use Rattle.asit_shadow.proofs.FormatSteps.{length-set_first, sealed-more, seals-more}
 use Rattle.asit_shadow.proofs.formatting.seal_lines.Goals as goal
 
 pub seal_one-requires-clause-seals : goal.seal_one-requires-clause-seals
-seal_one-requires-clause-seals g c =
-    ap (λ (seals : List (Option LineSeal)). length seals) c.lines.invariant.told.seals
-    ∙ (length-set_first (λ a. a) (λ a. Some (first_tree_seal (g.S.Suite.formulas_of (g.S.Suite.keys c.args.suite.now)) a)) c.lines.at (g.W.Watch.watched c.args.watch.now).seals ∙ c.requires.seals)
+seal_one-requires-clause-seals g c = search (rules, length-set_first)
 
 pub lines-preserved : goal.lines-preserved
 lines-preserved g c =
     let two : 2 * c.lines.at + 2 ≡ 2 * (c.lines.at + 1) = omega arith in
     record {
-      steady =
-          subst (λ n. StaysSteady n (g.B.Board.device c.args.board.now) (g.B.Board.device c.seal_one.new.board)) two
-          (StaysSteady-then (2 * c.lines.at) 2 (g.B.Board.device c.args.board.now) (g.B.Board.device c.lines.board) (g.B.Board.device c.seal_one.new.board) c.lines.invariant.steady c.seal_one.ensures.steady);
+      steady = search (rules, StaysSteady-then);
       reached =
           turn_ok c.lines.invariant.reached (omega arith)
           (subst (λ (keys : List ℕ). Follows (sealing_turn (record { shape = shape_of c.args.geo.now; formulas = g.S.Suite.formulas_of keys }) c.lines.at tt)
@@ -32,26 +28,8 @@ lines-preserved g c =
       keys = c.seal_one.ensures.keys ∙ c.lines.invariant.keys;
     }
 
-pub returns-clause-steady : goal.returns-clause-steady
-returns-clause-steady g c =
-    let all : c.lines.at ≡ tree_lines (shape_of c.args.geo.now) = omega arith in
-    subst (λ n. StaysSteady (2 * n) (g.B.Board.device c.args.board.now) (g.B.Board.device c.lines.board)) all c.lines.invariant.steady
-
 pub returns-clause-plan : goal.returns-clause-plan
 returns-clause-plan g c = turns_end c.lines.invariant.reached (omega arith)
 
-pub returns-clause-lines : goal.returns-clause-lines
-returns-clause-lines g c =
-    let all : c.lines.at ≡ tree_lines (shape_of c.args.geo.now) = omega arith in
-    subst (λ n. (g.B.Board.device c.lines.board).lines ≡ option_map (tree_sealed_lines (record { shape = shape_of c.args.geo.now; formulas = g.S.Suite.formulas_of (g.S.Suite.keys c.args.suite.now) }) n) (g.B.Board.device c.args.board.now).lines) all c.lines.invariant.lines
-
-pub returns-clause-told : goal.returns-clause-told
-returns-clause-told g c =
-    let all : c.lines.at ≡ tree_lines (shape_of c.args.geo.now) = omega arith in
-    subst (λ n. AreSealsTold (g.S.Suite.formulas_of (g.S.Suite.keys c.args.suite.now)) n (g.W.Watch.watched c.args.watch.now) (g.W.Watch.watched c.lines.watch)) all c.lines.invariant.told
-
 pub returns-clause-counts : goal.returns-clause-counts
-returns-clause-counts g c =
-    let all : c.lines.at ≡ tree_lines (shape_of c.args.geo.now) = omega arith in
-    let none : 0 ≡ 0 = omega arith in
-    SuiteRise-as _ _ 0 _ _ 0 _ _ all all none c.lines.invariant.counts
+returns-clause-counts g c = search (rules, SuiteRise-as)

@@ -1,7 +1,6 @@
 -- The engine over a formatted device.
-use Rattle.std.proofs.Common.{◌≡◌, List, Some, replicate, refl, sym, ap, subst, ◌∙◌}
-use Rattle.asit_shadow.proofs.Common.{Option, slice_set, false, Line, shape_of, tree_slots, IsChipTree, CachedNode, TreeState, IsTreeEngine, tree_parts_of, IsTreeUsable, rest_of, first_held, first_cache, HasTreeFormatted}
-use Rattle.pmem_base.specs.Lines.{zero_line}
+use Rattle.std.proofs.Common.{◌≡◌, List, Some, refl, sym, ap, subst}
+use Rattle.asit_shadow.proofs.Common.{Option, slice_set, false, shape_of, IsChipTree, CachedNode, TreeState, IsTreeEngine, tree_parts_of, IsTreeUsable, rest_of, first_held, first_cache, HasTreeFormatted}
 use Rattle.asit_shadow.proofs.FormatEnds.{first-engine, tree-formatted, formatted-usable}
 use Rattle.asit_shadow.proofs.formatting.tree_format.Given.{Over}
 use Rattle.asit_shadow.proofs.formatting.tree_format.Goals.{After-fill_device}
@@ -20,12 +19,6 @@ module _ (g : Over) (c : After-fill_device g) (whole : IsChipTree c.fill_device.
       (record { shape = shape_of c.args.geo.now; cache = slice_set c.in_ok-room.room.cache.items 0 (Some first_held); tree = c.fill_device.new.tree; down = false })
       c.layout_is_one_to_one.ensures.ranges (g.met.S.Suite.in_range c.args.suite.now) c.requires.seals (g.met.W.Watch.whole c.fill_device.new.watch).1
       (record { shape = refl; not_down = refl; cache = cache }) whole c.fill_device.ensures.formatted
-
-pub fill_device-requires-clause-first : goal.fill_device-requires-clause-first
-fill_device-requires-clause-first g c =
-    c.deref.ensures.value
-    ∙ (ap (λ (slots : List Line). slice_set slots 0 c.slot_line.result) c.in_ok-room.ensures.slots
-    ∙ ap (λ (l : Line). slice_set (replicate (tree_slots (shape_of c.args.geo.now)) zero_line) 0 l) c.slot_line.ensures)
 
 pub new-requires : goal.new-requires
 new-requires g c =

@@ -1,5 +1,5 @@
 -- The ends of a recovery before an engine is made.
-use Rattle.std.proofs.Common.{ℕ, suc, false, Result, Ok, Err, ◌≡◌, ◌≢◌, ◌<◌, ◌≤◌, ◌^◌, length, List, refl, sym, ap, subst, ◌∙◌, arith}
+use Rattle.std.proofs.Common.{ℕ, suc, false, Result, Ok, Err, ◌≡◌, ◌≢◌, ◌<◌, ◌≤◌, ◌^◌, length, List, refl, sym, ap, subst, ◌∙◌, arith, rules}
 use Rattle.asit_shadow.proofs.Common.{true≢false, Line, Regs, risen_times, shape_of, level_start, Option, Setup, Follows, Work, with_exhibit, watch_shown, clash-is, chip-tree-is, CachedNode, TreeRec, TreeState, RecoverParts, recover_parts, recovery_work, recover_parts_at, IsShadowTree, shadow_digests, shadow_height, shadow_height-room, rest_of, AreSlotsRead, IsReadFinished}
 use Rattle.commit_regs.proofs.GroupPlans.{redo_cut, redo_done}
 use Rattle.asit_shadow.specs.declared.recovery.TreeRec.TheVariants as Fail
@@ -46,17 +46,13 @@ module _ (g : Over) (c : After-regs g) where
       (c.read_slots.auto.slots ∙ c.requires.slots) c.in-Ok-read_slots.ensures.whole c.in-Ok-read_slots.ensures.told c.in-Ok-read_slots.ensures.ok
 
   root : c.fill-found.result ≡ shadow_root (shape_of c.args.geo.now) (g.S.Suite.formulas_of (g.S.Suite.keys c.args.suite.now)) c.read_slots.new.slots
-  root =
-      root-is (shape_of c.args.geo.now) (g.S.Suite.formulas_of (g.S.Suite.keys c.args.suite.now)) c.args.tree.now.height c.read_slots.new.slots c.fill-found.result
-      c.requires.height c.fill-found.ensures.root
+  root = search (rules, root-is)
 
   kept : c.regs.result.now.root ≡ (g.B.Board.device c.read_slots.new.board).regs.root
   kept = ap (λ (r : Regs). r.root) c.regs.ensures
 
   counted : g.S.Suite.digests c.fill-found.new.suite ≡ risen_times (shadow_digests (shape_of c.args.geo.now)) (g.S.Suite.digests c.args.suite.now)
-  counted =
-      subst (λ h. g.S.Suite.digests c.fill-found.new.suite ≡ risen_times (level_start (suc h)) (g.S.Suite.digests c.args.suite.now)) c.requires.height
-      c.fill-found.ensures.digests
+  counted = search rules
 
 pub returns-then-not-is_kept-clause-filled : goal.returns-then-not-is_kept-clause-filled
 unfolding setup
@@ -106,18 +102,13 @@ returns-clause-filled g c =
           → Rattle.asit_shadow.specs.State.cache_at c.put_named.new.cache i ≡ Rattle.asit_shadow.specs.Steps.held_of (Rattle.counter_tree.specs.Slots.slot_read (Rattle.pmem_base.specs.Lines.line_at slots i))) c.in-On.ensures.0 c.put_named.ensures.named;
       tree_whole = c.is_whole.ensures;
       tree_height = c.fill-found.ensures.height ∙ c.requires.height;
-      over =
-          subst (λ (slots : List Line). IsShadowTree (g.S.Suite.formulas_of (g.S.Suite.keys c.args.suite.now)) (shadow_height (shape_of c.args.geo.now)) slots c.fill-found.new.self.lines) c.in-On.ensures.0
-          (subst (λ h. IsShadowTree (g.S.Suite.formulas_of (g.S.Suite.keys c.args.suite.now)) h c.read_slots.new.slots c.fill-found.new.self.lines) c.requires.height c.fill-found.ensures.tree);
+      over = search rules;
     }
 
 -- ---- the plan
 
 pub returns-in-Err-clause-plan : goal.returns-in-Err-clause-plan
-returns-in-Err-clause-plan g c =
-    fill_cut (record { shape = shape_of c.args.geo.now; formulas = g.S.Suite.formulas_of (g.S.Suite.keys c.args.suite.now) }) (g.B.Board.device c.args.board.now).regs c.args.slots.now (recover_parts_at g.S.Suite g.W.Watch c.args.suite.now c.args.watch.now)
-    (redo_cut (g.B.Board.device c.args.board.now).regs (g.B.Board.device c.args.board.now).regs.group.items
-    (λ none. absurd (cc ((c.in-Err.ensures.empty none).0))) c.in-Err.ensures.plan)
+returns-in-Err-clause-plan g c = search (rules, fill_cut, redo_cut)
 
 pub returns-in-Err-read_slots-clause-plan : goal.returns-in-Err-read_slots-clause-plan
 returns-in-Err-read_slots-clause-plan g c =
@@ -162,8 +153,7 @@ returns-then-not-is_kept-clause-plan g c =
 pub returns-in-Stop-clause-plan : goal.returns-in-Stop-clause-plan
 returns-in-Stop-clause-plan g c =
     let here = (goal.at.returns-in-Stop-clause-plan g c).After-regs in
-    let is : (g.B.Board.device c.args.board.now).regs.root ≡ shadow_root (its_setup g here).shape (its_setup g here).formulas c.read_slots.new.slots =
-    sym (its_root g here) ∙ (c.is_kept.ensures.0 c.if-not-is_kept.false ∙ root g here) in
+    let is : (g.B.Board.device c.args.board.now).regs.root ≡ shadow_root (its_setup g here).shape (its_setup g here).formulas c.read_slots.new.slots = search (rules, its_root, root) in
     let watch = g.W.Watch.watched c.args.watch.now in
     let told = watch_shown watch (g.W.Watch.watched c.see_slots.new.self) c.in-Stop.ensures.1.0 c.in-Stop.ensures.1.2
     ∙ ap (with_exhibit watch) (clash-is watch c.read_slots.new.slots c.in-Stop.ensures.1.0
@@ -177,8 +167,7 @@ returns-in-Stop-clause-plan g c =
 pub returns-clause-plan : goal.returns-clause-plan
 returns-clause-plan g c =
     let here = (goal.at.returns-clause-plan g c).After-regs in
-    let is : (g.B.Board.device c.args.board.now).regs.root ≡ shadow_root (its_setup g here).shape (its_setup g here).formulas c.read_slots.new.slots =
-    sym (its_root g here) ∙ (c.is_kept.ensures.0 c.if-not-is_kept.false ∙ root g here) in
+    let is : (g.B.Board.device c.args.board.now).regs.root ≡ shadow_root (its_setup g here).shape (its_setup g here).formulas c.read_slots.new.slots = search (rules, its_root, root) in
     let height = c.fill-found.ensures.height ∙ c.requires.height in
     let lines = chip-tree-is (its_setup g here).formulas (shadow_height (its_setup g here).shape) c.read_slots.new.slots c.fill-found.new.self.lines
     (subst (λ h. h ≤ 5) height c.is_whole.ensures.most) (subst (λ h. length c.fill-found.new.self.lines ≡ level_start (suc h)) height c.is_whole.ensures.count)

@@ -1,5 +1,5 @@
 -- One slot more.
-use Rattle.std.proofs.Common.{◌≡◌, ◌<◌, [], length, Some, sym, subst, ◌∙◌, inl, inr, arith}
+use Rattle.std.proofs.Common.{◌≡◌, ◌<◌, [], length, Some, subst, arith, rules}
 use Rattle.asit_shadow.proofs.Common.{get_or_default, Line, cases_lt, shape_of, line_at, slot_read, CachedNode, IsHeldNode, held_of, IsNameable, cached_named}
 use Rattle.pmem_base.specs.Lines.{zero_line}
 use Rattle.asit_shadow.proofs.RecoverPlans.{cache_named-is}
@@ -10,8 +10,7 @@ pub slots-preserved : goal.slots-preserved
 slots-preserved c =
     let room : c.slots.i < length c.slots.cache = omega (arith, c.slots.auto.cache, c.requires.cache, c.slots-test.true, c.tree_slots-i-end.ensures.value) in
     let line = get_or_default c.args.slots.now c.slots.i (record { 0 = [] }) zero_line (omega (arith, c.requires.slots, c.slots-test.true, c.tree_slots-i-end.ensures.value)) in
-    let here : IsNameable (shape_of c.args.geo.now) (slot_read (line_at c.args.slots.now c.slots.i)) → c.named.result ≡ held_of (slot_read (line_at c.args.slots.now c.slots.i)) =
-    subst (λ (l : Line). IsNameable (shape_of c.args.geo.now) (slot_read l) → c.named.result ≡ held_of (slot_read l)) line c.named.ensures.named in
+    let here : IsNameable (shape_of c.args.geo.now) (slot_read (line_at c.args.slots.now c.slots.i)) → c.named.result ≡ held_of (slot_read (line_at c.args.slots.now c.slots.i)) = search rules in
     let held = set-below (λ j it. (one : CachedNode) → it ≡ Some one → IsHeldNode (shape_of c.args.geo.now) one) c.slots.cache c.slots.i c.named.result room
     (of-some (IsHeldNode (shape_of c.args.geo.now)) c.named.result c.named.ensures.held) (λ j less one here. c.slots.invariant.held j one less here) in
     record {
@@ -25,15 +24,7 @@ slots-preserved c =
     }
 
 pub returns-clause-held : goal.returns-clause-held
-returns-clause-held c i held here =
-    elim (cases_lt i c.slots.i) [
-      | inl below ↦ c.slots.invariant.held i held below here
-      | inr past ↦
-          absurd (held-past c.slots.cache i held
-          (omega (arith, past, c.slots.auto.cache, c.requires.cache, c.slots-test.false, c.slots.auto.i-end, c.tree_slots-i-end.ensures.value)) here)
-    ]
+returns-clause-held c i held here = search (rules, cases_lt, held-past)
 
 pub returns-clause-value : goal.returns-clause-value
-returns-clause-value c =
-    cache_named-is (shape_of c.args.geo.now) c.args.slots.now c.slots.cache (c.slots.auto.cache ∙ c.requires.cache ∙ sym c.requires.slots)
-    (λ j low. c.slots.invariant.value j (omega (arith, low, c.slots-test.false, c.tree_slots-i-end.ensures.value, c.requires.slots, c.slots.auto.cache, c.requires.cache)))
+returns-clause-value c = search (rules, cache_named-is)

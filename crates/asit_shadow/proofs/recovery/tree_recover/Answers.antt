@@ -1,5 +1,5 @@
 -- The engine that recovery makes.
-use Rattle.std.proofs.Common.{ℕ, ◌≡◌, ◌++◌, List, replicate, Result, Err, take, drop, length, refl, sym, ap, subst, ◌∙◌, arith}
+use Rattle.std.proofs.Common.{ℕ, ◌≡◌, ◌++◌, List, replicate, Result, take, drop, length, refl, sym, ap, subst, ◌∙◌, rules}
 use Rattle.std.proofs.lemmas.Result.{err_from_is_err_and}
 use Rattle.asit_shadow.proofs.Common.{Option, All, Ok, All-replicate, Line, shape_of, Device, Plan, Follows, Work, TreeRec, RecoverParts, recover_parts_at, IsLine, IsLine-zero_line, tree_slots, CachedNode, TreeState, IsTreeEngine, rest_of, HasTreeRecovered}
 use Rattle.asit_shadow.specs.RecoverPlans.{fill_plan}
@@ -16,9 +16,7 @@ fill_room-requires-clause-whole g c =
 
 module _ (g : Over) (c : After-fill_room g) where
   cache : take c.in_ok-room.room.cache.len (c.fill_room.new.cache ++ drop (length c.fill_room.new.cache) c.in_ok-room.room.cache.items) ≡ c.fill_room.new.cache
-  cache =
-      written-whole c.in_ok-room.room.cache.len c.fill_room.new.cache c.in_ok-room.room.cache.items
-      (c.fill_room.auto.cache ∙ ap (λ (xs : List (Option CachedNode)). length xs) c.deref_mut-2.ensures.value) (omega (arith, c.deref_mut-2.ensures.len, ap (λ (xs : List (Option CachedNode)). length xs) c.deref_mut-2.ensures.value))
+  cache = search (rules, written-whole)
 
 pub new-requires : goal.new-requires
 new-requires g c =
@@ -51,15 +49,10 @@ module _ (g : Over) (c : After-fill_room g) where
   -- the lines are read into zero lines
   from_zero : {new : Device} {end : Result (RecoverParts × (TreeState × Work)) (RecoverParts × TreeRec)} → Follows (plan_from c.deref_mut.result.now) (g.B.Board.device c.args.board.now) new end
       → Follows (plan_from (replicate (tree_slots (shape_of c.args.geo.now)) zero_line)) (g.B.Board.device c.args.board.now) new end
-  from_zero {new = new} {end = end} it =
-      subst (λ start. Follows (plan_from start) (g.B.Board.device c.args.board.now) new end) (c.deref_mut.ensures.value ∙ c.in_ok-room.ensures.slots) it
+  from_zero {new = new} {end = end} it = search rules
 
 pub returns-in_err-room-clause-plan : goal.returns-in_err-room-clause-plan
-returns-in_err-room-clause-plan g c =
-    λ other.
-    let is = err_from_is_err_and c.from_residual.result c.from_residual.ensures.1 in
-    let fault : TreeRec → Result (TreeState × Work) TreeRec = Err in
-    absurd (other (is.1 ∙ ap fault is.2))
+returns-in_err-room-clause-plan g c = search (rules, err_from_is_err_and)
 
 pub returns-in-Err-clause-plan : goal.returns-in-Err-clause-plan
 returns-in-Err-clause-plan g c = λ other. from_zero g ((goal.at.returns-in-Err-clause-plan g c).After-fill_room) c.in-Err.ensures.plan

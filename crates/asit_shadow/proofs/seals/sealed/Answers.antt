@@ -1,6 +1,6 @@
 -- A seal's parts are in range.
-use Rattle.std.proofs.Common.{ℕ, ◌<◌, ◌^◌, List, refl, sym, ap, subst, ◌∙◌, arith}
-use Rattle.asit_shadow.proofs.Common.{Line, IsCtr, IsLine, IsTag, cipher_of, cipher_of-IsLine, version_counter}
+use Rattle.std.proofs.Common.{ℕ, ◌<◌, ◌^◌, List, refl, sym, ap, ◌∙◌, arith, rules}
+use Rattle.asit_shadow.proofs.Common.{Line, IsCtr, cipher_of-IsLine, version_counter}
 use Rattle.asit_shadow.proofs.seals.sealed.Goals as goal
 
 pub returns-clause-made : goal.returns-clause-made
@@ -16,10 +16,5 @@ returns-clause-made g c =
       its_counter = refl;
       cipher = cipher;
       tag = ap (f.tag_of c.args.at (version_counter c.args.counter)) cipher ∙ sym tag;
-      in_range =
-          record {
-            counter = small;
-            cipher = subst IsLine (sym cipher) whole;
-            tag = subst IsTag (sym tag) (in_range.tags c.args.at (version_counter c.args.counter) (cipher_of f c.args.at (version_counter c.args.counter) c.args.line.now) ctr whole);
-          };
+      in_range = search rules;
     }

@@ -1,23 +1,16 @@
 -- A held node's position is below 5461; and the plan of making room, at each end.
-use Rattle.std.proofs.Common.{sym, ap, ◌∙◌, arith}
+use Rattle.std.proofs.Common.{sym, ap, ◌∙◌, rules}
 use Rattle.asit_shadow.proofs.Common.{Shape, meta_lines-most, line_of_node, leaving, cache_at}
 use Rattle.asit_shadow.proofs.FetchPlans.{room_none, room_clean, room_end}
 use Rattle.asit_shadow.proofs.engine.TreeEngine.make_room.Goals as goal
 
 pub node_line-line-requires-clause-place : goal.node_line-line-requires-clause-place
-node_line-line-requires-clause-place g c =
-    omega (
-      arith,
-      meta_lines-most c.args.self.now.shape c.is_whole.ensures.shape.at_most_six_levels,
-      (c.is_whole.ensures.engine.each_held c.args.i c.in-Some.held (sym c.held.ensures ∙ c.in-Some.is)).on_tree,
-    )
+node_line-line-requires-clause-place g c = search (rules, meta_lines-most)
 
 -- ---- the plan
 
 pub returns-in-None-clause-plan : goal.returns-in-None-clause-plan
-returns-in-None-clause-plan g c =
-    room_none (record { shape = c.args.self.now.shape; formulas = g.S.Suite.formulas_of (g.S.Suite.keys c.args.suite.now) })
-    (cache_at c.args.self.now.cache c.args.i) (g.S.Suite.tags c.args.suite.now) (g.B.Board.device c.args.board.now) (sym c.held.ensures ∙ c.in-None.is)
+returns-in-None-clause-plan g c = search (rules, room_none)
 
 pub returns-then-not-held-clause-plan : goal.returns-then-not-held-clause-plan
 returns-then-not-held-clause-plan g c =

@@ -1,5 +1,5 @@
 -- Why a node wasn't had; and the node's plan at each end.
-use Rattle.std.proofs.Common.{false, ℕ, ◌≡◌, List, Some, None, Result, Ok, Err, sym, ap, subst, subst₂, ◌∙◌}
+use Rattle.std.proofs.Common.{false, ℕ, ◌≡◌, List, Some, None, Result, Ok, Err, sym, ap, subst, ◌∙◌, rules}
 use Rattle.asit_shadow.proofs.Common.{IfErr, slice_set, Cut, shape_of, Device, Setup, lifted, the_cut, Follows, ended_err, Node, read_parts, node_plan, leaving, Shape, slot_of, TreeFault, cache_at, TreeChip, tree_chip_of, read_parts_of, with_read, with_clean, fault_of_node, node_in, is_err_of, TreeEngineParts, tree_parts_of, IsNodeTaken, HasNoNode}
 use Rattle.asit_shadow.specs.declared.fault.TreeFault.TheVariants as Fail
 use Rattle.asit_shadow.specs.Plans.{room_plan}
@@ -40,16 +40,12 @@ module _ (g : Over) (c : After-slot_of-i g) where
       → Follows (lifted (with_read chip) (fault_of_node c.args.x) (node_plan (record { shape = shape_of c.geo-geo.result; formulas = setup.formulas }) c.args.x
       c.args.version (read_parts_of chip))) (g.B.Board.device c.args.board.now) new end
       → Follows (lifted (with_read chip) (fault_of_node c.args.x) (node_plan setup c.args.x c.args.version (read_parts_of chip))) (g.B.Board.device c.args.board.now) new end
-  taking {new = new} {end = end} it =
-      subst (λ (k : Shape). Follows (lifted (with_read chip) (fault_of_node c.args.x) (node_plan (record { shape = k; formulas = setup.formulas }) c.args.x
-      c.args.version (read_parts_of chip))) (g.B.Board.device c.args.board.now) new end) c.geo-geo.ensures it
+  taking {new = new} {end = end} it = search rules
 
   room : (tags : ℕ) {keys : List ℕ} {old new : Device} {end : Result (ℕ × Unit {0}) (ℕ × Cut)} → keys ≡ g.S.Suite.keys c.args.suite.now
       → Follows (room_plan (record { shape = c.args.self.now.shape; formulas = g.S.Suite.formulas_of keys }) (cache_at c.args.self.now.cache c.slot_of-i.result) tags) old new end
       → Follows (room_plan setup (cache_at c.args.self.now.cache (slot_of c.args.self.now.shape c.args.x)) tags) old new end
-  room tags {old = old} {new = new} {end = end} is it =
-      subst₂ (λ (k : List ℕ) i. Follows (room_plan (record { shape = c.args.self.now.shape; formulas = g.S.Suite.formulas_of k }) (cache_at c.args.self.now.cache i) tags)
-      old new end) is slot_is it
+  room tags {old = old} {new = new} {end = end} is it = search rules
 
 pub returns-in-Some-clause-plan : goal.returns-in-Some-clause-plan
 returns-in-Some-clause-plan g c =

@@ -1,5 +1,5 @@
 -- A read ends.
-use Rattle.std.proofs.Common.{refl, sym, ap, subst, ◌∙◌}
+use Rattle.std.proofs.Common.{refl, sym, ap, subst, ◌∙◌, rules}
 use Rattle.asit_shadow.proofs.Common.{Result, Ok, Err, not, ◌||◌, Line, is_going, leaving, TreeFault, TreeChip, tree_chip_of, ended_engine, tree_chip_at, tree_parts_at, tree_setup_at, outcome_of_tree_fault, IsLineRead}
 use Rattle.asit_shadow.specs.Plans.{read_line_plan}
 use Rattle.asit_shadow.proofs.FetchPlans.{same_engine}
@@ -38,16 +38,10 @@ returns-in-Err-clause-read g c =
 -- ---- the plan
 
 pub returns-then-is_down-clause-plan : goal.returns-then-is_down-clause-plan
-returns-then-is_down-clause-plan g c =
-    let was : TreeChip = tree_chip_at g.S.Suite g.W.Watch c.args.self.now c.args.suite.now c.args.watch.now in
-    called_down was (read_line_plan (tree_setup_at g.S.Suite c.args.self.now c.args.suite.now) c.args.at was) (g.B.Board.device c.args.board.now)
-    (sym c.is_down.ensures ∙ c.if-is_down.true)
+returns-then-is_down-clause-plan g c = search (rules, called_down)
 
 pub returns-in-Ok-clause-plan : goal.returns-in-Ok-clause-plan
-returns-in-Ok-clause-plan g c =
-    let was : TreeChip = tree_chip_at g.S.Suite g.W.Watch c.args.self.now c.args.suite.now c.args.watch.now in
-    called_ok was (read_line_plan (tree_setup_at g.S.Suite c.args.self.now c.args.suite.now) c.args.at was) (sym c.is_down.ensures ∙ c.if-is_down.false)
-    (tree_chip_at g.S.Suite g.W.Watch c.read_line.new.self c.read_line.new.suite c.read_line.new.watch) c.in-Ok.line c.in-Ok.ensures.plan
+returns-in-Ok-clause-plan g c = search (rules, called_ok)
 
 pub returns-in-Err-clause-plan : goal.returns-in-Err-clause-plan
 returns-in-Err-clause-plan g c =

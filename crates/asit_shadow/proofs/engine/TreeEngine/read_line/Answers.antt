@@ -1,5 +1,5 @@
 -- The line is read after its path.
-use Rattle.std.proofs.Common.{ℕ, ◌≡◌, ◌%◌, List, refl, sym, ap, subst, subst₂, ◌∙◌}
+use Rattle.std.proofs.Common.{ℕ, ◌≡◌, ◌%◌, List, refl, sym, ap, subst, subst₂, ◌∙◌, rules}
 use Rattle.asit_shadow.proofs.Common.{Result, Ok, Err, IsSome, slice_index, Line, shape_of, Shape, Follows, ReadParts, read_parts, line_plan, leaving, FetchFault, IsLineFetched, WatchState, last_seal_of, TreeFault, TreeChip, tree_chip_of, read_parts_of, fault_of_line, tree_chip_at, tree_parts_at, tree_setup_at}
 use Rattle.counter_tree.specs.declared.accepted.FetchFault.TheVariants as Missed
 use Rattle.asit_shadow.specs.declared.fault.TreeFault.TheVariants as Fail
@@ -88,10 +88,7 @@ module _ (g : Over) (c : After-fetch_line g) where
       (slice_index c.in-Ok.node.0 (c.args.at % 4)) (read_parts_of fetched)) (g.B.Board.device c.fetch.new.board) (g.B.Board.device c.fetch_line.new.board) end
       → Follows (line_plan (tree_setup_at g.S.Suite c.args.self.now c.args.suite.now) c.args.at (slice_index c.in-Ok.node.0 (c.args.at % 4)) (read_parts_of fetched))
       (g.B.Board.device c.fetch.new.board) (g.B.Board.device c.fetch_line.new.board) end
-  reading {end = end} it =
-      subst₂ (λ (k : Shape) (keys : List ℕ). Follows (line_plan (record { shape = k; formulas = g.S.Suite.formulas_of keys }) c.args.at
-      (slice_index c.in-Ok.node.0 (c.args.at % 4)) (read_parts_of fetched)) (g.B.Board.device c.fetch.new.board) (g.B.Board.device c.fetch_line.new.board) end)
-      (c.geo.ensures ∙ c.in-Ok.ensures.fetched.path.effect.shape) c.in-Ok.ensures.keys it
+  reading {end = end} it = search rules
 
   -- a line that wasn't accepted
   refused : (fault : FetchFault) (its : TreeFault) → fault_of_line c.args.at fault ≡ its → g.S.Suite.digests c.fetch_line.new.suite ≡ g.S.Suite.digests c.fetch.new.suite
@@ -107,8 +104,7 @@ module _ (g : Over) (c : After-fetch_line g) where
       c.in-Ok.ensures.plan after its is (reading it))
 
 pub returns-in-Err-clause-plan : goal.returns-in-Err-clause-plan
-returns-in-Err-clause-plan g c =
-    unfetched_read (tree_setup_at g.S.Suite c.args.self.now c.args.suite.now) c.args.at (tree_chip_at g.S.Suite g.W.Watch c.args.self.now c.args.suite.now c.args.watch.now) c.in-Err.ensures.plan
+returns-in-Err-clause-plan g c = search (rules, unfetched_read)
 
 pub returns-in-Ok-fetch_line-clause-plan : goal.returns-in-Ok-fetch_line-clause-plan
 returns-in-Ok-fetch_line-clause-plan g c =

@@ -1,6 +1,6 @@
 -- A node stored more.
-use Rattle.std.proofs.Common.{ℕ, ◌≡◌, ◌<◌, ◌≤◌, List, [], length, get_or, true, sym, ap, subst, ◌∙◌}
-use Rattle.asit_shadow.proofs.Common.{take_all, Shape, Node, slot_of, IsHeldNode, set_pairs, dirty_entries}
+use Rattle.std.proofs.Common.{ℕ, ◌<◌, List, [], length, get_or, true, sym, ap, subst, ◌∙◌, rules}
+use Rattle.asit_shadow.proofs.Common.{take_all, Shape, Node, slot_of, IsHeldNode}
 use Rattle.asit_shadow.proofs.WriteLoops.{stored-next}
 use Rattle.asit_shadow.proofs.engine.TreeEngine.store.Goals as goal
 
@@ -24,6 +24,4 @@ hold-requires-clause-held c =
     (c.requires c.levels.x-index none) c.levels-test.true)
 
 pub returns-clause-cache : goal.returns-clause-cache
-returns-clause-cache c =
-    subst (λ (ps : List (ℕ × Node)). c.levels.self.cache ≡ set_pairs (dirty_entries c.args.self.now.shape ps) c.args.self.now.cache)
-    (take_all c.levels.x-index c.args.nodes.now.items (subst (λ (ps : List (ℕ × Node)). length ps ≤ c.levels.x-index) c.as_slice-x-items.ensures.value c.levels-test.false)) c.levels.invariant.cache
+returns-clause-cache c = search (rules, take_all)

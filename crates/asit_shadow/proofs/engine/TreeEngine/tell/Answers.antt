@@ -1,6 +1,6 @@
 -- A node told more.
-use Rattle.std.proofs.Common.{ℕ, ◌<◌, ◌≤◌, List, [], length, take, get_or, sym, ap, subst, ◌∙◌, arith}
-use Rattle.asit_shadow.proofs.Common.{take_all, Line, meta_lines, Shape, length-put_lines, tree_slots, Node, slot_of, slot_entries, IsWriteTold}
+use Rattle.std.proofs.Common.{ℕ, ◌<◌, List, [], length, take, get_or, ap, subst, ◌∙◌, arith, rules}
+use Rattle.asit_shadow.proofs.Common.{take_all, Line, Shape, length-put_lines, tree_slots, Node, slot_of, slot_entries}
 use Rattle.asit_shadow.proofs.PairSets.{length-set_pairs}
 use Rattle.asit_shadow.proofs.WriteLoops.{told-none, told-next}
 use Rattle.asit_shadow.proofs.engine.TreeEngine.tell.Goals as goal
@@ -9,13 +9,7 @@ pub levels-init : goal.levels-init
 levels-init g c = told-none c.args.self.now.shape c.args.at c.args.seal.now (g.W.Watch.watched c.args.watch.now) (g.W.Watch.watched c.note_seal.new.self) c.note_seal.ensures
 
 pub note_node-requires : goal.note_node-requires
-note_node-requires g c =
-    let none : ℕ × Node = (0, record { 0 = [] }) in
-    let low : (get_or c.as_slice-x-items.result.now c.levels.x-index none).0 < meta_lines c.args.self.now.shape =
-    subst (λ (ps : List (ℕ × Node)). c.levels.x-index < length ps → (get_or ps c.levels.x-index none).0 < meta_lines c.args.self.now.shape) (sym c.as_slice-x-items.ensures.value)
-    (c.requires.nodes c.levels.x-index none) c.levels-test.true in
-    let count = length-set_pairs (take c.levels.x-index c.args.nodes.now.items) (g.W.Watch.watched c.args.watch.now).nodes in
-    omega (arith, low, count, c.requires.ready.node_count, ap (λ (nodes : List Node). length nodes) c.levels.invariant.nodes)
+note_node-requires g c = search (rules, get_or, length-set_pairs)
 
 pub note_slot-requires : goal.note_slot-requires
 note_slot-requires g c =
@@ -32,6 +26,4 @@ levels-preserved g c =
     (c.slot_of.ensures.value ∙ ap (λ (k : Shape). slot_of k (get_or c.as_slice-x-items.result.now c.levels.x-index none).0) c.geo-geo.ensures) c.slot_line.ensures c.levels.invariant c.note_node.ensures.noted c.note_slot.ensures.noted
 
 pub returns : goal.returns
-returns g c =
-    subst (λ (ps : List (ℕ × Node)). IsWriteTold c.args.self.now.shape c.args.at c.args.seal.now ps (g.W.Watch.watched c.args.watch.now) (g.W.Watch.watched c.levels.watch))
-    (take_all c.levels.x-index c.args.nodes.now.items (subst (λ (ps : List (ℕ × Node)). length ps ≤ c.levels.x-index) c.as_slice-x-items.ensures.value c.levels-test.false)) c.levels.invariant
+returns g c = search (rules, take_all)

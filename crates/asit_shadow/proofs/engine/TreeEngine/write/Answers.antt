@@ -1,5 +1,5 @@
 -- A write ends.
-use Rattle.std.proofs.Common.{refl, sym, ap, subst, ◌∙◌}
+use Rattle.std.proofs.Common.{refl, sym, ap, subst, ◌∙◌, rules}
 use Rattle.asit_shadow.proofs.Common.{ℕ, Result, Ok, Err, not, ◌||◌, is_going, leaving, TreeFault, TreeChip, tree_chip_of, ended_engine, tree_chip_at, tree_parts_at, tree_setup_at, outcome_of_tree_fault, IsLineWritten}
 use Rattle.asit_shadow.specs.WritePlans.{write_line_plan}
 use Rattle.asit_shadow.proofs.FetchPlans.{same_engine}
@@ -43,16 +43,10 @@ returns-in-Err-clause-written g c =
 -- ---- the plan
 
 pub returns-then-is_down-clause-plan : goal.returns-then-is_down-clause-plan
-returns-then-is_down-clause-plan g c =
-    let was : TreeChip = tree_chip_at g.S.Suite g.W.Watch c.args.self.now c.args.suite.now c.args.watch.now in
-    called_down was (write_line_plan (tree_setup_at g.S.Suite c.args.self.now c.args.suite.now) (g.B.Board.device c.args.board.now).regs c.args.at c.args.line.now was)
-    (g.B.Board.device c.args.board.now) (sym c.is_down.ensures ∙ c.if-is_down.true)
+returns-then-is_down-clause-plan g c = search (rules, called_down)
 
 pub returns-in-Ok-clause-plan : goal.returns-in-Ok-clause-plan
-returns-in-Ok-clause-plan g c =
-    let was : TreeChip = tree_chip_at g.S.Suite g.W.Watch c.args.self.now c.args.suite.now c.args.watch.now in
-    called_ok was (write_line_plan (tree_setup_at g.S.Suite c.args.self.now c.args.suite.now) (g.B.Board.device c.args.board.now).regs c.args.at c.args.line.now was)
-    (sym c.is_down.ensures ∙ c.if-is_down.false) (tree_chip_at g.S.Suite g.W.Watch c.write_line.new.self c.write_line.new.suite c.write_line.new.watch) c.in-Ok.counter c.in-Ok.ensures.plan
+returns-in-Ok-clause-plan g c = search (rules, called_ok)
 
 pub returns-in-Err-clause-plan : goal.returns-in-Err-clause-plan
 returns-in-Err-clause-plan g c =

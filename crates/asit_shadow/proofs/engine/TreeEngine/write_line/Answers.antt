@@ -1,6 +1,6 @@
 -- A write: spent, stopped as its path is fetched, cut at the arming latch, cut after it, or done.
-use Rattle.std.proofs.Common.{ℕ, suc, ◌≡◌, ◌≢◌, ◌<◌, ◌+◌, ◌-◌, ◌*◌, ◌%◌, ◌^◌, List, [], length, refl, sym, ap, subst, subst₂, ◌∙◌, arith}
-use Rattle.asit_shadow.proofs.Common.{All, ◌==◌, true, false, slice_index_or, Result, Ok, Err, Cut, Follows, finish_plan, leaving, eqb-true, eqb-false, Line, Regs, Shape, meta_lines, IsGroup, risen_times, Device, AreToldLines, HasLatched, Setup, Node, tree_slots, tree_size, counter, total, ChipTree, IsShadowTree, shadow_height, WatchState, TreeState, IsHeldNode, top_node, TreeEngineParts, tree_parts_of, AreTreeTrusted, IsWatchReady, tree_parts_at, tree_setup_at, TreeFault, TreeChip, tree_chip_of, tree_chip_at, seal_of, write_armed, with_tree, with_stored, named_chip, stored_chip, IsUsedUp, KeepsOtherRegisters, armed_lines, dirty_entries, pair_at, set_pairs, IsPathRaised, IsSealMade, IsTreeNamed, IsWriteTold, IsWriteMade}
+use Rattle.std.proofs.Common.{ℕ, suc, ◌≡◌, ◌≢◌, ◌<◌, ◌+◌, ◌-◌, ◌*◌, ◌%◌, ◌^◌, List, [], length, refl, sym, ap, subst, ◌∙◌, arith, rules}
+use Rattle.asit_shadow.proofs.Common.{All, ◌==◌, true, false, slice_index_or, Result, Ok, Err, Cut, Follows, finish_plan, leaving, eqb-true, eqb-false, Line, Regs, Shape, meta_lines, IsGroup, risen_times, Device, AreToldLines, HasLatched, Setup, Node, tree_slots, tree_size, counter, total, ChipTree, IsShadowTree, shadow_height, WatchState, TreeState, IsHeldNode, top_node, TreeEngineParts, tree_parts_of, AreTreeTrusted, tree_parts_at, tree_setup_at, TreeFault, TreeChip, tree_chip_of, tree_chip_at, seal_of, write_armed, with_tree, with_stored, named_chip, stored_chip, IsUsedUp, KeepsOtherRegisters, armed_lines, dirty_entries, pair_at, set_pairs, IsPathRaised, IsSealMade, IsTreeNamed, IsWriteTold, IsWriteMade}
 use Rattle.asit_shadow.specs.declared.fault.TreeFault.TheVariants as Fail
 use Rattle.asit_shadow.specs.WritePlans.{raised_path, named_all, seal_plan, write_line_plan}
 use Rattle.asit_shadow.proofs.FetchPlans.{same_engine}
@@ -28,23 +28,17 @@ module _ (g : Over) (c : After-is_used_up g) where
 
   used_up : c.is_used_up.result ≡ true → AreTreeTrusted (tree_setup_at g.S.Suite c.args.self.now c.args.suite.now) (tree_parts_at g.B.Board g.W.Watch c.args.self.now c.args.board.now c.args.watch.now)
       → IsUsedUp (tree_parts_at g.B.Board g.W.Watch c.args.self.now c.args.board.now c.args.watch.now)
-  used_up is trusted =
-      sym (top-used_up (tree_setup_at g.S.Suite c.args.self.now c.args.suite.now) (tree_parts_at g.B.Board g.W.Watch c.args.self.now c.args.board.now c.args.watch.now) trusted) ∙ spent is
+  used_up is trusted = search (rules, top-used_up, spent)
 
   unused : c.is_used_up.result ≡ false → AreTreeTrusted (tree_setup_at g.S.Suite c.args.self.now c.args.suite.now) (tree_parts_at g.B.Board g.W.Watch c.args.self.now c.args.board.now c.args.watch.now)
       → IsUsedUp (tree_parts_at g.B.Board g.W.Watch c.args.self.now c.args.board.now c.args.watch.now) → ⊥
-  unused is trusted up =
-      unspent is (top-used_up (tree_setup_at g.S.Suite c.args.self.now c.args.suite.now) (tree_parts_at g.B.Board g.W.Watch c.args.self.now c.args.board.now c.args.watch.now) trusted ∙ up)
+  unused is trusted up = search (rules, unspent, top-used_up)
 
 pub returns-then-is_used_up-clause-written : goal.returns-then-is_used_up-clause-written
-returns-then-is_used_up-clause-written g c =
-    let before = (goal.at.returns-then-is_used_up-clause-written g c).After-is_used_up in
-    write-spent (tree_setup_at g.S.Suite c.args.self.now c.args.suite.now) c.args.at c.args.line.now (tree_parts_at g.B.Board g.W.Watch c.args.self.now c.args.board.now c.args.watch.now) (used_up g before c.if-is_used_up.true)
+returns-then-is_used_up-clause-written g c = search (rules, write-spent, used_up)
 
 pub returns-then-is_used_up-clause-spent : goal.returns-then-is_used_up-clause-spent
-returns-then-is_used_up-clause-spent g c =
-    let before = (goal.at.returns-then-is_used_up-clause-spent g c).After-is_used_up in
-    (λ _. spent g before c.if-is_used_up.true, λ _. tt)
+returns-then-is_used_up-clause-spent g c = search (rules, spent)
 
 pub returns-in-Err-clause-written : goal.returns-in-Err-clause-written
 returns-in-Err-clause-written g c =
@@ -69,9 +63,7 @@ module _ (g : Over) (c : After-next_regs-regs g) where
   raised = subst (λ (k : Shape). IsPathRaised k c.fetch.new.self.cache c.args.at c.raised-nodes.result.items) shape c.raised-nodes.ensures.raised
 
   sealed_as : IsSealMade (g.S.Suite.formulas_of (g.S.Suite.keys c.args.suite.now)) c.args.at c.last_counter.result c.args.line.now c.sealed-seal.result
-  sealed_as =
-      subst (λ (keys : List ℕ). IsSealMade (g.S.Suite.formulas_of keys) c.args.at c.last_counter.result c.args.line.now c.sealed-seal.result)
-      c.in-Ok.ensures.keys c.sealed-seal.ensures.made
+  sealed_as = search rules
 
   keys : g.S.Suite.keys c.sealed-seal.new.suite ≡ g.S.Suite.keys c.args.suite.now
   keys = c.sealed-seal.ensures.keys ∙ c.in-Ok.ensures.keys
@@ -88,10 +80,7 @@ module _ (g : Over) (c : After-next_regs-regs g) where
   named : (c.next_regs-regs.new.self.tree, c.next_regs-regs.result.root)
       ≡ named_all (g.S.Suite.formulas_of (g.S.Suite.keys c.args.suite.now)) c.args.self.now.shape c.raised-nodes.result.items
       (c.fetch.new.self.tree, (g.B.Board.device c.args.board.now).regs.root)
-  named =
-      let root = ap (λ (r : Regs). r.root) (c.regs.ensures ∙ c.in-Ok.ensures.fetched.path.done.regs) in
-      c.next_regs-regs.ensures.named
-      ∙ (λ i. named_all (g.S.Suite.formulas_of (keys i)) (shape i) c.raised-nodes.result.items (c.fetch.new.self.tree, root i))
+  named = search (rules, keys, shape)
 
   root : (slots : List Line) → length slots ≡ tree_slots c.args.self.now.shape
       → IsShadowTree (g.S.Suite.formulas_of (g.S.Suite.keys c.args.suite.now)) c.fetch.new.self.tree.height slots c.fetch.new.self.tree.lines
@@ -119,17 +108,11 @@ module _ (g : Over) (c : After-next_regs-regs g) where
             sealed_as.its_counter ∙ (c.last_counter.ensures
             ∙ ap (λ n. counter (pair_at c.raised-nodes.result.items n).1 (c.args.at % 4)) (omega (arith, count)));
         group = group;
-        root =
-            λ slots long over.
-            subst (λ (t : ChipTree). IsTreeNamed (g.S.Suite.formulas_of (g.S.Suite.keys c.args.suite.now)) c.args.self.now.shape c.raised-nodes.result.items c.fetch.new.self.tree t c.next_regs-regs.result.root slots) (sym tree)
-            (root slots long over);
+        root = search (rules, root);
         others = subst (λ (r : Regs). KeepsOtherRegisters r c.next_regs-regs.result) c.regs.ensures c.next_regs-regs.ensures.others;
         told =
             subst (λ (k : Shape). IsWriteTold k c.args.at c.sealed-seal.result c.raised-nodes.result.items (g.W.Watch.watched c.fetch.new.watch) watch) same told;
-        cache =
-            cache
-            ∙ (ap (λ (k : Shape). set_pairs (dirty_entries k c.raised-nodes.result.items) c.next_regs-regs.new.self.cache) same
-            ∙ ap (set_pairs (dirty_entries c.args.self.now.shape c.raised-nodes.result.items)) c.next_regs-regs.ensures.cache);
+        cache = search rules;
         shape = its_shape ∙ c.next_regs-regs.ensures.shape;
         down = down ∙ c.next_regs-regs.ensures.down;
       }
@@ -186,9 +169,7 @@ tell-requires-clause-nodes g c =
     (c.raised-nodes.ensures.raised.whole k d inside).on_tree
 
 pub tell-requires-clause-ready : goal.tell-requires-clause-ready
-tell-requires-clause-ready g c =
-    let before = (goal.at.tell-requires-clause-ready g c).After-next_regs-regs in
-    subst₂ (λ (e : Shape) (w : WatchState). IsWatchReady e w) (sym (c.next_regs-regs.ensures.shape ∙ shape g before)) (sym c.in-Ok.ensures.fetched.path.watch) c.requires.usable.watch
+tell-requires-clause-ready g c = search (rules, shape)
 
 pub store-requires : goal.store-requires
 store-requires g c =
@@ -234,16 +215,10 @@ returns-clause-spent g c =
 -- ---- the plan
 
 pub returns-then-is_used_up-clause-plan : goal.returns-then-is_used_up-clause-plan
-returns-then-is_used_up-clause-plan g c =
-    let before = (goal.at.returns-then-is_used_up-clause-plan g c).After-is_used_up in
-    write_spent (tree_setup_at g.S.Suite c.args.self.now c.args.suite.now) (g.B.Board.device c.args.board.now).regs c.args.at c.args.line.now
-    (tree_chip_at g.S.Suite g.W.Watch c.args.self.now c.args.suite.now c.args.watch.now) (g.B.Board.device c.args.board.now) (sym (tested g before) ∙ c.if-is_used_up.true)
+returns-then-is_used_up-clause-plan g c = search (rules, write_spent, tested)
 
 pub returns-in-Err-clause-plan : goal.returns-in-Err-clause-plan
-returns-in-Err-clause-plan g c =
-    let before = (goal.at.returns-in-Err-clause-plan g c).After-is_used_up in
-    unfetched_write (tree_setup_at g.S.Suite c.args.self.now c.args.suite.now) (g.B.Board.device c.args.board.now).regs c.args.at c.args.line.now
-    (tree_chip_at g.S.Suite g.W.Watch c.args.self.now c.args.suite.now c.args.watch.now) (sym (tested g before) ∙ c.if-is_used_up.false) c.in-Err.ensures.plan
+returns-in-Err-clause-plan g c = search (rules, unfetched_write, tested)
 
 module _ (g : Over) (c : After-next_regs-regs g) where
   abbrev setup : Setup
@@ -259,10 +234,7 @@ module _ (g : Over) (c : After-next_regs-regs g) where
   was = (g.B.Board.device c.args.board.now).regs
 
   armed_regs : c.next_regs-regs.result ≡ write_armed setup.shape c.args.at c.sealed-seal.result pairs (named_all setup.formulas setup.shape pairs (c.fetch.new.self.tree, was.root)).1 was
-  armed_regs =
-      armed_is setup.shape c.args.at c.sealed-seal.result pairs _ was c.next_regs-regs.result
-      (subst (λ (r : Regs). KeepsOtherRegisters r c.next_regs-regs.result) (c.regs.ensures ∙ c.in-Ok.ensures.fetched.path.done.regs) c.next_regs-regs.ensures.others)
-      (ap (λ (at : ChipTree × List ℕ). at.1) (named g c)) (group g c)
+  armed_regs = search (rules, armed_is, named, group)
 
   -- the chip as the group is armed
   is_named : tree_chip_at g.S.Suite g.W.Watch c.next_regs-regs.new.self c.next_regs-regs.new.suite c.fetch.new.watch ≡ named_chip setup pairs was fetched

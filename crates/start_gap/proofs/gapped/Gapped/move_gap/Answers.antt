@@ -1,6 +1,7 @@
 -- The changes of a move are made in order.
-use Rattle.std.proofs.Common.{◌∙◌, List, not, Result, Ok, Err, sym, ap, subst}
-use Rattle.start_gap.proofs.Common.{All, Follows, Setup, Fault, Parts, parts_at, setup_at, is_going, outcome_of, ended_with, chip_in, down_after, Edit, AreEdited, IsEditOf, edits_plan, edits_as, move_edits}
+use Rattle.std.proofs.lemmas.Grind.{common_steps}
+use Rattle.std.proofs.Common.{List, Result, Ok, Err, sym, subst, rules, arith}
+use Rattle.start_gap.proofs.Common.{Follows, Setup, Fault, Parts, parts_at, setup_at, ended_with, chip_in, down_after, Edit, AreEdited, edits_plan, edits_as, move_edits}
 use Rattle.call_effects.proofs.ResultLaws.{is_err_of}
 use Rattle.start_gap.proofs.LevelledWrites.{move_fits}
 use Rattle.start_gap.proofs.gapped.Gapped.move_gap.Given.{Over}
@@ -8,10 +9,7 @@ use Rattle.start_gap.proofs.gapped.Gapped.move_gap.Goals.{After-edit_all}
 use Rattle.start_gap.proofs.gapped.Gapped.move_gap.Goals as goal
 
 pub edit_all-requires-clause-places : goal.edit_all-requires-clause-places
-edit_all-requires-clause-places g c =
-    let self = c.args.self.now in
-    subst (All (IsEditOf _)) (sym c.moving-edits.ensures)
-    (subst (λ count. All (IsEditOf count) (move_edits self.lines self.wear)) self.its_lines (move_fits self.lines self.wear self.its_wear))
+edit_all-requires-clause-places g c = search (rules, move_fits)
 
 -- once the changes were made, or ended
 module _ (g : Over) (c : After-edit_all g) where
@@ -53,16 +51,7 @@ returns-in_err-edit_all-clause-moved g c =
     (moved g place (Err c.in_err-edit_all.field-0.0) (c.in_err-edit_all.ensures.edited.did c.requires.up).edited)
 
 pub returns-in_err-edit_all-clause-plan : goal.returns-in_err-edit_all-clause-plan
-returns-in_err-edit_all-clause-plan g c =
-    let place = (goal.at.returns-in_err-edit_all-clause-plan g c).After-edit_all in
-    subst
-    (λ (answer : Result (Unit {0}) Fault). Follows (edits_plan (setup g place) (its_edits g place) (chip_in (from g place), (from g place).device.regs))
-    (from g place).device (to g place).device (ended_with answer (chip_in (to g place)) (to g place).device.regs))
-    (sym (is_err_of c.from_residual.result c.in_err-edit_all.field-0.0 c.from_residual.ensures.1))
-    (followed g place (Err c.in_err-edit_all.field-0.0) (c.in_err-edit_all.ensures.edited.did c.requires.up).plan)
+returns-in_err-edit_all-clause-plan g c = grind (arith, common_steps, is_err_of, followed)
 
 pub returns-in_err-edit_all-clause-down : goal.returns-in_err-edit_all-clause-down
-returns-in_err-edit_all-clause-down g c =
-    down_after c.in_err-edit_all.ensures.edited c.requires.up
-    ∙ ap (λ (answer : Result (Unit {0}) Fault). not (is_going (outcome_of answer)))
-    (sym (is_err_of c.from_residual.result c.in_err-edit_all.field-0.0 c.from_residual.ensures.1))
+returns-in_err-edit_all-clause-down g c = search (rules, down_after, is_err_of)

@@ -1,5 +1,6 @@
 -- The engine is down, or the record is read.
-use Rattle.std.proofs.Common.{refl, sym, ◌∙◌}
+use Rattle.std.proofs.lemmas.Grind.{common_steps}
+use Rattle.std.proofs.Common.{sym, ◌∙◌, arith}
 use Rattle.start_gap.proofs.Common.{true≢false}
 use Rattle.pmem_engine.proofs.CallEnds.StillParts.{left_alone}
 use Rattle.start_gap.proofs.LevelledReads.{wear_read}
@@ -9,12 +10,7 @@ pub open_up-requires-clause-up : goal.open_up-requires-clause-up
 open_up-requires-clause-up g c = sym c.is_down.ensures ∙ c.if-is_down.false
 
 pub returns-then-is_down-clause-opened : goal.returns-then-is_down-clause-opened
-returns-then-is_down-clause-opened g c =
-    record {
-      did = λ up. absurd (true≢false (sym c.if-is_down.true ∙ c.is_down.ensures ∙ up));
-      refuses = λ down. ((c.args.engine, left_alone _), refl);
-      up = tt;
-    }
+returns-then-is_down-clause-opened g c = grind (arith, common_steps, true≢false, left_alone)
 
 pub returns-clause-opened : goal.returns-clause-opened
 returns-clause-opened g c =
