@@ -7,3 +7,8 @@ pub mod Openings
 pub mod StartPlans
 pub mod NewDevices
 pub mod NewSessions
+pub mod Worlds
+pub mod MadeCalls
+pub mod TurnedCalls
+pub mod NewCalls
+pub mod KeptLines

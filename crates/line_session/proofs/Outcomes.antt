@@ -1,6 +1,6 @@
 -- Two outcomes of one call of a session are the same.
 use Rattle.std.proofs.Common.{ℕ, ◌≡◌, cond, Some, None, Result, refl, sym, ap, subst, ◌∙◌, [], Err, arith}
-use Rattle.line_session.proofs.Common.{same_Some, BoardMemory, Setup, steps_in, Chip, LineSession, chip_in, CallPlan, HasCalledStore, StartFault, HasStarted, RecFault, zero_line, ChipState}
+use Rattle.line_session.proofs.Common.{same_Some, Setup, steps_in, Chip, LineSession, chip_in, CallPlan, HasCalledStore, StartFault, HasStarted, RecFault, zero_line, ChipState}
 use Rattle.call_plan.specs.Runs.{IsOutcome}
 use Rattle.call_plan.proofs.DeterminedCalls.{call_is_determined}
 use Rattle.line_session.specs.Answered.{CallRelation, IsAnsweredBy}
@@ -18,8 +18,7 @@ same_session a b shape keys board engine ledger tags digests = grind arith
 -- what is left of the engine
 same_kept : (a b : LineSession) (x y : ChipState) → a.engine ≡ cond a.board.powered (Some x) None → b.engine ≡ cond b.board.powered (Some y) None
     → a.board ≡ b.board → x ≡ y → a.engine ≡ b.engine
-same_kept a b x y kept its board same =
-    kept ∙ ap (λ (m : BoardMemory). cond m.powered (Some x) None) board ∙ ap (λ (e : ChipState). cond b.board.powered (Some e) None) same ∙ sym its
+same_kept a b x y kept its board same = cc
 
 -- sessions with the same board, chip, geometry and keys
 same_after : (a b : LineSession) (x y : ChipState) → a.engine ≡ cond a.board.powered (Some x) None → b.engine ≡ cond b.board.powered (Some y) None

@@ -1,66 +1,16 @@
 -- A call over the watched board, and a start, is one of the session.
-use Rattle.std.proofs.Common.{◌≡◌, ◌<◌, Bool, true, false, cond, Option, Some, None, Result, refl, ap, ◌∙◌, Err, sym}
-use Rattle.line_session.proofs.Common.{◌||◌, option_map, ended, Follows, Taken, IsWatched, device_during, none_taken, steps_in, step_limit, suite_counts, Setup, StartFault, LineSession, chip_in, with_power, CallPlan, HasCalledStore, HasStarted, true≢false, BoardMemory, LedgerState, RecFault, SuiteState, counts_of, recover_plan, new_engine, ChipState, on_chip}
+use Rattle.std.proofs.Common.{ℕ, ◌≡◌, ◌<◌, Bool, true, false, cond, Option, Some, None, Result, refl, ap, ◌∙◌, Err, sym, subst, subst₂, arith}
+use Rattle.line_session.proofs.Common.{◌||◌, option_map, ended, Follows, device_during, none_taken, steps_in, step_limit, suite_counts, OpeningRelation, started_as, chip_of, IsShape, Setup, LineSession, chip_in, with_power, CallPlan, HasCalledStore, HasStarted, true≢false, RecFault, counts_of, new_engine, ChipState, on_chip, EngineState}
 use Rattle.line_session.specs.Started.{start_plan, IsRefusedFrom}
+use Rattle.line_session.specs.World.{StoreSession, IsLineWorld}
+use Rattle.line_session.specs.Promised.{CallEffect}
+use Rattle.line_session.specs.Made.{HasMade}
+use Rattle.line_session.specs.Turned.{HasTurned, IsCutInRecovery, HasRefused}
+use Rattle.line_session.proofs.Worlds.{line_on_in}
 use Rattle.line_session.specs.declared.starts.StartFault.TheVariants.{Recovery}
-use Rattle.line_session.proofs.StartPlans.{start_stopped}
-
-pub has_called : {F A : Type 0} (plan : CallPlan F A) (end : Result A F) (old new : LineSession) (engine after : ChipState) (taken : Taken)
-    → old.board.powered ≡ true → old.engine ≡ Some engine → new.engine ≡ cond new.board.powered (Some after) None → new.shape ≡ old.shape → new.keys ≡ old.keys
-    → IsWatched old.board new.board taken → (new.board.powered ≡ false → steps_in taken < step_limit)
-    → Follows (plan old.board.regs (chip_in old engine)) (device_during old.board none_taken) (device_during new.board taken) (ended end (chip_in new after))
-    → HasCalledStore plan (steps_in taken) end old new
-has_called plan end old new engine after taken powered was_on kept shape keys watched within follows =
-    record {
-      powered = powered;
-      engine = engine;
-      was_on = was_on;
-      after = after;
-      taken = taken;
-      outcome = record { run = record { follows = watched.follows; within = within }; follows = follows };
-      its_steps = refl;
-      kept = kept;
-      shape = shape;
-      keys = keys;
-    }
-
-pub has_started : {F A : Type 0} (setup : Setup) (opening : CallPlan F A) (end : Result A (StartFault F)) (old new : LineSession) (after : ChipState)
-    (taken : Taken) → old.engine ≡ None → new.engine ≡ cond new.board.powered (Some after) None → new.shape ≡ old.shape → new.keys ≡ old.keys
-    → IsWatched (with_power old).board new.board taken → (new.board.powered ≡ false → steps_in taken < step_limit)
-    → Follows (start_plan setup old.ledger opening old.board.regs (suite_counts old.tags old.digests)) (device_during (with_power old).board none_taken)
-    (device_during new.board taken) (ended end (chip_in new after))
-    → HasStarted setup opening (steps_in taken) end old new
-has_started setup opening end old new after taken was_off kept shape keys watched within follows =
-    record {
-      was_off = was_off;
-      after = after;
-      taken = taken;
-      outcome = record { run = record { follows = watched.follows; within = within }; follows = follows };
-      its_steps = refl;
-      kept = kept;
-      shape = shape;
-      keys = keys;
-    }
-
--- recovery that refuses with power on is a start of the session
-pub refused_from : {F A : Type 0} (setup : Setup) (opening : CallPlan F A) (old : LineSession) (board : BoardMemory) (ledger : LedgerState)
-    (between suite : SuiteState) (taken : Taken) (fault : RecFault) → old.engine ≡ None → IsWatched (with_power old).board board taken
-    → board.powered ≡ true
-    → Follows (recover_plan setup old.board.regs (suite_counts old.tags old.digests)) (device_during (with_power old).board none_taken)
-    (device_during board taken) (Err (counts_of between, fault))
-    → ledger ≡ old.ledger → suite ≡ between → IsRefusedFrom setup opening old fault
-refused_from setup opening old board ledger between suite taken fault was_off watched powered it same counted =
-    let left : LineSession =
-    record old { board = board; engine = cond board.powered (Some (on_chip (new_engine setup.shape))) None; ledger = ledger; tags = suite.tags; digests = suite.digests } in
-    record {
-      steps = steps_in taken;
-      new = left;
-      started =
-          has_started setup opening (Err (Recovery fault)) old left (on_chip (new_engine setup.shape)) taken was_off refl refl refl watched
-          (λ dark. absurd (true≢false (sym powered ∙ dark)))
-          (start_stopped setup old.ledger opening (device_during (with_power old).board none_taken) (device_during board taken)
-          (suite_counts old.tags old.digests) between fault ledger suite it same counted);
-    }
+use Rattle.line_session.proofs.StartPlans.{start_follows, start_stopped}
+use Rattle.line_session.proofs.NewDevices.{few_of_start}
+use Rattle.pmem_recovery.specs.declared.faults.RecFault.TheVariants as Rec
 
 -- what a session keeps of a store while power is on
 pub kept_of : {S X : Type 0} (of : S → X) (store : Option S) (after : S) (powered : Bool) → store ≡ cond powered (Some after) None
@@ -70,6 +20,119 @@ kept_of of store after powered kept = ap (option_map of) kept ∙ by_power power
     by_power : (b : Bool) → option_map of (cond b (Some after) None) ≡ cond b (Some (of after)) None
     by_power true = refl
     by_power false = refl
+
+-- a call of the store along its plan
+pub called_store : {L R F A : Type 0} (engine_of : L → EngineState) (effect : CallEffect L R) (setup : Setup) (plan : CallPlan F A) (store : L) (steps : ℕ)
+    (answer : R) (end : Result A F) (old new : StoreSession L) → IsLineWorld engine_of setup old → old.store ≡ Some store
+    → (it : HasMade engine_of effect setup store steps answer old new) → (new.state.board.powered ≡ false → steps < step_limit)
+    → Follows (plan old.state.board.regs (chip_in old.state (on_chip (engine_of store)))) (device_during old.state.board none_taken)
+    (device_during new.state.board it.taken) (ended end (chip_in new.state (on_chip (engine_of it.after))))
+    → HasCalledStore plan steps end old.state new.state
+called_store engine_of effect setup plan store steps answer end old new world there it within follows =
+    record {
+      powered = (line_on_in engine_of setup old store world there).powered;
+      engine = on_chip (engine_of store);
+      was_on = world.its_engine ∙ ap (option_map (λ s. on_chip (engine_of s))) there;
+      after = on_chip (engine_of it.after);
+      taken = it.taken;
+      outcome =
+          record {
+            run = record { follows = it.watched.follows; within = λ dark. subst (λ n. n < step_limit) it.its_steps (within dark) };
+            follows = follows;
+          };
+      its_steps = it.its_steps;
+      kept = it.world.its_engine ∙ kept_of (λ s. on_chip (engine_of s)) new.store it.after new.state.board.powered it.its_store;
+      shape = it.shape;
+      keys = it.keys;
+    }
+
+-- recovery and the opening along their plans
+pub turned_on : {O F A G : Type 0} (setup : Setup) (opens : OpeningRelation O F) (opening : CallPlan G A) (steps : ℕ) (answer : Result O F)
+    (end : Result A G) (old new : LineSession) (after : ChipState) → old.engine ≡ None → new.engine ≡ cond new.board.powered (Some after) None
+    → (it : HasTurned setup opens steps answer old new) → (new.board.powered ≡ false → steps < step_limit)
+    → Follows (opening it.between.regs (chip_of it.engine old.ledger it.suite_between.tags it.suite_between.digests)) it.between
+    (device_during new.board it.taken) (ended end (chip_in new after))
+    → HasStarted setup opening steps (started_as end) old new
+turned_on setup opens opening steps answer end old new after was_off kept it within opens_so =
+    record {
+      was_off = was_off;
+      after = after;
+      taken = it.taken;
+      outcome =
+          record {
+            run = record { follows = it.watched.follows; within = λ dark. subst (λ n. n < step_limit) it.its_steps (within dark) };
+            follows =
+                start_follows setup old.ledger opening (suite_counts old.tags old.digests) (counts_of it.suite_between) (it.engine, it.work) end
+                (chip_in new after) it.recovered.plan opens_so;
+          };
+      its_steps = it.its_steps;
+      kept = kept;
+      shape = it.shape;
+      keys = it.keys;
+    }
+
+-- a recovery that was cut
+pub turned_off : {F A : Type 0} (setup : Setup) (opening : CallPlan F A) (steps : ℕ) (old new : LineSession) → IsShape setup.shape → old.engine ≡ None
+    → new.engine ≡ None → IsCutInRecovery setup steps old new → HasStarted setup opening steps (Err (Recovery Rec.Cut)) old new
+turned_off setup opening steps old new shape was_off none it =
+    record {
+      was_off = was_off;
+      after = on_chip (new_engine setup.shape);
+      taken = it.taken;
+      outcome =
+          record {
+            run =
+                record {
+                  follows = it.watched.follows;
+                  within =
+                      λ dark. let bound = few_of_start setup.shape shape in let few = it.few in let same = it.its_steps in omega (arith, bound, few, same);
+                };
+            follows =
+                subst₂ (λ t d. Follows (start_plan setup old.ledger opening old.board.regs (suite_counts old.tags old.digests))
+                (device_during (with_power old).board none_taken) (device_during new.board it.taken)
+                (Err (chip_of (new_engine setup.shape) new.ledger t d, Recovery Rec.Cut))) (sym it.tags) (sym it.digests)
+                (start_stopped setup old.ledger opening (device_during (with_power old).board none_taken) (device_during new.board it.taken)
+                (suite_counts old.tags old.digests) it.between Rec.Cut new.ledger it.between it.follows it.ledger refl);
+          };
+      its_steps = it.its_steps;
+      kept = none ∙ sym (ap (λ b. cond b (Some (on_chip (new_engine setup.shape))) None) it.dark);
+      shape = it.shape;
+      keys = it.keys;
+    }
+
+-- recovery that refuses with power on is a start of the session
+pub refused_from : {F A : Type 0} (setup : Setup) (opening : CallPlan F A) (old : LineSession) (fault : RecFault) → old.engine ≡ None
+    → HasRefused setup old fault → IsRefusedFrom setup opening old fault
+refused_from setup opening old fault was_off it =
+    let left : LineSession =
+    record old {
+      board = it.board;
+      engine = cond it.board.powered (Some (on_chip (new_engine setup.shape))) None;
+      ledger = it.ledger;
+      tags = it.suite.tags;
+      digests = it.suite.digests;
+    } in
+    record {
+      steps = steps_in it.taken;
+      new = left;
+      started =
+          record {
+            was_off = was_off;
+            after = on_chip (new_engine setup.shape);
+            taken = it.taken;
+            outcome =
+                record {
+                  run = record { follows = it.watched.follows; within = λ dark. absurd (true≢false (sym it.powered ∙ dark)) };
+                  follows =
+                      start_stopped setup old.ledger opening (device_during (with_power old).board none_taken) (device_during it.board it.taken)
+                      (suite_counts old.tags old.digests) it.between fault it.ledger it.suite it.follows it.same_ledger it.same_suite;
+                };
+            its_steps = refl;
+            kept = refl;
+            shape = refl;
+            keys = refl;
+          };
+    }
 
 -- a mark that is there keeps a call's lines, whatever the call says
 pub or_true : (a b : Bool) → b ≡ true → (a || b) ≡ true

@@ -5,3 +5,8 @@ pub mod Answered
 pub mod During
 pub mod Determined
 pub mod Promised
+pub mod World
+pub mod Kept
+pub mod Made
+pub mod Turned
+pub mod New

@@ -4,10 +4,15 @@
 
 mod calls;
 mod laws;
+mod making;
 mod marks;
+mod powering;
+mod session;
 mod starts;
 
-pub use calls::{StoreCall, call};
+pub use calls::{LineStore, StoreCall};
 pub use laws::{calls_are_determined, starts_are_determined};
-pub use marks::has_own_seal;
-pub use starts::{StartFault, StoreOpening, start};
+pub use making::Done;
+pub use powering::Turned;
+pub use session::{LineSession, NewFault};
+pub use starts::{StartFault, StoreOpening};

@@ -1,20 +1,23 @@
 //! Power comes on: the device is recovered, and a store is opened by the engine that recovery gives.
-ghost use Rattle.std.specs.Prelude.{◌≡◌, ◌<◌, ℕ, true, Result, IsSome, IfOk, length};
+ghost use Rattle.std.specs.Prelude.{◌≡◌, ◌<◌, ℕ, true, List, Result, IsSome, IfOk, length};
+ghost use Rattle.pmem_base.specs.declared.answers.Mark.{Mark};
 ghost use Rattle.pmem_base.specs.Geo.{shape_of};
 ghost use Rattle.pmem_base.specs.Layout.{data_lines, device_lines};
 ghost use Rattle.pmem_base.specs.Marks.{last_seal};
 ghost use Rattle.pmem_base.specs.Registers.{IsValidRegs};
 ghost use Rattle.board.specs.MemBoard.{memory_of};
 ghost use Rattle.suite.specs.Setup.{Setup};
-ghost use Rattle.seal_ledger.specs.Ledger.{IsOfShape, LedgerState};
+ghost use Rattle.seal_ledger.specs.Ledger.{IsOfShape};
+ghost use Rattle.seal_ledger.specs.Notes.{HasRoom};
 ghost use Rattle.seal_ledger.specs.View.{capacity_of, ledger_of};
 ghost use Rattle.pmem_engine.specs.Engine.{EngineState};
 ghost use Rattle.pmem_engine.specs.Parts.{Parts};
 ghost use Rattle.pmem_engine.specs.Calls.{IsUsable};
 ghost use Rattle.watched_board.specs.Watching.{IsWatched};
 ghost use Rattle.access_log.specs.Traced.{GoesOn};
-ghost use Rattle.line_session.specs.Promised.{IsOpened, CanStart, IsStarted, IsStartedOn, IsUsableDuring};
+ghost use Rattle.line_session.specs.Promised.{IsOpenedBy, IsKeptOpening, CanStart, IsStarted, IsStartedBy, IsStartedOn, IsUsableDuring};
 
+use crate::calls::LineStore;
 use access_log::AccessLog;
 use board::{Board, MemBoard};
 use pmem_base::Geo;
@@ -37,17 +40,37 @@ pub enum StartFault<F> {
 /// The opening of a store of lines: what it needs of the room for marks, and what it does, by whether the engine is down,
 /// by its plan and by what it makes of the lines.
 pub trait StoreOpening {
-    /// The store, with what its opening tells.
+    /// The store.
+    type Store: LineStore;
+    /// What its opening tells.
+    type Told: Copy;
+    /// The store with that.
     type Opened: Drop;
     /// Why it isn't opened.
     type Fault: Copy;
 
-    /// The engine of an opened store.
-    ghost engine_of: { Self.Opened → EngineState };
+    ghost store: { Self.Opened → Self.Store };
 
-    ghost can: { Self → LedgerState → ℕ → Type 0 };
+    ghost told: { Self.Opened → Self.Told };
+
+    /// The most marks that it makes.
+    ghost room: { Self → ℕ };
+
+    ghost can: { Self → Type 0 };
+
+    /// What a store keeps in its lines, by the marks.
+    ghost holds: { Self → Setup → List Mark → Type 0 };
 
     ghost relation: { Self → Setup → EngineState → Parts → (EngineState → Parts) → Result Self.Opened Self.Fault → Type 0 };
+
+    /// The most marks that it makes.
+    fn room(&self) -> u32
+        ensures { result ≡ room self.now };
+
+    /// The store, and what its opening tells.
+    fn split(opened: Self::Opened) -> (Self::Store, Self::Told)
+        ensures store { result.0 ≡ store opened }
+        ensures told { result.1 ≡ told opened };
 
     /// Opens the store.
     fn open<B: Board, S: Suite>(
@@ -57,14 +80,17 @@ pub trait StoreOpening {
         suite: &mut S,
         ledger: &mut Ledger,
     ) -> Result<Self::Opened, Self::Fault>
-        requires can { can self.now (ledger_of ledger.old) (capacity_of ledger.old) }
+        requires can { can self.now }
+        requires room { HasRoom (ledger_of ledger.old) (capacity_of ledger.old) (room self.now) }
         requires usable { IsUsable engine.shape engine (B.device board.old) (ledger_of ledger.old) }
-        ensures opened { IsOpened S.Suite (relation self.now) engine (B.device board.old) suite.old ledger.old
-            (B.device board.new) suite.new ledger.new result }
+        ensures opened { IsOpenedBy B.Board S.Suite (relation self.now) engine board.old suite.old ledger.old
+            board.new suite.new ledger.new result }
+        ensures kept { IsKeptOpening B.Board S.Suite Self.Store.engine store (holds self.now) engine board.old suite.old ledger.old
+            board.new suite.new ledger.new result }
         ensures capacity { capacity_of ledger.new ≡ capacity_of ledger.old }
         ensures keys { S.keys suite.new ≡ S.keys suite.old }
-        ensures usable { IfOk result (λ opened. IsUsable engine.shape (engine_of opened) (B.device board.new) (ledger_of ledger.new)) }
-        ensures shape { IfOk result (λ opened. (engine_of opened).shape ≡ engine.shape) };
+        ensures usable { IfOk result (λ opened. IsUsable engine.shape (Self.Store.engine (store opened)) (B.device board.new) (ledger_of ledger.new)) }
+        ensures shape { IfOk result (λ opened. (Self.Store.engine (store opened)).shape ≡ engine.shape) };
 }
 
 /// The device is recovered, and its store opened.
@@ -80,14 +106,14 @@ impl<'a, O: StoreOpening> BoardCall<Ledger> for Starting<'a, O> {
 
     type Answer = Result<O::Opened, StartFault<O::Fault>>;
 
-    ghost can = { λ starting _ device ledger. O.can starting.opening.now (ledger_of ledger) (capacity_of ledger)
+    ghost can = { λ starting _ device ledger. O.can starting.opening.now × HasRoom (ledger_of ledger) (capacity_of ledger) (O.room starting.opening.now)
         × CanStart (shape_of starting.geo.now) device (ledger_of ledger) };
 
     ghost relation = { λ starting S suite _ device s ledger _ later_device later_s later_ledger answer.
-        IsStarted suite (O.relation starting.opening.now) starting.geo.now device s ledger later_device later_s later_ledger answer
+        IsStarted suite O.Store.engine O.store O.relation O.holds starting.opening.now starting.geo.now device s ledger later_device later_s later_ledger answer
         × (suite.keys later_s ≡ suite.keys s)
-        × IfOk answer (λ opened. IsUsable (shape_of starting.geo.now) (O.engine_of opened) later_device (ledger_of later_ledger)
-        × ((O.engine_of opened).shape ≡ shape_of starting.geo.now)) };
+        × IfOk answer (λ opened. IsUsable (shape_of starting.geo.now) (O.Store.engine (O.store opened)) later_device (ledger_of later_ledger)
+        × ((O.Store.engine (O.store opened)).shape ≡ shape_of starting.geo.now)) };
 
     fn make<B: Board, S: Suite>(
         &self,
@@ -110,19 +136,20 @@ pub fn start<O: StoreOpening, S: Suite>(
     ledger: &mut Ledger,
     log: &mut AccessLog,
 ) -> CallEnd<Result<O::Opened, StartFault<O::Fault>>>
-    requires can { O.can opening.now (ledger_of ledger.old) (capacity_of ledger.old) }
+    requires can { O.can opening.now }
+    requires room { HasRoom (ledger_of ledger.old) (capacity_of ledger.old) (O.room opening.now) }
     requires size { length (memory_of board.old).lines ≡ device_lines (shape_of geo.now) }
     requires on { (memory_of board.old).powered ≡ true }
     requires regs { IsValidRegs (shape_of geo.now) (memory_of board.old).regs }
     requires ledger { IsOfShape (shape_of geo.now) (ledger_of ledger.old) }
     requires each_sealed { (a : ℕ) → a < data_lines (shape_of geo.now) → IsSome (last_seal (ledger_of ledger.old).marks a) }
-    ensures started { IsStartedOn S.Suite (O.relation opening.now) geo.now board.old suite.old ledger.old
-        board.new result.taken suite.new ledger.new result.answer }
+    ensures started { IsStartedOn S.Suite O.Store.engine O.store O.relation O.holds opening.now geo.now board.old suite.old ledger.old
+        board.new suite.new ledger.new result }
     ensures watched { IsWatched (memory_of board.old) (memory_of board.new) result.taken }
     ensures logged { GoesOn log.old (memory_of board.old) log.new (memory_of board.new) }
     ensures keys { S.keys suite.new ≡ S.keys suite.old }
-    ensures usable { IfOk result.answer (λ opened. IsUsableDuring (shape_of geo.now) (O.engine_of opened) board.new result.taken ledger.new) }
-    ensures shape { IfOk result.answer (λ opened. (O.engine_of opened).shape ≡ shape_of geo.now) }
+    ensures usable { IfOk result.answer (λ opened. IsUsableDuring (shape_of geo.now) (O.Store.engine (O.store opened)) board.new result.taken ledger.new) }
+    ensures shape { IfOk result.answer (λ opened. (O.Store.engine (O.store opened)).shape ≡ shape_of geo.now) }
 {
     make_call(
         &Starting {
@@ -147,16 +174,17 @@ fn recover_and_open<B: Board, O: StoreOpening, S: Suite>(
     suite: &mut S,
     ledger: &mut Ledger,
 ) -> Result<O::Opened, StartFault<O::Fault>>
-    requires can { O.can opening.now (ledger_of ledger.old) (capacity_of ledger.old) }
+    requires can { O.can opening.now }
+    requires room { HasRoom (ledger_of ledger.old) (capacity_of ledger.old) (O.room opening.now) }
     requires size { (B.device board.old).size ≡ device_lines (shape_of geo.now) }
     requires regs { IsValidRegs (shape_of geo.now) (B.device board.old).regs }
     requires ledger { IsOfShape (shape_of geo.now) (ledger_of ledger.old) }
     requires each_sealed { (a : ℕ) → a < data_lines (shape_of geo.now) → IsSome (last_seal (ledger_of ledger.old).marks a) }
-    ensures started { IsStarted S.Suite (O.relation opening.now) geo.now (B.device board.old) suite.old ledger.old
-        (B.device board.new) suite.new ledger.new result }
+    ensures started { IsStartedBy B.Board S.Suite O.Store.engine O.store O.relation O.holds opening.now geo.now
+        board.old suite.old ledger.old board.new suite.new ledger.new result }
     ensures keys { S.keys suite.new ≡ S.keys suite.old }
-    ensures usable { IfOk result (λ opened. IsUsable (shape_of geo.now) (O.engine_of opened) (B.device board.new) (ledger_of ledger.new)) }
-    ensures shape { IfOk result (λ opened. (O.engine_of opened).shape ≡ shape_of geo.now) }
+    ensures usable { IfOk result (λ opened. IsUsable (shape_of geo.now) (O.Store.engine (O.store opened)) (B.device board.new) (ledger_of ledger.new)) }
+    ensures shape { IfOk result (λ opened. (O.Store.engine (O.store opened)).shape ≡ shape_of geo.now) }
 {
     let engine = match recover(alloc, geo, board, suite, ledger) {
         Err(fault) => return Err(StartFault::Recovery(fault)),

@@ -10,8 +10,11 @@ pub mod CommitStates
 pub mod CommitExits
 pub mod Starts
 pub mod RedoLists
+pub mod RedoEnds
 pub mod RedoStates
 pub mod OpeningExits
+pub mod KeptStores
 pub mod NewLaws
+pub mod Served
 pub mod Sessions
 pub mod DeterminedReplies

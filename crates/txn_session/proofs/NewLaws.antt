@@ -1,44 +1,31 @@
 -- A new session: formatting, and the opening of zero lines.
-use Rattle.std.proofs.Common.{ℕ, ◌≡◌, ◌<◌, ◌+◌, inl, inr, List, [], replicate, Some, None, Result, Ok, Err, refl, sym, ap, subst, ◌∙◌, arith, rules}
-use Rattle.txn_session.proofs.Common.{true≢false, get_or-replicate, Line, Mark, line_at, zero_line, Shape, IsShape, Device, BoardMemory, device_of, LedgerState, AreInRange, Setup, plain_line, plain_memory, Fault, EngineState, IsSound, Parts, parts_of, HasReadLine, HasFormatted, Store, Opened, TxnFault, IsHeader, IsLogged, AreEdited, HasStoreOpened, HasStoreStarted, HasTargetsRedone, IsOpenedBy, logged_lines, one_header, zero_logged, logged_size, IsNewTxn, targets_in_force, TxnParts, IsTxnWorld, txn_of}
+use Rattle.std.proofs.Common.{ℕ, ◌≡◌, ◌<◌, ◌+◌, inl, inr, List, [], replicate, Some, None, Result, Ok, Err, refl, sym, ap, subst, subst₂, ◌∙◌, arith, rules}
+use Rattle.txn_session.proofs.Common.{⊤, true≢false, get_or-replicate, Line, LineSession, Mark, line_at, zero_line, Shape, device_of, Setup, plain_memory, Fault, EngineState, IsSound, Parts, parts_of, HasReadLine, Store, Opened, TxnFault, IsHeader, IsLogged, AreEdited, redoing_edits, HasStoreOpened, HasStoreStarted, HasTargetsRedone, IsOpenedBy, IsStoreOpening, logged_lines, one_header, zero_logged, logged_size, IsNewTxn, targets_in_force, txn_left, IsTxnWorld, IsOpenBy, HoldsLogged, StoreSession, Formulas, setup_in, txn_of, stuck_in, on_chip, TxnStore, txn_store}
 use Rattle.pmem_base.specs.Layout as layout
-use Rattle.line_session.proofs.NewSessions.{zero_places, marks_stay, sound_after, new_session}
+use Rattle.line_session.proofs.NewSessions.{zero_places, marks_stay, new_session}
 use Rattle.line_session.specs.State.{IsNewSession}
+use Rattle.line_session.specs.New.{HoldsZeros, HasOpenedNew}
 use Rattle.pmem_engine.specs.declared.fault.Fault.TheVariants as Fail
 use Rattle.line_txn.specs.declared.store.TxnFault.TheVariants as Txn
-use Rattle.txn_session.proofs.Worlds.{few_lines, targets_held, memory_held, logged_is, on_of}
-use Rattle.pmem_engine.specs.Engine.{on_chip}
-use Rattle.std.specs.Prelude.{IfOk, false}
+use Rattle.txn_session.proofs.Worlds.{few_lines, targets_held, memory_held, logged_is}
 
 -- what formatting and the opening leave
 pub record NewTxnCall : Type 0 where
   pub setup : Setup
-  pub whole_shape : IsShape setup.shape
-  pub in_range : AreInRange setup.formulas
-  pub keys : List ℕ
-  -- the board as it is made
-  pub start : Device
-  pub start_writes : start.writes ≡ 0
-  pub start_latches : start.latches ≡ 0
-  pub start_cuts : start.cuts ≡ 0
-  pub middle : BoardMemory
-  pub ledger_middle : LedgerState
-  pub engine : EngineState
-  pub formatted : HasFormatted setup ledger_middle start (device_of middle) engine
-  -- once room for marks was made
-  pub ledger_before : LedgerState
-  pub same_ledger : ledger_before ≡ ledger_middle
-  pub board : BoardMemory
-  pub ledger : LedgerState
-  pub tags : ℕ
-  pub digests : ℕ
-  pub tags_new : ℕ
-  pub digests_new : ℕ
   pub answer : Result (Store × Opened) TxnFault
-  pub opened :
-      HasStoreOpened setup (parts_of engine (device_of middle) ledger_before tags digests)
-      (λ now. parts_of now (device_of board) ledger tags_new digests_new) answer
-  pub up : IfOk answer (λ opened. opened.0.engine.down ≡ false)
+  pub left : LineSession
+  pub it : HasOpenedNew setup (λ engine old now. IsStoreOpening setup engine old now) answer left
+
+-- zero lines are those of a store
+zeros_logged : (setup : Setup) (lines : List Line) → lines ≡ replicate (layout.data_lines setup.shape) zero_line
+    → IsLogged (logged_lines setup.shape) lines [] (replicate (logged_lines setup.shape) zero_line)
+zeros_logged setup lines zeros =
+    subst (λ l. IsLogged (logged_lines setup.shape) l [] (replicate (logged_lines setup.shape) zero_line))
+    (ap (λ k. replicate k zero_line) (logged_size setup.shape) ∙ sym zeros) (zero_logged (logged_lines setup.shape))
+
+pub holds_zeros : (setup : Setup) → HoldsZeros HoldsLogged setup
+holds_zeros setup shape marks zeros =
+    logged_is setup shape (plain_memory setup marks) (replicate (logged_lines setup.shape) zero_line) [] (zeros_logged setup (plain_memory setup marks) zeros)
 
 module _ (c : NewTxnCall) where
   abbrev g : Shape
@@ -48,25 +35,22 @@ module _ (c : NewTxnCall) where
   n = logged_lines g
 
   abbrev from : Parts
-  from = parts_of c.engine (device_of c.middle) c.ledger_before c.tags c.digests
+  from = parts_of c.it.engine (device_of c.it.middle) c.it.ledger c.it.tags c.it.digests
 
   abbrev to : EngineState → Parts
-  to now = parts_of now (device_of c.board) c.ledger c.tags_new c.digests_new
+  to now = parts_of now (device_of c.left.board) c.left.ledger c.left.tags c.left.digests
 
-  sound : IsSound c.setup (on_chip c.engine) c.middle.lines c.middle.regs c.ledger_before
-  sound =
-      subst (IsSound c.setup (on_chip c.engine) c.middle.lines c.middle.regs) (sym c.same_ledger) (c.formatted.sound c.middle.lines refl)
+  sound : IsSound c.setup (on_chip c.it.engine) c.it.middle.lines c.it.middle.regs c.it.ledger
+  sound = c.it.formatted.sound c.it.middle.lines refl
 
-  places : plain_memory c.setup c.ledger_before.marks ≡ replicate (layout.data_lines g) zero_line
-  places =
-      ap (λ ledger. plain_memory c.setup ledger.marks) c.same_ledger ∙ zero_places c.setup c.start c.middle c.ledger_middle c.engine c.formatted
+  places : plain_memory c.setup c.it.ledger.marks ≡ replicate (layout.data_lines g) zero_line
+  places = zero_places c.setup c.it.start c.it.middle c.it.ledger c.it.engine c.it.formatted
 
   size : n + 16 ≡ layout.data_lines g
   size = logged_size g
 
-  begun : IsLogged n (plain_memory c.setup c.ledger_before.marks) [] (replicate n zero_line)
-  begun =
-      subst (λ l. IsLogged n l [] (replicate n zero_line)) (ap (λ k. replicate k zero_line) size ∙ sym places) (zero_logged n)
+  begun : IsLogged n (plain_memory c.setup c.it.ledger.marks) [] (replicate n zero_line)
+  begun = zeros_logged c.setup (plain_memory c.setup c.it.ledger.marks) places
 
   header_inside : n < layout.data_lines g
   header_inside = let its = size in omega (arith, its)
@@ -75,15 +59,15 @@ module _ (c : NewTxnCall) where
   header_read : (new : Parts) (line : Line) → HasReadLine c.setup n from new (Ok line) → IsHeader n line []
   header_read new line it =
       let plain = (it.answered sound.trusted).0 in
-      let zero = ap (λ ledger. plain_line c.setup.formulas ledger.marks n) c.same_ledger ∙ c.formatted.plain n header_inside in
+      let zero = c.it.formatted.plain n header_inside in
       let same : line ≡ zero_line = let both : Some line ≡ Some zero_line = sym plain ∙ zero in search (rules, both) in
-      let here : line_at (plain_memory c.setup c.ledger_before.marks) n ≡ zero_line =
+      let here : line_at (plain_memory c.setup c.it.ledger.marks) n ≡ zero_line =
       ap (λ l. line_at l n) places ∙ get_or-replicate (layout.data_lines g) n zero_line zero_line header_inside in
       subst (λ l. IsHeader n l []) (here ∙ sym same) begun.header
 
   no_targets : (new : Parts) (line : Line) (found : List ℕ) → HasReadLine c.setup n from new (Ok line) → IsHeader n line found → found ≡ []
   no_targets new line found read header =
-      one_header n line found [] (let few = few_lines g c.whole_shape in omega (arith, few)) header (header_read new line read)
+      one_header n line found [] (let few = few_lines g c.it.whole in omega (arith, few)) header (header_read new line read)
 
   -- so the redo does nothing: the header is read
   record IsReadAlone (found : List ℕ) (new : Parts) (redone : Result (Unit {0}) Fault) : Type 0 where
@@ -94,41 +78,51 @@ module _ (c : NewTxnCall) where
 
   read_alone : (found : List ℕ) (new : Parts) (redone : Result (Unit {0}) Fault) → HasTargetsRedone c.setup found from new redone
       → IsReadAlone found new redone
-  read_alone found new redone it = search (rules, no_targets, AreEdited, HasReadLine)
+  read_alone found new redone it =
+      let none = no_targets it.between it.line found it.was_read it.header in
+      let nothing : AreEdited c.setup [] it.between new redone =
+      subst (λ ts. AreEdited c.setup (redoing_edits n ts) it.between new redone) none it.was_redone in
+      record {
+        line = it.line;
+        was_read = subst (λ q. HasReadLine c.setup n from q (Ok it.line)) (sym nothing.1) it.was_read;
+        none = none;
+        done = nothing.0;
+      }
 
   -- ---- the answers
 
-  abbrev pub held : Store → TxnParts
-  held store = record { keys = c.keys; tags = c.tags_new; digests = c.digests_new; board = c.board; ledger = c.ledger; store = Some store; txn = None }
-
   module _ (store : Store) (line : Line) (was : HasReadLine c.setup n from (to store.engine) (Ok line)) (log : store.logged.items ≡ [])
-      (unstuck : store.stuck ≡ None) (up : store.engine.down ≡ false) where
-    marks : c.ledger.marks ≡ c.ledger_before.marks
-    marks = search marks_stay
+      (unstuck : store.stuck ≡ None) where
+    marks : c.left.ledger.marks ≡ c.it.ledger.marks
+    marks = marks_stay c.setup c.it.start c.it.middle c.it.ledger c.it.engine c.it.formatted c.left store.engine c.it.tags c.it.digests n line was
 
-    new : IsNewSession c.setup (txn_of c.setup (held store)).session
-    new = search new_session
+    new : c.left.shape ≡ c.setup.shape → IsNewSession c.setup c.left
+    new shape =
+        new_session c.setup c.it.start c.it.middle c.it.ledger c.it.engine c.it.formatted c.left store.engine c.it.tags c.it.digests n line was
+        c.it.no_writes c.it.no_latches c.it.no_cuts shape
 
-    logged : IsLogged n (plain_memory c.setup c.ledger.marks) [] (replicate n zero_line)
+    logged : IsLogged n (plain_memory c.setup c.left.ledger.marks) [] (replicate n zero_line)
     logged = subst (λ (m : List Mark). IsLogged n (plain_memory c.setup m) [] (replicate n zero_line)) (sym marks) begun
 
-    none_in_force : targets_in_force c.setup (plain_memory c.setup c.ledger.marks) ≡ []
-    none_in_force = targets_held c.setup c.whole_shape (plain_memory c.setup c.ledger.marks) (replicate n zero_line) [] logged
+    none_in_force : targets_in_force c.setup (plain_memory c.setup c.left.ledger.marks) ≡ []
+    none_in_force = targets_held c.setup c.it.whole (plain_memory c.setup c.left.ledger.marks) (replicate n zero_line) [] logged
 
-    pub new_world : IsTxnWorld c.setup (held store)
-    new_world =
-        on_of c.setup (held store) store refl c.whole_shape c.in_range
-        (logged_is c.setup c.whole_shape (plain_memory c.setup c.ledger.marks) (replicate n zero_line) [] logged)
-        new.power up
-        (sound_after c.setup c.start c.middle c.ledger_middle c.engine c.formatted c.board c.ledger_before c.ledger c.same_ledger store.engine c.tags
-        c.digests c.tags_new c.digests_new n line was)
-        (log ∙ sym none_in_force) tt
-
-    pub new_state : IsNewTxn c.setup (txn_of c.setup (held store))
-    new_state =
+    new_world : (session : StoreSession TxnStore) → session.state ≡ c.left → session.store ≡ Some (txn_store store) → IsTxnWorld c.setup session None
+    new_world session is there =
         record {
-          session = new;
-          memory = memory_held c.setup c.whole_shape (plain_memory c.setup c.ledger.marks) (replicate n zero_line) [] logged;
+          logged =
+              subst (λ (s : LineSession). HoldsLogged c.setup s.ledger.marks) (sym is)
+              (logged_is c.setup c.it.whole (plain_memory c.setup c.left.ledger.marks) (replicate n zero_line) [] logged);
+          its_txn =
+              subst₂ (λ (s : LineSession) k. IsOpenBy c.setup (targets_in_force c.setup (plain_memory c.setup s.ledger.marks)) k None) (sym is) (sym there)
+              (log ∙ sym none_in_force, tt);
+        }
+
+    new_state : c.left.shape ≡ c.setup.shape → IsNewTxn c.setup (txn_left c.setup c.left store.stuck None)
+    new_state shape =
+        record {
+          session = new shape;
+          memory = memory_held c.setup c.it.whole (plain_memory c.setup c.left.ledger.marks) (replicate n zero_line) [] logged;
           in_force = none_in_force;
           stuck = unstuck;
           txn = refl;
@@ -136,35 +130,52 @@ module _ (c : NewTxnCall) where
 
   -- the store is opened
   abbrev pub IsStored : Result (Store × Opened) TxnFault → Type 0
-  IsStored (Ok both) = IsTxnWorld c.setup (held both.0) × IsNewTxn c.setup (txn_of c.setup (held both.0))
+  IsStored (Ok both) =
+      ((session : StoreSession TxnStore) → session.state ≡ c.left → session.store ≡ Some (txn_store both.0) → IsTxnWorld c.setup session None)
+      × (c.left.shape ≡ c.setup.shape → IsNewTxn c.setup (txn_left c.setup c.left both.0.stuck None))
   IsStored (Err fault) = ⊥
 
-  stored : (store : Store) (opened : Opened) → HasStoreStarted c.setup from (to store.engine) store opened → store.engine.down ≡ false → IsStored (Ok (store, opened))
-  stored store opened it up =
+  stored : (store : Store) (opened : Opened) → HasStoreStarted c.setup from (to store.engine) store opened → IsStored (Ok (store, opened))
+  stored store opened it =
       let read = read_alone it.targets (to store.engine) it.redone it.was_redone in
       let by : IsOpenedBy (Ok tt) store.lines it.targets store opened =
       subst (λ r. IsOpenedBy r store.lines it.targets store opened) read.done it.its_end in (
-        new_world store read.line read.was_read by.0 by.1 up,
-        new_state store read.line read.was_read by.0 by.1 up,
+        new_world store read.line read.was_read by.0 by.1,
+        new_state store read.line read.was_read by.0 by.1,
       )
 
   fault_none : (fault : Fault) → (let done : Result (Unit {0}) Fault = Ok tt in Err fault ≡ done) → ⊥
-  fault_none fault e = search rules
+  fault_none fault e = subst IsFault e tt
+    where
+      IsFault : Result (Unit {0}) Fault → Type 0
+      IsFault (Ok done) = ⊥
+      IsFault (Err fault) = ⊤
 
-  pub new_outcome : (answer : Result (Store × Opened) TxnFault) → c.answer ≡ answer → IsStored answer
-  new_outcome answer is = subst IsStored is (go c.answer c.opened c.up)
+  pub new_outcome : IsStored c.answer
+  new_outcome = go c.answer (c.it.opened.did (ap (λ (e : EngineState). e.down) c.it.formatted.engine_new)).opened
     where
       unread : (fault : Fault) (new : Parts) → HasReadLine c.setup n from new (Err fault) → ⊥
-      unread Fail.Cut _ it = true≢false (sym c.formatted.steady ∙ it.done.gone.power.0)
+      unread Fail.Cut _ it = true≢false (sym c.it.formatted.steady ∙ it.done.gone.power.0)
       unread (Fail.Spent page) _ it = it.possible
       unread fault _ it = it.unrefused sound
 
-      go : (answer : Result (Store × Opened) TxnFault) → HasStoreOpened c.setup from to answer
-          → IfOk answer (λ (both : Store × Opened). both.0.engine.down ≡ false) → IsStored answer
-      go (Ok both) it up = stored both.0 both.1 it up
-      go (Err (Txn.Engine fault)) it up =
+      go : (answer : Result (Store × Opened) TxnFault) → HasStoreOpened c.setup from to answer → IsStored answer
+      go (Ok both) it = stored both.0 both.1 it
+      go (Err (Txn.Engine fault)) it =
           elim it.1 [
             | inl read ↦ absurd (unread fault (to it.0) read)
             | inr redo ↦ absurd (fault_none fault (read_alone redo.targets (to it.0) (Err fault) redo.was_redone).done)
           ]
-      go (Err (Txn.Header line)) it up = absurd (it.1.none [] (header_read (to it.0) line it.1.was_read))
+      go (Err (Txn.Header line)) it = absurd (it.1.none [] (header_read (to it.0) line it.1.was_read))
+
+-- the session that is new
+pub new_session_held : (formulas_of : List ℕ → Formulas) (setup : Setup) (session : StoreSession TxnStore) (store : Store) (opened : Opened)
+    → session.store ≡ Some (txn_store store) → setup_in formulas_of session.state ≡ setup → session.state.shape ≡ setup.shape
+    → HasOpenedNew setup (λ engine old now. IsStoreOpening setup engine old now) (Ok (store, opened)) session.state
+    → IsTxnWorld (setup_in formulas_of session.state) session None × IsNewTxn setup (txn_of (setup_in formulas_of session.state) session None)
+new_session_held formulas_of setup session store opened there same shape it =
+    let its = new_outcome (record { setup = setup; answer = Ok (store, opened); left = session.state; it = it }) in
+    subst (λ s. IsTxnWorld s session None × IsNewTxn setup (txn_of s session None)) (sym same) (
+      its.0 session refl there,
+      subst (λ k. IsNewTxn setup (txn_left setup session.state (stuck_in k) None)) (sym there) (its.1 shape),
+    )

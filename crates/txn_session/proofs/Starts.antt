@@ -1,37 +1,32 @@
 -- Recovery, and then the opening of the store: the steps of both, and what is known of them.
-use Rattle.std.proofs.Common.{ℕ, ◌≡◌, ◌≤◌, ◌+◌, true, List, None, Result, mul-le-mul_right, rules}
-use Rattle.txn_session.proofs.Common.{Shape, IsShape, BoardMemory, LedgerState, Formulas, recovery_bound, SuiteState, suite_state, Store, Opened, TxnFault, Taken, steps_in, step_limit, device_during, none_taken, IsWatched, read_steps, setup_under, StartFault, HasStartedBy, TxnState, TxnParts, IsTxnWorld, txn_of, IsStoreOpening, most_of_redo}
-use Rattle.line_session.proofs.NewDevices.{few_of_start}
+use Rattle.std.proofs.Common.{ℕ, ◌≡◌, ◌≤◌, ◌+◌, ◌*◌, Bool, true, false, List, Option, None, mul-le-mul_right, arith}
+use Rattle.txn_session.proofs.Common.{◌==◌, if◌then◌else◌, Shape, IsShape, Formulas, recovery_bound, step_limit, read_steps, write_steps, Entries, IsTxnWorld, most_of_redo, few_of_start, StoreSession, IsLineWorld, setup_in, TxnStore}
+use Rattle.txn_session.proofs.Worlds.{engine_of}
 
 pub few_of_on : (g : Shape) → IsShape g → (count : ℕ) → count ≤ 15 → recovery_bound g + read_steps g + most_of_redo g count ≤ step_limit
-few_of_on g shape count few = search (rules, few_of_start, read_steps, mul-le-mul_right)
+few_of_on g shape count few =
+    let recovery = few_of_start g shape in
+    let write : read_steps g + write_steps g ≤ 400 = omega (arith, shape.at_most_six_levels) in
+    let copies : count * (read_steps g + write_steps g) ≤ 15 * (read_steps g + write_steps g) =
+    mul-le-mul_right (read_steps g + write_steps g) few in
+    let redo : most_of_redo g count ≤ 16384 = by_none (count == 0) (omega (arith, write, copies)) in
+    omega (arith, recovery, redo)
+  where
+    by_none : (none : Bool) → count * (read_steps g + write_steps g) + write_steps g ≤ 16384
+        → (if none then 0 else count * (read_steps g + write_steps g) + write_steps g) ≤ 16384
+    by_none true few = omega arith
+    by_none false few = few
 
--- the session's parts as power comes on, what recovery and the opening leave and answer
+-- the session before power comes on, and after it
 pub record OnTxnCall : Type 0 where
   pub formulas_of : List ℕ → Formulas
-  pub geometry : Shape
-  -- before room for marks was made, and after
-  pub before : TxnParts
-  pub ledger_before : LedgerState
-  pub same_ledger : ledger_before ≡ before.ledger
-  pub now : TxnState
-  pub is : txn_of (setup_under formulas_of geometry before.keys) before ≡ now
-  pub world : IsTxnWorld (setup_under formulas_of geometry before.keys) before
-  pub there : before.store ≡ None
-  pub lit : BoardMemory
-  pub lit_is : lit ≡ record before.board { powered = true }
-  pub keys : List ℕ
-  pub same_keys : keys ≡ before.keys
-  pub board : BoardMemory
-  pub ledger : LedgerState
-  pub taken : Taken
-  pub watched : IsWatched lit board taken
-  pub pads_old : ℕ
-  pub suite_new : SuiteState
-  pub said : ℕ
-  pub counted : said ≡ steps_in taken
-  pub answer : Result (Store × Opened) (StartFault TxnFault)
-  pub started :
-      HasStartedBy (setup_under formulas_of geometry before.keys)
-      (λ engine old now. IsStoreOpening (setup_under formulas_of geometry before.keys) engine old now) (device_during lit none_taken) (device_during board taken)
-      ledger_before ledger (suite_state before.keys pads_old before.tags before.digests) suite_new answer
+  pub old : StoreSession TxnStore
+  pub new : StoreSession TxnStore
+  pub txn : Option Entries
+  pub world : IsLineWorld engine_of (setup_in formulas_of old.state) old
+  pub held : IsTxnWorld (setup_in formulas_of old.state) old txn
+  pub there : old.store ≡ None
+  pub left : IsLineWorld engine_of (setup_in formulas_of old.state) new
+  pub steps : ℕ
+  pub shape : new.state.shape ≡ old.state.shape
+  pub keys : new.state.keys ≡ old.state.keys

@@ -1,8 +1,10 @@
--- What a session holds after a call that goes on or is cut.
-use Rattle.std.proofs.Common.{rules, ℕ, ◌≡◌, ◌<◌, ◌≤◌, ◌^◌, true, false, List, length, Option, Some, None, sym, ap, subst, subst₂, ◌∙◌, arith}
-use Rattle.txn_session.proofs.Common.{IfSome, line_at, Shape, IsShape, BoardMemory, LedgerState, AreInRange, Setup, Memory, plain_memory, IsDurable, IsSound, Store, AreTargets, IsLogged, memory_in, targets_of, logged_lines, targets_of_header, logged_size, sealed_in, places_of, few_data, Entries, targets_in_force, redone_memory, TxnParts, IsTxnWorld, IsStoreOn, IsStoredBy}
+-- What a session holds of its store, before and after a call.
+use Rattle.std.proofs.Common.{ℕ, ◌≡◌, ◌<◌, ◌^◌, List, Option, Some, None, refl, sym, ap, subst, subst₂, ◌∙◌, arith}
+use Rattle.txn_session.proofs.Common.{IfSome, line_at, Formulas, IsShape, Shape, Setup, Mark, Memory, plain_memory, EngineState, Store, AreTargets, IsLogged, memory_in, targets_of, logged_lines, targets_of_header, logged_size, few_data, Entries, targets_in_force, redone_memory, IsTxnWorld, IsOpenBy, HoldsLogged, StoreSession, IsLineWorld, line_on_in, setup_in, same_setup, TxnStore, txn_store}
 use Rattle.pmem_base.specs.Layout as layout
-use Rattle.pmem_engine.specs.Engine.{on_chip}
+
+abbrev pub engine_of : TxnStore → EngineState
+engine_of store = store.inner.engine
 
 -- ---- the log
 
@@ -13,7 +15,9 @@ few_lines g shape = let few = few_data g shape in let size = logged_size g in om
 module _ (setup : Setup) (shape : IsShape setup.shape) (lines memory : Memory) (targets : List ℕ)
     (it : IsLogged (logged_lines setup.shape) lines targets memory) where
   pub targets_held : targets_in_force setup lines ≡ targets
-  targets_held = search (rules, targets_of_header, line_at, few_lines)
+  targets_held =
+      targets_of_header (logged_lines setup.shape) (line_at lines (logged_lines setup.shape)) targets
+      (let few = few_lines setup.shape shape in omega (arith, few)) it.header
 
   pub memory_held : redone_memory setup lines ≡ memory
   memory_held = ap (λ ts. memory_in (logged_lines setup.shape) ts lines) targets_held ∙ it.its_memory
@@ -28,53 +32,65 @@ abbrev pub IsOpenTxn : Setup → Option ℕ → Option Entries → Type 0
 IsOpenTxn setup stuck txn =
     IfSome txn (λ entries. (stuck ≡ None) × AreTargets (logged_lines setup.shape) (targets_of entries))
 
--- with power on, where all is sound
-pub on_of : (setup : Setup) (parts : TxnParts) (store : Store) → parts.store ≡ Some store → IsShape setup.shape → AreInRange setup.formulas
-    → IsLogged (logged_lines setup.shape) (plain_memory setup parts.ledger.marks) (targets_in_force setup (plain_memory setup parts.ledger.marks))
-    (redone_memory setup (plain_memory setup parts.ledger.marks))
-    → parts.board.powered ≡ true → store.engine.down ≡ false → IsSound setup (on_chip store.engine) parts.board.lines parts.board.regs parts.ledger
-    → store.logged.items ≡ targets_in_force setup (plain_memory setup parts.ledger.marks) → IsOpenTxn setup store.stuck parts.txn
-    → IsTxnWorld setup parts
-on_of setup parts store there shape formulas logged powered running sound log txn =
-    let sealed = sealed_in setup parts.board.regs parts.ledger sound.trusted.anchored in
-    let chip : IsStoreOn setup parts store = search rules in
-    record {
-      whole_shape = shape;
-      whole_formulas = formulas;
-      whole_lines = sound.durable.device_whole;
-      valid_regs = sound.trusted.anchored.valid_regs;
-      few_armed = omega (arith, ap length sound.trusted.no_group);
-      ledger = sound.trusted.anchored.of_shape;
-      no_exhibit = search (rules, sound.trusted.anchored.no_exhibit);
-      places = places_of setup parts.ledger.marks sealed;
-      logged = logged;
-      chip = subst (λ s. IsStoredBy setup parts s) (sym there) chip;
-    }
+module _ (setup : Setup) (session : StoreSession TxnStore) (store : Store) (there : session.store ≡ Some (txn_store store)) where
+  -- with power on, what is held of the store
+  pub open_as : (txn : Option Entries) → IsTxnWorld setup session txn
+      → (store.logged.items ≡ targets_in_force setup (plain_memory setup session.state.ledger.marks)) × IsOpenTxn setup store.stuck txn
+  open_as txn held =
+      subst (λ s. IsOpenBy setup (targets_in_force setup (plain_memory setup session.state.ledger.marks)) s txn) there held.its_txn
 
-module _ (setup : Setup) (p : TxnParts) (tags digests : ℕ) (board : BoardMemory) (ledger : LedgerState) (world : IsTxnWorld setup p)
-    (logged :
-    IsLogged (logged_lines setup.shape) (plain_memory setup ledger.marks) (targets_in_force setup (plain_memory setup ledger.marks))
-    (redone_memory setup (plain_memory setup ledger.marks))) where
+  -- there are as many lines as the geometry says
+  pub lines_are : IsLineWorld engine_of setup session → store.lines ≡ logged_lines setup.shape
+  lines_are world =
+      let size = store.its_lines in
+      let all = logged_size setup.shape in
+      let same : layout.data_lines store.engine.shape ≡ layout.data_lines setup.shape =
+      ap layout.data_lines (line_on_in engine_of setup session (txn_store store) world there).its_shape in
+      omega (arith, size, same, all)
+
+  -- another transaction is open
+  pub put_world : (txn later : Option Entries) → IsTxnWorld setup session txn → IsOpenTxn setup store.stuck later → IsTxnWorld setup session later
+  put_world txn later held its_txn =
+      record {
+        logged = held.logged;
+        its_txn =
+            subst (λ s. IsOpenBy setup (targets_in_force setup (plain_memory setup session.state.ledger.marks)) s later) (sym there)
+            ((open_as txn held).0, its_txn);
+      }
+
+-- without power none is open
+pub none_open : (setup : Setup) (session : StoreSession TxnStore) (txn : Option Entries) → session.store ≡ None → IsTxnWorld setup session txn → txn ≡ None
+none_open setup session txn none held =
+    subst (λ s. IsOpenBy setup (targets_in_force setup (plain_memory setup session.state.ledger.marks)) s txn) none held.its_txn
+
+module _ (setup : Setup) (marks made : List Mark) (same : made ≡ marks) where
+  -- where no mark is made
+  pub logged_still : HoldsLogged setup marks → HoldsLogged setup made
+  logged_still it = subst (HoldsLogged setup) (sym same) it
+
+  pub same_memory : redone_memory setup (plain_memory setup made) ≡ redone_memory setup (plain_memory setup marks)
+  same_memory = ap (λ (m : List Mark). redone_memory setup (plain_memory setup m)) same
+
+  pub same_targets : targets_in_force setup (plain_memory setup made) ≡ targets_in_force setup (plain_memory setup marks)
+  same_targets = ap (λ (m : List Mark). targets_in_force setup (plain_memory setup m)) same
+
+module _ (formulas_of : List ℕ → Formulas) (old new : StoreSession TxnStore) (shape : new.state.shape ≡ old.state.shape)
+    (keys : new.state.keys ≡ old.state.keys) (logged : HoldsLogged (setup_in formulas_of old.state) new.state.ledger.marks) where
+  abbrev its_setup : Setup
+  its_setup = setup_in formulas_of old.state
+
+  abbrev targets_now : List ℕ
+  targets_now = targets_in_force its_setup (plain_memory its_setup new.state.ledger.marks)
+
   -- after a call with power on
-  pub on_after : (after : Store) (txn : Option Entries) → board.powered ≡ true → after.engine.down ≡ false → IsSound setup (on_chip after.engine) board.lines board.regs ledger
-      → after.logged.items ≡ targets_in_force setup (plain_memory setup ledger.marks) → IsOpenTxn setup after.stuck txn
-      → IsTxnWorld setup (record { keys = p.keys; tags = tags; digests = digests; board = board; ledger = ledger; store = Some after; txn = txn })
-  on_after after txn powered running sound log its_txn = search on_of
+  pub on_after : (after : Store) (txn : Option Entries) → new.store ≡ Some (txn_store after) → after.logged.items ≡ targets_now → IsOpenTxn its_setup after.stuck txn
+      → IsTxnWorld (setup_in formulas_of new.state) new txn
+  on_after after txn is log its_txn =
+      subst (λ s. IsTxnWorld s new txn) (sym (same_setup formulas_of old.state new.state shape keys))
+      (record { logged = logged; its_txn = subst (λ s. IsOpenBy its_setup targets_now s txn) (sym is) (log, its_txn) })
 
-  -- with power off, where the device is durable
-  pub off_after : board.powered ≡ false → IsDurable setup board.lines board.regs ledger → length board.regs.group.items ≤ 3
-      → IsTxnWorld setup (record { keys = p.keys; tags = tags; digests = digests; board = board; ledger = ledger; store = None; txn = None })
-  off_after unpowered durable few = search (places_of, sealed_in)
-
--- with power on, what is held of the store
-pub on_in : (setup : Setup) (p : TxnParts) (store : Store) → IsTxnWorld setup p → p.store ≡ Some store → IsStoreOn setup p store
-on_in setup p store world there = subst (λ s. IsStoredBy setup p s) there world.chip
-
--- there are as many lines as the geometry says
-pub lines_are : (setup : Setup) (p : TxnParts) (store : Store) → IsStoreOn setup p store → store.lines ≡ logged_lines setup.shape
-lines_are setup p store on = search (rules, logged_size)
-
--- another transaction is open
-pub put_world : (setup : Setup) (p : TxnParts) (store : Store) (txn : Option Entries) → IsTxnWorld setup p → p.store ≡ Some store
-    → IsOpenTxn setup store.stuck txn → IsTxnWorld setup (record p { txn = txn })
-put_world setup p store txn world there its_txn = search (rules, on_in)
+  -- with power off
+  pub off_after : new.store ≡ None → IsTxnWorld (setup_in formulas_of new.state) new None
+  off_after is =
+      subst (λ s. IsTxnWorld s new None) (sym (same_setup formulas_of old.state new.state shape keys))
+      (record { logged = logged; its_txn = subst (λ s. IsOpenBy its_setup targets_now s None) (sym is) refl })

@@ -1,8 +1,9 @@
 -- What a served command does, exactly: the board followed the plan of the command's call, the answer is a function of how
 -- the plan ended, and the state after is one of that and of the marks.
-use Rattle.std.specs.Prelude.{ℕ, ◌≡◌, ◌||◌, Bool, List, [], Option, Some, None, unwrap_or, Result, Ok, Err, if◌then◌else◌}
+use Rattle.std.specs.Prelude.{ℕ, ◌≡◌, ◌||◌, Bool, true, false, List, [], Option, Some, None, unwrap_or, Result, Ok, Err, if◌then◌else◌}
 use Rattle.pmem_base.specs.declared.lines.Line.{Line}
 use Rattle.pmem_base.specs.declared.registers.Regs.{Regs}
+use Rattle.pmem_base.specs.declared.faults.MemFault.{MemFault}
 use Rattle.suite.specs.Setup.{Setup}
 use Rattle.pmem_engine.specs.declared.fault.Fault.{Fault}
 use Rattle.pmem_engine.specs.declared.fault.Fault.TheVariants as Fail
@@ -10,11 +11,17 @@ use Rattle.pmem_engine.specs.Plans.{read_plan}
 use Rattle.line_txn.specs.declared.store.Committed.{Committed}
 use Rattle.line_txn.specs.declared.store.Committed.TheVariants as Make
 use Rattle.line_txn.specs.declared.store.CommitFault.{CommitFault}
+use Rattle.line_txn.specs.declared.store.Opened.{Opened}
 use Rattle.line_txn.specs.declared.store.TxnFault.{TxnFault}
 use Rattle.line_txn.specs.Serving.{served_from}
 use Rattle.line_txn.specs.Plans.{OpeningStop, Serving, open_plan, opened_of, commit_plan, commit_answer_of}
 use Rattle.line_session.specs.declared.starts.StartFault.{StartFault}
 use Rattle.line_session.specs.declared.starts.StartFault.TheVariants as Start
+use Rattle.line_session.specs.declared.making.Done.{Done}
+use Rattle.line_session.specs.declared.making.Done.TheVariants.{Off, Range, Ended}
+use Rattle.line_session.specs.declared.powering.Turned.{Turned}
+use Rattle.line_session.specs.declared.powering.Turned.TheVariants.{Already, On, Cut}
+use Rattle.trace_text.specs.declared.talk.Halt.{Halt}
 use Rattle.line_session.specs.State.{LineSession}
 use Rattle.line_session.specs.StoreCalls.{CallPlan, HasCalledStore}
 use Rattle.line_session.specs.Started.{HasStarted}
@@ -78,6 +85,29 @@ abbrev pub open_said : LineSession → ℕ → Result (List ℕ × Regs) (StartF
 open_said left steps (Ok redone) = serving_said left steps (opened_of (Ok redone))
 open_said left steps (Err (Start.Opening stopped)) = serving_said left steps (opened_of (Err stopped))
 open_said left steps (Err (Start.Recovery fault)) = (Say.Cut steps, (None, None))
+
+-- ---- the answers, by what a call of the session comes to
+
+abbrev pub read_done_said : Done Line Fault → TxnAnswer
+read_done_said Off = Say.Off
+read_done_said Range = Say.Range
+read_done_said (Ended steps sealed (Ok line)) = Say.Got line steps
+read_done_said (Ended steps sealed (Err fault)) = Say.Cut steps
+
+abbrev pub is_read_stopped : Result (Done Line Fault) MemFault → Bool
+is_read_stopped (Ok (Ended steps sealed (Err fault))) = true
+is_read_stopped done = false
+
+abbrev pub commit_done_said : Done Committed CommitFault → TxnAnswer
+commit_done_said Off = Say.Off
+commit_done_said Range = Say.Range
+commit_done_said (Ended steps sealed answer) = done_said sealed steps answer
+
+abbrev pub turned_said : Result (Turned Opened) Halt → Result TxnAnswer Halt
+turned_said (Ok Already) = Ok Say.Already
+turned_said (Ok (On steps opened)) = Ok (opened_said opened.redone steps opened.stuck)
+turned_said (Ok (Cut steps)) = Ok (Say.Cut steps)
+turned_said (Err halt) = Err halt
 
 -- ---- the relation
 

@@ -5,21 +5,18 @@ ghost use Rattle.txn_session.specs.declared.commands.TxnCommand.TheVariants as D
 ghost use Rattle.txn_session.specs.State.{txn_setup_in, with_put_line};
 ghost use Rattle.txn_session.specs.Answered.{IsTxnAnswered, is_txn_full, IsTxnMemoryWanted};
 ghost use Rattle.txn_session.specs.Logged.{IsTxnLogged};
+ghost use Rattle.txn_session.specs.Planned.{commit_done_said};
 
 use crate::answers::TxnAnswer;
 use crate::calls::CommitTxn;
 use crate::world::TxnWorld;
 use access_log::AccessLog;
 use arrayvec::ArrayVec;
-use line_session::{call, has_own_seal};
+use line_session::Done;
 use line_txn::{CommitFault, Committed};
 use pmem_base::{Line, MemFault};
 use pmem_engine::Fault;
-use seal_ledger::Audit;
 use suite::Suite;
-
-/// The most marks of a commit: thirty-two writes of an engine.
-const COMMIT_MARKS: u32 = 2112;
 
 /// The place that a data line has in a transaction.
 fn place_in(txn: &[(u32, Line)], at: u32) -> Option<usize>
@@ -55,15 +52,38 @@ fn put_line(txn: &mut ArrayVec<(u32, Line), 15>, at: u32, line: &Line) -> bool
     }
 }
 
+/// The answer of a commit, by what its call comes to: with power on, and no line asked for, it is made.
+fn commit_answer(done: Done<Committed, CommitFault>) -> TxnAnswer
+    ensures { result ≡ commit_done_said done }
+{
+    match done {
+        Done::Off => TxnAnswer::Off,
+        Done::Range => TxnAnswer::Range,
+        Done::Ended {
+            steps,
+            sealed,
+            answer,
+        } => match answer {
+            Ok(Committed::Applied) => TxnAnswer::Applied { steps },
+            Ok(Committed::Stuck { page }) => TxnAnswer::Stuck { page, steps },
+            Err(CommitFault { fault, committed }) => match fault {
+                Fault::Spent { page } => TxnAnswer::Spent { page, steps },
+                _ if committed || sealed => TxnAnswer::CutKept { steps },
+                _ => TxnAnswer::CutLost { steps },
+            },
+        },
+    }
+}
+
 impl<S: Suite + Drop> TxnWorld<S> {
     /// A transaction is opened.
     pub(crate) fn begin(&mut self) -> TxnAnswer
         ensures { IsTxnAnswered (txn_setup_in S.formulas_of self.old) self.old Do.Begin result self.new }
     {
-        let Some(store) = &self.store else {
+        let Some(store) = self.session.store() else {
             return TxnAnswer::Off;
         };
-        if let Some(page) = store.stuck() {
+        if let Some(page) = store.inner.stuck() {
             return TxnAnswer::Blocked { page };
         }
         if self.txn.is_some() {
@@ -77,13 +97,13 @@ impl<S: Suite + Drop> TxnWorld<S> {
     pub(crate) fn put(&mut self, at: u64, line: &Line) -> TxnAnswer
         ensures { IsTxnAnswered (txn_setup_in S.formulas_of self.old) self.old (Do.Put at line.now) result self.new }
     {
-        let Some(store) = &self.store else {
+        let Some(store) = self.session.store() else {
             return TxnAnswer::Off;
         };
         let Some(txn) = &mut self.txn else {
             return TxnAnswer::Closed;
         };
-        if at >= u64::from(store.lines()) {
+        if at >= u64::from(store.inner.lines()) {
             return TxnAnswer::Range;
         }
         if put_line(txn, at as u32, line) {
@@ -97,7 +117,7 @@ impl<S: Suite + Drop> TxnWorld<S> {
     pub(crate) fn abort(&mut self) -> TxnAnswer
         ensures { IsTxnAnswered (txn_setup_in S.formulas_of self.old) self.old Do.Abort result self.new }
     {
-        if self.store.is_none() {
+        if self.session.store().is_none() {
             return TxnAnswer::Off;
         }
         if self.txn.is_none() {
@@ -114,9 +134,9 @@ impl<S: Suite + Drop> TxnWorld<S> {
         ensures wanting { OnErr result (IsTxnMemoryWanted self.old Do.Commit) }
         ensures logged { IsTxnLogged Do.Commit log.old self.old log.new self.new }
     {
-        let Some(store) = &mut self.store else {
+        if self.session.store().is_none() {
             return Ok(TxnAnswer::Off);
-        };
+        }
         let Some(txn) = &self.txn else {
             return Ok(TxnAnswer::Closed);
         };
@@ -124,37 +144,8 @@ impl<S: Suite + Drop> TxnWorld<S> {
             self.txn = None;
             return Ok(TxnAnswer::Applied { steps: 0 });
         }
-        self.ledger.reserve(COMMIT_MARKS)?;
-        let from = self.ledger.marks().len();
-        let header = store.lines();
-        let done = call(
-            &CommitTxn { txn },
-            store,
-            &mut self.board,
-            &mut self.suite,
-            &mut self.ledger,
-            log,
-        );
+        let done = self.session.make(&CommitTxn { txn }, log)?;
         self.txn = None;
-        let steps = done.taken.steps();
-        match done.answer {
-            Ok(Committed::Applied) => Ok(TxnAnswer::Applied { steps }),
-            Ok(Committed::Stuck { page }) => Ok(TxnAnswer::Stuck { page, steps }),
-            Err(CommitFault { fault, committed }) => match fault {
-                Fault::Spent { page } => Ok(TxnAnswer::Spent { page, steps }),
-                Fault::Cut => {
-                    self.store = None;
-                    if committed || has_own_seal(&self.ledger.marks()[from..], header) {
-                        Ok(TxnAnswer::CutKept { steps })
-                    } else {
-                        Ok(TxnAnswer::CutLost { steps })
-                    }
-                }
-                // Over a sound device no other fault comes.
-                Fault::Down | Fault::Meta { .. } | Fault::Tag { .. } | Fault::Shown => {
-                    unreachable!()
-                }
-            },
-        }
+        Ok(commit_answer(done))
     }
 }

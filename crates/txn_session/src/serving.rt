@@ -1,26 +1,27 @@
 //! Reads.
-ghost use Rattle.std.specs.Prelude.{◌≡◌, [], option_map, unwrap_or};
+ghost use Rattle.std.specs.Prelude.{◌≡◌, [], None, option_map, unwrap_or, IfOk, IsOk, if◌then◌else◌};
 ghost use Rattle.txn_session.specs.declared.commands.TxnCommand.TheVariants as Do;
 ghost use Rattle.txn_session.specs.State.{txn_setup_in, entry_in};
 ghost use Rattle.txn_session.specs.Answered.{IsTxnAnswered};
 ghost use Rattle.txn_session.specs.Logged.{IsTxnLogged};
+ghost use Rattle.txn_session.specs.Planned.{is_read_stopped, read_done_said};
 
 use crate::answers::TxnAnswer;
 use crate::calls::ReadLine;
 use crate::world::TxnWorld;
 use access_log::AccessLog;
 use arrayvec::ArrayVec;
-use line_session::call;
-use pmem_base::Line;
+use line_session::Done;
+use pmem_base::{Line, MemFault};
 use pmem_engine::Fault;
 use suite::Suite;
 
 /// The line that a transaction holds for a data line.
-fn line_put(txn: &[(u32, Line)], at: u32) -> Option<Line>
+fn line_put(txn: &[(u32, Line)], at: u64) -> Option<Line>
     ensures { result ≡ entry_in txn.now at }
 {
     for (target, line) in txn {
-        if *target == at {
+        if u64::from(*target) == at {
             return Some(*line);
         }
     }
@@ -28,12 +29,46 @@ fn line_put(txn: &[(u32, Line)], at: u32) -> Option<Line>
 }
 
 /// The line that the open transaction holds for a data line.
-fn line_held(txn: &Option<ArrayVec<(u32, Line), 15>>, at: u32) -> Option<Line>
+fn line_held(txn: &Option<ArrayVec<(u32, Line), 15>>, at: u64) -> Option<Line>
     ensures { result ≡ entry_in (unwrap_or (option_map (λ entries. entries.items) txn.now) []) at }
 {
     match txn {
         Some(entries) => line_put(entries, at),
         None => None,
+    }
+}
+
+/// Whether power was cut in a read.
+fn is_read_cut(done: &Result<Done<Line, Fault>, MemFault>) -> bool
+    ensures { result ≡ is_read_stopped done.now }
+{
+    matches!(done, Ok(Done::Ended { answer: Err(_), .. }))
+}
+
+/// Drops the open transaction where power was cut.
+fn close_if(txn: &mut Option<ArrayVec<(u32, Line), 15>>, cut: bool)
+    ensures { option_map (λ entries. entries.items) txn.new ≡ (if cut then None else option_map (λ entries. entries.items) txn.old) }
+{
+    if cut {
+        *txn = None;
+    }
+}
+
+/// The answer of a read, by what its call comes to.
+fn read_answer(done: Result<Done<Line, Fault>, MemFault>) -> TxnAnswer
+    requires { IsOk done }
+    ensures { IfOk done (λ done. result ≡ read_done_said done) }
+{
+    match done {
+        // A read makes no mark.
+        Err(MemFault) => unreachable!(),
+        Ok(Done::Off) => TxnAnswer::Off,
+        Ok(Done::Range) => TxnAnswer::Range,
+        Ok(Done::Ended { steps, answer, .. }) => match answer {
+            Ok(line) => TxnAnswer::Got { line, steps },
+            // Over a sound device no other fault comes.
+            Err(_fault) => TxnAnswer::Cut { steps },
+        },
     }
 }
 
@@ -43,33 +78,14 @@ impl<S: Suite + Drop> TxnWorld<S> {
         ensures answered { IsTxnAnswered (txn_setup_in S.formulas_of self.old) self.old (Do.Read at) result self.new }
         ensures logged { IsTxnLogged (Do.Read at) log.old self.old log.new self.new }
     {
-        let Some(store) = &mut self.store else {
+        if self.session.store().is_none() {
             return TxnAnswer::Off;
-        };
-        if at >= u64::from(store.lines()) {
-            return TxnAnswer::Range;
         }
-        if let Some(line) = line_held(&self.txn, at as u32) {
+        if let Some(line) = line_held(&self.txn, at) {
             return TxnAnswer::Got { line, steps: 0 };
         }
-        let done = call(
-            &ReadLine { at: at as u32 },
-            store,
-            &mut self.board,
-            &mut self.suite,
-            &mut self.ledger,
-            log,
-        );
-        let steps = done.taken.steps();
-        match done.answer {
-            Ok(line) => TxnAnswer::Got { line, steps },
-            Err(Fault::Cut) => {
-                self.store = None;
-                self.txn = None;
-                TxnAnswer::Cut { steps }
-            }
-            // Over a sound device no other fault comes.
-            Err(_) => unreachable!(),
-        }
+        let done = self.session.make(&ReadLine { at }, log);
+        close_if(&mut self.txn, is_read_cut(&done));
+        read_answer(done)
     }
 }

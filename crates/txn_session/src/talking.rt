@@ -77,7 +77,6 @@ impl<S: Counted + Drop> Talk for TxnWorld<S> {
     }
 
     fn work(&self) -> (u64, u64) {
-        let (_, tags, digests) = self.suite.counts();
-        (tags, digests)
+        self.session.work()
     }
 }

@@ -1,29 +1,19 @@
 -- Answers as contracts write them.
-use Rattle.std.proofs.Common.{ℕ, ◌≡◌, ◌<◌, true, List, Option, None, refl, sym, ap, subst, rules}
-use Rattle.wear_session.proofs.Common.{lt-ltb, Shape, Formulas, Setup, setup_under, WearCommand, WearAnswer, WearState, wear_setup_in, wear_lines_in, WearParts, IsWearWorld, wear_of, IsWearCalled, wear_of_line, wear_decided, wear_after_decided, IsWearServed, IsWearAnswered, IsWearAnsweredAs}
+use Rattle.std.proofs.Common.{ℕ, ◌≡◌, ◌<◌, Bool, true, false, Option, Some, None, refl, sym, ap, subst, ◌∙◌}
+use Rattle.wear_session.proofs.Common.{nat_lt, if◌then◌else◌, lt-ltb, Setup, WearCommand, WearAnswer, WearState, wear_lines_in, IsWearCalled, wear_of_line, wear_decided, wear_after_decided, wear_without_power, IsWearServed, IsWearAnswered, IsWearAnsweredAs}
 use Rattle.wear_session.specs.declared.commands.WearCommand.TheVariants as Do
 use Rattle.wear_session.specs.declared.answers.WearAnswer.TheVariants as Say
 
 -- with power on and a line that there is, the inner answer holds
 pub of_line_is : (state : WearState) (a : ℕ) (answer : Option WearAnswer) → state.session.board.powered ≡ true → a < wear_lines_in state → wear_of_line state a answer ≡ answer
-of_line_is state a answer lit low = search (rules, lt-ltb)
+of_line_is state a answer lit low =
+    ap (λ b. if b then (if nat_lt a (wear_lines_in state) then answer else Some Say.Range) else Some Say.Off) lit
+    ∙ ap (λ b. if b then answer else Some Say.Range) (lt-ltb a (wear_lines_in state) low)
 
 -- where the state decides nothing, the engine does
 pub served : (setup : Setup) (old new : WearState) (command : WearCommand) (answer : WearAnswer) → wear_decided old command ≡ None
     → IsWearServed setup old command answer new → IsWearCalled setup old command answer new → IsWearAnswered setup old command answer new
 served setup old new command answer none it called = subst (λ d. IsWearAnsweredAs d setup old command answer new) (sym none) (it, called)
-
--- an answer, as a contract writes it; the suite's keys stay
-pub seen_from : (formulas_of : List ℕ → Formulas) (g : Shape) (p q : WearParts) (now : WearState) (keys : List ℕ) (command : WearCommand) (answer : WearAnswer)
-    → wear_of (setup_under formulas_of g p.keys) p ≡ now → keys ≡ p.keys → q.keys ≡ p.keys
-    → IsWearAnswered (setup_under formulas_of g p.keys) (wear_of (setup_under formulas_of g p.keys) p) command answer (wear_of (setup_under formulas_of g p.keys) q)
-    → IsWearAnswered (wear_setup_in formulas_of now) now command answer (wear_of (setup_under formulas_of g keys) (record q { keys = keys }))
-seen_from formulas_of g p q now keys command answer is same its it = search (rules, setup_under)
-
-pub held_under : (formulas_of : List ℕ → Formulas) (g : Shape) (p q : WearParts) (keys : List ℕ) → keys ≡ p.keys
-    → IsWearWorld (setup_under formulas_of g p.keys) (record q { keys = p.keys }) → IsWearWorld (setup_under formulas_of g keys) (record q { keys = keys })
-held_under formulas_of g p q keys same it =
-    subst (λ (k : List ℕ). IsWearWorld (setup_under formulas_of g k) (record q { keys = k })) (sym same) it
 
 -- ---- what no answer changes
 
@@ -34,7 +24,11 @@ pub record IsKept (old new : WearState) : Type 0 where
   pub every : new.every ≡ old.every
 
 kept_decided : (old : WearState) (command : WearCommand) → IsKept old (wear_after_decided old command)
-kept_decided old Do.Off = search rules
+kept_decided old Do.Off = kept_off old.session.board.powered
+  where
+    kept_off : (b : Bool) → IsKept old (if b then wear_without_power old else old)
+    kept_off true = record { shape = refl; keys = refl; every = refl }
+    kept_off false = record { shape = refl; keys = refl; every = refl }
 kept_decided old command = record { shape = refl; keys = refl; every = refl }
 
 kept_called : (setup : Setup) (old new : WearState) (command : WearCommand) (answer : WearAnswer) → IsWearCalled setup old command answer new → IsKept old new
@@ -45,4 +39,8 @@ kept_called setup old new command answer it = absurd it.0
 
 pub kept_always : (setup : Setup) (old new : WearState) (command : WearCommand) (answer : WearAnswer) → IsWearAnswered setup old command answer new
     → IsKept old new
-kept_always setup old new command answer it = search rules
+kept_always setup old new command answer it = by_decided (wear_decided old command) it
+  where
+    by_decided : (decided : Option WearAnswer) → IsWearAnsweredAs decided setup old command answer new → IsKept old new
+    by_decided (Some fixed) its = subst (IsKept old) (sym its.1) (kept_decided old command)
+    by_decided None its = kept_called setup old new command answer its.1

@@ -1,149 +1,165 @@
 -- A new session: formatting, and the opening of zero lines.
-use Rattle.std.proofs.Common.{ℕ, ◌≡◌, ◌<◌, ◌≤◌, ◌+◌, List, replicate, Some, Result, Ok, Err, refl, sym, ap, subst, ◌∙◌, arith, rules}
-use Rattle.wear_session.proofs.Common.{none-some, true≢false, get_or-replicate, Line, Mark, line_at, zero_line, Shape, IsShape, Device, BoardMemory, device_of, LedgerState, AreInRange, Setup, plain_memory, EngineState, IsSound, Parts, parts_of, HasReadLine, HasFormatted, Gapped, GapFault, first_wear, recorded, IsLevelled, HasGappedOpened, HasReadRecord, logical_lines, zero_levelled, least_lines, IsNewWear, wear_in, WearParts, IsWearWorld, wear_of}
+use Rattle.std.proofs.Common.{ℕ, ◌≡◌, ◌<◌, ◌≤◌, ◌+◌, List, replicate, Some, Result, Ok, Err, refl, sym, ap, subst, subst₂, ◌∙◌, arith, rules}
+use Rattle.wear_session.proofs.Common.{none-some, true≢false, get_or-replicate, Line, LineSession, Mark, line_at, zero_line, IsShape, device_of, Setup, plain_memory, EngineState, IsSound, Parts, parts_of, HasReadLine, Gapped, LevelledLines, levelled_lines, GapFault, first_wear, recorded, IsLevelled, HasGappedOpened, HasReadRecord, IsLevelledOpening, logical_lines, zero_levelled, least_lines, IsNewWear, wear_in, wear_left, IsWearWorld, StoreSession, IsLevelledAs, HoldsLevelled, Formulas, setup_in, wear_of, on_chip}
 use Rattle.pmem_base.specs.Layout as layout
 use Rattle.line_session.specs.State.{IsNewSession}
+use Rattle.line_session.specs.New.{HoldsZeros, HasOpenedNew, IsNewFault}
+use Rattle.line_session.specs.declared.session.NewFault.{NewFault}
+use Rattle.line_session.specs.declared.session.NewFault.TheVariants as New
 use Rattle.pmem_engine.specs.declared.fault.Fault.TheVariants as Fail
 use Rattle.start_gap.specs.declared.gapped.GapFault.TheVariants as Gap
 use Rattle.line_session.proofs.NewDevices.{few_data}
-use Rattle.line_session.proofs.NewSessions.{zero_places, marks_stay, sound_after, new_session}
+use Rattle.line_session.proofs.NewSessions.{zero_places, marks_stay, new_session}
 use Rattle.wear_session.proofs.Levels.{wear_is, memory_held, levelled_is}
-use Rattle.wear_session.proofs.Worlds.{on_of}
-use Rattle.pmem_engine.specs.Engine.{on_chip}
-use Rattle.std.specs.Prelude.{IfOk, false}
+use Rattle.std.specs.Prelude.{IfSome, IfErr}
+use Rattle.wear_session.specs.World.{count_in}
 
 -- what formatting and the opening leave
 pub record NewWearCall : Type 0 where
   pub setup : Setup
-  pub whole_shape : IsShape setup.shape
-  pub in_range : AreInRange setup.formulas
-  pub keys : List ℕ
   pub every : ℕ
   pub some_every : 1 ≤ every
-  -- the board as it is made
-  pub start : Device
-  pub start_writes : start.writes ≡ 0
-  pub start_latches : start.latches ≡ 0
-  pub start_cuts : start.cuts ≡ 0
-  pub middle : BoardMemory
-  pub ledger_middle : LedgerState
-  pub engine : EngineState
-  pub formatted : HasFormatted setup ledger_middle start (device_of middle) engine
-  pub board : BoardMemory
-  pub ledger : LedgerState
-  pub tags : ℕ
-  pub digests : ℕ
-  pub tags_new : ℕ
-  pub digests_new : ℕ
   pub answer : Result Gapped GapFault
-  pub opened :
-      HasGappedOpened setup every (parts_of engine (device_of middle) ledger_middle tags digests)
-      (λ now. parts_of now (device_of board) ledger tags_new digests_new) answer
-  pub up : IfOk answer (λ gapped. gapped.engine.down ≡ false)
+  pub left : LineSession
+  pub it : HasOpenedNew setup (λ engine old now. IsLevelledOpening setup every engine old now) answer left
+
+-- zero lines are levelled
+module _ (setup : Setup) (shape : IsShape setup.shape) where
+  abbrev n : ℕ
+  n = logical_lines setup.shape
+
+  size : n + 2 ≡ layout.data_lines setup.shape
+  size = let least = least_lines setup.shape in omega (arith, least)
+
+  levelled_zeros : (lines : List Line) → lines ≡ replicate (layout.data_lines setup.shape) zero_line
+      → IsLevelled n lines (first_wear n) (replicate n zero_line)
+  levelled_zeros lines zeros =
+      subst (λ l. IsLevelled n l (first_wear n) (replicate n zero_line)) (ap (λ k. replicate k zero_line) size ∙ sym zeros)
+      (zero_levelled n (let least = least_lines setup.shape in omega (arith, least)) (let few = few_data setup.shape shape in omega (arith, few)))
+
+pub holds_zeros : (setup : Setup) → HoldsZeros HoldsLevelled setup
+holds_zeros setup shape marks zeros =
+    levelled_is setup (plain_memory setup marks) (replicate (logical_lines setup.shape) zero_line) (first_wear (logical_lines setup.shape))
+    (levelled_zeros setup shape (plain_memory setup marks) zeros)
 
 module _ (c : NewWearCall) where
-  abbrev g : Shape
-  g = c.setup.shape
-
-  abbrev n : ℕ
-  n = logical_lines g
+  abbrev lines : ℕ
+  lines = logical_lines c.setup.shape
 
   abbrev from : Parts
-  from = parts_of c.engine (device_of c.middle) c.ledger_middle c.tags c.digests
+  from = parts_of c.it.engine (device_of c.it.middle) c.it.ledger c.it.tags c.it.digests
 
   abbrev to : EngineState → Parts
-  to now = parts_of now (device_of c.board) c.ledger c.tags_new c.digests_new
+  to now = parts_of now (device_of c.left.board) c.left.ledger c.left.tags c.left.digests
 
-  sound : IsSound c.setup (on_chip c.engine) c.middle.lines c.middle.regs c.ledger_middle
-  sound = c.formatted.sound c.middle.lines refl
+  sound : IsSound c.setup (on_chip c.it.engine) c.it.middle.lines c.it.middle.regs c.it.ledger
+  sound = c.it.formatted.sound c.it.middle.lines refl
 
-  places : plain_memory c.setup c.ledger_middle.marks ≡ replicate (layout.data_lines g) zero_line
-  places = zero_places c.setup c.start c.middle c.ledger_middle c.engine c.formatted
+  places : plain_memory c.setup c.it.ledger.marks ≡ replicate (layout.data_lines c.setup.shape) zero_line
+  places = zero_places c.setup c.it.start c.it.middle c.it.ledger c.it.engine c.it.formatted
 
-  size : n + 2 ≡ layout.data_lines g
-  size = let least = least_lines g in omega (arith, least)
+  begun : IsLevelled lines (plain_memory c.setup c.it.ledger.marks) (first_wear lines) (replicate lines zero_line)
+  begun = levelled_zeros c.setup c.it.whole (plain_memory c.setup c.it.ledger.marks) places
 
-  begun : IsLevelled n (plain_memory c.setup c.ledger_middle.marks) (first_wear n) (replicate n zero_line)
-  begun =
-      subst (λ l. IsLevelled n l (first_wear n) (replicate n zero_line))
-      (ap (λ k. replicate k zero_line) size ∙ sym places)
-      (zero_levelled n (let least = least_lines g in omega (arith, least)) (let few = few_data g c.whole_shape in omega (arith, few)))
-
-  record_inside : n + 1 < layout.data_lines g
-  record_inside = let its = size in omega (arith, its)
+  record_inside : lines + 1 < layout.data_lines c.setup.shape
+  record_inside = let its = size c.setup c.it.whole in omega (arith, its)
 
   -- the record that is read is the first wear's
-  first_read : (new : Parts) (line : Line) → HasReadLine c.setup (n + 1) from new (Ok line) → recorded n line ≡ Some (first_wear n)
+  first_read : (new : Parts) (line : Line) → HasReadLine c.setup (lines + 1) from new (Ok line) → recorded lines line ≡ Some (first_wear lines)
   first_read new line it =
       let plain = (it.answered sound.trusted).0 in
-      let zero = c.formatted.plain (n + 1) record_inside in
+      let zero = c.it.formatted.plain (lines + 1) record_inside in
       let same : line ≡ zero_line = let both : Some line ≡ Some zero_line = sym plain ∙ zero in search (rules, both) in
-      let here : line_at (plain_memory c.setup c.ledger_middle.marks) (n + 1) ≡ zero_line =
-      ap (λ l. line_at l (n + 1)) places ∙ get_or-replicate (layout.data_lines g) (n + 1) zero_line zero_line record_inside in
-      ap (recorded n) (same ∙ sym here) ∙ begun.its_record
+      let here : line_at (plain_memory c.setup c.it.ledger.marks) (lines + 1) ≡ zero_line =
+      ap (λ l. line_at l (lines + 1)) places ∙ get_or-replicate (layout.data_lines c.setup.shape) (lines + 1) zero_line zero_line record_inside in
+      ap (recorded lines) (same ∙ sym here) ∙ begun.its_record
 
   -- ---- the answers
 
-  abbrev pub held : Gapped → WearParts
-  held gapped = record { keys = c.keys; tags = c.tags_new; digests = c.digests_new; every = c.every; board = c.board; ledger = c.ledger; gapped = Some gapped }
-
-  module _ (gapped : Gapped) (line : Line) (read : HasReadRecord c.setup c.every line from (to gapped.engine) gapped)
-      (up : gapped.engine.down ≡ false) where
-    was : HasReadLine c.setup (n + 1) from (to gapped.engine) (Ok line)
+  module _ (gapped : Gapped) (line : Line) (read : HasReadRecord c.setup c.every line from (to gapped.engine) gapped) where
+    was : HasReadLine c.setup (lines + 1) from (to gapped.engine) (Ok line)
     was = subst (λ k. HasReadLine c.setup (k + 1) from (to gapped.engine) (Ok line)) read.its_lines read.was_read
 
-    marks : c.ledger.marks ≡ c.ledger_middle.marks
-    marks = search marks_stay
+    marks : c.left.ledger.marks ≡ c.it.ledger.marks
+    marks =
+        marks_stay c.setup c.it.start c.it.middle c.it.ledger c.it.engine c.it.formatted c.left gapped.engine c.it.tags c.it.digests (lines + 1) line was
 
-    new : IsNewSession c.setup (wear_of c.setup (held gapped)).session
-    new = search new_session
+    new : c.left.shape ≡ c.setup.shape → IsNewSession c.setup c.left
+    new shape =
+        new_session c.setup c.it.start c.it.middle c.it.ledger c.it.engine c.it.formatted c.left gapped.engine c.it.tags c.it.digests (lines + 1) line was
+        c.it.no_writes c.it.no_latches c.it.no_cuts shape
 
-    its_wear : gapped.wear ≡ first_wear n
+    its_wear : gapped.wear ≡ first_wear lines
     its_wear =
-        let both : Some gapped.wear ≡ Some (first_wear n) =
+        let both : Some gapped.wear ≡ Some (first_wear lines) =
         sym read.its_wear ∙ ap (λ k. recorded k line) read.its_lines ∙ first_read (to gapped.engine) line was in
         search (rules, both)
 
-    levelled : IsLevelled n (plain_memory c.setup c.ledger.marks) (first_wear n) (replicate n zero_line)
+    levelled : IsLevelled lines (plain_memory c.setup c.left.ledger.marks) (first_wear lines) (replicate lines zero_line)
     levelled =
-        subst (λ (m : List Mark). IsLevelled n (plain_memory c.setup m) (first_wear n) (replicate n zero_line)) (sym marks) begun
+        subst (λ (m : List Mark). IsLevelled lines (plain_memory c.setup m) (first_wear lines) (replicate lines zero_line)) (sym marks) begun
 
-    wear_first : wear_in c.setup (plain_memory c.setup c.ledger.marks) ≡ first_wear n
-    wear_first = wear_is c.setup (plain_memory c.setup c.ledger.marks) (replicate n zero_line) (first_wear n) levelled
+    wear_first : wear_in c.setup (plain_memory c.setup c.left.ledger.marks) ≡ first_wear lines
+    wear_first = wear_is c.setup (plain_memory c.setup c.left.ledger.marks) (replicate lines zero_line) (first_wear lines) levelled
 
-    pub new_world : IsWearWorld c.setup (held gapped)
-    new_world =
-        on_of c.setup (held gapped) gapped refl c.whole_shape c.in_range c.some_every
-        (levelled_is c.setup (plain_memory c.setup c.ledger.marks) (replicate n zero_line) (first_wear n) levelled)
-        new.power up
-        (sound_after c.setup c.start c.middle c.ledger_middle c.engine c.formatted c.board c.ledger_middle c.ledger refl gapped.engine c.tags c.digests
-        c.tags_new c.digests_new (n + 1) line was)
-        read.its_every (its_wear ∙ sym wear_first)
-
-    pub new_state : IsNewWear c.setup c.every (wear_of c.setup (held gapped))
-    new_state =
+    new_world : (session : StoreSession LevelledLines) → session.state ≡ c.left → session.store ≡ Some (levelled_lines gapped) → IsWearWorld c.setup c.every session
+    new_world session is there =
         record {
-          session = new;
+          some_every = c.some_every;
+          levelled =
+              subst (λ (s : LineSession). HoldsLevelled c.setup s.ledger.marks) (sym is)
+              (levelled_is c.setup (plain_memory c.setup c.left.ledger.marks) (replicate lines zero_line) (first_wear lines) levelled);
+          its_store =
+              subst₂ (λ (s : LineSession) g. IfSome g (IsLevelledAs c.setup c.every s.ledger.marks)) (sym is) (sym there)
+              (record { its_every = read.its_every; its_wear = its_wear ∙ sym wear_first });
+        }
+
+    new_state : c.left.shape ≡ c.setup.shape → IsNewWear c.setup c.every (wear_left c.setup c.every c.left gapped.count)
+    new_state shape =
+        record {
+          session = new shape;
           its_every = refl;
           some_every = c.some_every;
-          memory = memory_held c.setup (plain_memory c.setup c.ledger.marks) (replicate n zero_line) (first_wear n) levelled;
+          memory = memory_held c.setup (plain_memory c.setup c.left.ledger.marks) (replicate lines zero_line) (first_wear lines) levelled;
           wear = wear_first;
           count = read.no_writes;
         }
 
   -- the lines are opened
   abbrev pub IsGapped : Result Gapped GapFault → Type 0
-  IsGapped (Ok gapped) = IsWearWorld c.setup (held gapped) × IsNewWear c.setup c.every (wear_of c.setup (held gapped))
+  IsGapped (Ok gapped) =
+      ((session : StoreSession LevelledLines) → session.state ≡ c.left → session.store ≡ Some (levelled_lines gapped) → IsWearWorld c.setup c.every session)
+      × (c.left.shape ≡ c.setup.shape → IsNewWear c.setup c.every (wear_left c.setup c.every c.left gapped.count))
   IsGapped (Err fault) = ⊥
 
-  pub new_outcome : (answer : Result Gapped GapFault) → c.answer ≡ answer → IsGapped answer
-  new_outcome answer is = subst IsGapped is (go c.answer c.opened c.up)
+  pub new_outcome : IsGapped c.answer
+  new_outcome = go c.answer (c.it.opened.did (ap (λ (e : EngineState). e.down) c.it.formatted.engine_new)).opened
     where
-      go : (answer : Result Gapped GapFault) → HasGappedOpened c.setup c.every from to answer → IfOk answer (λ (gapped : Gapped). gapped.engine.down ≡ false)
-          → IsGapped answer
-      go (Ok gapped) it up = (new_world gapped it.0 it.1 up, new_state gapped it.0 it.1 up)
-      go (Err (Gap.Engine Fail.Cut)) it up =
-          absurd (true≢false (sym c.formatted.steady ∙ it.1.done.gone.power.0))
-      go (Err (Gap.Engine (Fail.Spent page))) it up = absurd it.1.possible
-      go (Err (Gap.BadWear line)) it up = absurd (none-some (first_wear n) (sym it.2 ∙ first_read (to it.0) line it.1))
-      go (Err (Gap.Engine fault)) it up = absurd (it.1.unrefused sound)
+      go : (answer : Result Gapped GapFault) → HasGappedOpened c.setup c.every from to answer → IsGapped answer
+      go (Ok gapped) it = (new_world gapped it.0 it.1, new_state gapped it.0 it.1)
+      go (Err (Gap.Engine Fail.Cut)) it =
+          absurd (true≢false (sym c.it.formatted.steady ∙ it.1.done.gone.power.0))
+      go (Err (Gap.Engine (Fail.Spent page))) it = absurd it.1.possible
+      go (Err (Gap.BadWear line)) it = absurd (none-some (first_wear lines) (sym it.2 ∙ first_read (to it.0) line it.1))
+      go (Err (Gap.Engine fault)) it = absurd (it.1.unrefused sound)
+
+-- the session that is new
+pub new_session_held : (formulas_of : List ℕ → Formulas) (setup : Setup) (every : ℕ) (session : StoreSession LevelledLines) (gapped : Gapped) → 1 ≤ every
+    → session.store ≡ Some (levelled_lines gapped) → setup_in formulas_of session.state ≡ setup → session.state.shape ≡ setup.shape
+    → HasOpenedNew setup (λ engine old now. IsLevelledOpening setup every engine old now) (Ok gapped) session.state
+    → IsWearWorld (setup_in formulas_of session.state) every session × IsNewWear setup every (wear_of (setup_in formulas_of session.state) every session)
+new_session_held formulas_of setup every session gapped some there same shape it =
+    let its =
+    new_outcome (record { setup = setup; every = every; some_every = some; answer = Ok gapped; left = session.state; it = it }) in
+    subst (λ s. IsWearWorld s every session × IsNewWear setup every (wear_of s every session)) (sym same) (
+      its.0 session refl there,
+      subst (λ g. IsNewWear setup every (wear_left setup every session.state (count_in g))) (sym there) (its.1 shape),
+    )
+
+-- no new session's lines stay unopened
+pub opens_always : {T : Type 0} (setup : Setup) (every : ℕ) → 1 ≤ every → (answer : Result T (NewFault GapFault))
+    → IfErr answer (IsNewFault (λ setup engine old now. IsLevelledOpening setup every engine old now) setup) → (fault : GapFault)
+    → answer ≡ Err (New.Opening fault) → ⊥
+opens_always setup every some answer it fault is =
+    let its = subst (λ r. IfErr r (IsNewFault (λ setup engine old now. IsLevelledOpening setup every engine old now) setup)) is it in
+    new_outcome (record { setup = setup; every = every; some_every = some; answer = Err fault; left = its.0; it = its.1 })

@@ -1,153 +1,96 @@
--- A read of a logical line as the session's fields have it: it shows memory's line, or power is cut.
-use Rattle.std.proofs.Common.{ℕ, ◌≡◌, ◌<◌, ◌++◌, true, false, List, [], Option, Some, None, Ok, Err, refl, sym, ap, subst, ◌∙◌, arith, cond, rules}
-use Rattle.wear_session.proofs.Common.{unwrap_or, option_map, Result, append-nil, same_Some, Line, Mark, line_at, BoardMemory, LedgerState, Setup, plain_memory, path_length, Parts, parts_of, going, cut_short, OneLossEffect, HasReadLine, Gapped, place_of, HasWear, logical_lines, IsLevelled, places, Taken, steps_in, step_limit, device_during, none_taken, IsWatched, at_most, fewer, wear_in, levelled_memory, WearState, wear_setup_in, place_in, WearParts, IsWearWorld, IsLevelledOn, wear_of, HasWearRead, wear_of_line, wear_decided, IsWearAnswered, true≢false, Shape, ended, Follows, Formulas, Fault, chip_of, read_plan, setup_under, has_called, kept_of, WearAnswer, IsWearCalled, read_call, read_said}
-use Rattle.wear_session.proofs.Worlds.{on_in, lines_are, on_after, off_after}
-use Rattle.wear_session.proofs.AnswerClauses.{of_line_is, served, seen_from, held_under}
+-- A read of a logical line in the session: it shows memory's line, or power is cut.
+use Rattle.std.proofs.Common.{ℕ, ◌≡◌, ◌<◌, ◌≤◌, Bool, true, false, List, [], Some, None, Ok, Err, refl, sym, ap, subst, ◌∙◌, arith, cond}
+use Rattle.wear_session.proofs.Common.{Result, append-nil, same_Some, Line, line_at, Setup, plain_memory, path_length, Parts, going, cut_short, OneLossEffect, HasReadLine, LevelledLines, count_in, place_of, logical_lines, places, step_limit, none_taken, at_most, fewer, WearState, place_in, IsWearWorld, wear_of, HasWearRead, wear_decided, IsWearAnswered, true≢false, Formulas, Fault, ended, Follows, device_during, chip_in, read_plan, on_chip, WearAnswer, read_call, read_said, StoreSession, IsLineWorld, IsLineOn, line_on_in, setup_in, HasMade, parts_during, called_store, HasReadAt}
+use Rattle.wear_session.proofs.Worlds.{engine_of, levelled_as, lines_are, count_is, levelled_still, same_memory, same_wear, on_after, off_after}
+use Rattle.wear_session.proofs.AnswerClauses.{of_line_is, served}
 use Rattle.pmem_base.specs.Layout as layout
 use Rattle.pmem_engine.specs.declared.fault.Fault.TheVariants as Fail
 use Rattle.wear_session.specs.declared.answers.WearAnswer.TheVariants as Say
 use Rattle.wear_session.specs.declared.commands.WearCommand.TheVariants as Do
-use Rattle.pmem_engine.specs.Engine.{on_chip}
-use Rattle.call_effects.specs.Outcomes.{is_going}
-use Rattle.pmem_engine.specs.Outcomes.{outcome_of}
-use Rattle.std.specs.Prelude.{◌||◌, not}
+use Rattle.wear_session.specs.World.{IsLevelledAs}
+use Rattle.wear_session.specs.Planned.{got_said}
 
--- the session's parts as the read finds them, what it leaves and answers
+-- the session before and after the read
 pub record ReadWearCall : Type 0 where
   pub formulas_of : List ℕ → Formulas
-  pub geometry : Shape
-  pub parts : WearParts
-  pub now : WearState
-  pub is : wear_of (setup_under formulas_of geometry parts.keys) parts ≡ now
-  pub world : IsWearWorld (setup_under formulas_of geometry parts.keys) parts
-  pub gapped : Gapped
-  pub there : parts.gapped ≡ Some gapped
+  pub every : ℕ
+  pub old : StoreSession LevelledLines
+  pub new : StoreSession LevelledLines
+  pub world : IsLineWorld engine_of (setup_in formulas_of old.state) old
+  pub held : IsWearWorld (setup_in formulas_of old.state) every old
   pub at : ℕ
-  pub within : at < gapped.lines
-  pub after : Gapped
-  pub wear : HasWear gapped.wear gapped.count gapped after
-  pub keys : List ℕ
-  pub same_keys : keys ≡ parts.keys
-  pub board : BoardMemory
-  pub ledger : LedgerState
-  pub taken : Taken
-  pub watched : IsWatched parts.board board taken
-  pub tags_new : ℕ
-  pub digests_new : ℕ
-  pub said : ℕ
-  pub counted : said ≡ steps_in taken
+  pub store : LevelledLines
+  pub there : old.store ≡ Some store
+  pub within : at < store.gapped.lines
+  pub steps : ℕ
   pub answer : Result Line Fault
-  pub was_read :
-      HasReadLine (setup_under formulas_of gapped.engine.shape parts.keys) (place_of gapped.lines gapped.wear at)
-      (parts_of gapped.engine (device_during parts.board none_taken) parts.ledger parts.tags parts.digests)
-      (parts_of after.engine (device_during board taken) ledger tags_new digests_new) answer
-  pub down : after.engine.down ≡ (gapped.engine.down || not (is_going (outcome_of answer)))
-  pub plan :
-      Follows (read_plan (setup_under formulas_of gapped.engine.shape parts.keys) parts.board.regs (place_of gapped.lines gapped.wear at)
-      (chip_of gapped.engine parts.ledger parts.tags parts.digests))
-      (device_during parts.board none_taken) (device_during board taken) (ended answer (chip_of after.engine ledger tags_new digests_new))
+  pub made : HasMade engine_of (λ setup old new from to answer. HasReadAt setup at old.gapped new.gapped from to answer) (setup_in formulas_of old.state) store steps answer old new
 
 module _ (c : ReadWearCall) where
   abbrev setup : Setup
-  setup = setup_under c.formulas_of c.geometry c.parts.keys
-
-  abbrev p : WearParts
-  p = c.parts
+  setup = setup_in c.formulas_of c.old.state
 
   abbrev old : WearState
-  old = wear_of setup p
+  old = wear_of setup c.every c.old
+
+  abbrev new : WearState
+  new = wear_of setup c.every c.new
 
   abbrev place : ℕ
-  place = place_of c.gapped.lines c.gapped.wear c.at
+  place = place_of c.store.gapped.lines c.store.gapped.wear c.at
+
+  abbrev after : LevelledLines
+  after = c.made.after
 
   abbrev from : Parts
-  from = parts_of c.gapped.engine (device_during p.board none_taken) p.ledger p.tags p.digests
+  from = parts_during c.store.gapped.engine c.old.state none_taken
 
   abbrev to : Parts
-  to = parts_of c.after.engine (device_during c.board c.taken) c.ledger c.tags_new c.digests_new
+  to = parts_during after.gapped.engine c.new.state c.made.taken
 
-  abbrev pub left : Option Gapped → WearParts
-  left gapped = record { keys = p.keys; tags = c.tags_new; digests = c.digests_new; every = p.every; board = c.board; ledger = c.ledger; gapped = gapped }
+  on : IsLineOn setup c.old.state c.store.gapped.engine
+  on = line_on_in engine_of setup c.old c.store c.world c.there
 
-  abbrev pub left_under : Option Gapped → WearParts
-  left_under gapped = record { keys = c.keys; tags = c.tags_new; digests = c.digests_new; every = p.every; board = c.board; ledger = c.ledger; gapped = gapped }
+  its : IsLevelledAs setup c.every c.old.state.ledger.marks c.store
+  its = levelled_as setup c.every c.old c.store c.there c.held
 
-  on : IsLevelledOn setup p c.gapped
-  on = on_in setup p c.gapped c.world c.there
+  n_is : c.store.gapped.lines ≡ logical_lines setup.shape
+  n_is = lines_are setup c.every c.old c.store c.there c.world
 
-  n_is : c.gapped.lines ≡ logical_lines c.geometry
-  n_is = lines_are setup p c.gapped on
-
-  running_by : (answer : Result Line Fault) → c.answer ≡ answer → is_going (outcome_of answer) ≡ true → c.after.engine.down ≡ false
-  running_by answer is goes = search rules
+  was_read : HasReadLine setup place from to c.answer
+  was_read = (c.made.made.read.did on.running).was_read
 
   read_as : (answer : Result Line Fault) → c.answer ≡ answer → HasReadLine setup place from to answer
-  read_as answer is = search (rules, HasReadLine, setup_under)
+  read_as answer is = subst (HasReadLine setup place from to) is was_read
 
-  undecided : wear_of_line old c.at None ≡ None
+  pub undecided : wear_decided old (Do.Read c.at) ≡ None
   undecided = let n = n_is in let low = c.within in of_line_is old c.at None on.powered (omega (arith, n, low))
 
-  pub undecided_now : wear_decided c.now (Do.Read c.at) ≡ None
-  undecided_now = subst (λ (w : WearState). wear_decided w (Do.Read c.at) ≡ None) c.is undecided
-
-  -- ---- the call of the session
-
-  count_is : old.count ≡ c.gapped.count
-  count_is = ap (λ (g : Option Gapped). unwrap_or (option_map (λ (k : Gapped). k.count) g) 0) c.there
+  count_old : old.count ≡ c.store.gapped.count
+  count_old = count_is setup c.every c.old c.store c.there
 
   place_is : place ≡ place_in old c.at
-  place_is = ap (λ k. place_of k c.gapped.wear c.at) n_is ∙ ap (λ w. place_of (logical_lines c.geometry) w c.at) on.its_wear
-
-  abbrev FollowsFrom : Setup → ℕ → Type 0
-  FollowsFrom its at =
-      Follows (read_plan its p.board.regs at (chip_of c.gapped.engine p.ledger p.tags p.digests)) (device_during p.board none_taken)
-      (device_during c.board c.taken) (ended c.answer (chip_of c.after.engine c.ledger c.tags_new c.digests_new))
-
-  called : (gapped : Option Gapped) (said : WearAnswer) → gapped ≡ cond c.board.powered (Some c.after) None
-      → (c.board.powered ≡ false → steps_in c.taken < step_limit)
-      → (let end : WearAnswer × ℕ = (said, (wear_of setup (left gapped)).count) in
-      end ≡ read_said old.count (wear_of setup (left gapped)).session (steps_in c.taken) c.answer)
-      → IsWearCalled setup old (Do.Read c.at) said (wear_of setup (left gapped))
-  called gapped said kept within is = (
-    record {
-      steps = steps_in c.taken;
-      end = c.answer;
-      called =
-          has_called (read_call setup old c.at) c.answer old.session (wear_of setup (left gapped)).session (on_chip c.gapped.engine)
-          (on_chip c.after.engine) c.taken on.powered (ap (option_map (λ (k : Gapped). on_chip k.engine)) c.there)
-          (kept_of (λ (k : Gapped). on_chip k.engine) gapped c.after c.board.powered kept) refl refl c.watched within
-          (subst (λ n. FollowsFrom setup n) place_is (subst (λ s. FollowsFrom (setup_under c.formulas_of s p.keys) place) on.its_shape c.plan));
-      is_said = is;
-    },
-    refl,
-  )
+  place_is = ap (λ k. place_of k c.store.gapped.wear c.at) n_is ∙ ap (λ w. place_of (logical_lines setup.shape) w c.at) its.its_wear
 
   -- what is answered, by what the call did
-  seen_as : (gapped : Option Gapped) (say : ℕ → WearAnswer) → HasWearRead old c.at (say (steps_in c.taken)) (wear_of setup (left gapped))
-      → IsWearCalled setup old (Do.Read c.at) (say (steps_in c.taken)) (wear_of setup (left gapped))
-      → IsWearAnswered (wear_setup_in c.formulas_of c.now) c.now (Do.Read c.at) (say c.said)
-      (wear_of (setup_under c.formulas_of c.geometry c.keys) (left_under gapped))
-  seen_as gapped say read it =
-      subst (λ (k : ℕ). IsWearAnswered (wear_setup_in c.formulas_of c.now) c.now (Do.Read c.at) (say k)
-      (wear_of (setup_under c.formulas_of c.geometry c.keys) (left_under gapped))) (sym c.counted)
-      (seen_from c.formulas_of c.geometry p (left gapped) c.now c.keys (Do.Read c.at) (say (steps_in c.taken)) c.is c.same_keys refl
-      (served setup old (wear_of setup (left gapped)) (Do.Read c.at) (say (steps_in c.taken)) undecided read it))
-
-  -- ---- where no mark is made
-
-  module _ (made : c.ledger.marks ≡ p.ledger.marks ++ []) where
-    marks : c.ledger.marks ≡ p.ledger.marks
-    marks = made ∙ append-nil p.ledger.marks
-
-    levelled : IsLevelled (logical_lines c.geometry) (plain_memory setup c.ledger.marks) (wear_in setup (plain_memory setup c.ledger.marks))
-        (levelled_memory setup (plain_memory setup c.ledger.marks))
-    levelled = search (rules, plain_memory)
-
-    same_memory : levelled_memory setup (plain_memory setup c.ledger.marks) ≡ old.memory
-    same_memory = ap (λ (m : List Mark). levelled_memory setup (plain_memory setup m)) marks
-
-    same_wear : wear_in setup (plain_memory setup c.ledger.marks) ≡ old.wear
-    same_wear = ap (λ (m : List Mark). wear_in setup (plain_memory setup m)) marks
+  seen_as : (said : WearAnswer) → HasWearRead old c.at said new → (c.new.state.board.powered ≡ false → c.steps < step_limit)
+      → (let end : WearAnswer × ℕ = (said, new.count) in end ≡ read_said old.count c.new.state c.steps c.answer)
+      → IsWearAnswered setup old (Do.Read c.at) said new
+  seen_as said read within is =
+      served setup old new (Do.Read c.at) said undecided read (
+        record {
+          steps = c.steps;
+          end = c.answer;
+          called =
+              called_store engine_of (λ setup old new from to answer. HasReadAt setup c.at old.gapped new.gapped from to answer) setup (read_call setup old c.at) c.store
+              c.steps c.answer c.answer c.old c.new c.world c.there c.made within
+              (subst (λ n. Follows (read_plan setup c.old.state.board.regs n (chip_in c.old.state (on_chip c.store.gapped.engine)))
+              (device_during c.old.state.board none_taken) (device_during c.new.state.board c.made.taken)
+              (ended c.answer (chip_in c.new.state (on_chip after.gapped.engine)))) place_is was_read.plan);
+          is_said = is;
+        },
+        refl,
+      )
 
   -- ---- answered
 
@@ -158,49 +101,57 @@ module _ (c : ReadWearCall) where
     done : OneLossEffect setup going [] from to
     done = it.done
 
-    powered : c.board.powered ≡ true
+    marks : c.new.state.ledger.marks ≡ c.old.state.ledger.marks
+    marks = done.gone.marks ∙ append-nil c.old.state.ledger.marks
+
+    powered : c.new.state.board.powered ≡ true
     powered = done.gone.power.1 on.powered
 
-    pub got_held : IsWearWorld (setup_under c.formulas_of c.geometry c.keys) (left_under (Some c.after))
+    stays : c.new.store ≡ Some after
+    stays = c.made.its_store ∙ ap (λ b. cond b (Some after) None) powered
+
+    count_new : new.count ≡ old.count
+    count_new = count_is setup c.every c.new after stays ∙ c.made.made.its_wear.its_count ∙ sym count_old
+
+    got_held : IsWearWorld (setup_in c.formulas_of c.new.state) c.every c.new
     got_held =
-        held_under c.formulas_of c.geometry p (left (Some c.after)) c.keys c.same_keys
-        (on_after setup p c.tags_new c.digests_new c.board c.ledger c.world (levelled done.gone.marks) c.after powered (running_by (Ok line) is refl) (done.gone.sound on.sound)
-        (c.wear.its_every ∙ on.its_every) (c.wear.its_wear ∙ on.its_wear ∙ sym (same_wear done.gone.marks)))
+        on_after c.formulas_of c.every c.old c.new c.made.shape c.made.keys c.held.some_every
+        (levelled_still setup c.old.state.ledger.marks c.new.state.ledger.marks marks c.held.levelled) after stays
+        (c.made.made.its_wear.its_every ∙ its.its_every)
+        (c.made.made.its_wear.its_wear ∙ its.its_wear ∙ sym (same_wear setup c.old.state.ledger.marks c.new.state.ledger.marks marks))
 
     shown : line ≡ line_at old.memory c.at
     shown =
         let n = n_is in
         let low = c.within in
-        let inside : c.at < logical_lines c.geometry = omega (arith, n, low) in
-        let most = (places c.gapped.lines c.gapped.wear c.gapped.its_wear).within c.at c.within in
-        let same : layout.data_lines c.gapped.engine.shape ≡ layout.data_lines c.geometry = ap layout.data_lines on.its_shape in
-        let size = c.gapped.its_lines in
-        let place_within : place < layout.data_lines c.geometry = omega (arith, most, same, size) in
+        let inside : c.at < logical_lines setup.shape = omega (arith, n, low) in
+        let most = (places c.store.gapped.lines c.store.gapped.wear c.store.gapped.its_wear).within c.at c.within in
+        let same : layout.data_lines c.store.gapped.engine.shape ≡ layout.data_lines setup.shape = ap layout.data_lines on.its_shape in
+        let size = c.store.gapped.its_lines in
+        let place_within : place < layout.data_lines setup.shape = omega (arith, most, same, size) in
         same_Some line _ (sym (it.answered on.sound.trusted).0 ∙ c.world.places.each place place_within)
-        ∙ ap (line_at (plain_memory setup p.ledger.marks)) place_is ∙ c.world.levelled.holds.each c.at inside
+        ∙ ap (line_at (plain_memory setup c.old.state.ledger.marks)) place_is ∙ c.held.levelled.holds.each c.at inside
 
-    pub got_seen : IsWearAnswered (wear_setup_in c.formulas_of c.now) c.now (Do.Read c.at) (Say.Got line c.said)
-        (wear_of (setup_under c.formulas_of c.geometry c.keys) (left_under (Some c.after)))
+    got_seen : IsWearAnswered setup old (Do.Read c.at) (Say.Got line c.steps) new
     got_seen =
-        seen_as (Some c.after) (λ k. Say.Got line k) (
+        seen_as (Say.Got line c.steps) (
           shown,
           (
             record {
-              memory = same_memory done.gone.marks;
-              wear = same_wear done.gone.marks;
-              count = c.wear.its_count ∙ sym count_is;
+              memory = same_memory setup c.old.state.ledger.marks c.new.state.ledger.marks marks;
+              wear = same_wear setup c.old.state.ledger.marks c.new.state.ledger.marks marks;
+              count = count_new;
               power = powered ∙ sym on.powered;
               loss = done.loss;
-              marks = marks done.gone.marks;
+              marks = marks;
             },
-            at_most c.taken (path_length c.geometry) c.watched.follows.few it.steps_of_path.0.sum,
+            subst (λ k. k ≤ path_length setup.shape) (sym c.made.its_steps)
+                (at_most c.made.taken (path_length setup.shape) c.made.watched.follows.few it.steps_of_path.0.sum),
           ),
-        )
-        (called (Some c.after) (Say.Got line (steps_in c.taken)) (sym (ap (λ b. cond b (Some c.after) None) powered))
-        (λ dark. absurd (true≢false (sym powered ∙ dark)))
-        (ap (λ (k : ℕ). (let end : WearAnswer × ℕ = (Say.Got line (steps_in c.taken), k) in end))
-        (c.wear.its_count ∙ sym count_is ∙ sym (ap (λ b. cond b old.count 0) powered))
-        ∙ sym (ap (read_said old.count (wear_of setup (left (Some c.after))).session (steps_in c.taken)) is)))
+        ) (λ dark. absurd (true≢false (sym powered ∙ dark)))
+        (ap (λ (k : ℕ). (let end : WearAnswer × ℕ = (Say.Got line c.steps, k) in end))
+        (count_new ∙ sym (ap (λ b. cond b old.count 0) powered))
+        ∙ sym (ap (read_said old.count c.new.state c.steps) is))
 
   -- ---- cut
 
@@ -211,32 +162,57 @@ module _ (c : ReadWearCall) where
     cut_done : OneLossEffect setup cut_short [] from to
     cut_done = cut.done
 
-    off : c.board.powered ≡ false
+    marks_cut : c.new.state.ledger.marks ≡ c.old.state.ledger.marks
+    marks_cut = cut_done.gone.marks ∙ append-nil c.old.state.ledger.marks
+
+    off : c.new.state.board.powered ≡ false
     off = cut_done.gone.power.1
 
-    pub cut_held : IsWearWorld (setup_under c.formulas_of c.geometry c.keys) (left_under None)
-    cut_held =
-        held_under c.formulas_of c.geometry p (left None) c.keys c.same_keys
-        (off_after setup p c.tags_new c.digests_new c.board c.ledger c.world (levelled cut_done.gone.marks) off (cut_done.gone.sound on.sound)
-        (cut_done.gone.small_group on.sound.trusted.no_group))
+    gone : c.new.store ≡ None
+    gone = c.made.its_store ∙ ap (λ b. cond b (Some after) None) off
 
-    pub cut_seen : IsWearAnswered (wear_setup_in c.formulas_of c.now) c.now (Do.Read c.at) (Say.Cut c.said)
-        (wear_of (setup_under c.formulas_of c.geometry c.keys) (left_under None))
+    no_count : new.count ≡ 0
+    no_count = ap count_in gone
+
+    cut_held : IsWearWorld (setup_in c.formulas_of c.new.state) c.every c.new
+    cut_held =
+        off_after c.formulas_of c.every c.old c.new c.made.shape c.made.keys c.held.some_every
+        (levelled_still setup c.old.state.ledger.marks c.new.state.ledger.marks marks_cut c.held.levelled) gone
+
+    cut_seen : IsWearAnswered setup old (Do.Read c.at) (Say.Cut c.steps) new
     cut_seen =
         let levels = c.world.whole_shape.at_most_six_levels in
-        let below : steps_in c.taken < path_length c.geometry =
-        fewer c.taken (path_length c.geometry) c.watched.follows.few (cut.steps_of_path.1 on.powered).sum in
-        seen_as None (λ k. Say.Cut k) (
+        let below : c.steps < path_length setup.shape =
+        subst (λ k. k < path_length setup.shape) (sym c.made.its_steps)
+        (fewer c.made.taken (path_length setup.shape) c.made.watched.follows.few (cut.steps_of_path.1 on.powered).sum) in
+        seen_as (Say.Cut c.steps) (
           record {
-            memory = same_memory cut_done.gone.marks;
-            wear = same_wear cut_done.gone.marks;
-            count = refl;
+            memory = same_memory setup c.old.state.ledger.marks c.new.state.ledger.marks marks_cut;
+            wear = same_wear setup c.old.state.ledger.marks c.new.state.ledger.marks marks_cut;
+            count = no_count;
             power = off;
             loss = cut_done.loss;
-            marks = marks cut_done.gone.marks;
+            marks = marks_cut;
           },
           below,
-        )
-        (called None (Say.Cut (steps_in c.taken)) (sym (ap (λ b. cond b (Some c.after) None) off)) (λ dark. omega (arith, levels, below))
-        (ap (λ (k : ℕ). (let end : WearAnswer × ℕ = (Say.Cut (steps_in c.taken), k) in end)) (sym (ap (λ b. cond b old.count 0) off))
-        ∙ sym (ap (read_said old.count (wear_of setup (left None)).session (steps_in c.taken)) is)))
+        ) (λ dark. omega (arith, levels, below))
+        (ap (λ (k : ℕ). (let end : WearAnswer × ℕ = (Say.Cut c.steps, k) in end)) (no_count ∙ sym (ap (λ b. cond b old.count 0) off))
+        ∙ sym (ap (read_said old.count c.new.state c.steps) is))
+
+  -- ---- what is held, and what is answered
+
+  abbrev pub Exit : WearAnswer → Type 0
+  Exit said = IsWearWorld (setup_in c.formulas_of c.new.state) c.every c.new × IsWearAnswered setup old (Do.Read c.at) said new
+
+  -- over a sound device no other fault comes
+  not_read : (fault : Fault) → c.answer ≡ Err fault → Exit (Say.Cut c.steps)
+  not_read Fail.Cut is = (cut_held is, cut_seen is)
+  not_read (Fail.Spent page) is = absurd ((read_as (Err (Fail.Spent page)) is).possible)
+  not_read fault is = absurd ((read_as (Err fault) is).unrefused on.sound)
+
+  pub exit : (sealed : Bool) → Exit (got_said c.steps sealed c.answer)
+  exit sealed = go c.answer refl
+    where
+      go : (answer : Result Line Fault) → c.answer ≡ answer → Exit (got_said c.steps sealed answer)
+      go (Ok line) is = (got_held line is, got_seen line is)
+      go (Err fault) is = not_read fault is

@@ -1,54 +1,62 @@
--- What a session holds after a call that goes on or is cut.
-use Rattle.std.proofs.Common.{rules, ℕ, ◌≡◌, ◌≤◌, true, false, length, Some, None, sym, ap, subst, arith}
-use Rattle.wear_session.proofs.Common.{IsShape, BoardMemory, LedgerState, AreInRange, Setup, plain_memory, IsDurable, IsSound, sealed_in, places_of, Gapped, IsLevelled, logical_lines, wear_in, levelled_memory, WearParts, IsWearWorld, IsLevelledOn, IsLevelledBy}
+-- What a session holds of its levelled lines, before and after a call.
+use Rattle.std.proofs.Common.{ℕ, ◌≡◌, ◌≤◌, List, Some, None, sym, ap, subst, arith}
+use Rattle.wear_session.proofs.Common.{Mark, Formulas, Setup, EngineState, plain_memory, LevelledLines, logical_lines, wear_in, levelled_memory, IsWearWorld, wear_of, count_in, StoreSession, IsLineWorld, setup_in, same_setup, line_on_in}
 use Rattle.pmem_base.specs.Layout as layout
-use Rattle.pmem_engine.specs.Engine.{on_chip}
+use Rattle.std.specs.Prelude.{IfSome}
+use Rattle.wear_session.specs.StoreCalls.{HoldsLevelled}
+use Rattle.wear_session.specs.World.{IsLevelledAs}
 
--- ---- what is held
+abbrev pub engine_of : LevelledLines → EngineState
+engine_of store = store.gapped.engine
 
--- with power on, what is held of the levelled lines
-pub on_in : (setup : Setup) (p : WearParts) (gapped : Gapped) → IsWearWorld setup p → p.gapped ≡ Some gapped → IsLevelledOn setup p gapped
-on_in setup p gapped world there = subst (λ g. IsLevelledBy setup p g) there world.chip
+module _ (setup : Setup) (every : ℕ) (session : StoreSession LevelledLines) (store : LevelledLines) (there : session.store ≡ Some store) where
+  pub levelled_as : IsWearWorld setup every session → IsLevelledAs setup every session.state.ledger.marks store
+  levelled_as held = subst (λ s. IfSome s (IsLevelledAs setup every session.state.ledger.marks)) there held.its_store
 
--- there are as many lines as the geometry says
-pub lines_are : (setup : Setup) (p : WearParts) (gapped : Gapped) → IsLevelledOn setup p gapped → gapped.lines ≡ logical_lines setup.shape
-lines_are setup p gapped on = search rules
+  -- there are as many lines as the geometry says
+  pub lines_are : IsLineWorld engine_of setup session → store.gapped.lines ≡ logical_lines setup.shape
+  lines_are world =
+      let size = store.gapped.its_lines in
+      let same : layout.data_lines store.gapped.engine.shape ≡ layout.data_lines setup.shape =
+      ap layout.data_lines (line_on_in engine_of setup session store world there).its_shape in
+      omega (arith, size, same)
 
--- with power on, where all is sound
-pub on_of : (setup : Setup) (parts : WearParts) (gapped : Gapped) → parts.gapped ≡ Some gapped → IsShape setup.shape → AreInRange setup.formulas
-    → 1 ≤ parts.every
-    → IsLevelled (logical_lines setup.shape) (plain_memory setup parts.ledger.marks) (wear_in setup (plain_memory setup parts.ledger.marks))
-    (levelled_memory setup (plain_memory setup parts.ledger.marks))
-    → parts.board.powered ≡ true → gapped.engine.down ≡ false → IsSound setup (on_chip gapped.engine) parts.board.lines parts.board.regs parts.ledger → gapped.every ≡ parts.every
-    → gapped.wear ≡ wear_in setup (plain_memory setup parts.ledger.marks) → IsWearWorld setup parts
-on_of setup parts gapped there shape formulas some levelled powered running sound every wear =
-    let sealed = sealed_in setup parts.board.regs parts.ledger sound.trusted.anchored in
-    let chip : IsLevelledOn setup parts gapped = search rules in
-    record {
-      whole_shape = shape;
-      whole_formulas = formulas;
-      some_every = some;
-      whole_lines = sound.durable.device_whole;
-      valid_regs = sound.trusted.anchored.valid_regs;
-      few_armed = omega (arith, ap length sound.trusted.no_group);
-      ledger = sound.trusted.anchored.of_shape;
-      no_exhibit = search (rules, sound.trusted.anchored.no_exhibit);
-      places = places_of setup parts.ledger.marks sealed;
-      levelled = levelled;
-      chip = subst (λ g. IsLevelledBy setup parts g) (sym there) chip;
-    }
+  pub count_is : (wear_of setup every session).count ≡ store.gapped.count
+  count_is = ap count_in there
 
-module _ (setup : Setup) (p : WearParts) (tags digests : ℕ) (board : BoardMemory) (ledger : LedgerState) (world : IsWearWorld setup p)
-    (levelled :
-    IsLevelled (logical_lines setup.shape) (plain_memory setup ledger.marks) (wear_in setup (plain_memory setup ledger.marks))
-    (levelled_memory setup (plain_memory setup ledger.marks))) where
+module _ (setup : Setup) (marks made : List Mark) (same : made ≡ marks) where
+  -- where no mark is made
+  pub levelled_still : HoldsLevelled setup marks → HoldsLevelled setup made
+  levelled_still it = subst (HoldsLevelled setup) (sym same) it
+
+  pub same_memory : levelled_memory setup (plain_memory setup made) ≡ levelled_memory setup (plain_memory setup marks)
+  same_memory = ap (λ (m : List Mark). levelled_memory setup (plain_memory setup m)) same
+
+  pub same_wear : wear_in setup (plain_memory setup made) ≡ wear_in setup (plain_memory setup marks)
+  same_wear = ap (λ (m : List Mark). wear_in setup (plain_memory setup m)) same
+
+module _ (formulas_of : List ℕ → Formulas) (every : ℕ) (old new : StoreSession LevelledLines) (shape : new.state.shape ≡ old.state.shape)
+    (keys : new.state.keys ≡ old.state.keys) (some : 1 ≤ every) (levelled : HoldsLevelled (setup_in formulas_of old.state) new.state.ledger.marks) where
   -- after a call with power on
-  pub on_after : (after : Gapped) → board.powered ≡ true → after.engine.down ≡ false → IsSound setup (on_chip after.engine) board.lines board.regs ledger → after.every ≡ p.every
-      → after.wear ≡ wear_in setup (plain_memory setup ledger.marks)
-      → IsWearWorld setup (record { keys = p.keys; tags = tags; digests = digests; every = p.every; board = board; ledger = ledger; gapped = Some after })
-  on_after after powered running sound every wear = search on_of
+  pub on_after : (after : LevelledLines) → new.store ≡ Some after → after.gapped.every ≡ every
+      → after.gapped.wear ≡ wear_in (setup_in formulas_of old.state) (plain_memory (setup_in formulas_of old.state) new.state.ledger.marks)
+      → IsWearWorld (setup_in formulas_of new.state) every new
+  on_after after is its wear =
+      subst (λ s. IsWearWorld s every new) (sym (same_setup formulas_of old.state new.state shape keys))
+      (record {
+        some_every = some;
+        levelled = levelled;
+        its_store =
+            subst (λ s. IfSome s (IsLevelledAs (setup_in formulas_of old.state) every new.state.ledger.marks)) (sym is)
+            (record { its_every = its; its_wear = wear });
+      })
 
-  -- with power off, where the device is durable
-  pub off_after : board.powered ≡ false → IsDurable setup board.lines board.regs ledger → length board.regs.group.items ≤ 3
-      → IsWearWorld setup (record { keys = p.keys; tags = tags; digests = digests; every = p.every; board = board; ledger = ledger; gapped = None })
-  off_after unpowered durable few = search (places_of, sealed_in)
+  -- with power off
+  pub off_after : new.store ≡ None → IsWearWorld (setup_in formulas_of new.state) every new
+  off_after is =
+      subst (λ s. IsWearWorld s every new) (sym (same_setup formulas_of old.state new.state shape keys))
+      (record {
+        some_every = some;
+        levelled = levelled;
+        its_store = subst (λ s. IfSome s (IsLevelledAs (setup_in formulas_of old.state) every new.state.ledger.marks)) (sym is) tt;
+      })

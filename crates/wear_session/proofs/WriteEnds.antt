@@ -3,6 +3,13 @@ use Rattle.std.proofs.Common.{ℕ, zero, suc, ◌≡◌, ◌<◌, ◌≤◌, ◌
 use Rattle.wear_session.proofs.Common.{All, nat_lt, not, MatchBool, if◌then◌else◌, list_any, true≢false, All-nil, Line, Ctr, Posted, Mark, Shape, data_lines, Formulas, Setup, Memory, memory_with, Moment, path_length, drained_marks, IsSpentNext, Fault, Parts, AreSound, whole_write, HasWrittenLine, AreEdited, IsEditOf, Writing, is_own_seal, IsCutAmong, write_steps, read_steps, writes_none, writes_own, own_at_cut, memory_now, moment_now, within_done, within_cut, AreDone, none_done, memory_done, spent_path, all_posted, cost, AreGone, IsSpentAt, IsCutAt, IsStoppedAt, EndsAt, gone_within, ends_within, write_gone, write_spent_next, write_stopped, edits_go, Wear, Gapped, Moved, WriteFault, place_of, next_wear, move_edits, HasWriteGoneOn, HasLevelledWrite, HasCounted, HasTriedMove, HasWear, write_answer_by, wear_by, places, move_fits, moving_writes}
 use Rattle.pmem_engine.specs.declared.fault.Fault.TheVariants as Fail
 use Rattle.start_gap.specs.declared.gapped.Moved.TheVariants as Move
+use Rattle.call_effects.specs.Outcomes.{Outcome, is_going, going}
+use Rattle.pmem_engine.specs.Outcomes.{outcome_of_fault}
+use Rattle.start_gap.specs.Gapped.{write_outcome_by}
+use Rattle.std.specs.Prelude.{◌||◌}
+use Rattle.line_session.specs.Kept.{IsLeft, is_fault_cut}
+use Rattle.line_session.proofs.KeptLines.{done_left, cut_left, still_up}
+use Rattle.wear_session.specs.StoreCalls.{is_write_cut}
 
 -- ---- the engine writes of a write
 
@@ -200,3 +207,32 @@ module _ (setup : Setup) (a : ℕ) (plain : Line) (old new : Gapped) (from to : 
           subst (λ r. EndsWearWrite due_now r to) (sym later.its_answer)
           (subst (FailsWearAt setup from (queue due_now) (most_of setup.shape due_now) fault false) (sym later.nothing_else)
           (refused_ends due_now fault it.between written))
+
+  -- sound lines stay sound, or power is cut
+  pub write_keeps : (answer : Result Moved WriteFault) → HasLevelledWrite setup a plain old new from to answer
+      → new.engine.down ≡ (old.engine.down || not (is_going (write_outcome_by answer))) → old.engine.down ≡ false
+      → IsLeft setup (is_write_cut answer) new.engine from to
+  write_keeps answer it after up = go answer after (write_ends_at answer it)
+    where
+      left : (writes : List Posted) (made : List Mark) (most : ℕ) → AreDone setup from writes made most to → (outcome : Outcome) → is_going outcome ≡ true
+          → new.engine.down ≡ (old.engine.down || not (is_going outcome)) → IsLeft setup false new.engine from to
+      left writes made most done outcome goes after =
+          done_left setup from to writes made most new.engine done (still_up old.engine.down new.engine.down outcome up after goes)
+
+      failed : (fault : Fault) (written : Bool) → new.engine.down ≡ (old.engine.down || not (is_going (outcome_of_fault fault)))
+          → FailsWearAt setup from (queue due_now) (most_of setup.shape due_now) fault written to → IsLeft setup (is_fault_cut fault) new.engine from to
+      failed (Fail.Spent page) written after end = left [] [] (path_length setup.shape) end.1.done going refl after
+      failed Fail.Cut true after end = cut_left setup from to (take end.writing.done (queue due_now)) end.writing.made (most_of setup.shape due_now) new.engine end.cut
+      failed Fail.Cut false after end =
+          elim end [
+            | inl kept ↦ cut_left setup from to (take kept.writing.done (queue due_now)) kept.writing.made (most_of setup.shape due_now) new.engine kept.cut
+            | inr lost ↦ cut_left setup from to (take 0 (queue due_now)) lost.made (write_steps setup.shape) new.engine lost.cut
+          ]
+      failed fault written after end = absurd end
+
+      go : (answer : Result Moved WriteFault) → new.engine.down ≡ (old.engine.down || not (is_going (write_outcome_by answer)))
+          → EndsWearWrite due_now answer to → IsLeft setup (is_write_cut answer) new.engine from to
+      go (Ok Move.Not) after end = left (take 1 (queue due_now)) end.1.made (most_of setup.shape due_now) end.1.done going refl after
+      go (Ok Move.Made) after end = left (take 3 (queue due_now)) end.1.made (most_of setup.shape due_now) end.1.done going refl after
+      go (Ok (Move.Held page)) after end = left (take end.1.count (queue due_now)) end.1.made (most_of setup.shape due_now) end.1.done going refl after
+      go (Err fault) after end = failed fault.fault fault.written after end

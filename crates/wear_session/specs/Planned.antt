@@ -3,6 +3,7 @@
 use Rattle.std.specs.Prelude.{ℕ, ◌≡◌, ◌||◌, Bool, Result, Ok, Err, if◌then◌else◌}
 use Rattle.pmem_base.specs.declared.lines.Line.{Line}
 use Rattle.pmem_base.specs.declared.registers.Regs.{Regs}
+use Rattle.pmem_base.specs.declared.faults.MemFault.{MemFault}
 use Rattle.suite.specs.Setup.{Setup}
 use Rattle.pmem_engine.specs.declared.fault.Fault.{Fault}
 use Rattle.pmem_engine.specs.declared.fault.Fault.TheVariants as Fail
@@ -14,6 +15,11 @@ use Rattle.start_gap.specs.declared.gapped.Moved.TheVariants as Move
 use Rattle.start_gap.specs.declared.gapped.WriteFault.{WriteFault}
 use Rattle.start_gap.specs.Plans.{open_plan, levelled_plan, write_answer_of, count_after}
 use Rattle.line_session.specs.declared.starts.StartFault.{StartFault}
+use Rattle.line_session.specs.declared.making.Done.{Done}
+use Rattle.line_session.specs.declared.making.Done.TheVariants.{Off, Range, Ended}
+use Rattle.line_session.specs.declared.powering.Turned.{Turned}
+use Rattle.line_session.specs.declared.powering.Turned.TheVariants.{Already, On, Cut}
+use Rattle.trace_text.specs.declared.talk.Halt.{Halt}
 use Rattle.line_session.specs.State.{LineSession}
 use Rattle.line_session.specs.StoreCalls.{CallPlan, HasCalledStore}
 use Rattle.line_session.specs.Started.{HasStarted}
@@ -60,6 +66,30 @@ write_said old a left steps end = (
 abbrev pub open_said : LineSession → ℕ → Result Wear (StartFault GapFault) → WearAnswer × ℕ
 open_said left steps (Ok wear) = (Say.Opened wear.start wear.gap steps, 0)
 open_said left steps (Err fault) = (Say.Cut steps, 0)
+
+-- ---- the answers, by what a call of the session comes to
+
+abbrev pub done_said : {V F : Type 0} → (ℕ → Bool → Result V F → WearAnswer) → Done V F → WearAnswer
+done_said says Off = Say.Off
+done_said says Range = Say.Range
+done_said says (Ended steps sealed answer) = says steps sealed answer
+
+abbrev pub got_said : ℕ → Bool → Result Line Fault → WearAnswer
+got_said steps sealed (Ok line) = Say.Got line steps
+got_said steps sealed (Err fault) = Say.Cut steps
+
+abbrev pub read_done_said : Done Line Fault → WearAnswer
+read_done_said done = done_said got_said done
+
+abbrev pub write_done_said : Result (Done Moved WriteFault) MemFault → Result WearAnswer MemFault
+write_done_said (Ok done) = Ok (done_said (λ steps sealed answer. move_said sealed steps answer) done)
+write_done_said (Err fault) = Err fault
+
+abbrev pub turned_said : Result (Turned Wear) Halt → Result WearAnswer Halt
+turned_said (Ok Already) = Ok Say.Already
+turned_said (Ok (On steps wear)) = Ok (Say.Opened wear.start wear.gap steps)
+turned_said (Ok (Cut steps)) = Ok (Say.Cut steps)
+turned_said (Err halt) = Err halt
 
 -- ---- the relation
 

@@ -1,29 +1,50 @@
 //! Power, and recovery.
-ghost use Rattle.std.specs.Prelude.{◌≡◌, IfOk, IfErr};
+ghost use Rattle.std.specs.Prelude.{◌≡◌, IfOk, IfErr, if◌then◌else◌};
 ghost use Rattle.wear_session.specs.declared.commands.WearCommand.TheVariants as Do;
+ghost use Rattle.wear_session.specs.declared.answers.WearAnswer.TheVariants as Say;
 ghost use Rattle.wear_session.specs.State.{wear_setup_in};
 ghost use Rattle.wear_session.specs.Answered.{IsWearAnswered, IsWearHalt};
 ghost use Rattle.wear_session.specs.Logged.{IsWearLogged};
+ghost use Rattle.wear_session.specs.Planned.{turned_said};
 
 use crate::answers::WearAnswer;
 use crate::calls::OpenLines;
 use crate::world::WearWorld;
 use access_log::AccessLog;
-use line_session::{StartFault, start};
-use pmem_base::Exhibit;
-use pmem_engine::Fault;
-use pmem_recovery::RecFault;
-use start_gap::GapFault;
+use line_session::Turned;
+use start_gap::Wear;
 use std::alloc::Global;
 use suite::Suite;
 use trace_text::Halt;
+
+/// The answer of power that comes on, by what that comes to.
+fn opened_answer(turned: Result<Turned<Wear>, Halt>) -> Result<WearAnswer, Halt>
+    ensures { result ≡ turned_said turned }
+{
+    match turned? {
+        Turned::Already => Ok(WearAnswer::Already),
+        Turned::On { steps, told } => Ok(WearAnswer::Opened {
+            start: told.start,
+            gap: told.gap,
+            steps,
+        }),
+        Turned::Cut { steps } => Ok(WearAnswer::Cut { steps }),
+    }
+}
+
+/// The answer of power that goes off, by whether it was on.
+fn off_answer(on: bool) -> WearAnswer
+    ensures { result ≡ (if on then Say.Ok else Say.Off) }
+{
+    if on { WearAnswer::Ok } else { WearAnswer::Off }
+}
 
 impl<S: Suite + Drop> WearWorld<S> {
     /// Power is to be cut after `n` more persist steps.
     pub(crate) fn cut(&mut self, n: u64) -> WearAnswer
         ensures { IsWearAnswered (wear_setup_in S.formulas_of self.old) self.old (Do.Cut n) result self.new }
     {
-        self.board.arm(n);
+        self.session.cut(n);
         WearAnswer::Ok
     }
 
@@ -31,12 +52,8 @@ impl<S: Suite + Drop> WearWorld<S> {
     pub(crate) fn off(&mut self) -> WearAnswer
         ensures { IsWearAnswered (wear_setup_in S.formulas_of self.old) self.old Do.Off result self.new }
     {
-        if self.gapped.is_none() {
-            return WearAnswer::Off;
-        }
-        self.board.off();
-        self.gapped = None;
-        WearAnswer::Ok
+        let on = self.session.off();
+        off_answer(on)
     }
 
     /// Power comes on, with recovery, and the lines are opened. It stops for want of memory, or at a twin.
@@ -45,70 +62,9 @@ impl<S: Suite + Drop> WearWorld<S> {
         ensures halted { IfErr result (λ halt. IsWearHalt (wear_setup_in S.formulas_of self.old) self.old Do.On halt self.new) }
         ensures logged { IsWearLogged Do.On log.old self.old log.new self.new }
     {
-        if self.gapped.is_some() {
-            return Ok(WearAnswer::Already);
-        }
-        self.board.power();
-        let done = start(
-            alloc,
-            &self.geo,
-            &OpenLines { every: self.every },
-            &mut self.board,
-            &mut self.suite,
-            &mut self.ledger,
-            log,
-        );
-        let steps = done.taken.steps();
-        match done.answer {
-            Ok(gapped) => {
-                let wear = *gapped.wear();
-                self.gapped = Some(gapped);
-                Ok(WearAnswer::Opened {
-                    start: wear.start,
-                    gap: wear.gap,
-                    steps,
-                })
-            }
-            Err(StartFault::Recovery(fault)) => match fault {
-                RecFault::Cut => Ok(WearAnswer::Cut { steps }),
-                RecFault::Memory => {
-                    self.board.rest();
-                    Err(Halt::Memory)
-                }
-                RecFault::Twin {
-                    at,
-                    major,
-                    low,
-                    high,
-                    cipher,
-                    tag,
-                } => {
-                    self.board.rest();
-                    Err(Halt::Shown(Exhibit::Twin {
-                        at,
-                        major,
-                        low,
-                        high,
-                        cipher,
-                        tag,
-                    }))
-                }
-                // A durable device has a counter for each line, and the root.
-                RecFault::NoCounter { .. } | RecFault::Root { .. } => unreachable!(),
-            },
-            Err(StartFault::Opening(fault)) => match fault {
-                GapFault::Engine(fault) => match fault {
-                    Fault::Cut => Ok(WearAnswer::Cut { steps }),
-                    // Over a sound device no other fault comes.
-                    Fault::Down
-                    | Fault::Meta { .. }
-                    | Fault::Tag { .. }
-                    | Fault::Shown
-                    | Fault::Spent { .. } => unreachable!(),
-                },
-                // The record is one.
-                GapFault::BadWear { .. } => unreachable!(),
-            },
-        }
+        let turned = self
+            .session
+            .on(alloc, &OpenLines { every: self.every }, log);
+        opened_answer(turned)
     }
 }

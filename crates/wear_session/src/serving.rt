@@ -1,23 +1,62 @@
 //! Commands on logical lines.
-ghost use Rattle.std.specs.Prelude.{◌≡◌, IfOk, OnErr};
+ghost use Rattle.std.specs.Prelude.{◌≡◌, IfOk, IsOk, OnErr};
 ghost use Rattle.wear_session.specs.declared.commands.WearCommand.TheVariants as Do;
 ghost use Rattle.wear_session.specs.State.{wear_setup_in};
 ghost use Rattle.wear_session.specs.Answered.{IsWearAnswered, IsWearMemoryWanted};
 ghost use Rattle.wear_session.specs.Logged.{IsWearLogged};
+ghost use Rattle.wear_session.specs.Planned.{write_done_said, read_done_said};
 
 use crate::answers::WearAnswer;
 use crate::calls::{ReadLine, WriteLine};
 use crate::world::WearWorld;
 use access_log::AccessLog;
-use line_session::{call, has_own_seal};
+use line_session::Done;
 use pmem_base::{Line, MemFault};
 use pmem_engine::Fault;
-use seal_ledger::Audit;
 use start_gap::{Moved, WriteFault, place};
 use suite::Suite;
 
-/// The most marks of a write with its move: three writes of an engine.
-const WRITE_MARKS: u32 = 198;
+/// The answer of a write, by what its call comes to.
+fn write_answer(done: Result<Done<Moved, WriteFault>, MemFault>) -> Result<WearAnswer, MemFault>
+    ensures { result ≡ write_done_said done }
+{
+    match done? {
+        Done::Off => Ok(WearAnswer::Off),
+        Done::Range => Ok(WearAnswer::Range),
+        Done::Ended {
+            steps,
+            sealed,
+            answer,
+        } => Ok(match answer {
+            Ok(Moved::Not) => WearAnswer::Written { steps },
+            Ok(Moved::Made) => WearAnswer::Written { steps },
+            Ok(Moved::Held { page }) => WearAnswer::Held { page, steps },
+            Err(WriteFault { fault, written }) => match fault {
+                Fault::Spent { page } => WearAnswer::Spent { page, steps },
+                _ if written || sealed => WearAnswer::CutKept { steps },
+                _ => WearAnswer::CutLost { steps },
+            },
+        }),
+    }
+}
+
+/// The answer of a read, by what its call comes to.
+fn read_answer(done: Result<Done<Line, Fault>, MemFault>) -> WearAnswer
+    requires { IsOk done }
+    ensures { IfOk done (λ done. result ≡ read_done_said done) }
+{
+    match done {
+        // A read makes no mark.
+        Err(MemFault) => unreachable!(),
+        Ok(Done::Off) => WearAnswer::Off,
+        Ok(Done::Range) => WearAnswer::Range,
+        Ok(Done::Ended { steps, answer, .. }) => match answer {
+            Ok(line) => WearAnswer::Got { line, steps },
+            // Over a sound device no other fault comes.
+            Err(_fault) => WearAnswer::Cut { steps },
+        },
+    }
+}
 
 impl<S: Suite + Drop> WearWorld<S> {
     /// A logical line is written. The one error is want of memory.
@@ -32,48 +71,9 @@ impl<S: Suite + Drop> WearWorld<S> {
         ensures wanting { OnErr result (IsWearMemoryWanted self.old (Do.Write at line.now)) }
         ensures logged { IsWearLogged (Do.Write at line.now) log.old self.old log.new self.new }
     {
-        let Some(gapped) = &mut self.gapped else {
-            return Ok(WearAnswer::Off);
-        };
-        if at >= u64::from(gapped.lines()) {
-            return Ok(WearAnswer::Range);
-        }
         line.is_whole();
-        self.ledger.reserve(WRITE_MARKS)?;
-        let from = self.ledger.marks().len();
-        let own = place(gapped.lines(), gapped.wear(), at as u32);
-        let done = call(
-            &WriteLine {
-                at: at as u32,
-                line,
-            },
-            gapped,
-            &mut self.board,
-            &mut self.suite,
-            &mut self.ledger,
-            log,
-        );
-        let steps = done.taken.steps();
-        match done.answer {
-            Ok(Moved::Not) => Ok(WearAnswer::Written { steps }),
-            Ok(Moved::Made) => Ok(WearAnswer::Written { steps }),
-            Ok(Moved::Held { page }) => Ok(WearAnswer::Held { page, steps }),
-            Err(WriteFault { fault, written }) => match fault {
-                Fault::Spent { page } => Ok(WearAnswer::Spent { page, steps }),
-                Fault::Cut => {
-                    self.gapped = None;
-                    if written || has_own_seal(&self.ledger.marks()[from..], own) {
-                        Ok(WearAnswer::CutKept { steps })
-                    } else {
-                        Ok(WearAnswer::CutLost { steps })
-                    }
-                }
-                // Over a sound device no other fault comes.
-                Fault::Down | Fault::Meta { .. } | Fault::Tag { .. } | Fault::Shown => {
-                    unreachable!()
-                }
-            },
-        }
+        let done = self.session.make(&WriteLine { at, line }, log);
+        write_answer(done)
     }
 
     /// A logical line is read.
@@ -81,44 +81,23 @@ impl<S: Suite + Drop> WearWorld<S> {
         ensures answered { IsWearAnswered (wear_setup_in S.formulas_of self.old) self.old (Do.Read at) result self.new }
         ensures logged { IsWearLogged (Do.Read at) log.old self.old log.new self.new }
     {
-        let Some(gapped) = &mut self.gapped else {
-            return WearAnswer::Off;
-        };
-        if at >= u64::from(gapped.lines()) {
-            return WearAnswer::Range;
-        }
-        let done = call(
-            &ReadLine { at: at as u32 },
-            gapped,
-            &mut self.board,
-            &mut self.suite,
-            &mut self.ledger,
-            log,
-        );
-        let steps = done.taken.steps();
-        match done.answer {
-            Ok(line) => WearAnswer::Got { line, steps },
-            Err(Fault::Cut) => {
-                self.gapped = None;
-                WearAnswer::Cut { steps }
-            }
-            // Over a sound device no other fault comes.
-            Err(_) => unreachable!(),
-        }
+        let done = self.session.make(&ReadLine { at }, log);
+        read_answer(done)
     }
 
     /// The place of a logical line.
     pub(crate) fn place(&self, at: u64) -> WearAnswer
         ensures { IsWearAnswered (wear_setup_in S.formulas_of self.now) self.now (Do.Place at) result self.now }
     {
-        let Some(gapped) = &self.gapped else {
+        let Some(store) = self.session.store() else {
             return WearAnswer::Off;
         };
-        if at >= u64::from(gapped.lines()) {
+        let lines = store.gapped.lines();
+        if at >= u64::from(lines) {
             return WearAnswer::Range;
         }
         WearAnswer::At {
-            place: place(gapped.lines(), gapped.wear(), at as u32),
+            place: place(lines, store.gapped.wear(), at as u32),
         }
     }
 }

@@ -75,7 +75,6 @@ impl<S: Counted + Drop> Talk for WearWorld<S> {
     }
 
     fn work(&self) -> (u64, u64) {
-        let (_, tags, digests) = self.suite.counts();
-        (tags, digests)
+        self.session.work()
     }
 }

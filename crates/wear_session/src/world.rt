@@ -3,57 +3,30 @@ ghost use Rattle.std.specs.Prelude.{◌≡◌, ◌≤◌, IfOk};
 ghost use Rattle.pmem_base.specs.Geo.{shape_of};
 ghost use Rattle.wear_session.specs.State.{IsNewWear};
 
-use board::MemBoard;
+use crate::calls::{LevelledLines, OpenLines};
+use line_session::{LineSession, NewFault};
 use pmem_base::{Geo, MemFault};
-use pmem_recovery::format;
-use seal_ledger::Ledger;
-use start_gap::Gapped;
 use std::alloc::Global;
 use std::marker::Model;
 use suite::Suite;
 
-/// A device, its levelled lines while power is on, the suite and the marks. At each `every`th write since power
-/// came on the gap moves.
+/// A session over levelled lines. At each `every`th write since power came on the gap moves.
 #[derive(Drop)]
 pub struct WearWorld<S: Suite + Drop> {
-    pub(crate) geo: Geo,
-    pub(crate) suite: S,
-    pub(crate) board: MemBoard,
-    pub(crate) ledger: Ledger,
-    pub(crate) gapped: Option<Gapped>,
+    pub(crate) session: LineSession<S, LevelledLines>,
     pub(crate) every: u32,
 }
 
 impl<S: Suite + Drop> Model for WearWorld<S> {
-    ghost use Rattle.pmem_base.specs.Geo.{shape_of};
-    ghost use Rattle.board.specs.MemBoard.{memory_of};
-    ghost use Rattle.seal_ledger.specs.View.{ledger_of};
+    ghost use Rattle.line_session.specs.State.{setup_in};
     ghost use Rattle.wear_session.specs.State.{WearState};
     ghost use Rattle.wear_session.specs.World.{wear_of, IsWearWorld};
 
     ghost Value = { WearState };
 
-    ghost view = { λ w. wear_of (record { shape = shape_of w.geo; formulas = S.formulas_of (S.keys w.suite) })
-        (record {
-          keys = S.keys w.suite;
-          tags = S.tags w.suite;
-          digests = S.digests w.suite;
-          every = w.every;
-          board = memory_of w.board;
-          ledger = ledger_of w.ledger;
-          gapped = w.gapped;
-        }) };
+    ghost view = { λ w. wear_of (setup_in S.formulas_of w.session.state) w.every w.session };
 
-    ghost invariant = { λ w. IsWearWorld (record { shape = shape_of w.geo; formulas = S.formulas_of (S.keys w.suite) })
-        (record {
-          keys = S.keys w.suite;
-          tags = S.tags w.suite;
-          digests = S.digests w.suite;
-          every = w.every;
-          board = memory_of w.board;
-          ledger = ledger_of w.ledger;
-          gapped = w.gapped;
-        }) };
+    ghost invariant = { λ w. IsWearWorld (setup_in S.formulas_of w.session.state) w.every w.session };
 }
 
 impl<S: Suite + Drop> WearWorld<S> {
@@ -64,21 +37,11 @@ impl<S: Suite + Drop> WearWorld<S> {
         ensures new { IfOk result (λ world. IsNewWear (record { shape = shape_of geo; formulas = S.formulas_of (S.keys suite) }) every world) }
         ensures keys { IfOk result (λ world. world.session.keys ≡ S.keys suite) }
     {
-        geo.layout_is_one_to_one();
-        let mut suite = suite;
-        let mut board = MemBoard::new(alloc, geo.size())?;
-        let mut ledger = Ledger::new(alloc, &geo)?;
-        let engine = format(alloc, &geo, &mut board, &mut suite, &mut ledger)?;
-        let Ok(gapped) = Gapped::open(engine, &mut board, &mut suite, &mut ledger, every) else {
-            unreachable!()
-        };
-        Ok(WearWorld {
-            geo,
-            suite,
-            board,
-            ledger,
-            gapped: Some(gapped),
-            every,
-        })
+        match LineSession::new(alloc, geo, suite, &OpenLines { every }) {
+            Ok(session) => Ok(WearWorld { session, every }),
+            Err(NewFault::Memory) => Err(MemFault),
+            // The record of zero lines is one.
+            Err(NewFault::Opening(_fault)) => unreachable!(),
+        }
     }
 }

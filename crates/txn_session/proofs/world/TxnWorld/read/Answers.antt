@@ -1,90 +1,56 @@
 -- A line is read, or power is cut.
-use Rattle.std.proofs.Common.{rules, arith, refl, ap, ◌≡◌, false}
-use Rattle.txn_session.proofs.Common.{option_map, shape_of, memory_of, ledger_of, traced_of, goes_on-between, TxnState, txn_decided}
-use Rattle.txn_session.proofs.ReadLaws.{ReadTxnCall, undecided_now, got_held, got_seen, cut_held, cut_seen}
-use Rattle.trace_text.specs.Logged.{IsLoggedBy}
-use Rattle.trace_text.proofs.LogLemmas.{logged_by}
+use Rattle.std.proofs.Common.{◌≡◌, [], Option, Some, None, refl, sym, ap, subst, ◌∙◌, rules}
+use Rattle.txn_session.proofs.Common.{option_map, unwrap_or, is_some, if◌then◌else◌, Entries, entry_in, TxnState, txn_setup_in, setup_in, txn_of, txn_decided, IsTxnAnswered}
+use Rattle.line_session.specs.Made.{undone}
 use Rattle.txn_session.specs.declared.commands.TxnCommand.TheVariants as Do
+use Rattle.txn_session.specs.declared.answers.TxnAnswer.TheVariants as Say
+use Rattle.trace_text.specs.Logged.{IsLoggedBy}
+use Rattle.txn_session.proofs.AnswerClauses.{seen_from}
+use Rattle.txn_session.proofs.Served.{IsServed, read_all, held_served, some_store, always_done, logged_as}
 use Rattle.txn_session.proofs.world.TxnWorld.read.Given.{Over}
-use Rattle.txn_session.proofs.world.TxnWorld.read.Goals.{After-steps-steps}
+use Rattle.txn_session.proofs.world.TxnWorld.read.Goals.{After-read_answer}
 use Rattle.txn_session.proofs.world.TxnWorld.read.Goals as goal
-use Rattle.txn_session.proofs.Worlds.{on_in}
 
--- once the engine has answered
-module _ (g : Over) (c : After-steps-steps g) where
-  running : c.in-Some.store.engine.down ≡ false
-  running = (on_in _ _ _ c.self.invariant c.in-Some.is).running
+pub returns-in-Some-clause-answered : goal.returns-in-Some-clause-answered
+returns-in-Some-clause-answered g c =
+    subst (λ (w : TxnState). IsTxnAnswered (txn_setup_in g.S.Suite.formulas_of w) w (Do.Read c.args.at) (Say.Got c.in-Some.line 0) w) c.self.view_is
+    (held_served g.S.Suite.formulas_of c.self.inside.session c.self.inside.session (option_map (λ txn. txn.items) c.self.inside.txn) c.store.ensures.world
+    c.self.invariant c.args.at c.in-Some.line
+    (some_store (λ s. s.now) c.store.result c.self.inside.session.store c.is_none.result c.store.ensures.store c.is_none.ensures c.if-is_none.false)
+    (sym c.line_held.ensures ∙ c.in-Some.is) refl).answered
 
-  abbrev call : ReadTxnCall
-  call =
-      record {
-        formulas_of = g.S.Suite.formulas_of;
-        geometry = shape_of c.self.inside.geo;
-        parts =
-            record {
-              keys = g.S.Suite.keys c.self.inside.suite;
-              tags = g.S.Suite.tags c.self.inside.suite;
-              digests = g.S.Suite.digests c.self.inside.suite;
-              board = memory_of c.self.inside.board;
-              ledger = ledger_of c.self.inside.ledger;
-              store = c.self.inside.store;
-              txn = option_map (λ txn. txn.items) c.self.inside.txn;
-            };
-        now = c.args.self.now;
-        is = c.self.view_is;
-        world = c.self.invariant;
-        store = c.in-Some.store;
-        there = c.in-Some.is;
-        at = c.args.at;
-        within = omega (arith, c.if-at-from.false, c.from.ensures, c.lines.ensures.value);
-        unheld = search (rules, c.line_held.ensures);
-        after = c.call-done.new.store;
-        served_as = c.call-done.ensures.made.served;
-        keys = g.S.Suite.keys c.call-done.new.suite;
-        same_keys = c.call-done.ensures.keys;
-        board = memory_of c.call-done.new.board;
-        ledger = ledger_of c.call-done.new.ledger;
-        taken = c.call-done.result.taken;
-        watched = c.call-done.ensures.watched;
-        tags_new = g.S.Suite.tags c.call-done.new.suite;
-        digests_new = g.S.Suite.digests c.call-done.new.suite;
-        said = c.steps-steps.result;
-        counted = c.steps-steps.ensures;
-        answer = c.call-done.result.answer;
-        was_read = (c.call-done.ensures.made.read.did running).was_read;
-        down = c.call-done.ensures.made.read.after;
-        read_logged = (c.call-done.ensures.made.read.did running).logged;
-        plan = (c.call-done.ensures.made.read.did running).was_read.plan;
-      }
+module _ (g : Over) (c : After-read_answer g) where
+  abbrev txn : Option Entries
+  txn = option_map (λ txn. txn.items) c.self.inside.txn
 
-  -- the log goes on by that call
-  logged : IsLoggedBy (txn_decided c.args.self.now (Do.Read c.args.at)) c.args.log.now c.args.self.now.session.board c.call-done.new.log (memory_of c.call-done.new.board)
-  logged =
-      logged_by (txn_decided c.args.self.now (Do.Read c.args.at)) c.args.log.now c.call-done.new.log c.args.self.now.session.board (memory_of c.call-done.new.board) (undecided_now call)
-      (goes_on-between c.args.log.now c.call-done.new.log c.args.self.now.session.board (memory_of c.self.inside.board) (memory_of c.call-done.new.board)
-      (memory_of c.call-done.new.board) (ap (λ (w : TxnState). traced_of w.session.board) c.self.view_is) refl c.call-done.ensures.logged)
+  unheld : entry_in (unwrap_or txn []) c.args.at ≡ None
+  unheld = search (rules, c.line_held.ensures)
 
-pub invariant_of-self-in-Ok : goal.invariant_of-self-in-Ok
-invariant_of-self-in-Ok g c =
-    got_held (call g ((goal.at.invariant_of-self-in-Ok g c).After-steps-steps)) c.in-Ok.line (let h = c.in-Ok.is in search rules)
+  its : IsServed g.S.Suite.formulas_of c.self.inside.session c.make-done.new.self txn c.make-done.ensures.world c.self.invariant (Do.Read c.args.at)
+      c.read_answer.result (option_map (λ txn. txn.items) c.close_if.new.txn) (is_some (undone c.make-done.result))
+  its =
+      read_all g.S.Suite.formulas_of c.self.inside.session c.make-done.new.self txn c.make-done.ensures.world c.self.invariant c.args.at unheld
+      c.make-done.result c.make-done.ensures.done c.make-done.ensures.wanting c.read_answer.result c.read_answer.ensures
+      (option_map (λ txn. txn.items) c.close_if.new.txn) (c.close_if.ensures ∙ ap (λ b. if b then None else txn) c.is_read_cut.ensures)
 
-pub returns-in-Ok-clause-answered : goal.returns-in-Ok-clause-answered
-returns-in-Ok-clause-answered g c = got_seen (call g ((goal.at.returns-in-Ok-clause-answered g c).After-steps-steps)) c.in-Ok.line (let h = c.in-Ok.is in search rules)
+pub read_answer-requires : goal.read_answer-requires
+read_answer-requires g c = always_done (Some c.args.at) c.self.inside.session c.make-done.result c.make-done.ensures.wanting
 
-pub invariant_of-self-in-Err-Cut : goal.invariant_of-self-in-Err-Cut
-invariant_of-self-in-Err-Cut g c =
-    cut_held (call g ((goal.at.invariant_of-self-in-Err-Cut g c).After-steps-steps))
-    (let h = c.in-Err-Cut.is in let k = c.in-Err-Cut.field-0-is in search rules)
+pub invariant_of-self : goal.invariant_of-self
+invariant_of-self g c = (its g ((goal.at.invariant_of-self g c).After-read_answer)).held
 
-pub returns-in-Err-Cut-clause-answered : goal.returns-in-Err-Cut-clause-answered
-returns-in-Err-Cut-clause-answered g c =
-    cut_seen (call g ((goal.at.returns-in-Err-Cut-clause-answered g c).After-steps-steps))
-    (let h = c.in-Err-Cut.is in let k = c.in-Err-Cut.field-0-is in search rules)
+pub returns-clause-answered : goal.returns-clause-answered
+returns-clause-answered g c =
+    let it = its g ((goal.at.returns-clause-answered g c).After-read_answer) in
+    seen_from g.S.Suite.formulas_of c.self.inside.session c.make-done.new.self (option_map (λ txn. txn.items) c.self.inside.txn)
+    (option_map (λ txn. txn.items) c.close_if.new.txn) c.args.self.now (λ s before after. IsTxnAnswered s before (Do.Read c.args.at) c.read_answer.result after)
+    c.self.view_is it.shape it.keys it.answered
 
--- ---- the log
-
-pub returns-in-Ok-clause-logged : goal.returns-in-Ok-clause-logged
-returns-in-Ok-clause-logged g c = logged g ((goal.at.returns-in-Ok-clause-logged g c).After-steps-steps)
-
-pub returns-in-Err-Cut-clause-logged : goal.returns-in-Err-Cut-clause-logged
-returns-in-Err-Cut-clause-logged g c = logged g ((goal.at.returns-in-Err-Cut-clause-logged g c).After-steps-steps)
+pub returns-clause-logged : goal.returns-clause-logged
+returns-clause-logged g c =
+    let it = its g ((goal.at.returns-clause-logged g c).After-read_answer) in
+    subst (λ (w : TxnState). IsLoggedBy (txn_decided w (Do.Read c.args.at)) c.args.log.now w.session.board c.make-done.new.log c.make-done.new.self.state.board)
+    c.self.view_is
+    (logged_as (txn_decided (txn_of (setup_in g.S.Suite.formulas_of c.self.inside.session.state) c.self.inside.session (option_map (λ txn. txn.items) c.self.inside.txn)) (Do.Read c.args.at))
+    (undone c.make-done.result) c.args.log.now c.make-done.new.log c.self.inside.session.state.board c.make-done.new.self.state.board it.decided
+    c.make-done.ensures.logged)

@@ -1,73 +1,25 @@
 -- A new session.
-use Rattle.std.proofs.Common.{◌≡◌, Ok, Err, List, ℕ, sym, ap, subst, ◌∙◌}
-use Rattle.wear_session.proofs.Common.{shape_of, Shape, memory_of, BoardMemory, device_of, ledger_of, Setup, EngineState, parts_of, HasGappedOpened, IsNewWear, IsWearWorld, wear_of}
-use Rattle.wear_session.proofs.NewLaws.{NewWearCall, held, new_outcome}
-use Rattle.wear_session.proofs.world.WearWorld.new.Given.{Over}
-use Rattle.wear_session.proofs.world.WearWorld.new.Goals.{After-open}
+use Rattle.std.proofs.Common.{rules, ap₂}
+use Rattle.wear_session.proofs.Common.{setup_under}
+use Rattle.wear_session.proofs.NewLaws.{holds_zeros, opens_always, new_session_held}
 use Rattle.wear_session.proofs.world.WearWorld.new.Goals as goal
 
--- once the lines are opened
-module _ (g : Over) (c : After-open g) where
-  abbrev setup : Setup
-  setup = record { shape = shape_of c.args.geo; formulas = g.S.Suite.formulas_of (g.S.Suite.keys c.args.suite) }
-
-  abbrev call : NewWearCall
-  call =
-      record {
-        setup = setup;
-        whole_shape = c.layout_is_one_to_one.ensures.ranges;
-        in_range = g.met.S.Suite.in_range c.args.suite;
-        keys = g.S.Suite.keys c.args.suite;
-        every = c.args.every;
-        some_every = c.requires;
-        start = device_of (memory_of c.in_ok-board.board);
-        start_writes = ap (λ (m : BoardMemory). m.writes) c.in_ok-board.ensures;
-        start_latches = ap (λ (m : BoardMemory). m.latches) c.in_ok-board.ensures;
-        start_cuts = ap (λ (m : BoardMemory). m.cuts) c.in_ok-board.ensures;
-        middle = memory_of c.format.new.board;
-        ledger_middle = ledger_of c.format.new.audit;
-        engine = c.in_ok-engine.engine;
-        formatted = c.in_ok-engine.ensures.formatted;
-        board = memory_of c.open.new.board;
-        ledger = ledger_of c.open.new.audit;
-        tags = g.S.Suite.tags c.format.new.suite;
-        digests = g.S.Suite.digests c.format.new.suite;
-        tags_new = g.S.Suite.tags c.open.new.suite;
-        digests_new = g.S.Suite.digests c.open.new.suite;
-        answer = c.open.result;
-        opened =
-            subst (λ (k : List ℕ). HasGappedOpened (record { shape = shape_of c.args.geo; formulas = g.S.Suite.formulas_of k }) c.args.every
-            (parts_of c.in_ok-engine.engine (device_of (memory_of c.format.new.board)) (ledger_of c.format.new.audit)
-            (g.S.Suite.tags c.format.new.suite) (g.S.Suite.digests c.format.new.suite))
-            (λ now. parts_of now (device_of (memory_of c.open.new.board)) (ledger_of c.open.new.audit) (g.S.Suite.tags c.open.new.suite)
-            (g.S.Suite.digests c.open.new.suite)) c.open.result) c.format.ensures.keys
-            (subst (λ (s : Shape). HasGappedOpened (record { shape = s; formulas = g.S.Suite.formulas_of (g.S.Suite.keys c.format.new.suite) }) c.args.every
-            (parts_of c.in_ok-engine.engine (device_of (memory_of c.format.new.board)) (ledger_of c.format.new.audit)
-            (g.S.Suite.tags c.format.new.suite) (g.S.Suite.digests c.format.new.suite))
-            (λ now. parts_of now (device_of (memory_of c.open.new.board)) (ledger_of c.open.new.audit) (g.S.Suite.tags c.open.new.suite)
-            (g.S.Suite.digests c.open.new.suite)) c.open.result)
-            (ap (λ (e : EngineState). e.shape) c.in_ok-engine.ensures.formatted.engine_new)
-            (c.open.ensures.opened.did (ap (λ (e : EngineState). e.down) c.in_ok-engine.ensures.formatted.engine_new)).opened);
-        up = c.open.ensures.opened.up;
-      }
-
-  same_keys : g.S.Suite.keys c.open.new.suite ≡ g.S.Suite.keys c.args.suite
-  same_keys = c.open.ensures.keys ∙ c.format.ensures.keys
+pub new-requires-clause-zeros : goal.new-requires-clause-zeros
+new-requires-clause-zeros g c = holds_zeros _
 
 pub unreachable-requires : goal.unreachable-requires
 unreachable-requires g c =
-    new_outcome (call g ((goal.at.unreachable-requires g c).After-open)) (Err c.in_default.field-0) c.in_default.is
+    opens_always _ c.args.every c.requires c.new.result c.new.ensures.fault c.in-Err-Opening._fault
+    (let h = c.in-Err-Opening.is in let k = c.in-Err-Opening.field-0-is in search rules)
 
 pub invariant_of-result : goal.invariant_of-result
 invariant_of-result g c =
-    let place = (goal.at.invariant_of-result g c).After-open in
-    subst (λ (k : List ℕ). IsWearWorld (record { shape = shape_of c.args.geo; formulas = g.S.Suite.formulas_of k })
-    (record (held (call g place) c.in-Ok.gapped) { keys = k })) (sym (same_keys g place))
-    (new_outcome (call g place) (Ok c.in-Ok.gapped) c.in-Ok.is).0
+    let it = c.in-Ok.ensures.new in
+    (new_session_held g.S.Suite.formulas_of _ c.args.every c.in-Ok.session it.0 c.requires it.1
+    (ap₂ (λ s k. setup_under g.S.Suite.formulas_of s k) c.in-Ok.ensures.shape c.in-Ok.ensures.keys) c.in-Ok.ensures.shape it.2).0
 
-pub returns-clause-new : goal.returns-clause-new
-returns-clause-new g c =
-    let place = (goal.at.returns-clause-new g c).After-open in
-    subst (λ (k : List ℕ). IsNewWear (setup g place) c.args.every
-    (wear_of (record { shape = shape_of c.args.geo; formulas = g.S.Suite.formulas_of k }) (record (held (call g place) c.in-Ok.gapped) { keys = k })))
-    (sym (same_keys g place)) (new_outcome (call g place) (Ok c.in-Ok.gapped) c.in-Ok.is).1
+pub returns-in-Ok-clause-new : goal.returns-in-Ok-clause-new
+returns-in-Ok-clause-new g c =
+    let it = c.in-Ok.ensures.new in
+    (new_session_held g.S.Suite.formulas_of _ c.args.every c.in-Ok.session it.0 c.requires it.1
+    (ap₂ (λ s k. setup_under g.S.Suite.formulas_of s k) c.in-Ok.ensures.shape c.in-Ok.ensures.keys) c.in-Ok.ensures.shape it.2).1

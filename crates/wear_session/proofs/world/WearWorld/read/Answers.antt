@@ -1,88 +1,29 @@
 -- A line is read, or power is cut.
-use Rattle.std.proofs.Common.{rules, arith, refl, ap, ◌≡◌, false}
-use Rattle.wear_session.proofs.Common.{shape_of, memory_of, ledger_of, traced_of, goes_on-between, WearState, wear_decided}
-use Rattle.wear_session.proofs.ReadLaws.{ReadWearCall, undecided_now, got_held, got_seen, cut_held, cut_seen}
-use Rattle.trace_text.specs.Logged.{IsLoggedBy}
-use Rattle.trace_text.proofs.LogLemmas.{logged_by}
+use Rattle.std.proofs.Common.{Some, Ok}
 use Rattle.wear_session.specs.declared.commands.WearCommand.TheVariants as Do
+use Rattle.line_session.specs.Made.{undone}
+use Rattle.pmem_base.specs.declared.faults.MemFault.{MemFault}
+use Rattle.wear_session.proofs.Served.{IsServed, read_served, always_done}
 use Rattle.wear_session.proofs.world.WearWorld.read.Given.{Over}
-use Rattle.wear_session.proofs.world.WearWorld.read.Goals.{After-steps-steps}
+use Rattle.wear_session.proofs.world.WearWorld.read.Goals.{After-read_answer}
 use Rattle.wear_session.proofs.world.WearWorld.read.Goals as goal
-use Rattle.wear_session.proofs.Worlds.{on_in}
 
--- once the engine has answered
-module _ (g : Over) (c : After-steps-steps g) where
-  running : c.in-Some.gapped.engine.down ≡ false
-  running = (on_in _ _ _ c.self.invariant c.in-Some.is).running
+module _ (g : Over) (c : After-read_answer g) where
+  served : IsServed g.S.Suite.formulas_of c.self.inside.every c.self.inside.session c.make-done.new.self c.args.self.now c.self.view_is
+      c.make-done.ensures.world c.self.invariant {E = MemFault} (Do.Read c.args.at) (undone c.make-done.result) (Ok c.read_answer.result) (λ fault. ⊥)
+  served =
+      read_served g.S.Suite.formulas_of c.self.inside.every c.self.inside.session c.make-done.new.self c.args.self.now c.self.view_is
+      c.make-done.ensures.world c.self.invariant c.args.at c.make-done.result c.make-done.ensures.done c.make-done.ensures.wanting c.read_answer.result
+      c.read_answer.ensures
 
-  abbrev call : ReadWearCall
-  call =
-      record {
-        formulas_of = g.S.Suite.formulas_of;
-        geometry = shape_of c.self.inside.geo;
-        parts =
-            record {
-              keys = g.S.Suite.keys c.self.inside.suite;
-              tags = g.S.Suite.tags c.self.inside.suite;
-              digests = g.S.Suite.digests c.self.inside.suite;
-              every = c.self.inside.every;
-              board = memory_of c.self.inside.board;
-              ledger = ledger_of c.self.inside.ledger;
-              gapped = c.self.inside.gapped;
-            };
-        now = c.args.self.now;
-        is = c.self.view_is;
-        world = c.self.invariant;
-        gapped = c.in-Some.gapped;
-        there = c.in-Some.is;
-        at = c.args.at;
-        within = omega (arith, c.if-at-from.false, c.from.ensures, c.lines.ensures.value);
-        after = c.call-done.new.store;
-        wear = c.call-done.ensures.made.its_wear;
-        keys = g.S.Suite.keys c.call-done.new.suite;
-        same_keys = c.call-done.ensures.keys;
-        board = memory_of c.call-done.new.board;
-        ledger = ledger_of c.call-done.new.ledger;
-        taken = c.call-done.result.taken;
-        watched = c.call-done.ensures.watched;
-        tags_new = g.S.Suite.tags c.call-done.new.suite;
-        digests_new = g.S.Suite.digests c.call-done.new.suite;
-        said = c.steps-steps.result;
-        counted = c.steps-steps.ensures;
-        answer = c.call-done.result.answer;
-        was_read = (c.call-done.ensures.made.read.did running).was_read;
-        down = c.call-done.ensures.made.read.after;
-        plan = (c.call-done.ensures.made.read.did running).was_read.plan;
-      }
+pub read_answer-requires : goal.read_answer-requires
+read_answer-requires g c = always_done (Some c.args.at) c.self.inside.session c.make-done.result c.make-done.ensures.wanting
 
-  -- the log goes on by that call
-  logged : IsLoggedBy (wear_decided c.args.self.now (Do.Read c.args.at)) c.args.log.now c.args.self.now.session.board c.call-done.new.log (memory_of c.call-done.new.board)
-  logged =
-      logged_by (wear_decided c.args.self.now (Do.Read c.args.at)) c.args.log.now c.call-done.new.log c.args.self.now.session.board (memory_of c.call-done.new.board) (undecided_now call)
-      (goes_on-between c.args.log.now c.call-done.new.log c.args.self.now.session.board (memory_of c.self.inside.board) (memory_of c.call-done.new.board)
-      (memory_of c.call-done.new.board) (ap (λ (w : WearState). traced_of w.session.board) c.self.view_is) refl c.call-done.ensures.logged)
+pub invariant_of-self : goal.invariant_of-self
+invariant_of-self g c = (served g ((goal.at.invariant_of-self g c).After-read_answer)).held
 
-pub invariant_of-self-in-Ok : goal.invariant_of-self-in-Ok
-invariant_of-self-in-Ok g c =
-    got_held (call g ((goal.at.invariant_of-self-in-Ok g c).After-steps-steps)) c.in-Ok.line (let h = c.in-Ok.is in search rules)
+pub returns-clause-answered : goal.returns-clause-answered
+returns-clause-answered g c = (served g ((goal.at.returns-clause-answered g c).After-read_answer)).answered
 
-pub returns-in-Ok-clause-answered : goal.returns-in-Ok-clause-answered
-returns-in-Ok-clause-answered g c = got_seen (call g ((goal.at.returns-in-Ok-clause-answered g c).After-steps-steps)) c.in-Ok.line (let h = c.in-Ok.is in search rules)
-
-pub invariant_of-self-in-Err-Cut : goal.invariant_of-self-in-Err-Cut
-invariant_of-self-in-Err-Cut g c =
-    cut_held (call g ((goal.at.invariant_of-self-in-Err-Cut g c).After-steps-steps))
-    (let h = c.in-Err-Cut.is in let k = c.in-Err-Cut.field-0-is in search rules)
-
-pub returns-in-Err-Cut-clause-answered : goal.returns-in-Err-Cut-clause-answered
-returns-in-Err-Cut-clause-answered g c =
-    cut_seen (call g ((goal.at.returns-in-Err-Cut-clause-answered g c).After-steps-steps))
-    (let h = c.in-Err-Cut.is in let k = c.in-Err-Cut.field-0-is in search rules)
-
--- ---- the log
-
-pub returns-in-Ok-clause-logged : goal.returns-in-Ok-clause-logged
-returns-in-Ok-clause-logged g c = logged g ((goal.at.returns-in-Ok-clause-logged g c).After-steps-steps)
-
-pub returns-in-Err-Cut-clause-logged : goal.returns-in-Err-Cut-clause-logged
-returns-in-Err-Cut-clause-logged g c = logged g ((goal.at.returns-in-Err-Cut-clause-logged g c).After-steps-steps)
+pub returns-clause-logged : goal.returns-clause-logged
+returns-clause-logged g c = (served g ((goal.at.returns-clause-logged g c).After-read_answer)).logged _ _ c.make-done.ensures.logged
