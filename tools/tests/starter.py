@@ -4,6 +4,7 @@ What a run is given and tells is as if the command had been started: it has stan
 own words and environment, and ends as Python ends.
 """
 import atexit
+import gc
 import importlib
 import json
 import os
@@ -33,10 +34,10 @@ def receive(file: IO[bytes]) -> Any:
 
 
 class Starter:
-    """The process that forks. It has these modules besides."""
+    """The process that forks, of this interpreter. It has these modules besides."""
 
-    def __init__(self, modules: Sequence[str]) -> None:
-        words = [sys.executable, "-c", f"import sys; sys.path[0] = {str(TOOLS)!r}; from tests import starter; starter.serve(sys.argv[1:])", *modules]
+    def __init__(self, python: str, modules: Sequence[str]) -> None:
+        words = [python, "-c", f"import sys; sys.path[0] = {str(TOOLS)!r}; from tests import starter; starter.serve(sys.argv[1:])", *modules]
         self.process = subprocess.Popen(words, stdin=subprocess.PIPE, stdout=subprocess.PIPE)
         atexit.register(self.close)
 
@@ -53,15 +54,16 @@ class Starter:
 
 
 @lru_cache(maxsize=None)
-def starter(*modules: str) -> Starter:
+def starter(*modules: str, python: str = sys.executable) -> Starter:
     """The one of this process that has these modules."""
-    return Starter(modules)
+    return Starter(python, modules)
 
 
 def serve(modules: Sequence[str]) -> None:
     """Does what is asked, until no more is. A child comes back from here as well, and then Python ends."""
     for name in ("explorer.command_line", *modules):
         importlib.import_module(name)
+    gc.freeze()  # a child needn't look at what was there before it
     asked, answers = sys.stdin.buffer, os.fdopen(os.dup(1), "wb")
     while True:
         question = receive(asked)

@@ -8,16 +8,23 @@ import sys
 import threading
 import time
 import unittest
+from functools import lru_cache
 from pathlib import Path
 from typing import List, Optional
 
 from .helpers import EXAMPLES, EXPLORE, ONES, QUICK, ExploreTest, program_path, words_of
+from .starter import starter
 
 # The ciphers play no part in what is shared out.
 WEAK = words_of(QUICK)
 SWEEP = ("--sets", "1,2,4,8", "--loss", "1,2,4,16")
 
 
+# What a run with a cluster takes, which is loaded late.
+DASK = ("distributed.diagnostics.plugin", "cloudpickle")
+
+
+@lru_cache(maxsize=None)
 def python_with_distributed() -> Optional[str]:
     """An interpreter that has dask.distributed."""
     for path in (sys.executable, "/usr/bin/python3"):
@@ -86,14 +93,16 @@ class ClusterTest(ExploreTest):
 
     def on_cluster(self, *words: str, meanwhile: str = "") -> "subprocess.CompletedProcess[str]":
         """What explore prints with the cluster; `meanwhile`: which process is killed once tasks are under way."""
-        process = subprocess.Popen([self.python, str(EXPLORE), *words, "--cluster", self.address, "--program", where()],
-                                   stdout=subprocess.PIPE, stderr=subprocess.PIPE, universal_newlines=True)
-        if meanwhile:
-            while not self.is_under_way() and process.poll() is None:
-                time.sleep(0.02)
-            self.assertIsNone(process.poll())
-            victim = self.processes[0] if meanwhile == "scheduler" else self.workers[0]
-            os.kill(victim.pid, signal.SIGKILL)
+        words = (*words, "--cluster", self.address, "--program", where())
+        if not meanwhile:
+            return starter(*DASK, python=self.python).run(words, "", dict(os.environ))
+        process = subprocess.Popen([self.python, str(EXPLORE), *words], stdout=subprocess.PIPE, stderr=subprocess.PIPE,
+                                   universal_newlines=True)
+        while not self.is_under_way() and process.poll() is None:
+            time.sleep(0.02)
+        self.assertIsNone(process.poll())
+        victim = self.processes[0] if meanwhile == "scheduler" else self.workers[0]
+        os.kill(victim.pid, signal.SIGKILL)
         out, err = process.communicate(timeout=300)
         return subprocess.CompletedProcess(words, process.returncode, out, err)
 
@@ -150,8 +159,8 @@ class WrongAddressTest(ExploreTest):
             self.skipTest("dask.distributed is missing (Debian: python3-distributed)")
         for address, status, told in (("tcp://127.0.0.1:1", 1, "doesn't answer, or is gone"),
                                       ("nowhere://x", 2, "is no address of a scheduler")):
-            found = subprocess.run([python, str(EXPLORE), "cuts", str(EXAMPLES / "first.trace"), "--cluster", address, "--program", where()],
-                                   stdout=subprocess.PIPE, stderr=subprocess.PIPE, universal_newlines=True, check=False)
+            words = ("cuts", str(EXAMPLES / "first.trace"), "--cluster", address, "--program", where())
+            found = starter(*DASK, python=python).run(words, "", dict(os.environ))
             self.assertEqual((found.returncode, found.stdout), (status, ""), found.stderr)
             self.assertIn(told, found.stderr)
             self.assertNotIn("Traceback", found.stderr)
