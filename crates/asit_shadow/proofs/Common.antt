@@ -8,12 +8,12 @@ pub use Rattle.asit_shadow.specs.Paths.{is_path_slot, HasPathNamed, IsNodePathCa
 pub use Rattle.asit_shadow.specs.Places.{IsNodeHeld, IsNodeHeldBy, ArePlacesKept, ArePlacesArmed}
 pub use Rattle.asit_shadow.specs.Plain.{PlainTree, writes_below, node_above_lines, true_count, slot_naming, names_with, named_at, after_tree_write, IsPlainOf, true_version, writes_made}
 pub use Rattle.asit_shadow.specs.Plans.{TreeChip, read_parts_of, with_engine, with_read, fault_of_line, fetch_plan, ended_engine, fault_of_node, with_clean, node_in, level_plan, fetch_turn, tree_chip_at, tree_chip_of, data_plan, with_tags}
-pub use Rattle.asit_shadow.specs.RecoverPlans.{RecoverParts, recover_parts, slots_plan, cached_named, recovery_work, recover_parts_at, recovered_engine, same_lines, slots_end}
+pub use Rattle.asit_shadow.specs.RecoverPlans.{RecoverParts, recover_parts, slots_plan, cached_named, recovery_work, recover_parts_at, recovered_engine, same_lines}
 pub use Rattle.asit_shadow.specs.Recovering.{Rest, rest_of, HasOnlyReadLines, AreSlotsRead, IsReadFinished, HasTreeRecovered, IsNameable, IsRestUsable, rest_redone, IsRestAnchored, IsRestDurable, IsTreeWork, IsRoomFilled}
 pub use Rattle.asit_shadow.specs.State.{TreeState, cache_at, IsCached, IsCachedAs, IsTreeEngine, IsHeldNode, top_node, IsCachedDirty}
 pub use Rattle.asit_shadow.specs.Steps.{IsTreeArmed, HasPathStored, IsTreeEmptied, KeepsOtherRegisters, IsFetched, GivesWay, IsTreeRecovered, slots_read, tree_plain_line, held_of, tree_plain_of, MadeSeal, IsHistory}
 pub use Rattle.asit_shadow.specs.Work.{absent_nodes, HasSlotsFetched, spilled_nodes, HasFetchedNodes, is_node_cached, IsCutInNodeFetch, HasFetchedPath, HasArmedPath, holds_dirty, HasStoppedAt, IsNodeShownAt, write_back, node_level_write, node_level_reads, slot_fetched, IsLineShownAt, IsCutInGroup}
-pub use Rattle.asit_shadow.specs.WritePlans.{raised_pair, seal_of, write_armed, named_chip, stored_chip, named_one, told_write, raise_plan, cached_node, raised_node, with_tree, with_stored}
+pub use Rattle.asit_shadow.specs.WritePlans.{raised_pair, seal_of, write_armed, named_chip, stored_chip, named_one, told_write, raise_plan, with_tree, with_stored}
 pub use Rattle.asit_shadow.specs.Writing.{IsWriteMade, set_pairs, slot_entries, position_below, IsSealMade, pair_at, dirty_entries, armed_lines, IsPathRaised, IsRaisedTo, HasWrittenUp, IsWriteTold, IsTreeNamed}
 pub use Rattle.asit_shadow.specs.declared.cache.CachedNode.{CachedNode}
 pub use Rattle.asit_shadow.specs.declared.fault.TreeFault.{TreeFault}
@@ -61,7 +61,7 @@ pub use Rattle.pmem_base.proofs.LineSets.{line_at-set_same, line_at-set_other, l
 pub use Rattle.pmem_base.specs.Counts.{HasRisen, risen_times, risen}
 pub use Rattle.pmem_base.specs.Geo.{shape_of}
 pub use Rattle.pmem_base.specs.Layout.{meta_lines, level_start, pages}
-pub use Rattle.pmem_base.specs.Lines.{line_at, tag_slot, put_lines, IsLine, IsTag, xor_lines, same_bytes, IsCtr, line_of}
+pub use Rattle.pmem_base.specs.Lines.{line_at, tag_slot, put_lines, IsLine, IsTag, xor_lines, same_bytes, IsCtr}
 pub use Rattle.pmem_base.specs.Registers.{IsGroup, without_group, empty_regs}
 pub use Rattle.pmem_base.specs.Shape.{IsShape, Shape}
 pub use Rattle.pmem_base.specs.declared.answers.Exhibit.{Exhibit}

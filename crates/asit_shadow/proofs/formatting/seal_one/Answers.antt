@@ -1,6 +1,6 @@
 -- A data line and its tag line are written.
 use Rattle.std.proofs.Common.{ap, subst, ◌∙◌, rules}
-use Rattle.asit_shadow.proofs.Common.{Line, shape_of, HasWritten, the_cut, write_then, LineSeal, line_of_tag, written_so, StaysSteady-then, StaysSteady-written, tag_only, IsSealMade, first_tree_seal}
+use Rattle.asit_shadow.proofs.Common.{Line, HasWritten, the_cut, write_then, LineSeal, written_so, StaysSteady-then, StaysSteady-written, tag_only, IsSealMade}
 use Rattle.asit_shadow.proofs.FormatSteps.{first-made}
 use Rattle.asit_shadow.proofs.formatting.seal_one.Goals as goal
 
@@ -12,13 +12,11 @@ returns-clause-lines g c = search (rules, first-made)
 
 pub returns-clause-plan : goal.returns-clause-plan
 returns-clause-plan g c =
-    let made = first-made (g.S.Suite.formulas_of (g.S.Suite.keys c.args.suite.now)) c.args.at c.sealed-seal.result
+    let made = first-made _ c.args.at _
     (subst (λ (l : Line). IsSealMade (g.S.Suite.formulas_of (g.S.Suite.keys c.args.suite.now)) c.args.at 0 l c.sealed-seal.result) c.default.ensures c.sealed-seal.ensures.made) in
     write_then the_cut
     (subst (λ (s : LineSeal). HasWritten (g.B.Board.device c.args.board.now) c.args.at s.cipher (g.B.Board.device c.write_steady.new.board)) made c.write_steady.ensures)
-    (written_so c.tag_place.result (line_of_tag (shape_of c.args.geo.now) c.args.at) c.tag_line.result
-    (tag_only (first_tree_seal (g.S.Suite.formulas_of (g.S.Suite.keys c.args.suite.now)) c.args.at).tag) (g.B.Board.device c.write_steady.new.board)
-    (g.B.Board.device c.write_steady-2.new.board) c.tag_place.ensures.value (c.tag_line.ensures ∙ ap (λ (s : LineSeal). tag_only s.tag) made) c.write_steady-2.ensures)
+    (written_so _ _ _ _ _ _ c.tag_place.ensures.value (c.tag_line.ensures ∙ ap (λ (s : LineSeal). tag_only s.tag) made) c.write_steady-2.ensures)
 
 pub returns-clause-noted : goal.returns-clause-noted
 returns-clause-noted g c = search (rules, first-made)

@@ -24,7 +24,7 @@ pub new-requires : goal.new-requires
 new-requires g c =
     let before = (goal.at.new-requires g c).After-fill_device in
     subst (λ (held : List (Option CachedNode)). IsTreeEngine (record { shape = shape_of c.args.geo.now; cache = held; tree = c.fill_device.new.tree; down = false })) (sym (cache g before c.is_whole.ensures))
-    (first-engine (shape_of c.args.geo.now) c.fill_device.new.tree c.is_whole.ensures c.fill_device.ensures.formatted.height)
+    (first-engine _ c.fill_device.new.tree c.is_whole.ensures c.fill_device.ensures.formatted.height)
 
 pub returns-clause-formatted : goal.returns-clause-formatted
 returns-clause-formatted g c =
@@ -36,7 +36,6 @@ pub returns-clause-usable : goal.returns-clause-usable
 returns-clause-usable g c =
     let before = (goal.at.returns-clause-usable g c).After-fill_device in
     subst (λ (e : TreeState). IsTreeUsable (shape_of c.args.geo.now) (tree_parts_of e (g.B.Board.device c.fill_device.new.board) (g.W.Watch.watched c.fill_device.new.watch))) (sym c.new.ensures)
-    (formatted-usable (record { shape = shape_of c.args.geo.now; formulas = g.S.Suite.formulas_of (g.S.Suite.keys c.args.suite.now) })
-    (rest_of (g.B.Board.device c.args.board.now) (g.W.Watch.watched c.args.watch.now)) (rest_of (g.B.Board.device c.fill_device.new.board) (g.W.Watch.watched c.fill_device.new.watch))
-    (record { shape = shape_of c.args.geo.now; cache = slice_set c.in_ok-room.room.cache.items 0 (Some first_held); tree = c.fill_device.new.tree; down = false })
+    (formatted-usable (record { shape = shape_of c.args.geo.now; formulas = g.S.Suite.formulas_of _ }) _ _
+    (record { shape = shape_of c.args.geo.now; cache = slice_set c.in_ok-room.room.cache.items 0 _; tree = c.fill_device.new.tree; down = false })
     c.requires.size c.requires.seals (formatted g before c.is_whole.ensures))

@@ -19,7 +19,7 @@ slots-preserved g c =
           (line_at c.args.slots.now c.slots.i) (g.B.Board.device c.slots.board) (g.B.Board.device c.write_steady.new.board) c.slot_place.ensures.value line
           c.write_steady.ensures);
       lines = search (rules, written-more, get_or);
-      told = search (rules, slots-told_more, get_or);
+      told = search (rules, slots-told_more);
     }
 
 pub returns-clause-plan : goal.returns-clause-plan

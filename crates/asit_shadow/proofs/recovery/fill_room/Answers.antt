@@ -13,9 +13,8 @@ use Rattle.asit_shadow.proofs.recovery.fill_room.Goals as goal
 
 pub fill-found-requires : goal.fill-found-requires
 fill-found-requires g c =
-    let room = shadow_height-room (shape_of c.args.geo.now) c.layout_is_one_to_one.ensures.ranges in
-    subst (λ h. length c.read_slots.new.slots ≤ 4 ^ h) (sym c.requires.height)
-    (omega (arith, room, c.requires.slots, c.read_slots.auto.slots))
+    let room = shadow_height-room _ c.layout_is_one_to_one.ensures.ranges in
+    subst (λ h. length c.read_slots.new.slots ≤ 4 ^ h) (sym c.requires.height) (omega (arith, room, c.requires.slots, c.read_slots.auto.slots))
 
 pub returns-in-Err-clause-filled : goal.returns-in-Err-clause-filled
 returns-in-Err-clause-filled g c =
@@ -26,23 +25,19 @@ returns-in-Err-clause-filled g c =
 
 pub returns-in-Err-read_slots-clause-filled : goal.returns-in-Err-read_slots-clause-filled
 returns-in-Err-read_slots-clause-filled g c =
-    unread_end (record { shape = shape_of c.args.geo.now; formulas = g.S.Suite.formulas_of (g.S.Suite.keys c.args.suite.now) })
-    (rest_of (g.B.Board.device c.args.board.now) (g.W.Watch.watched c.args.watch.now)) (rest_of (g.B.Board.device c.read_slots.new.board) (g.W.Watch.watched c.args.watch.now))
-    (g.B.Board.device c.finish.new.board) (g.S.Suite.digests c.args.suite.now) (g.S.Suite.digests c.args.suite.now) c.in-Ok.ensures.ok
-    c.in-Err-read_slots.ensures.cut c.in-Err-read_slots.ensures.only_off refl refl
+    unread_end (record { shape = shape_of c.args.geo.now; formulas = g.S.Suite.formulas_of _ }) _ _
+    _ _ _ c.in-Ok.ensures.ok c.in-Err-read_slots.ensures.cut c.in-Err-read_slots.ensures.only_off refl refl
 
 module _ (g : Over) (c : After-regs g) where
   setup : Setup
   setup = record { shape = shape_of c.args.geo.now; formulas = g.S.Suite.formulas_of (g.S.Suite.keys c.args.suite.now) }
 
   finished : IsReadFinished (shape_of c.args.geo.now) (g.B.Board.device c.args.board.now) (g.B.Board.device c.read_slots.new.board)
-  finished =
-      read_finished (shape_of c.args.geo.now) (g.B.Board.device c.args.board.now) (g.B.Board.device c.finish.new.board) (g.B.Board.device c.read_slots.new.board)
-      c.in-Ok.ensures.ok c.in-Ok-read_slots.ensures.ok
+  finished = read_finished _ _ _ _ c.in-Ok.ensures.ok c.in-Ok-read_slots.ensures.ok
 
   read : AreSlotsRead (shape_of c.args.geo.now) c.read_slots.new.slots (g.B.Board.device c.read_slots.new.board)
   read =
-      slots-read (shape_of c.args.geo.now) c.read_slots.new.slots (g.B.Board.device c.finish.new.board) (g.B.Board.device c.read_slots.new.board)
+      slots-read _ _ _ _
       (c.read_slots.auto.slots ∙ c.requires.slots) c.in-Ok-read_slots.ensures.whole c.in-Ok-read_slots.ensures.told c.in-Ok-read_slots.ensures.ok
 
   root : c.fill-found.result ≡ shadow_root (shape_of c.args.geo.now) (g.S.Suite.formulas_of (g.S.Suite.keys c.args.suite.now)) c.read_slots.new.slots

@@ -1,7 +1,6 @@
 -- The slot lines' plan, line by line.
 use Rattle.std.proofs.Common.{rules, arith}
-use Rattle.asit_shadow.proofs.Common.{shape_of, turns_start, turn_ok, turn_err, turns_end, is_err_of, tree_slots}
-use Rattle.asit_shadow.specs.RecoverPlans.{slot_turn}
+use Rattle.asit_shadow.proofs.Common.{turns_start, turn_ok, turn_err, turns_end, is_err_of}
 use Rattle.asit_shadow.proofs.RecoverPlans.{slot_was_read, slot_unread}
 use Rattle.asit_shadow.proofs.recovery.read_slots.Goals as goal
 
@@ -9,7 +8,7 @@ pub slots-init : goal.slots-init
 slots-init g c =
     record {
       read = search rules;
-      reached = λ at. turns_start (slot_turn (shape_of c.args.geo.now) at) (tree_slots (shape_of c.args.geo.now)) c.args.slots.now (g.B.Board.device c.args.board.now);
+      reached = λ at. turns_start _ _ _ _;
       whole = search rules;
       told = search rules;
     }

@@ -1,6 +1,6 @@
 -- The levels so far and the next one, whether it is had or not.
 use Rattle.std.proofs.Common.{ℕ, suc, ◌≡◌, ◌<◌, ◌+◌, List, Result, refl, sym, ap, subst, subst₂, ◌∙◌, arith}
-use Rattle.asit_shadow.proofs.Common.{slice_index, shape_of, Shape, Device, Setup, Follows, AreTurnsLeft, turns_start, turn_ok, turn_err, turns_end, Node, child_slot, counter, IsCachedAs, top_node, AreTreeTrusted, tree_parts_at, tree_setup_at, line_path, TreeFault, TreeChip, level_plan, fetch_turn, fetch_plan, tree_chip_at, HasFetchedNode, HasNoNode, IsPathFetchedTo}
+use Rattle.asit_shadow.proofs.Common.{slice_index, Shape, Device, Setup, Follows, AreTurnsLeft, turns_start, turn_ok, turn_err, turns_end, Node, child_slot, counter, IsCachedAs, top_node, AreTreeTrusted, tree_parts_at, tree_setup_at, line_path, TreeFault, TreeChip, level_plan, fetch_turn, fetch_plan, tree_chip_at, HasFetchedNode, HasNoNode, IsPathFetchedTo}
 use Rattle.asit_shadow.proofs.PathSteps.{IsFetchReady, IsNextLevel, path-start, last-start, last-end, place-is, version-is, next-low, path-next, had-in}
 use Rattle.asit_shadow.proofs.FetchStops.{fetch-stopped}
 use Rattle.asit_shadow.proofs.engine.TreeEngine.fetch.Given.{Over}
@@ -40,9 +40,7 @@ module _ (g : Over) (c : After-from g) where
   setup = tree_setup_at g.S.Suite c.args.self.now c.args.suite.now
 
   place : slice_index c.as_slice.result.now (c.from.result + 1) ≡ slice_index (line_path c.args.self.now.shape c.args.at) (suc c.levels.level)
-  place =
-      place-is c.args.self.now.shape (shape_of c.geo-geo.result) c.args.at c.levels.level c.from.result c.path-path.result.items c.as_slice.result.now
-      c.as_slice.ensures.value c.path-path.ensures.value c.geo-geo.ensures c.from.ensures
+  place = place-is _ _ c.args.at _ _ _ _ c.as_slice.ensures.value c.path-path.ensures.value c.geo-geo.ensures c.from.ensures
 
   below : c.levels.level < c.args.self.now.shape.levels
   below = omega (arith, c.levels-test.true, c.levels-level-end.ensures, ap (λ (k : Shape). k.levels) c.geo-geo.ensures)
@@ -51,7 +49,7 @@ module _ (g : Over) (c : After-from g) where
   ready =
       record {
         shape = c.is_whole.ensures.shape;
-        in_range = g.met.S.Suite.in_range c.args.suite.now;
+        in_range = g.met.S.Suite.in_range _;
         its_line = c.requires.line;
         its_size = c.requires.usable.board.its_size;
         slots = c.is_whole.ensures.engine.slot_count;
@@ -79,7 +77,7 @@ module _ (g : Over) (c : After-from g) where
       (tree_chip_at g.S.Suite g.W.Watch c.levels.self c.levels.suite c.levels.watch)) (g.B.Board.device c.levels.board) new end
       → Follows (fetch_turn setup c.args.at c.levels.level (tree_chip_at g.S.Suite g.W.Watch c.levels.self c.levels.suite c.levels.watch, c.levels.node)) (g.B.Board.device c.levels.board) new end
   turn version is {new = new} {end = end} it =
-      let now : TreeChip = tree_chip_at g.S.Suite g.W.Watch c.levels.self c.levels.suite c.levels.watch in
+      let now : TreeChip = tree_chip_at g.S.Suite g.W.Watch _ _ _ in
       subst (λ x. Follows (level_plan setup x (counter c.levels.node (child_slot x)) now) (g.B.Board.device c.levels.board) new end) place
       (subst (λ v. Follows (level_plan setup (slice_index c.as_slice.result.now (c.from.result + 1)) v now) (g.B.Board.device c.levels.board) new end) is
       (subst₂ (λ (k : Shape) (keys : List ℕ). Follows (level_plan (record { shape = k; formulas = g.S.Suite.formulas_of keys }) (slice_index c.as_slice.result.now (c.from.result + 1))
@@ -146,7 +144,7 @@ returns-clause-fetched g c =
     record {
       path = path;
       last =
-          last-end (tree_setup_at g.S.Suite c.args.self.now c.args.suite.now) c.args.at c.levels.node (tree_parts_at g.B.Board g.W.Watch c.args.self.now c.args.board.now c.args.watch.now) (tree_parts_at g.B.Board g.W.Watch c.levels.self c.levels.board c.levels.watch) path
+          last-end _ c.args.at _ _ _ path
           (subst (λ n. AreTreeTrusted (tree_setup_at g.S.Suite c.args.self.now c.args.suite.now) (tree_parts_at g.B.Board g.W.Watch c.levels.self c.levels.board c.levels.watch)
           → IsCachedAs c.args.self.now.shape c.levels.self.cache (slice_index (line_path c.args.self.now.shape c.args.at) n) c.levels.node) all c.levels.invariant.last);
     }

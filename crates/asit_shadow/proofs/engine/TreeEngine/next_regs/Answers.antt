@@ -39,9 +39,9 @@ module _ (g : Over) (c : After-name-next g) where
 
 pub slot_line-line-requires : goal.slot_line-line-requires
 slot_line-line-requires g c =
-    let low : (get_or c.as_slice-x-items.result.now c.levels.x-index (0, record { 0 = [] })).0 < meta_lines c.args.self.now.shape =
+    let low : (get_or c.as_slice-x-items.result.now c.levels.x-index _).0 < meta_lines c.args.self.now.shape =
     subst (λ (ps : List (ℕ × Node)). c.levels.x-index < length ps → (get_or ps c.levels.x-index (0, record { 0 = [] })).0 < meta_lines c.args.self.now.shape) (sym c.as_slice-x-items.ensures.value)
-    (c.requires.nodes c.levels.x-index (0, record { 0 = [] })) c.levels-test.true in
+    (c.requires.nodes c.levels.x-index _) c.levels-test.true in
     omega (arith, low, meta_lines-most c.args.self.now.shape c.is_whole.ensures.shape.at_most_six_levels)
 
 pub levels-preserved : goal.levels-preserved

@@ -10,12 +10,11 @@ use Rattle.asit_shadow.proofs.engine.TreeEngine.node_of.Goals as goal
 
 pub returns-in_err-node-clause-missed : goal.returns-in_err-node-clause-missed
 returns-in_err-node-clause-missed g c =
-    let setup : Setup = record { shape = c.args.self.now.shape; formulas = g.S.Suite.formulas_of (g.S.Suite.keys c.args.suite.now) } in
-    let old : TreeEngineParts = tree_parts_of c.args.self.now (g.B.Board.device c.args.board.now) (g.W.Watch.watched c.args.watch.now) in
-    let new : TreeEngineParts = tree_parts_of c.args.self.now (g.B.Board.device c.taken.new.board) (g.W.Watch.watched c.taken.new.watch) in
+    let setup : Setup = record { shape = c.args.self.now.shape; formulas = g.S.Suite.formulas_of _ } in
+    let old : TreeEngineParts = tree_parts_of _ _ _ in
+    let new : TreeEngineParts = tree_parts_of _ _ _ in
     subst (λ (answer : Result Node TreeFault). IfErr answer (HasNoNode setup c.args.x c.args.version old new))
-    (sym (is_err_of c.from_residual.result c.in_err-node.field-0.0 c.from_residual.ensures.1))
-    (not_taken setup c.args.x c.args.version c.args.self.now old.device new.device old.watch new.watch c.in_err-node.field-0.0 c.in_default.ensures.none
+    (sym (is_err_of _ _ c.from_residual.ensures.1)) (not_taken setup c.args.x _ _ _ _ old.watch new.watch _ c.in_default.ensures.none
     (subst (λ (k : Shape). IsNodeTaken (record { shape = k; formulas = setup.formulas }) c.args.x c.args.version old.device new.device old.watch new.watch
     (Err c.in_err-node.field-0.0)) c.geo-geo.ensures c.in_err-node.ensures.taken))
 
@@ -49,9 +48,7 @@ module _ (g : Over) (c : After-slot_of-i g) where
 
 pub returns-in-Some-clause-plan : goal.returns-in-Some-clause-plan
 returns-in-Some-clause-plan g c =
-    level_cached (record { shape = c.args.self.now.shape; formulas = g.S.Suite.formulas_of (g.S.Suite.keys c.args.suite.now) }) c.args.x c.args.version
-    (tree_chip_of c.args.self.now (g.W.Watch.watched c.args.watch.now) (g.S.Suite.pads c.args.suite.now) (g.S.Suite.tags c.args.suite.now)
-    (g.S.Suite.digests c.args.suite.now)) (g.B.Board.device c.args.board.now) c.in-Some.node (sym c.in-Some.ensures.value)
+    level_cached (record { shape = c.args.self.now.shape; formulas = g.S.Suite.formulas_of _ }) c.args.x _ _ _ _ (sym c.in-Some.ensures.value)
 
 pub returns-in_err-node-clause-plan : goal.returns-in_err-node-clause-plan
 returns-in_err-node-clause-plan g c =
@@ -60,8 +57,7 @@ returns-in_err-node-clause-plan g c =
     (tree_chip_of c.args.self.now (g.W.Watch.watched c.taken.new.watch) (g.S.Suite.pads c.taken.new.suite) (g.S.Suite.tags c.taken.new.suite)
     (g.S.Suite.digests c.taken.new.suite))
     (λ i. tree_chip_of c.args.self.now (g.W.Watch.watched c.taken.new.watch) (g.S.Suite.pads c.taken.new.suite) (g.S.Suite.tags c.taken.new.suite)
-    (c.taken.ensures.digests i))
-    (ended_err c.from_residual.result c.from_residual.ensures.1
+    (c.taken.ensures.digests i)) (ended_err c.from_residual.result c.from_residual.ensures.1
     (level_missed (setup g here) c.args.x c.args.version (chip g here) (absent g here) (taking g here (c.in_err-node.ensures.plan (chip g here)))))
 
 pub returns-in-Err-clause-plan : goal.returns-in-Err-clause-plan

@@ -46,8 +46,7 @@ levels-preserved c =
           (record { on_tree = omega (arith, place before, inside before); node_whole = c.raise.ensures.whole; has_version = c.raise.ensures.version })
           (λ old cached small.
           node-raised c.args.self.now.shape c.args.self.now.cache (slice_index c.as_slice.result.now c.from.result) c.child_slot.result c.node.result c.raise.result old c.node.ensures.cached c.raise.ensures.raised cached small
-          ∙ ap (raised old) (c.child_slot.ensures.value ∙ ap child_slot below))
-          c.levels.invariant.done);
+          ∙ ap (raised old) (c.child_slot.ensures.value ∙ ap child_slot below)) c.levels.invariant.done);
       value =
           raised-step c.args.self.now.shape c.args.self.now.cache c.args.at c.levels.level c.levels.raised.items c.push.new.self.items
           (slice_index c.as_slice.result.now c.from.result, c.raise.result) c.levels.invariant.value (pair (goal.at.levels-preserved c).After-raise (place before)) c.push.ensures.items;
@@ -56,4 +55,4 @@ levels-preserved c =
 pub returns-clause-raised : goal.returns-clause-raised
 returns-clause-raised c =
     let all : c.levels.level ≡ c.args.self.now.shape.levels + 1 = omega (arith, ap (λ (k : Shape). k.levels) c.geo-geo.ensures) in
-    raised-all c.args.self.now.shape c.args.self.now.cache c.args.at c.levels.level c.levels.raised.items all c.levels.invariant.done
+    raised-all _ _ c.args.at _ _ all c.levels.invariant.done

@@ -110,10 +110,9 @@ pub returns-in-Ok-fetch_line-clause-plan : goal.returns-in-Ok-fetch_line-clause-
 returns-in-Ok-fetch_line-clause-plan g c =
     let here = (goal.at.returns-in-Ok-fetch_line-clause-plan g c).After-fetch_line in
     let answer : Result Line TreeFault = Ok c.in-Ok-fetch_line.plain in
-    leaving answer (tree_chip_at g.S.Suite g.W.Watch c.fetch.new.self c.fetch_line.new.suite c.fetch_line.new.watch)
+    leaving answer _
     (λ i. tree_chip_of c.fetch.new.self (after g here).watch (after g here).pads (after g here).tags (c.in-Ok-fetch_line.ensures.digests i))
-    (fetched_read (tree_setup_at g.S.Suite c.args.self.now c.args.suite.now) c.args.at (tree_chip_at g.S.Suite g.W.Watch c.args.self.now c.args.suite.now c.args.watch.now) (fetched g here) c.in-Ok.node
-    c.in-Ok.ensures.plan (after g here) c.in-Ok-fetch_line.plain (reading g here c.in-Ok-fetch_line.ensures.plan))
+    (fetched_read _ c.args.at _ _ c.in-Ok.node c.in-Ok.ensures.plan _ c.in-Ok-fetch_line.plain (reading g here c.in-Ok-fetch_line.ensures.plan))
 
 pub returns-in-Err-Cut-clause-plan : goal.returns-in-Err-Cut-clause-plan
 returns-in-Err-Cut-clause-plan g c =

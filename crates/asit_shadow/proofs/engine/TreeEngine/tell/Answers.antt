@@ -6,7 +6,7 @@ use Rattle.asit_shadow.proofs.WriteLoops.{told-none, told-next}
 use Rattle.asit_shadow.proofs.engine.TreeEngine.tell.Goals as goal
 
 pub levels-init : goal.levels-init
-levels-init g c = told-none c.args.self.now.shape c.args.at c.args.seal.now (g.W.Watch.watched c.args.watch.now) (g.W.Watch.watched c.note_seal.new.self) c.note_seal.ensures
+levels-init g c = told-none _ c.args.at _ _ _ c.note_seal.ensures
 
 pub note_node-requires : goal.note_node-requires
 note_node-requires g c = search (rules, get_or, length-set_pairs)
@@ -22,7 +22,7 @@ pub levels-preserved : goal.levels-preserved
 levels-preserved g c =
     let none : ℕ × Node = (0, record { 0 = [] }) in
     told-next c.args.self.now.shape c.args.at c.args.seal.now c.args.nodes.now.items c.as_slice-x-items.result.now c.levels.x-index c.slot_of.result c.slot_line.result none
-    (g.W.Watch.watched c.args.watch.now) (g.W.Watch.watched c.levels.watch) (g.W.Watch.watched c.note_node.new.self) (g.W.Watch.watched c.note_slot.new.self) c.as_slice-x-items.ensures.value c.levels-test.true
+    _ _ _ _ c.as_slice-x-items.ensures.value c.levels-test.true
     (c.slot_of.ensures.value ∙ ap (λ (k : Shape). slot_of k (get_or c.as_slice-x-items.result.now c.levels.x-index none).0) c.geo-geo.ensures) c.slot_line.ensures c.levels.invariant c.note_node.ensures.noted c.note_slot.ensures.noted
 
 pub returns : goal.returns

@@ -21,10 +21,10 @@ module _ (g : Over) (c : After-is_used_up g) where
   tested = c.is_used_up.ensures ∙ ap (λ (n : Node). total n == 2 ^ 64 - 1) c.top.ensures.value
 
   spent : c.is_used_up.result ≡ true → total (top_node c.args.self.now.cache) ≡ 2 ^ 64 - 1
-  spent is = eqb-true (total (top_node c.args.self.now.cache)) (2 ^ 64 - 1) (sym tested ∙ is)
+  spent is = eqb-true _ _ (sym tested ∙ is)
 
   unspent : c.is_used_up.result ≡ false → total (top_node c.args.self.now.cache) ≢ 2 ^ 64 - 1
-  unspent is = eqb-false (total (top_node c.args.self.now.cache)) (2 ^ 64 - 1) (sym tested ∙ is)
+  unspent is = eqb-false _ _ (sym tested ∙ is)
 
   used_up : c.is_used_up.result ≡ true → AreTreeTrusted (tree_setup_at g.S.Suite c.args.self.now c.args.suite.now) (tree_parts_at g.B.Board g.W.Watch c.args.self.now c.args.board.now c.args.watch.now)
       → IsUsedUp (tree_parts_at g.B.Board g.W.Watch c.args.self.now c.args.board.now c.args.watch.now)
@@ -43,9 +43,7 @@ returns-then-is_used_up-clause-spent g c = search (rules, spent)
 pub returns-in-Err-clause-written : goal.returns-in-Err-clause-written
 returns-in-Err-clause-written g c =
     let before = (goal.at.returns-in-Err-clause-written g c).After-is_used_up in
-    write-stopped (tree_setup_at g.S.Suite c.args.self.now c.args.suite.now) c.args.at c.args.line.now (tree_parts_at g.B.Board g.W.Watch c.args.self.now c.args.board.now c.args.watch.now) (tree_parts_at g.B.Board g.W.Watch c.fetch.new.self c.fetch.new.board c.fetch.new.watch)
-    c.in-Err.fault
-    (unused g before c.if-is_used_up.false) c.in-Err.ensures.stopped
+    write-stopped _ c.args.at c.args.line.now _ _ c.in-Err.fault (unused g before c.if-is_used_up.false) c.in-Err.ensures.stopped
 
 pub returns-in-Err-clause-spent : goal.returns-in-Err-clause-spent
 returns-in-Err-clause-spent g c =
@@ -147,8 +145,7 @@ last_counter-requires g c =
     omega (arith, pairs-count c.fetch.new.self.shape c.args.at c.raised-nodes.result.items c.raised-nodes.ensures.raised.positions)
 
 pub next_regs-regs-requires-clause-nodes : goal.next_regs-regs-requires-clause-nodes
-next_regs-regs-requires-clause-nodes g c =
-    λ k d inside. (c.raised-nodes.ensures.raised.whole k d inside).on_tree
+next_regs-regs-requires-clause-nodes g c = λ k d inside. (c.raised-nodes.ensures.raised.whole k d inside).on_tree
 
 pub arm-requires-clause-group : goal.arm-requires-clause-group
 arm-requires-clause-group g c =
@@ -181,7 +178,7 @@ store-requires g c =
 pub returns-in-Err-arm-clause-written : goal.returns-in-Err-arm-clause-written
 returns-in-Err-arm-clause-written g c =
     let before = (goal.at.returns-in-Err-arm-clause-written g c).After-is_used_up in
-    write-lost (tree_setup_at g.S.Suite c.args.self.now c.args.suite.now) c.args.at c.args.line.now (tree_parts_at g.B.Board g.W.Watch c.args.self.now c.args.board.now c.args.watch.now) (tree_parts_at g.B.Board g.W.Watch c.fetch.new.self c.fetch.new.board c.fetch.new.watch) (tree_parts_at g.B.Board g.W.Watch c.next_regs-regs.new.self c.arm.new.board c.fetch.new.watch) c.in-Ok.field-0
+    write-lost _ c.args.at c.args.line.now _ _ _ c.in-Ok.field-0
     (unused g before c.if-is_used_up.false) c.in-Ok.ensures.fetched c.next_regs-regs.ensures.shape c.next_regs-regs.ensures.cache c.next_regs-regs.ensures.down c.in-Err-arm.ensures.cut refl
 
 pub returns-in-Err-finish-clause-written : goal.returns-in-Err-finish-clause-written
@@ -201,10 +198,9 @@ pub returns-clause-written : goal.returns-clause-written
 returns-clause-written g c =
     let first = (goal.at.returns-clause-written g c).After-is_used_up in
     let before = (goal.at.returns-clause-written g c).After-next_regs-regs in
-    write-done (tree_setup_at g.S.Suite c.args.self.now c.args.suite.now) c.args.at c.args.line.now c.sealed-seal.result c.raised-nodes.result.items c.next_regs-regs.result
-    (tree_parts_at g.B.Board g.W.Watch c.args.self.now c.args.board.now c.args.watch.now) (tree_parts_at g.B.Board g.W.Watch c.fetch.new.self c.fetch.new.board c.fetch.new.watch) (tree_parts_at g.B.Board g.W.Watch c.store.new.self c.finish.new.board c.tell.new.watch) (g.B.Board.device c.arm.new.board)
-    (armed g before (tree_parts_at g.B.Board g.W.Watch c.store.new.self c.finish.new.board c.tell.new.watch) (g.B.Board.device c.arm.new.board) (unused g first c.if-is_used_up.false) c.in-Ok-arm.ensures.ok
-    (write_made g before c.store.new.self (g.B.Board.device c.finish.new.board) (g.W.Watch.watched c.tell.new.watch) c.tell.ensures c.store.ensures.cache c.store.ensures.shape c.store.ensures.tree c.store.ensures.down))
+    write-done _ c.args.at c.args.line.now c.sealed-seal.result c.raised-nodes.result.items c.next_regs-regs.result _ _ _ _
+    (armed g before _ _ (unused g first c.if-is_used_up.false) c.in-Ok-arm.ensures.ok
+    (write_made g before c.store.new.self _ _ c.tell.ensures c.store.ensures.cache c.store.ensures.shape c.store.ensures.tree c.store.ensures.down))
     c.in-Ok-finish.ensures.ok
 
 pub returns-clause-spent : goal.returns-clause-spent
@@ -266,9 +262,7 @@ module _ (g : Over) (c : After-next_regs-regs g) where
   whole : {new : Device} {end : Result (TreeChip × ℕ) (TreeChip × TreeFault)} → (total (top_node c.args.self.now.cache) == 2 ^ 64 - 1) ≡ false
       → Follows (seal_plan setup c.args.at c.sealed-seal.result pairs was fetched) (g.B.Board.device c.fetch.new.board) new end
       → Follows (write_line_plan setup was c.args.at c.args.line.now (tree_chip_at g.S.Suite g.W.Watch c.args.self.now c.args.suite.now c.args.watch.now)) (g.B.Board.device c.args.board.now) new end
-  whole unspent it =
-      fetched_write setup was c.args.at c.args.line.now (tree_chip_at g.S.Suite g.W.Watch c.args.self.now c.args.suite.now c.args.watch.now) unspent
-      fetched c.in-Ok.field-0 pairs c.sealed-seal.result its_pairs its_seal c.in-Ok.ensures.plan it
+  whole unspent it = fetched_write setup was c.args.at _ _ unspent fetched _ pairs _ its_pairs its_seal c.in-Ok.ensures.plan it
 
   -- and once it is
   is_stored : (engine : TreeState) (watch : WatchState)
