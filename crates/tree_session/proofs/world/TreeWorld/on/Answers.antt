@@ -2,7 +2,6 @@
 use Rattle.std.proofs.Common.{rules, ◌≡◌, refl, ap, ◌∙◌}
 use Rattle.tree_session.proofs.Common.{shape_of, memory_of, BoardMemory, watch_of, traced_of, goes_on-between, IsLoggedBy, logged_by, SessionState, tree_decided, parts_in, none_of}
 use Rattle.tree_session.specs.declared.commands.TreeCommand.TheVariants as Do
-use Rattle.tree_session.specs.declared.answers.TreeAnswer.TheVariants as Say
 use Rattle.tree_session.proofs.DecidedAnswers.{quiet_in, found_some, already, as_now}
 use Rattle.tree_session.proofs.LogLemmas.{not_logged}
 use Rattle.tree_session.proofs.OnCalls.{OnTreeCall, undecided_now, on_held, on_seen, cut_kept, cut_seen, shadow_kept, shadow_seen, shown_kept, shown_seen}
@@ -49,18 +48,16 @@ module _ (g : Over) (c : After-steps-steps g) where
   logged : (board : BoardMemory) → traced_of board ≡ traced_of (memory_of c.recover-done.new.board)
       → IsLoggedBy (tree_decided c.args.self.now.shape c.args.self.now.plain Do.On) c.args.log.now c.args.self.now.plain.board c.recover-done.new.log board
   logged board same =
-      logged_by (tree_decided c.args.self.now.shape c.args.self.now.plain Do.On) c.args.log.now c.recover-done.new.log c.args.self.now.plain.board board (undecided_now call)
+      logged_by _ _ _ _ _ (undecided_now call)
       (goes_on-between c.args.log.now c.recover-done.new.log c.args.self.now.plain.board (memory_of c.power.new.self) (memory_of c.recover-done.new.board)
       board (ap traced_of c.power.ensures ∙ ap (λ (w : SessionState). traced_of w.plain.board) c.self.view_is) same c.recover-done.ensures.logged)
 
 pub returns-then-is_some-clause-answered : goal.returns-then-is_some-clause-answered
 returns-then-is_some-clause-answered g c =
-    let q = quiet_in g.S.Suite c.self.inside c.args.self.now c.self.view_is c.self.invariant c.requires in
-    let found = found_some c.self.inside.engine c.is_some.result c.is_some.ensures c.if-is_some.true in
-    as_now q Do.On Say.Already (already q found.0 found.1)
+    let q = quiet_in g.S.Suite c.self.inside _ c.self.view_is c.self.invariant c.requires in as_now q _ _ (already q _ (found_some _ _ c.is_some.ensures c.if-is_some.true).1)
 
 pub invariant_of-self : goal.invariant_of-self
-invariant_of-self g c = let r = call g ((goal.at.invariant_of-self g c).After-steps-steps) in on_held r c.in-Ok.made (let h = c.in-Ok.is in search rules)
+invariant_of-self g c = on_held (call g (goal.at.invariant_of-self g c).After-steps-steps) _ c.in-Ok.is
 
 pub invariant_of-self-in-Err-Cut : goal.invariant_of-self-in-Err-Cut
 invariant_of-self-in-Err-Cut g c = let r = call g ((goal.at.invariant_of-self-in-Err-Cut g c).After-steps-steps) in cut_kept r (let h = c.in-Err-Cut.is in let k = c.in-Err-Cut.field-0-is in search rules)
@@ -72,7 +69,7 @@ pub invariant_of-self-in-Err-Shown : goal.invariant_of-self-in-Err-Shown
 invariant_of-self-in-Err-Shown g c = let r = call g ((goal.at.invariant_of-self-in-Err-Shown g c).After-steps-steps) in shown_kept r (memory_of c.rest-in-Err-Shown.new.self) c.rest-in-Err-Shown.ensures (let h = c.in-Err-Shown.is in let k = c.in-Err-Shown.field-0-is in search rules)
 
 pub returns-in-Ok-clause-answered : goal.returns-in-Ok-clause-answered
-returns-in-Ok-clause-answered g c = let r = call g ((goal.at.returns-in-Ok-clause-answered g c).After-steps-steps) in on_seen r c.in-Ok.made (let h = c.in-Ok.is in search rules)
+returns-in-Ok-clause-answered g c = on_seen (call g (goal.at.returns-in-Ok-clause-answered g c).After-steps-steps) _ c.in-Ok.is
 
 pub returns-in-Err-Cut-clause-answered : goal.returns-in-Err-Cut-clause-answered
 returns-in-Err-Cut-clause-answered g c = let r = call g ((goal.at.returns-in-Err-Cut-clause-answered g c).After-steps-steps) in cut_seen r (let h = c.in-Err-Cut.is in let k = c.in-Err-Cut.field-0-is in search rules)
@@ -82,8 +79,7 @@ returns-in-Err-Shadow-clause-answered g c = let r = call g ((goal.at.returns-in-
 
 pub returns-in-Err-Shown-clause-halted : goal.returns-in-Err-Shown-clause-halted
 returns-in-Err-Shown-clause-halted g c =
-    let r = call g ((goal.at.returns-in-Err-Shown-clause-halted g c).After-steps-steps) in
-    shown_seen r (memory_of c.rest-in-Err-Shown.new.self) c.rest-in-Err-Shown.ensures (let h = c.in-Err-Shown.is in let k = c.in-Err-Shown.field-0-is in search rules) c.shown.result c.shown.ensures
+    shown_seen (call g (goal.at.returns-in-Err-Shown-clause-halted g c).After-steps-steps) _ c.rest-in-Err-Shown.ensures (let h = c.in-Err-Shown.is in let k = c.in-Err-Shown.field-0-is in search rules) _ c.shown.ensures
 
 -- ---- the log
 
@@ -97,13 +93,10 @@ pub returns-in-Err-Cut-clause-logged : goal.returns-in-Err-Cut-clause-logged
 returns-in-Err-Cut-clause-logged g c = logged g ((goal.at.returns-in-Err-Cut-clause-logged g c).After-steps-steps) (memory_of c.recover-done.new.board) refl
 
 pub returns-in-Err-Shadow-clause-logged : goal.returns-in-Err-Shadow-clause-logged
-returns-in-Err-Shadow-clause-logged g c =
-    logged g ((goal.at.returns-in-Err-Shadow-clause-logged g c).After-steps-steps) (memory_of c.rest.new.self) (ap traced_of c.rest.ensures)
+returns-in-Err-Shadow-clause-logged g c = logged g (goal.at.returns-in-Err-Shadow-clause-logged g c).After-steps-steps _ (ap traced_of c.rest.ensures)
 
 pub returns-in-Err-Memory-clause-logged : goal.returns-in-Err-Memory-clause-logged
-returns-in-Err-Memory-clause-logged g c =
-    logged g ((goal.at.returns-in-Err-Memory-clause-logged g c).After-steps-steps) (memory_of c.rest-in-Err-Memory.new.self) (ap traced_of c.rest-in-Err-Memory.ensures)
+returns-in-Err-Memory-clause-logged g c = logged g (goal.at.returns-in-Err-Memory-clause-logged g c).After-steps-steps _ (ap traced_of c.rest-in-Err-Memory.ensures)
 
 pub returns-in-Err-Shown-clause-logged : goal.returns-in-Err-Shown-clause-logged
-returns-in-Err-Shown-clause-logged g c =
-    logged g ((goal.at.returns-in-Err-Shown-clause-logged g c).After-steps-steps) (memory_of c.rest-in-Err-Shown.new.self) (ap traced_of c.rest-in-Err-Shown.ensures)
+returns-in-Err-Shown-clause-logged g c = logged g (goal.at.returns-in-Err-Shown-clause-logged g c).After-steps-steps _ (ap traced_of c.rest-in-Err-Shown.ensures)

@@ -53,22 +53,19 @@ module _ (g : Over) (c : After-steps-steps g) where
   logged : (board : BoardMemory) → traced_of board ≡ traced_of (memory_of c.read-done.new.board)
       → IsLoggedBy (tree_decided c.args.self.now.shape c.args.self.now.plain (Do.Read c.args.at)) c.args.log.now c.args.self.now.plain.board c.read-done.new.log board
   logged board same =
-      logged_by (tree_decided c.args.self.now.shape c.args.self.now.plain (Do.Read c.args.at)) c.args.log.now c.read-done.new.log c.args.self.now.plain.board board (undecided_now call)
+      logged_by _ _ _ _ _ (undecided_now call)
       (goes_on-between c.args.log.now c.read-done.new.log c.args.self.now.plain.board (memory_of c.self.inside.board) (memory_of c.read-done.new.board)
       board (ap (λ (w : SessionState). traced_of w.plain.board) c.self.view_is) same c.read-done.ensures.logged)
 
 pub returns-in_default-clause-answered : goal.returns-in_default-clause-answered
-returns-in_default-clause-answered g c =
-    let q = quiet_in g.S.Suite c.self.inside c.args.self.now c.self.view_is c.self.invariant c.requires in
-    read_off q c.args.at c.in_default.is
+returns-in_default-clause-answered g c = read_off (quiet_in g.S.Suite c.self.inside _ c.self.view_is c.self.invariant c.requires) _ c.in_default.is
 
 pub returns-then-at-from-clause-answered : goal.returns-then-at-from-clause-answered
 returns-then-at-from-clause-answered g c =
-    let q = quiet_in g.S.Suite c.self.inside c.args.self.now c.self.view_is c.self.invariant c.requires in
-    read_past q c.in-Some.engine c.args.at c.in-Some.is (omega (arith, c.if-at-from.true, c.from.ensures, c.tree_lines.ensures))
+    read_past (quiet_in g.S.Suite c.self.inside _ c.self.view_is c.self.invariant c.requires) _ _ c.in-Some.is (omega (arith, c.if-at-from.true, c.from.ensures, c.tree_lines.ensures))
 
 pub invariant_of-self-in-Ok : goal.invariant_of-self-in-Ok
-invariant_of-self-in-Ok g c = let r = call g ((goal.at.invariant_of-self-in-Ok g c).After-steps-steps) in got_held r c.in-Ok.line (let h = c.in-Ok.is in search rules)
+invariant_of-self-in-Ok g c = got_held (call g (goal.at.invariant_of-self-in-Ok g c).After-steps-steps) _ c.in-Ok.is
 
 pub invariant_of-self-in-Err-Node : goal.invariant_of-self-in-Err-Node
 invariant_of-self-in-Err-Node g c = let r = call g ((goal.at.invariant_of-self-in-Err-Node g c).After-steps-steps) in node_kept r c.in-Err-Node.x (let h = c.in-Err-Node.is in let k = c.in-Err-Node.field-0-is in search rules)
@@ -83,7 +80,7 @@ pub invariant_of-self-in-Err-Shown : goal.invariant_of-self-in-Err-Shown
 invariant_of-self-in-Err-Shown g c = let r = call g ((goal.at.invariant_of-self-in-Err-Shown g c).After-steps-steps) in shown_kept r (let h = c.in-Err-Shown.is in let k = c.in-Err-Shown.field-0-is in search rules) (memory_of c.rest.new.self) c.rest.ensures
 
 pub returns-in-Ok-clause-answered : goal.returns-in-Ok-clause-answered
-returns-in-Ok-clause-answered g c = let r = call g ((goal.at.returns-in-Ok-clause-answered g c).After-steps-steps) in got_seen r c.in-Ok.line (let h = c.in-Ok.is in search rules)
+returns-in-Ok-clause-answered g c = got_seen (call g (goal.at.returns-in-Ok-clause-answered g c).After-steps-steps) _ c.in-Ok.is
 
 pub returns-in-Err-Node-clause-answered : goal.returns-in-Err-Node-clause-answered
 returns-in-Err-Node-clause-answered g c = let r = call g ((goal.at.returns-in-Err-Node-clause-answered g c).After-steps-steps) in node_seen r c.in-Err-Node.x (let h = c.in-Err-Node.is in let k = c.in-Err-Node.field-0-is in search rules)
@@ -96,8 +93,7 @@ returns-in-Err-Cut-clause-answered g c = let r = call g ((goal.at.returns-in-Err
 
 pub returns-in-Err-Shown-clause-halted : goal.returns-in-Err-Shown-clause-halted
 returns-in-Err-Shown-clause-halted g c =
-    let r = call g ((goal.at.returns-in-Err-Shown-clause-halted g c).After-steps-steps) in
-    shown_seen r (let h = c.in-Err-Shown.is in let k = c.in-Err-Shown.field-0-is in search rules) (memory_of c.rest.new.self) c.rest.ensures c.shown.result c.shown.ensures
+    shown_seen (call g (goal.at.returns-in-Err-Shown-clause-halted g c).After-steps-steps) (let h = c.in-Err-Shown.is in let k = c.in-Err-Shown.field-0-is in search rules) _ c.rest.ensures _ c.shown.ensures
 
 -- ---- the log
 
@@ -120,5 +116,4 @@ pub returns-in-Err-Cut-clause-logged : goal.returns-in-Err-Cut-clause-logged
 returns-in-Err-Cut-clause-logged g c = logged g ((goal.at.returns-in-Err-Cut-clause-logged g c).After-steps-steps) (memory_of c.read-done.new.board) refl
 
 pub returns-in-Err-Shown-clause-logged : goal.returns-in-Err-Shown-clause-logged
-returns-in-Err-Shown-clause-logged g c =
-    logged g ((goal.at.returns-in-Err-Shown-clause-logged g c).After-steps-steps) (memory_of c.rest.new.self) (ap traced_of c.rest.ensures)
+returns-in-Err-Shown-clause-logged g c = logged g (goal.at.returns-in-Err-Shown-clause-logged g c).After-steps-steps _ (ap traced_of c.rest.ensures)

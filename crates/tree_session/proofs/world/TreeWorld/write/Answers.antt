@@ -55,22 +55,19 @@ module _ (g : Over) (c : After-steps-steps g) where
   logged : (board : BoardMemory) → traced_of board ≡ traced_of (memory_of c.write-done.new.board)
       → IsLoggedBy (tree_decided c.args.self.now.shape c.args.self.now.plain (Do.Write c.args.at c.args.line.now)) c.args.log.now c.args.self.now.plain.board c.write-done.new.log board
   logged board same =
-      logged_by (tree_decided c.args.self.now.shape c.args.self.now.plain (Do.Write c.args.at c.args.line.now)) c.args.log.now c.write-done.new.log c.args.self.now.plain.board board (undecided_now call)
+      logged_by _ _ _ _ _ (undecided_now call)
       (goes_on-between c.args.log.now c.write-done.new.log c.args.self.now.plain.board (memory_of c.self.inside.board) (memory_of c.write-done.new.board)
       board (ap (λ (w : SessionState). traced_of w.plain.board) c.self.view_is) same c.write-done.ensures.logged)
 
 pub returns-in_default-clause-answered : goal.returns-in_default-clause-answered
-returns-in_default-clause-answered g c =
-    let q = quiet_in g.S.Suite c.self.inside c.args.self.now c.self.view_is c.self.invariant c.requires in
-    write_off q c.args.at c.args.line.now c.in_default.is
+returns-in_default-clause-answered g c = write_off (quiet_in g.S.Suite c.self.inside _ c.self.view_is c.self.invariant c.requires) _ _ c.in_default.is
 
 pub returns-then-at-from-clause-answered : goal.returns-then-at-from-clause-answered
 returns-then-at-from-clause-answered g c =
-    let q = quiet_in g.S.Suite c.self.inside c.args.self.now c.self.view_is c.self.invariant c.requires in
-    write_past q c.in-Some.engine c.args.at c.args.line.now c.in-Some.is (omega (arith, c.if-at-from.true, c.from.ensures, c.tree_lines.ensures))
+    write_past (quiet_in g.S.Suite c.self.inside _ c.self.view_is c.self.invariant c.requires) _ _ _ c.in-Some.is (omega (arith, c.if-at-from.true, c.from.ensures, c.tree_lines.ensures))
 
 pub invariant_of-self-in-Ok : goal.invariant_of-self-in-Ok
-invariant_of-self-in-Ok g c = let r = call g ((goal.at.invariant_of-self-in-Ok g c).After-steps-steps) in made_held r c.in-Ok.field-0 (let h = c.in-Ok.is in search rules)
+invariant_of-self-in-Ok g c = made_held (call g (goal.at.invariant_of-self-in-Ok g c).After-steps-steps) _ c.in-Ok.is
 
 pub invariant_of-self-in-Err-Node : goal.invariant_of-self-in-Err-Node
 invariant_of-self-in-Err-Node g c = let r = call g ((goal.at.invariant_of-self-in-Err-Node g c).After-steps-steps) in node_kept r c.in-Err-Node.x (let h = c.in-Err-Node.is in let k = c.in-Err-Node.field-0-is in search rules)
@@ -88,7 +85,7 @@ pub invariant_of-self-in-Err-Shown : goal.invariant_of-self-in-Err-Shown
 invariant_of-self-in-Err-Shown g c = let r = call g ((goal.at.invariant_of-self-in-Err-Shown g c).After-steps-steps) in shown_kept r (let h = c.in-Err-Shown.is in let k = c.in-Err-Shown.field-0-is in search rules) (memory_of c.rest.new.self) c.rest.ensures
 
 pub returns-in-Ok-clause-answered : goal.returns-in-Ok-clause-answered
-returns-in-Ok-clause-answered g c = let r = call g ((goal.at.returns-in-Ok-clause-answered g c).After-steps-steps) in made_seen r c.in-Ok.field-0 (let h = c.in-Ok.is in search rules)
+returns-in-Ok-clause-answered g c = made_seen (call g (goal.at.returns-in-Ok-clause-answered g c).After-steps-steps) _ c.in-Ok.is
 
 pub returns-in-Err-Node-clause-answered : goal.returns-in-Err-Node-clause-answered
 returns-in-Err-Node-clause-answered g c = let r = call g ((goal.at.returns-in-Err-Node-clause-answered g c).After-steps-steps) in node_seen r c.in-Err-Node.x (let h = c.in-Err-Node.is in let k = c.in-Err-Node.field-0-is in search rules)
@@ -104,8 +101,7 @@ returns-else-done-gt0-clause-answered g c = let r = call g ((goal.at.returns-els
 
 pub returns-in-Err-Shown-clause-halted : goal.returns-in-Err-Shown-clause-halted
 returns-in-Err-Shown-clause-halted g c =
-    let r = call g ((goal.at.returns-in-Err-Shown-clause-halted g c).After-steps-steps) in
-    shown_seen r (let h = c.in-Err-Shown.is in let k = c.in-Err-Shown.field-0-is in search rules) (memory_of c.rest.new.self) c.rest.ensures c.shown.result c.shown.ensures
+    shown_seen (call g (goal.at.returns-in-Err-Shown-clause-halted g c).After-steps-steps) (let h = c.in-Err-Shown.is in let k = c.in-Err-Shown.field-0-is in search rules) _ c.rest.ensures _ c.shown.ensures
 
 -- ---- the log
 
@@ -131,5 +127,4 @@ pub returns-else-done-gt0-clause-logged : goal.returns-else-done-gt0-clause-logg
 returns-else-done-gt0-clause-logged g c = logged g ((goal.at.returns-else-done-gt0-clause-logged g c).After-steps-steps) (memory_of c.write-done.new.board) refl
 
 pub returns-in-Err-Shown-clause-logged : goal.returns-in-Err-Shown-clause-logged
-returns-in-Err-Shown-clause-logged g c =
-    logged g ((goal.at.returns-in-Err-Shown-clause-logged g c).After-steps-steps) (memory_of c.rest.new.self) (ap traced_of c.rest.ensures)
+returns-in-Err-Shown-clause-logged g c = logged g (goal.at.returns-in-Err-Shown-clause-logged g c).After-steps-steps _ (ap traced_of c.rest.ensures)
