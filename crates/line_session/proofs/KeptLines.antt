@@ -1,7 +1,7 @@
 -- Sound lines stay sound in the calls of a store, or power is cut.
-use Rattle.std.proofs.Common.{ℕ, ◌≡◌, ◌≤◌, ◌+◌, ◌++◌, Bool, true, false, List, [], length, Result, Ok, Err, refl, ap, ◌∙◌, arith}
+use Rattle.std.proofs.Common.{ℕ, ◌≡◌, ◌≤◌, ◌++◌, Bool, true, false, List, length, Result, Ok, Err, ap, ◌∙◌, arith, rules}
 use Rattle.std.specs.Prelude.{◌||◌, not}
-use Rattle.line_session.proofs.Common.{length-append, Line, Mark, Posted, Setup, EngineState, Fault, Parts, AreSound, HasReadLine, AreDone, AreCut, none_done, read_done, read_cut, read_steps}
+use Rattle.line_session.proofs.Common.{length-append, Line, Mark, Posted, Setup, EngineState, Fault, Parts, AreSound, HasReadLine, AreDone, AreCut, none_done, read_done, read_cut}
 use Rattle.pmem_engine.specs.declared.fault.Fault.TheVariants as Fail
 use Rattle.call_effects.specs.Outcomes.{Outcome, is_going}
 use Rattle.pmem_engine.specs.Outcomes.{outcome_of}
@@ -25,10 +25,7 @@ still_up old new outcome up after goes = after ∙ ap (λ b. b || not (is_going 
 pub read_keeps : (setup : Setup) (place : ℕ) (from to : Parts) (old new : EngineState) (answer : Result Line Fault) → HasReadLine setup place from to answer
     → new.down ≡ (old.down || not (is_going (outcome_of answer))) → old.down ≡ false → from.device.live ≡ true → AreSound setup from
     → IsLeft setup (is_call_cut answer) new from to
-read_keeps setup place from to old new (Ok line) it after up live sound =
-    done_left setup from to [] [] (0 + read_steps setup.shape) new (read_done setup from from [] [] 0 (none_done setup from sound live) place to line it)
-    (still_up old.down new.down (outcome_of (let r : Result Line Fault = Ok line in r)) up after refl)
-read_keeps setup place from to old new (Err Fail.Cut) it after up live sound =
-    cut_left setup from to [] [] (0 + read_steps setup.shape) new (read_cut setup from from [] [] 0 (none_done setup from sound live) place to it)
+read_keeps setup place from to old new (Ok line) it after up live sound = search (rules, done_left, read_done, none_done, still_up)
+read_keeps setup place from to old new (Err Fail.Cut) it after up live sound = search (rules, cut_left, read_cut, none_done)
 read_keeps setup place from to old new (Err (Fail.Spent page)) it after up live sound = absurd it.possible
 read_keeps setup place from to old new (Err fault) it after up live sound = absurd (it.unrefused sound)

@@ -10,5 +10,4 @@ pub mod NewSessions
 pub mod Worlds
 pub mod MadeCalls
 pub mod TurnedCalls
-pub mod NewCalls
 pub mod KeptLines

@@ -1,5 +1,5 @@
 -- A call of a store as the session's fields have it: what is held after it, and what it made.
-use Rattle.std.proofs.Common.{ℕ, ◌≡◌, ◌≤◌, Bool, true, false, length, List, Option, Some, None, refl, sym, ap, subst, ◌∙◌, cond}
+use Rattle.std.proofs.Common.{ℕ, ◌≡◌, Bool, true, false, List, Option, Some, None, refl, sym, ap, ◌∙◌, cond, rules}
 use Rattle.line_session.proofs.Common.{Shape, BoardMemory, LedgerState, Setup, Formulas, EngineState, setup_under, Taken, steps_in, IsWatched, device_during, none_taken, parts_of, Parts, AreSound, not}
 use Rattle.std.specs.Prelude.{MatchBool}
 use Rattle.line_session.specs.World.{StoreSession, session_of, IsLineWorld, IsLineOn}
@@ -57,12 +57,8 @@ module _ {L R : Type 0} (c : MadeCall L R) where
   abbrev kept_store : Option L
   kept_store = cond c.cut None (Some c.after)
 
-  -- under the keys of before
-  abbrev left : Option L → StoreSession L
-  left store = session_of c.engine_of c.shape c.keys c.tags_new c.digests_new c.board_new c.ledger_new store
-
-  abbrev pub left_under : Option L → StoreSession L
-  left_under store = session_of c.engine_of c.shape c.keys_new c.tags_new c.digests_new c.board_new c.ledger_new store
+  abbrev pub left : Option L → StoreSession L
+  left store = session_of c.engine_of c.shape c.keys_new c.tags_new c.digests_new c.board_new c.ledger_new store
 
   on : IsLineOn setup old.state (c.engine_of c.store)
   on = line_on_in c.engine_of setup old c.store c.world c.there
@@ -74,19 +70,10 @@ module _ {L R : Type 0} (c : MadeCall L R) where
   to = parts_of (c.engine_of c.after) (device_during c.board_new c.taken) c.ledger_new c.tags_new c.digests_new
 
   is_left : IsLeft setup c.cut (c.engine_of c.after) (from c.ledger) to
-  is_left =
-      subst (λ s. AreSound (setup_under c.formulas_of s c.keys) (from c.ledger)
-      → IsLeft (setup_under c.formulas_of s c.keys) c.cut (c.engine_of c.after) (from c.ledger) to) on.its_shape
-      ((rw c.same_ledger at c.kept) on.running on.powered) on.sound
-
-  -- no mark is lost
-  pub more_marks : length c.ledger.marks ≤ length c.ledger_new.marks
-  more_marks = is_left.marks
+  is_left = search (rules, setup_under)
 
   made_here : c.effect setup c.store c.after (from c.ledger) to c.answer
-  made_here =
-      subst (λ s. c.effect (setup_under c.formulas_of s c.keys) c.store c.after (from c.ledger) to c.answer) on.its_shape
-      (rw c.same_ledger at c.made)
+  made_here = search (rules, setup_under)
 
   -- power is off exactly after a cut
   ended : (c.cut ≡ not c.board_new.powered) × IsLineWorld c.engine_of setup (left kept_store)
@@ -108,11 +95,11 @@ module _ {L R : Type 0} (c : MadeCall L R) where
   pub dark_is : c.cut ≡ not c.board_new.powered
   dark_is = ended.0
 
-  pub held : (store : Option L) → store ≡ kept_store → IsLineWorld c.engine_of (setup_under c.formulas_of c.shape c.keys_new) (left_under store)
-  held store is = rw (is, c.same_keys) ended.1
+  pub held : (store : Option L) → store ≡ kept_store → IsLineWorld c.engine_of (setup_under c.formulas_of c.shape c.keys_new) (left store)
+  held store is = let world = ended.1 in rw is (rw (← c.same_keys) at world)
 
   pub has_made : (store : Option L) → store ≡ kept_store → (steps : ℕ) → steps ≡ steps_in c.taken
-      → HasMade c.engine_of c.effect setup c.store steps c.answer old (left_under store)
+      → HasMade c.engine_of c.effect setup c.store steps c.answer old (left store)
   has_made store is steps counted =
       record {
         after = c.after;
@@ -121,7 +108,7 @@ module _ {L R : Type 0} (c : MadeCall L R) where
         its_steps = counted;
         made = made_here;
         its_store = is ∙ ap (λ b. cond b None (Some c.after)) dark_is ∙ turned c.board_new.powered;
-        world = rw (is, c.same_keys) ended.1;
+        world = rw is ended.1;
         shape = refl;
         keys = c.same_keys;
       }

@@ -1,11 +1,11 @@
 -- A formatted device of whose lines one was read: what is new in every session.
-use Rattle.std.proofs.Common.{ℕ, ◌≡◌, ◌+◌, true, List, [], length, replicate, Option, Some, None, Ok, refl, sym, ap, subst₂, ◌∙◌, rules}
+use Rattle.std.proofs.Common.{ℕ, ◌≡◌, true, [], replicate, Option, Some, None, Ok, refl, sym, ap, subst₂, ◌∙◌, rules}
 use Rattle.std.specs.Prelude.{is_none}
 use Rattle.std.proofs.lemmas.Bool.{true≢false, and_parts}
 use Rattle.std.proofs.lemmas.List.{append-nil, length-replicate, get_or-replicate}
 use Rattle.pmem_base.specs.declared.lines.Line.{Line}
 use Rattle.pmem_base.specs.declared.registers.Regs.{Regs}
-use Rattle.line_session.proofs.Common.{Setup, Device, BoardMemory, LedgerState, EngineState, HasFormatted, device_of, plain_memory, memory_is, zero_line, HasReadLine, parts_of, IsSound, OneLossEffect, going, page_of, path_length, spilled, RisesBy, on_chip}
+use Rattle.line_session.proofs.Common.{Setup, Device, BoardMemory, LedgerState, EngineState, HasFormatted, device_of, plain_memory, memory_is, zero_line, HasReadLine, parts_of, IsSound, OneLossEffect, going, RisesBy, on_chip}
 use Rattle.pmem_base.specs.Layout as layout
 use Rattle.line_session.specs.State.{LineSession, IsNewSession}
 use Rattle.line_session.proofs.NewDevices.{none_to_write}
@@ -17,10 +17,7 @@ module _ (setup : Setup) (start : Device) (middle : BoardMemory) (ledger_middle 
       memory_is setup ledger_middle.marks (replicate (layout.data_lines setup.shape) zero_line)
       (record {
         count = length-replicate (layout.data_lines setup.shape) zero_line;
-        each =
-            λ a within.
-            formatted.plain a within
-            ∙ ap (λ (l : Line). Some l) (sym (get_or-replicate (layout.data_lines setup.shape) a zero_line zero_line within));
+        each = search (rules, get_or-replicate);
       })
 
   module _ (left : LineSession) (after : EngineState) (tags digests n : ℕ) (line : Line)
@@ -38,11 +35,7 @@ module _ (setup : Setup) (start : Device) (middle : BoardMemory) (ledger_middle 
 
     -- no line was written back
     no_write : left.board.writes ≡ middle.writes
-    no_write =
-        (was.work (search rules)).work.no_write
-        (ap (λ (l : List (ℕ × Line)). length l + 0)
-        (ap (λ (e : EngineState). spilled setup.shape e.cache (page_of n) (path_length setup.shape)) formatted.engine_new
-        ∙ none_to_write setup.shape (page_of n) (path_length setup.shape)))
+    no_write = search (rules, none_to_write)
 
     no_latch : left.board.latches ≡ middle.latches
     no_latch = (was.work (search rules)).work.no_latch refl

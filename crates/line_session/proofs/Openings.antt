@@ -16,15 +16,14 @@ has_started opens formulas_of g old between new ledger_old ledger_new suite_old 
     let done = subst (λ r. HasRecovered (setup_under formulas_of g suite_old.keys) ledger_old old between suite_old suite_between r) is recovered in
     let now : EngineState → Parts = λ now. parts_of now new ledger_new suite_new.tags suite_new.digests in
     record {
-      recovery = Ok (engine, work);
+      recovery = Ok _;
       between = between;
       suite_between = suite_between;
       recovered = done;
       then = (
         answer,
         subst (λ k. opens (setup_under formulas_of g k) engine (parts_of engine between ledger_old suite_between.tags suite_between.digests) now answer)
-            done.keys
-            (subst
+            done.keys (subst
             (λ s. opens (setup_under formulas_of s suite_between.keys) engine (parts_of engine between ledger_old suite_between.tags suite_between.digests) now answer)
             (ap (λ (e : EngineState). e.shape) done.engine) opened),
         refl,

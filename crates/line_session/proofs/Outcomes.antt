@@ -1,7 +1,6 @@
 -- Two outcomes of one call of a session are the same.
-use Rattle.std.proofs.Common.{ℕ, ◌≡◌, cond, Some, None, Result, refl, sym, ap, subst, ◌∙◌, [], Err, arith}
-use Rattle.line_session.proofs.Common.{same_Some, Setup, steps_in, Chip, LineSession, chip_in, CallPlan, HasCalledStore, StartFault, HasStarted, RecFault, zero_line, ChipState}
-use Rattle.call_plan.specs.Runs.{IsOutcome}
+use Rattle.std.proofs.Common.{ℕ, ◌≡◌, cond, Some, None, Result, refl, sym, ap, ◌∙◌, [], Err, arith, rules}
+use Rattle.line_session.proofs.Common.{same_Some, Setup, steps_in, LineSession, chip_in, CallPlan, HasCalledStore, StartFault, HasStarted, RecFault, zero_line, ChipState}
 use Rattle.call_plan.proofs.DeterminedCalls.{call_is_determined}
 use Rattle.line_session.specs.Answered.{CallRelation, IsAnsweredBy}
 use Rattle.line_session.specs.Started.{IsRefusedFrom}
@@ -23,21 +22,11 @@ same_kept a b x y kept its board same = cc
 -- sessions with the same board, chip, geometry and keys
 same_after : (a b : LineSession) (x y : ChipState) → a.engine ≡ cond a.board.powered (Some x) None → b.engine ≡ cond b.board.powered (Some y) None
     → a.shape ≡ b.shape → a.keys ≡ b.keys → a.board ≡ b.board → chip_in a x ≡ chip_in b y → a ≡ b
-same_after a b x y kept its shape keys board chip =
-    same_session a b shape keys board (same_kept a b x y kept its board (ap (λ (c : Chip). c.engine) chip))
-    (ap (λ (c : Chip). c.ledger) chip) (ap (λ (c : Chip). c.tags) chip) (ap (λ (c : Chip). c.digests) chip)
+same_after a b x y kept its shape keys board chip = search (rules, same_session, same_kept)
 
 pub call_determined : {F A : Type 0} (plan : CallPlan F A) (steps more : ℕ) (end other : Result A F) (old a b : LineSession)
     → HasCalledStore plan steps end old a → HasCalledStore plan more other old b → (end ≡ other) × (steps ≡ more) × (a ≡ b)
-call_determined plan steps more end other old a b it its =
-    let engine : its.engine ≡ it.engine = same_Some its.engine it.engine (sym its.was_on ∙ it.was_on) in
-    let outcome : IsOutcome (plan old.board.regs (chip_in old it.engine)) old.board b.board its.taken other (chip_in b its.after) =
-    subst (λ e. IsOutcome (plan old.board.regs (chip_in old e)) old.board b.board its.taken other (chip_in b its.after)) engine its.outcome in
-    let same = call_is_determined it.powered it.outcome outcome in (
-      same.0,
-      it.its_steps ∙ ap steps_in same.3 ∙ sym its.its_steps,
-      same_after a b it.after its.after it.kept its.kept (it.shape ∙ sym its.shape) (it.keys ∙ sym its.keys) same.2 same.1,
-    )
+call_determined plan steps more end other old a b it its = search (rules, same_Some, call_is_determined, same_after)
 
 pub start_determined : {F A : Type 0} (setup : Setup) (opening : CallPlan F A) (steps more : ℕ) (end other : Result A (StartFault F))
     (old a b : LineSession) → HasStarted setup opening steps end old a → HasStarted setup opening more other old b
@@ -53,24 +42,16 @@ start_determined setup opening steps more end other old a b it its =
 answer_determined : {F A W : Type 0} (calls : CallRelation F A) (says : LineSession → ℕ → Result A F → W) (said other : W) (old a b : LineSession)
     → ((steps more : ℕ) (end last : Result A F) → calls steps end old a → calls more last old b → (end ≡ last) × (steps ≡ more) × (a ≡ b))
     → IsAnsweredBy calls says said old a → IsAnsweredBy calls says other old b → (said ≡ other) × (a ≡ b)
-answer_determined calls says said other old a b determined it its =
-    let same = determined it.steps its.steps it.end its.end it.called its.called in (
-      it.is_said ∙ ap (λ (s : LineSession). says s it.steps it.end) same.2 ∙ ap (λ n. says b n it.end) same.1 ∙ ap (λ e. says b its.steps e) same.0
-          ∙ sym its.is_said,
-      same.2,
-    )
+answer_determined calls says said other old a b determined it its = search rules
 
 pub called_answer : {F A W : Type 0} (plan : CallPlan F A) (says : LineSession → ℕ → Result A F → W) (said other : W) (old a b : LineSession)
     → IsAnsweredBy (HasCalledStore plan) says said old a → IsAnsweredBy (HasCalledStore plan) says other old b → (said ≡ other) × (a ≡ b)
-called_answer plan says said other old a b =
-    answer_determined (HasCalledStore plan) says said other old a b (λ steps more end last it its. call_determined plan steps more end last old a b it its)
+called_answer plan says said other old a b = search (rules, answer_determined, call_determined)
 
 pub started_answer : {F A W : Type 0} (setup : Setup) (opening : CallPlan F A) (says : LineSession → ℕ → Result A (StartFault F) → W) (said other : W)
     (old a b : LineSession) → IsAnsweredBy (HasStarted setup opening) says said old a → IsAnsweredBy (HasStarted setup opening) says other old b
     → (said ≡ other) × (a ≡ b)
-started_answer setup opening says said other old a b =
-    answer_determined (HasStarted setup opening) says said other old a b
-    (λ steps more end last it its. start_determined setup opening steps more end last old a b it its)
+started_answer setup opening says said other old a b = search (rules, answer_determined, start_determined)
 
 -- ---- recovery that refuses
 

@@ -1,10 +1,10 @@
 -- What a recovery leaves that a session over the engine began: as from the engine's start where it is done, and else a
 -- durable device.
-use Rattle.std.proofs.Common.{ℕ, ◌≡◌, ◌<◌, ◌≤◌, true, List, [], length, inl, inr, Option, Some, None, Ok, Err, refl, sym, ap, subst, ◌∙◌, arith}
+use Rattle.std.proofs.lemmas.Grind.{common_steps}
+use Rattle.std.proofs.Common.{ℕ, ◌≡◌, ◌<◌, ◌≤◌, true, List, [], length, inl, inr, Option, Some, None, Ok, Err, refl, sym, ap, ◌∙◌, arith, rules}
 use Rattle.line_session.proofs.Common.{is_some, MatchOption, true≢false, append-nil, Line, Regs, Device, BoardMemory, LedgerState, Setup, recovery_bound, EngineState, Parts, parts_of, AreSound, IsDurable, IsSound, Work, SuiteState, IsTwinOfLastSeal, HasRecovered, most_recovery_steps, Taken, device_during, none_taken, most_within, AreDone, on_chip}
 use Rattle.pmem_base.specs.Layout as layout
 use Rattle.pmem_base.specs.Registers.{without_group}
-use Rattle.commit_regs.specs.Groups.{redone}
 use Rattle.pmem_recovery.specs.declared.faults.RecFault.TheVariants as Rec
 use Rattle.commit_regs.proofs.GroupLemmas.{one_latch}
 use Rattle.pmem_recovery.proofs.UndecidedLaws.{undecided_line}
@@ -42,9 +42,7 @@ module _ (setup : Setup) (ledger : LedgerState) (lit : BoardMemory) (between : D
         loss = ap (λ (r : Regs). r.loss) it.regs;
         sound = sound_recovered;
         live = it.power.live on;
-        takes =
-            most_within (device_during lit none_taken) between (most_recovery_steps setup lit.regs) (recovery_bound setup.shape)
-            (few_recovery setup lit.regs few) it.steps;
+        takes = search (rules, most_within, few_recovery);
       }
 
 -- ---- it isn't done
@@ -65,12 +63,7 @@ module _ (setup : Setup) (ledger after : LedgerState) (lit board : BoardMemory) 
 
   left_durable : (regs : Regs) → board.regs ≡ regs → length regs.group.items ≤ 3 → regs.loss ≡ lit.regs.loss → IsDurable setup board.lines board.regs ledger
       → IsLeftDurable setup lit board after
-  left_durable regs is armed loss made =
-      record {
-        durable = subst (IsDurable setup board.lines board.regs) (sym same) made;
-        few_armed = subst (λ (r : Regs). length r.group.items ≤ 3) (sym is) armed;
-        loss = ap (λ (r : Regs). r.loss) is ∙ loss;
-      }
+  left_durable regs is armed loss made = grind (arith, common_steps)
 
   pub cut_left : HasRecovered setup ledger from to suite_old suite_between (Err Rec.Cut) → IsLeftDurable setup lit board after
   cut_left it =
@@ -86,13 +79,11 @@ module _ (setup : Setup) (ledger after : LedgerState) (lit board : BoardMemory) 
   module _ (at major low high : ℕ) (cipher : Line) (tag : List ℕ)
       (it : HasRecovered setup ledger from to suite_old suite_between (Err (Rec.Twin at major low high cipher tag))) where
     pub twin_left : IsLeftDurable setup lit board after
-    twin_left =
-        left_durable (without_group lit.regs) it.regs (omega arith) refl ((it.lines lit.lines refl board.lines refl).from_durable durable).1
+    twin_left = left_durable _ it.regs (omega arith) refl ((it.lines lit.lines refl _ refl).from_durable durable).1
 
     -- the twin is of a data line's last seal
     pub twin_of_last : IsTwinOfLastSeal lit.regs.loss ledger at major low high cipher tag
     twin_of_last = ((it.lines lit.lines refl board.lines refl).from_durable durable).0
 
     pub twin_within : at < layout.data_lines setup.shape
-    twin_within =
-        (undecided_line setup (redone lit.regs.group.items lit.lines) lit.regs at (it.lines lit.lines refl board.lines refl).decided.0).0.on_device
+    twin_within = (undecided_line setup _ lit.regs at (it.lines lit.lines refl _ refl).decided.0).0.on_device

@@ -1,7 +1,7 @@
 -- A call over the watched board, and a start, is one of the session.
-use Rattle.std.proofs.Common.{ℕ, ◌≡◌, ◌<◌, Bool, true, false, cond, Option, Some, None, Result, refl, ap, ◌∙◌, Err, sym, subst, subst₂, arith}
-use Rattle.line_session.proofs.Common.{◌||◌, option_map, ended, Follows, device_during, none_taken, steps_in, step_limit, suite_counts, OpeningRelation, started_as, chip_of, IsShape, Setup, LineSession, chip_in, with_power, CallPlan, HasCalledStore, HasStarted, true≢false, RecFault, counts_of, new_engine, ChipState, on_chip, EngineState}
-use Rattle.line_session.specs.Started.{start_plan, IsRefusedFrom}
+use Rattle.std.proofs.Common.{ℕ, ◌≡◌, ◌<◌, Bool, true, false, cond, Option, Some, None, Result, refl, ap, ◌∙◌, Err, sym, subst, rules}
+use Rattle.line_session.proofs.Common.{◌||◌, option_map, ended, Follows, device_during, none_taken, steps_in, step_limit, OpeningRelation, started_as, chip_of, IsShape, Setup, LineSession, chip_in, CallPlan, HasCalledStore, HasStarted, true≢false, RecFault, new_engine, ChipState, on_chip, EngineState}
+use Rattle.line_session.specs.Started.{IsRefusedFrom}
 use Rattle.line_session.specs.World.{StoreSession, IsLineWorld}
 use Rattle.line_session.specs.Promised.{CallEffect}
 use Rattle.line_session.specs.Made.{HasMade}
@@ -15,11 +15,7 @@ use Rattle.pmem_recovery.specs.declared.faults.RecFault.TheVariants as Rec
 -- what a session keeps of a store while power is on
 pub kept_of : {S X : Type 0} (of : S → X) (store : Option S) (after : S) (powered : Bool) → store ≡ cond powered (Some after) None
     → option_map of store ≡ cond powered (Some (of after)) None
-kept_of of store after powered kept = ap (option_map of) kept ∙ by_power powered
-  where
-    by_power : (b : Bool) → option_map of (cond b (Some after) None) ≡ cond b (Some (of after)) None
-    by_power true = refl
-    by_power false = refl
+kept_of of store after powered kept = search rules
 
 -- a call of the store along its plan
 pub called_store : {L R F A : Type 0} (engine_of : L → EngineState) (effect : CallEffect L R) (setup : Setup) (plan : CallPlan F A) (store : L) (steps : ℕ)
@@ -61,9 +57,7 @@ turned_on setup opens opening steps answer end old new after was_off kept it wit
       outcome =
           record {
             run = record { follows = it.watched.follows; within = λ dark. subst (λ n. n < step_limit) it.its_steps (within dark) };
-            follows =
-                start_follows setup old.ledger opening (suite_counts old.tags old.digests) (counts_of it.suite_between) (it.engine, it.work) end
-                (chip_in new after) it.recovered.plan opens_so;
+            follows = search (rules, start_follows);
           };
       its_steps = it.its_steps;
       kept = kept;
@@ -79,21 +73,7 @@ turned_off setup opening steps old new shape was_off none it =
       was_off = was_off;
       after = on_chip (new_engine setup.shape);
       taken = it.taken;
-      outcome =
-          record {
-            run =
-                record {
-                  follows = it.watched.follows;
-                  within =
-                      λ dark. let bound = few_of_start setup.shape shape in let few = it.few in let same = it.its_steps in omega (arith, bound, few, same);
-                };
-            follows =
-                subst₂ (λ t d. Follows (start_plan setup old.ledger opening old.board.regs (suite_counts old.tags old.digests))
-                (device_during (with_power old).board none_taken) (device_during new.board it.taken)
-                (Err (chip_of (new_engine setup.shape) new.ledger t d, Recovery Rec.Cut))) (sym it.tags) (sym it.digests)
-                (start_stopped setup old.ledger opening (device_during (with_power old).board none_taken) (device_during new.board it.taken)
-                (suite_counts old.tags old.digests) it.between Rec.Cut new.ledger it.between it.follows it.ledger refl);
-          };
+      outcome = search (rules, few_of_start, start_stopped);
       its_steps = it.its_steps;
       kept = none ∙ sym (ap (λ b. cond b (Some (on_chip (new_engine setup.shape))) None) it.dark);
       shape = it.shape;
@@ -115,23 +95,7 @@ refused_from setup opening old fault was_off it =
     record {
       steps = steps_in it.taken;
       new = left;
-      started =
-          record {
-            was_off = was_off;
-            after = on_chip (new_engine setup.shape);
-            taken = it.taken;
-            outcome =
-                record {
-                  run = record { follows = it.watched.follows; within = λ dark. absurd (true≢false (sym it.powered ∙ dark)) };
-                  follows =
-                      start_stopped setup old.ledger opening (device_during (with_power old).board none_taken) (device_during it.board it.taken)
-                      (suite_counts old.tags old.digests) it.between fault it.ledger it.suite it.follows it.same_ledger it.same_suite;
-                };
-            its_steps = refl;
-            kept = refl;
-            shape = refl;
-            keys = refl;
-          };
+      started = search (rules, true≢false, start_stopped);
     }
 
 -- a mark that is there keeps a call's lines, whatever the call says

@@ -14,12 +14,10 @@ module _ {F A : Type 0} (setup : Setup) (ledger : LedgerState) (opening : CallPl
       → Follows (start_plan setup ledger opening old.regs counts) old new (ended (started_as answer) after)
   unfolding start_plan
   start_follows counts left done (Ok value) after it opens =
-      bind_ok (opening_end ledger opening)
-      (mapped_follows (λ left. (new_chip setup ledger left.0, Recovery left.1)) (λ end. end) (done_with_regs it))
+      bind_ok _ (mapped_follows (λ left. (new_chip setup ledger left.0, Recovery left.1)) (λ end. end) (done_with_regs it))
       (mapped_follows (λ left. (left.0, Opening left.1)) (λ end. end) opens)
   start_follows counts left done (Err fault) after it opens =
-      bind_ok (opening_end ledger opening)
-      (mapped_follows (λ left. (new_chip setup ledger left.0, Recovery left.1)) (λ end. end) (done_with_regs it))
+      bind_ok _ (mapped_follows (λ left. (new_chip setup ledger left.0, Recovery left.1)) (λ end. end) (done_with_regs it))
       (mapped_follows (λ left. (left.0, Opening left.1)) (λ end. end) opens)
 
   -- it wasn't recovered, so ledger and suite are as recovery left them
@@ -30,6 +28,5 @@ module _ {F A : Type 0} (setup : Setup) (ledger : LedgerState) (opening : CallPl
   unfolding start_plan
   start_stopped old new counts left fault ledger_new suite_new it same suite =
       subst₂ (λ (l : LedgerState) (s : SuiteState). Follows (start_plan setup ledger opening old.regs counts) old new
-      (Err (chip_of (new_engine setup.shape) l s.tags s.digests, Recovery fault))) (sym same) (sym suite)
-      (bind_err (opening_end ledger opening)
+      (Err (chip_of (new_engine setup.shape) l s.tags s.digests, Recovery fault))) (sym same) (sym suite) (bind_err (opening_end ledger opening)
       (mapped_follows (λ left. (new_chip setup ledger left.0, Recovery left.1)) (λ end. end) (stopped_with_regs it)))

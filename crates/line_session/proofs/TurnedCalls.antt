@@ -1,5 +1,5 @@
 -- Power comes on, as the session's fields have it: what is held after recovery and the opening, and what they come to.
-use Rattle.std.proofs.Common.{ℕ, ◌≡◌, ◌<◌, ◌⊎◌, inl, inr, true, false, List, Option, Some, None, Result, Ok, Err, refl, sym, ap, subst, ◌∙◌}
+use Rattle.std.proofs.Common.{ℕ, ◌≡◌, ◌<◌, ◌⊎◌, inl, inr, true, false, List, Option, Some, None, Result, Ok, Err, refl, sym, ap, subst, ◌∙◌, rules}
 use Rattle.line_session.proofs.Common.{Shape, BoardMemory, LedgerState, Setup, Formulas, EngineState, setup_under, Taken, steps_in, IsWatched, device_during, none_taken, parts_of, Parts, Mark, Line, Device, plain_memory, SuiteState, suite_state, RecFault, Work, StartFault, OpeningRelation, HasStartedBy, HasOpenedAfter, started_as, HasRecovered, recovery_bound, most_recovery_steps, fewer, fewer_within}
 use Rattle.call_plan.proofs.StillCalls.{untouched, rests}
 use Rattle.pmem_base.specs.declared.answers.Exhibit.TheVariants.{Twin}
@@ -68,11 +68,8 @@ module _ {L O F : Type 0} (c : TurnedCall L O F) where
   abbrev lit : BoardMemory
   lit = record c.board { powered = true }
 
-  abbrev left : BoardMemory → Option L → StoreSession L
-  left board store = session_of c.engine_of c.shape c.keys c.tags_new c.digests_new board c.ledger_new store
-
-  abbrev pub left_under : BoardMemory → Option L → StoreSession L
-  left_under board store = session_of c.engine_of c.shape c.keys_new c.tags_new c.digests_new board c.ledger_new store
+  abbrev pub left : BoardMemory → Option L → StoreSession L
+  left board store = session_of c.engine_of c.shape c.keys_new c.tags_new c.digests_new board c.ledger_new store
 
   off : IsLineOff setup old.state
   off = subst (IsLineBy c.engine_of setup old.state) c.there c.world.chip
@@ -115,13 +112,13 @@ module _ {L O F : Type 0} (c : TurnedCall L O F) where
   abbrev Outcome : Result O (StartFault F) → Type 0
   Outcome (Ok opened) =
       IsLineWorld c.engine_of setup (left c.board_new (Some (c.store_of opened)))
-      × HasTurned setup (c.opens setup) c.steps (Ok opened) old.state (left_under c.board_new (Some (c.store_of opened))).state
+      × HasTurned setup (c.opens setup) c.steps (Ok opened) old.state (left c.board_new (Some (c.store_of opened))).state
   Outcome (Err (Start.Opening fault)) =
       IsLineWorld c.engine_of setup (left c.board_new None)
-      × HasTurned setup (c.opens setup) c.steps (Err fault) old.state (left_under c.board_new None).state
+      × HasTurned setup (c.opens setup) c.steps (Err fault) old.state (left c.board_new None).state
   Outcome (Err (Start.Recovery Rec.Cut)) =
-      IsLineWorld c.engine_of setup (left c.board_new None) × IsCutInRecovery setup c.steps old.state (left_under c.board_new None).state
-  Outcome (Err (Start.Recovery Rec.Memory)) = IsLineWorld c.engine_of setup (left rested None) × (left_under rested c.found ≡ old)
+      IsLineWorld c.engine_of setup (left c.board_new None) × IsCutInRecovery setup c.steps old.state (left c.board_new None).state
+  Outcome (Err (Start.Recovery Rec.Memory)) = IsLineWorld c.engine_of setup (left rested None) × (left rested c.found ≡ old)
   Outcome (Err (Start.Recovery (Rec.Twin at major low high cipher tag))) =
       IsLineWorld c.engine_of setup (left rested None) × HasShownTwin setup old.state at major low high cipher tag × (c.ledger_new ≡ c.ledger)
   Outcome answer = ⊥
@@ -133,39 +130,18 @@ module _ {L O F : Type 0} (c : TurnedCall L O F) where
 
     has_turned : (opened : Result O F) (store : Option L)
         → c.opens setup engine (parts_of engine between c.ledger suite_between.tags suite_between.digests) now opened
-        → HasTurned setup (c.opens setup) c.steps opened old.state (left_under c.board_new store).state
-    has_turned opened store opens =
-        record {
-          taken = c.taken;
-          watched = watched;
-          its_steps = c.counted;
-          pads = c.pads;
-          between = between;
-          suite_between = suite_between;
-          engine = engine;
-          work = work;
-          recovered = it;
-          opened = opens;
-          shape = refl;
-          keys = c.same_keys;
-        }
+        → HasTurned setup (c.opens setup) c.steps opened old.state (left c.board_new store).state
+    has_turned opened store opens = search (rules, watched)
 
     opened_by : (opened : Result O F) → c.opens setup engine (parts_of engine between c.ledger suite_between.tags suite_between.digests) now opened
         → IsOpenedOn (λ opened. c.engine_of (c.store_of opened)) setup now opened → Outcome (started_as opened)
-    opened_by (Ok opened) opens lit = (
-      on_of c.engine_of setup (left c.board_new (Some (c.store_of opened))) (c.store_of opened) refl c.world.whole_shape c.world.whole_formulas refl
-          lit.live lit.running lit.sound,
-      has_turned (Ok opened) (Some (c.store_of opened)) opens,
-    )
-    opened_by (Err fault) opens dark = (
-      off_of c.engine_of setup (left c.board_new None) refl c.world.whole_shape c.world.whole_formulas refl dark.1.dark dark.1.durable dark.1.small_group,
-      has_turned (Err fault) None opens,
-    )
+    opened_by (Ok opened) opens lit = search (rules, on_of, has_turned)
+    opened_by (Err fault) opens dark = search (rules, off_of, has_turned)
 
   recovery_cut : (suite_between : SuiteState) → HasRecovered setup c.ledger from to suite_old suite_between (Err Rec.Cut) → c.ledger_new ≡ c.ledger
       → suite_new ≡ suite_between → Outcome (Err (Start.Recovery Rec.Cut))
   recovery_cut suite_between it ledger suite =
-      let is = cut_left setup c.ledger c.ledger_new lit c.board_new c.taken suite_old suite_between ledger off.durable c.world.few_armed it in (
+      let is = cut_left setup c.ledger _ lit c.board_new c.taken suite_old suite_between ledger off.durable c.world.few_armed it in (
         dark_world c.board_new it.power.off is,
         record {
           taken = c.taken;
@@ -179,8 +155,7 @@ module _ {L O F : Type 0} (c : TurnedCall L O F) where
           dark = it.power.off;
           loss = is.loss;
           few =
-              subst (λ n. n < recovery_bound setup.shape) (sym c.counted)
-              (fewer c.taken (recovery_bound setup.shape) watched.follows.few
+              subst (λ n. n < recovery_bound setup.shape) (sym c.counted) (fewer c.taken (recovery_bound setup.shape) watched.follows.few
               (fewer_within from to (most_recovery_steps setup lit.regs) (recovery_bound setup.shape) (few_recovery setup lit.regs c.world.few_armed)
               it.steps).sum);
           shape = refl;
@@ -219,19 +194,7 @@ module _ {L O F : Type 0} (c : TurnedCall L O F) where
               c.world.whole_formulas off.durable.mendable.anchored c.world.places within
               (twin_of_last setup c.ledger c.ledger_new lit c.board_new c.taken suite_old suite_between ledger off.durable c.world.few_armed at major low
               high cipher tag it);
-          refused =
-              record {
-                board = c.board_new;
-                ledger = c.ledger_new;
-                between = suite_between;
-                suite = suite_new;
-                taken = c.taken;
-                watched = watched;
-                powered = it.power.live refl;
-                follows = it.plan;
-                same_ledger = ledger;
-                same_suite = suite;
-              };
+          refused = search (rules, watched);
         },
         ledger,
       )
@@ -241,8 +204,7 @@ module _ {L O F : Type 0} (c : TurnedCall L O F) where
     where
       refused : (fault : RecFault) → HasRecovered setup c.ledger from started.between suite_old started.suite_between (Err fault) → to ≡ started.between
           → HasRecovered setup c.ledger from to suite_old started.suite_between (Err fault)
-      refused fault it same =
-          subst (λ d. HasRecovered setup c.ledger from d suite_old started.suite_between (Err fault)) (sym same) it
+      refused fault it same = subst (λ d. HasRecovered setup c.ledger from d suite_old started.suite_between (Err fault)) (sym same) it
 
       go : (recovery : Result (EngineState × Work) RecFault)
           → HasRecovered setup c.ledger from started.between suite_old started.suite_between recovery
@@ -252,15 +214,13 @@ module _ {L O F : Type 0} (c : TurnedCall L O F) where
           subst Outcome (sym later.2) (opened_by started.between started.suite_between done.0 done.1 it later.0 later.1.0
           (later.1.1 c.world.whole_shape (ap (λ (e : EngineState). e.down) it.engine) (it.power.live refl)
           (sound_recovered setup c.ledger lit started.between suite_old started.suite_between done.0 done.1 it off.durable) held_lines))
-      go (Err Rec.Cut) it later =
-          subst Outcome (sym later.0) (recovery_cut started.suite_between (refused Rec.Cut it later.1) later.2 later.3)
+      go (Err Rec.Cut) it later = subst Outcome (sym later.0) (recovery_cut started.suite_between (refused Rec.Cut it later.1) later.2 later.3)
       go (Err Rec.Memory) it later =
           subst Outcome (sym later.0) (recovery_wanted started.suite_between (refused Rec.Memory it later.1) later.2 later.3)
       go (Err (Rec.Twin at major low high cipher tag)) it later =
           subst Outcome (sym later.0)
           (recovery_twin started.suite_between at major low high cipher tag (refused (Rec.Twin at major low high cipher tag) it later.1) later.2 later.3)
-      go (Err fault) it later =
-          absurd (((refused fault it later.1).lines c.board.lines refl c.board_new.lines refl).from_durable off.durable)
+      go (Err fault) it later = absurd (((refused fault it later.1).lines c.board.lines refl c.board_new.lines refl).from_durable off.durable)
 
   -- ---- as contracts write it
 
@@ -268,13 +228,8 @@ module _ {L O F : Type 0} (c : TurnedCall L O F) where
   outcome_as answer is = subst Outcome is outcome
 
   held : (board : BoardMemory) (store : Option L) → IsLineWorld c.engine_of setup (left board store)
-      → IsLineWorld c.engine_of (setup_under c.formulas_of c.shape c.keys_new) (left_under board store)
-  held board store it = rw c.same_keys it
-
-  -- under the keys of before, with the keys of now
-  held_now : (board : BoardMemory) (store : Option L) → IsLineWorld c.engine_of setup (left board store)
-      → IsLineWorld c.engine_of setup (left_under board store)
-  held_now board store it = rw c.same_keys it
+      → IsLineWorld c.engine_of (setup_under c.formulas_of c.shape c.keys_new) (left board store)
+  held board store it = rw (← c.same_keys) at it
 
   abbrev World : StoreSession L → Type 0
   World session = IsLineWorld c.engine_of (setup_under c.formulas_of c.shape c.keys_new) session
@@ -284,54 +239,54 @@ module _ {L O F : Type 0} (c : TurnedCall L O F) where
     TurnsTo turned new from = IsTurnedUnder c.formulas_of c.store_of told_of c.opens c.engine_of from turned new
 
     pub open_exit : (opened : O) (store : L) (told : T) → store ≡ c.store_of opened → told ≡ told_of opened → c.answer ≡ Ok opened
-        → World (left_under c.board_new (Some store)) × TurnsTo (On c.steps told) (left_under c.board_new (Some store)) c.before
+        → World (left c.board_new (Some store)) × TurnsTo (On c.steps told) (left c.board_new (Some store)) c.before
     open_exit opened store told same telling is =
         let it = outcome_as (Ok opened) is in
-        subst (λ s. World (left_under c.board_new (Some s)) × TurnsTo (On c.steps told) (left_under c.board_new (Some s)) c.before) (sym same) (
+        subst (λ s. World (left c.board_new (Some s)) × TurnsTo (On c.steps told) (left c.board_new (Some s)) c.before) (sym same) (
           held c.board_new (Some (c.store_of opened)) it.0,
-          subst (TurnsTo (On c.steps told) (left_under c.board_new (Some (c.store_of opened)))) c.seen
-              (opened, telling, refl, c.there, it.1, held_now c.board_new (Some (c.store_of opened)) it.0),
+          subst (TurnsTo (On c.steps told) (left c.board_new (Some (c.store_of opened)))) c.seen
+              (opened, telling, refl, c.there, it.1, it.0),
         )
 
     -- no store is there, as before
     dark_exit : IsLineWorld c.engine_of setup (left c.board_new None)
-        → IsCutInRecovery setup c.steps old.state (left_under c.board_new None).state
-        ⊎ ((fault : F) × HasTurned setup (c.opens setup) c.steps (Err fault) old.state (left_under c.board_new None).state)
-        → World (left_under c.board_new c.found) × TurnsTo (Cut c.steps) (left_under c.board_new c.found) c.before
+        → IsCutInRecovery setup c.steps old.state (left c.board_new None).state
+        ⊎ ((fault : F) × HasTurned setup (c.opens setup) c.steps (Err fault) old.state (left c.board_new None).state)
+        → World (left c.board_new c.found) × TurnsTo (Cut c.steps) (left c.board_new c.found) c.before
     dark_exit world it =
-        subst (λ s. World (left_under c.board_new s) × TurnsTo (Cut c.steps) (left_under c.board_new s) c.before) (sym c.there) (
+        subst (λ s. World (left c.board_new s) × TurnsTo (Cut c.steps) (left c.board_new s) c.before) (sym c.there) (
           held c.board_new None world,
-          subst (TurnsTo (Cut c.steps) (left_under c.board_new None)) c.seen (refl, c.there, it, held_now c.board_new None world),
+          subst (TurnsTo (Cut c.steps) (left c.board_new None)) c.seen (refl, c.there, it, world),
         )
 
     pub cut_exit : c.answer ≡ Err (Start.Recovery Rec.Cut)
-        → World (left_under c.board_new c.found) × TurnsTo (Cut c.steps) (left_under c.board_new c.found) c.before
+        → World (left c.board_new c.found) × TurnsTo (Cut c.steps) (left c.board_new c.found) c.before
     cut_exit is = let it = outcome_as (Err (Start.Recovery Rec.Cut)) is in dark_exit it.0 (inl it.1)
 
     pub unopened_exit : (fault : F) → c.answer ≡ Err (Start.Opening fault)
-        → World (left_under c.board_new c.found) × TurnsTo (Cut c.steps) (left_under c.board_new c.found) c.before
+        → World (left c.board_new c.found) × TurnsTo (Cut c.steps) (left c.board_new c.found) c.before
     unopened_exit fault is = let it = outcome_as (Err (Start.Opening fault)) is in dark_exit it.0 (inr (fault, it.1))
 
   module _ (board : BoardMemory) (is_rested : board ≡ record c.board_new { powered = false }) where
     abbrev HaltsAs : Halt → StoreSession L → StoreSession L → Type 0
     HaltsAs halt new from = IsTurnHalt (setup_in c.formulas_of from.state) from halt new
 
-    held_rested : IsLineWorld c.engine_of setup (left rested None) → World (left_under board c.found)
+    held_rested : IsLineWorld c.engine_of setup (left rested None) → World (left board c.found)
     held_rested it = rw (c.there, is_rested) (held rested None it)
 
     pub wanted_exit : c.answer ≡ Err (Start.Recovery Rec.Memory)
-        → World (left_under board c.found) × HaltsAs Stop.Memory (left_under board c.found) c.before
+        → World (left board c.found) × HaltsAs Stop.Memory (left board c.found) c.before
     wanted_exit is =
         let it = outcome_as (Err (Start.Recovery Rec.Memory)) is in (
           held_rested it.0,
-          subst (HaltsAs Stop.Memory (left_under board c.found)) c.seen (c.there, subst (λ b. left_under b c.found ≡ old) (sym is_rested) it.1),
+          subst (HaltsAs Stop.Memory (left board c.found)) c.seen (c.there, subst (λ b. left b c.found ≡ old) (sym is_rested) it.1),
         )
 
     pub twin_exit : (at major low high : ℕ) (cipher : Line) (tag : List ℕ) → c.answer ≡ Err (Start.Recovery (Rec.Twin at major low high cipher tag))
-        → World (left_under board c.found) × HaltsAs (Stop.Shown (Twin at major low high cipher tag)) (left_under board c.found) c.before
+        → World (left board c.found) × HaltsAs (Stop.Shown (Twin at major low high cipher tag)) (left board c.found) c.before
     twin_exit at major low high cipher tag is =
         let it = outcome_as (Err (Start.Recovery (Rec.Twin at major low high cipher tag))) is in (
           held_rested it.0,
-          subst (HaltsAs (Stop.Shown (Twin at major low high cipher tag)) (left_under board c.found)) c.seen
+          subst (HaltsAs (Stop.Shown (Twin at major low high cipher tag)) (left board c.found)) c.seen
               (c.there, it.1, record { none = c.there; ledger = it.2; shape = refl; keys = c.same_keys }),
         )

@@ -1,6 +1,6 @@
 -- A twin that recovery shows is one of a line that the session keeps.
-use Rattle.std.proofs.Common.{ℕ, ◌≡◌, ◌<◌, ◌/◌, List, Option, Some, None, refl, sym, ap, ap₂, ◌∙◌}
-use Rattle.line_session.proofs.Common.{option_map, same_Some, none-some, Line, Ctr, Regs, line_at, LedgerState, IsMark, AreInRange, cipher_of, Setup, Memory, IsMemoryOf, counter_at, plain_of_seal, view_of, IsAnchored, IsSealTagged, IsTwinOfLastSeal}
+use Rattle.std.proofs.Common.{ℕ, ◌≡◌, ◌<◌, List, Option, Some, None, refl, sym, ap, ap₂, ◌∙◌, rules}
+use Rattle.line_session.proofs.Common.{option_map, same_Some, none-some, Line, Regs, line_at, LedgerState, IsMark, AreInRange, cipher_of, Setup, Memory, IsMemoryOf, counter_at, plain_of_seal, view_of, IsAnchored, IsSealTagged, IsTwinOfLastSeal}
 use Rattle.pmem_base.specs.declared.answers.Mark.TheVariants.{Seal}
 use Rattle.pmem_base.specs.Layout as layout
 use Rattle.pmem_base.specs.Marks.{SealOf, last_seal}
@@ -20,30 +20,18 @@ seal_twin setup regs ledger memory loss a major low high cipher tag in_range anc
         → IsTwinOfSeal setup memory loss (view_of setup.shape ledger.marks) a major low high cipher tag
     by_seal None none = absurd (none-some cipher (ap (option_map (λ s. s.cipher)) (sym none) ∙ twin.its_cipher))
     by_seal (Some seal) there =
-        let ctr : counter_at (view_of setup.shape ledger.marks) a ≡ seal.ctr =
-        counter_at-last setup.shape ledger.marks a seal.ctr within (ap (option_map (λ s. s.ctr)) there) in
+        let ctr : counter_at (view_of setup.shape ledger.marks) a ≡ seal.ctr = search (rules, counter_at-last) in
         let mark : IsMark setup.shape (Seal a seal.ctr seal.cipher seal.tag) =
         last_seal_has (IsMark setup.shape) ledger.marks a seal anchored.of_shape.marks_in_range there in
-        let plain : plain_of_seal setup.formulas a seal ≡ line_at memory a =
-        same_Some (plain_of_seal setup.formulas a seal) (line_at memory a)
-        (ap (option_map (plain_of_seal setup.formulas a)) (sym there) ∙ its.each a within) in
-        let sealed : seal.cipher ≡ cipher_of setup.formulas a (counter_at (view_of setup.shape ledger.marks) a) (line_at memory a) =
-        sym (cipher_of-back setup.formulas a seal.ctr seal.cipher in_range mark.1 mark.2)
-        ∙ ap (cipher_of setup.formulas a seal.ctr) plain
-        ∙ ap (λ c. cipher_of setup.formulas a c (line_at memory a)) (sym ctr) in
+        let plain : plain_of_seal setup.formulas a seal ≡ line_at memory a = search (rules, same_Some) in
+        let sealed : seal.cipher ≡ cipher_of setup.formulas a (counter_at (view_of setup.shape ledger.marks) a) (line_at memory a) = search (rules, cipher_of-back) in
         record {
           its_cipher = sym (same_Some seal.cipher cipher (ap (option_map (λ s. s.cipher)) (sym there) ∙ twin.its_cipher)) ∙ sealed;
           its_tag =
               sym (same_Some seal.tag tag (ap (option_map (λ s. s.tag)) (sym there) ∙ twin.its_tag))
               ∙ sym (last_seal_has (IsSealTagged setup.formulas) ledger.marks a seal anchored.seals_tagged there)
               ∙ ap₂ (λ c l. setup.formulas.tag_of a c l) (sym ctr) sealed;
-          its_major =
-              sym (same_Some seal.ctr.major major (ap (option_map (λ s. s.ctr.major)) (sym there) ∙ twin.its_major))
-              ∙ ap (λ (c : Ctr). c.major) (sym ctr);
-          low_in_window =
-              sym (same_Some (seal.ctr.minor / loss) (low / loss) (ap (option_map (λ s. s.ctr.minor / loss)) (sym there) ∙ twin.low_in_window))
-              ∙ ap (λ (c : Ctr). c.minor / loss) (sym ctr);
-          high_in_window =
-              sym (same_Some (seal.ctr.minor / loss) (high / loss) (ap (option_map (λ s. s.ctr.minor / loss)) (sym there) ∙ twin.high_in_window))
-              ∙ ap (λ (c : Ctr). c.minor / loss) (sym ctr);
+          its_major = search (rules, same_Some);
+          low_in_window = search (rules, same_Some);
+          high_in_window = search (rules, same_Some);
         }

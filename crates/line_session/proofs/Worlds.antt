@@ -17,25 +17,7 @@ module _ {L : Type 0} (engine_of : L → EngineState) (setup : Setup) (session :
       → IsLineWorld engine_of setup session
   on_of store there shape formulas engine powered running sound =
       let sealed = sealed_in setup session.state.board.regs session.state.ledger sound.trusted.anchored in
-      let chip : IsLineOn setup session.state (engine_of store) =
-      record {
-        powered = powered;
-        sound = sound;
-        running = running;
-        its_shape = sound.trusted.its_shape;
-        usable =
-            record {
-              ready =
-                  record {
-                    its_size = sound.durable.device_whole.count;
-                    valid_regs = sound.trusted.anchored.valid_regs;
-                    no_group = λ up. sound.trusted.no_group;
-                  };
-              true_lines = sound.trusted.anchored.of_shape.truth_count;
-              line_count = sound.trusted.anchored.of_shape.line_count;
-              each_sealed = sealed;
-            };
-      } in
+      let chip : IsLineOn setup session.state (engine_of store) = search rules in
       record {
         whole_shape = shape;
         whole_formulas = formulas;

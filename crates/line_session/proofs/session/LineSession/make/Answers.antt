@@ -7,7 +7,7 @@ use Rattle.line_session.specs.World.{StoreSession}
 use Rattle.line_session.specs.Made.{IsDoneUnder}
 use Rattle.line_session.specs.declared.making.Done.TheVariants.{Ended}
 use Rattle.line_session.specs.Answered.{is_sealed_since}
-use Rattle.line_session.proofs.MadeCalls.{MadeCall, held, has_made, left_under, dark_is}
+use Rattle.line_session.proofs.MadeCalls.{MadeCall, held, has_made, left, dark_is}
 use Rattle.line_session.proofs.session.LineSession.make.Given.{Over}
 use Rattle.line_session.proofs.session.LineSession.make.Goals.{After-drop_if}
 use Rattle.line_session.proofs.session.LineSession.make.Goals as goal
@@ -55,12 +55,12 @@ module _ (g : Over) (c : After-drop_if g) where
       subst₂ (λ o n. IfSome o (λ at. at < n)) c.asked.ensures c.lines.ensures
       (c.has_asked.ensures.there (let h = c.if-not-has_asked.false in search (rules, h)))
 
-  abbrev left : StoreSession g.row.L.Denot
-  left = left_under call c.drop_if.new.store
+  abbrev left_here : StoreSession g.row.L.Denot
+  left_here = left call c.drop_if.new.store
 
   -- an own seal is asked for among the marks of this call
   sealed_is : (c.is_cut-cut.result && list_any (is_own_seal c.own-own.result) (drop (length c.marks-from.result.now) (ledger_of c.call-done.new.ledger).marks))
-      ≡ (not left.state.board.powered && is_sealed_since (g.C.StoreCall.own c.args.call.now c.in-Some.store) (ledger_of c.self.inside.ledger).marks left.state)
+      ≡ (not left_here.state.board.powered && is_sealed_since (g.C.StoreCall.own c.args.call.now c.in-Some.store) (ledger_of c.self.inside.ledger).marks left_here.state)
   sealed_is =
       rw (c.is_cut-cut.ensures, dark_is call, c.own-own.ensures, c.marks-from.ensures, ap (λ (l : LedgerState). l.marks) c.reserve.ensures.ledger)
 
@@ -73,7 +73,7 @@ returns-clause-done g c =
     let at = (goal.at.returns-clause-done g c).After-drop_if in
     subst (λ (s : StoreSession g.row.L.Denot). IsDoneUnder g.S.Suite.formulas_of g.L.LineStore.engine g.L.LineStore.lines
     (g.C.StoreCall.relation c.args.call.now) (g.C.StoreCall.asked c.args.call.now) (g.C.StoreCall.own c.args.call.now) s
-    (Ended c.steps.result c.is_kept.result c.call-done.result.answer) (left g at)) c.self.view_is (
+    (Ended c.steps.result c.is_kept.result c.call-done.result.answer) (left_here g at)) c.self.view_is (
       c.in-Some.store,
       (c.in-Some.is, asked g at),
       has_made (call g at) c.drop_if.new.store (dropped g at) c.steps.result c.steps.ensures,
