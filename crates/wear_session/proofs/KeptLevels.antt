@@ -24,14 +24,11 @@ opening_keeps setup every engine old now answer it shape up live sound holds = g
         read_done setup old old [] [] 0 (none_done setup old sound live) (gapped.lines + 1) (now gapped.engine) its.opened.0 its.opened.1.was_read in
         record { sound = done.sound; live = done.live; running = up }
     go (Err (Gap.Engine Fail.Cut)) its up =
-        let cut =
-        read_cut setup old old [] [] 0 (none_done setup old sound live) (logical_lines setup.shape + 1) (now its.opened.0) its.opened.1 in
+        let cut = read_cut setup old old [] [] 0 (none_done setup old sound live) (logical_lines setup.shape + 1) (now its.opened.0) its.opened.1 in
         (its.opened.0, record { durable = cut.durable; dark = cut.dark; small_group = cut.small_group })
     go (Err (Gap.Engine (Fail.Spent page))) its up = absurd its.opened.1.possible
     go (Err (Gap.BadWear line)) its up =
-        absurd
-        (none-some (wear_in setup (plain_memory setup old.ledger.marks))
-        (sym its.opened.2
+        absurd (none-some (wear_in setup (plain_memory setup old.ledger.marks)) (sym its.opened.2
         ∙ ap (recorded (logical_lines setup.shape))
         (read_line setup old old [] [] 0 (none_done setup old sound live) (logical_lines setup.shape + 1) (now its.opened.0) line inside its.opened.1)
         ∙ holds.its_record))

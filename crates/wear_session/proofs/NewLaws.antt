@@ -1,6 +1,6 @@
 -- A new session: formatting, and the opening of zero lines.
-use Rattle.std.proofs.Common.{ℕ, ◌≡◌, ◌<◌, ◌≤◌, ◌+◌, List, replicate, Some, Result, Ok, Err, refl, sym, ap, subst, subst₂, ◌∙◌, arith, rules}
-use Rattle.wear_session.proofs.Common.{none-some, true≢false, get_or-replicate, Line, LineSession, Mark, line_at, zero_line, IsShape, device_of, Setup, plain_memory, EngineState, IsSound, Parts, parts_of, HasReadLine, Gapped, LevelledLines, levelled_lines, GapFault, first_wear, recorded, IsLevelled, HasGappedOpened, HasReadRecord, IsLevelledOpening, logical_lines, zero_levelled, least_lines, IsNewWear, wear_in, wear_left, IsWearWorld, StoreSession, IsLevelledAs, HoldsLevelled, Formulas, setup_in, wear_of, on_chip}
+use Rattle.std.proofs.Common.{ℕ, ◌≡◌, ◌<◌, ◌≤◌, ◌+◌, List, replicate, Some, Result, Ok, Err, refl, sym, ap, subst, ◌∙◌, arith, rules}
+use Rattle.wear_session.proofs.Common.{none-some, true≢false, get_or-replicate, Line, LineSession, line_at, zero_line, IsShape, device_of, Setup, plain_memory, EngineState, IsSound, Parts, parts_of, HasReadLine, Gapped, LevelledLines, levelled_lines, GapFault, first_wear, recorded, IsLevelled, HasGappedOpened, HasReadRecord, IsLevelledOpening, logical_lines, zero_levelled, least_lines, IsNewWear, wear_in, wear_left, IsWearWorld, StoreSession, HoldsLevelled, Formulas, setup_in, wear_of, on_chip}
 use Rattle.pmem_base.specs.Layout as layout
 use Rattle.line_session.specs.State.{IsNewSession}
 use Rattle.line_session.specs.New.{HoldsZeros, HasOpenedNew, IsNewFault}
@@ -11,8 +11,7 @@ use Rattle.start_gap.specs.declared.gapped.GapFault.TheVariants as Gap
 use Rattle.line_session.proofs.NewDevices.{few_data}
 use Rattle.line_session.proofs.NewSessions.{zero_places, marks_stay, new_session}
 use Rattle.wear_session.proofs.Levels.{wear_is, memory_held, levelled_is}
-use Rattle.std.specs.Prelude.{IfSome, IfErr}
-use Rattle.wear_session.specs.World.{count_in}
+use Rattle.std.specs.Prelude.{IfErr}
 
 -- what formatting and the opening leave
 pub record NewWearCall : Type 0 where
@@ -78,11 +77,10 @@ module _ (c : NewWearCall) where
 
   module _ (gapped : Gapped) (line : Line) (read : HasReadRecord c.setup c.every line from (to gapped.engine) gapped) where
     was : HasReadLine c.setup (lines + 1) from (to gapped.engine) (Ok line)
-    was = subst (λ k. HasReadLine c.setup (k + 1) from (to gapped.engine) (Ok line)) read.its_lines read.was_read
+    was = rw read.its_lines at read.was_read
 
     marks : c.left.ledger.marks ≡ c.it.ledger.marks
-    marks =
-        marks_stay c.setup c.it.start c.it.middle c.it.ledger c.it.engine c.it.formatted c.left gapped.engine c.it.tags c.it.digests (lines + 1) line was
+    marks = search (rules, marks_stay)
 
     new : c.left.shape ≡ c.setup.shape → IsNewSession c.setup c.left
     new shape =
@@ -91,13 +89,11 @@ module _ (c : NewWearCall) where
 
     its_wear : gapped.wear ≡ first_wear lines
     its_wear =
-        let both : Some gapped.wear ≡ Some (first_wear lines) =
-        sym read.its_wear ∙ ap (λ k. recorded k line) read.its_lines ∙ first_read (to gapped.engine) line was in
+        let both : Some gapped.wear ≡ Some _ = sym read.its_wear ∙ ap (λ k. recorded k line) read.its_lines ∙ first_read _ line was in
         search (rules, both)
 
     levelled : IsLevelled lines (plain_memory c.setup c.left.ledger.marks) (first_wear lines) (replicate lines zero_line)
-    levelled =
-        subst (λ (m : List Mark). IsLevelled lines (plain_memory c.setup m) (first_wear lines) (replicate lines zero_line)) (sym marks) begun
+    levelled = rw marks begun
 
     wear_first : wear_in c.setup (plain_memory c.setup c.left.ledger.marks) ≡ first_wear lines
     wear_first = wear_is c.setup (plain_memory c.setup c.left.ledger.marks) (replicate lines zero_line) (first_wear lines) levelled
@@ -106,12 +102,8 @@ module _ (c : NewWearCall) where
     new_world session is there =
         record {
           some_every = c.some_every;
-          levelled =
-              subst (λ (s : LineSession). HoldsLevelled c.setup s.ledger.marks) (sym is)
-              (levelled_is c.setup (plain_memory c.setup c.left.ledger.marks) (replicate lines zero_line) (first_wear lines) levelled);
-          its_store =
-              subst₂ (λ (s : LineSession) g. IfSome g (IsLevelledAs c.setup c.every s.ledger.marks)) (sym is) (sym there)
-              (record { its_every = read.its_every; its_wear = its_wear ∙ sym wear_first });
+          levelled = rw is (levelled_is c.setup (plain_memory c.setup c.left.ledger.marks) (replicate lines zero_line) (first_wear lines) levelled);
+          its_store = rw (is, there) (record { its_every = read.its_every; its_wear = its_wear ∙ sym wear_first });
         }
 
     new_state : c.left.shape ≡ c.setup.shape → IsNewWear c.setup c.every (wear_left c.setup c.every c.left gapped.count)
@@ -137,8 +129,7 @@ module _ (c : NewWearCall) where
     where
       go : (answer : Result Gapped GapFault) → HasGappedOpened c.setup c.every from to answer → IsGapped answer
       go (Ok gapped) it = (new_world gapped it.0 it.1, new_state gapped it.0 it.1)
-      go (Err (Gap.Engine Fail.Cut)) it =
-          absurd (true≢false (sym c.it.formatted.steady ∙ it.1.done.gone.power.0))
+      go (Err (Gap.Engine Fail.Cut)) it = absurd (true≢false (sym c.it.formatted.steady ∙ it.1.done.gone.power.0))
       go (Err (Gap.Engine (Fail.Spent page))) it = absurd it.1.possible
       go (Err (Gap.BadWear line)) it = absurd (none-some (first_wear lines) (sym it.2 ∙ first_read (to it.0) line it.1))
       go (Err (Gap.Engine fault)) it = absurd (it.1.unrefused sound)
@@ -149,11 +140,10 @@ pub new_session_held : (formulas_of : List ℕ → Formulas) (setup : Setup) (ev
     → HasOpenedNew setup (λ engine old now. IsLevelledOpening setup every engine old now) (Ok gapped) session.state
     → IsWearWorld (setup_in formulas_of session.state) every session × IsNewWear setup every (wear_of (setup_in formulas_of session.state) every session)
 new_session_held formulas_of setup every session gapped some there same shape it =
-    let its =
-    new_outcome (record { setup = setup; every = every; some_every = some; answer = Ok gapped; left = session.state; it = it }) in
+    let its = new_outcome (record { setup = setup; every = every; some_every = some; answer = Ok gapped; left = session.state; it = it }) in
     subst (λ s. IsWearWorld s every session × IsNewWear setup every (wear_of s every session)) (sym same) (
       its.0 session refl there,
-      subst (λ g. IsNewWear setup every (wear_left setup every session.state (count_in g))) (sym there) (its.1 shape),
+      rw there (its.1 shape),
     )
 
 -- no new session's lines stay unopened

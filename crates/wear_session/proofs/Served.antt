@@ -1,11 +1,12 @@
 -- What each command over the session is answered, whatever its call comes to.
-use Rattle.std.proofs.Common.{ℕ, ◌≡◌, ◌≤◌, inl, inr, Bool, true, false, List, Option, Some, None, Result, Ok, Err, refl, sym, ap, subst, ◌∙◌, arith}
+use Rattle.std.proofs.lemmas.Grind.{common_steps}
+use Rattle.std.proofs.Common.{ℕ, ◌≡◌, ◌≤◌, inl, inr, Bool, false, List, Option, Some, None, Result, Ok, Err, refl, sym, ap, subst, arith, rules}
 use Rattle.std.proofs.lemmas.Bool.{le-ltb}
 use Rattle.std.specs.Prelude.{IfOk, IfErr, IsOk, OnErr}
 use Rattle.board.specs.declared.access.Access.{Access}
 use Rattle.trace_text.specs.Logged.{IsLoggedBy}
 use Rattle.trace_text.proofs.LogLemmas.{logged_by, still_logged}
-use Rattle.wear_session.proofs.Common.{if◌then◌else◌, nat_lt, Line, IsLine, Formulas, Setup, Fault, Gapped, LevelledLines, levelled_lines, Moved, Wear, WriteFault, place_of, WearAnswer, WearCommand, WearState, wear_lines_in, IsWearWorld, wear_of, wear_setup_in, wear_of_line, wear_decided, wear_after_decided, IsWearAnswered, IsWearAnsweredAs, IsWearMemoryWanted, move_said, wear_without_power, StoreSession, IsLineWorld, setup_in, same_setup, line_on_in, HasReadAt, IsLevelledWrite, IsLevelledOpening}
+use Rattle.wear_session.proofs.Common.{if◌then◌else◌, nat_lt, Line, IsLine, Setup, Fault, Gapped, LevelledLines, levelled_lines, Moved, Wear, WriteFault, place_of, WearAnswer, WearCommand, WearState, wear_lines_in, wear_of, wear_setup_in, wear_of_line, wear_decided, wear_after_decided, IsWearAnswered, IsWearMemoryWanted, move_said, StoreSession, IsLineWorld, setup_in, same_setup, HasReadAt, IsLevelledWrite, IsLevelledOpening}
 use Rattle.pmem_base.specs.declared.answers.Exhibit.TheVariants.{Twin}
 use Rattle.pmem_base.specs.declared.faults.MemFault.{MemFault}
 use Rattle.trace_text.specs.declared.talk.Halt.{Halt}
@@ -15,15 +16,14 @@ use Rattle.line_session.specs.declared.making.Done.TheVariants as Make
 use Rattle.line_session.specs.declared.powering.Turned.{Turned}
 use Rattle.line_session.specs.declared.powering.Turned.TheVariants as Turn
 use Rattle.line_session.specs.State.{with_fuse}
-use Rattle.line_session.specs.World.{IsLineBy, session_off}
+use Rattle.line_session.specs.World.{session_off}
 use Rattle.line_session.specs.Made.{IsDone, IsRoomWanted, undone}
 use Rattle.line_session.specs.Turned.{IsTurned, IsTurnHalt, unturned}
 use Rattle.wear_session.specs.declared.commands.WearCommand.TheVariants as Do
 use Rattle.wear_session.specs.declared.answers.WearAnswer.TheVariants as Say
 use Rattle.wear_session.specs.Answered.{IsWearHalt}
 use Rattle.wear_session.specs.Planned.{read_done_said, write_done_said, turned_said}
-use Rattle.wear_session.proofs.Worlds.{engine_of, lines_are, off_after, levelled_still}
-use Rattle.wear_session.proofs.AnswerClauses.{of_line_is}
+use Rattle.wear_session.proofs.Worlds.{WearCall, setup_of, before, IsHeld, Exit, on_before, undecided, engine_of, lines_are, off_after, levelled_still}
 use Rattle.wear_session.proofs.ReadLaws as reading
 use Rattle.wear_session.proofs.Writes as writing
 use Rattle.wear_session.proofs.OpeningExits as opening
@@ -31,289 +31,182 @@ use Rattle.wear_session.proofs.OpeningExits as opening
 abbrev lines_of : LevelledLines → ℕ
 lines_of store = store.gapped.lines
 
-module _ (formulas_of : List ℕ → Formulas) (every : ℕ) (old new : StoreSession LevelledLines) (now : WearState)
-    (is : wear_of (setup_in formulas_of old.state) every old ≡ now) (world : IsLineWorld engine_of (setup_in formulas_of old.state) old)
-    (had : IsWearWorld (setup_in formulas_of old.state) every old) where
-  abbrev setup : Setup
-  setup = setup_in formulas_of old.state
+module _ (c : WearCall) (now : WearState) (is : before c ≡ now) where
+  abbrev now_setup : Setup
+  now_setup = wear_setup_in c.formulas_of now
 
-  abbrev before : WearState
-  before = wear_of setup every old
+  abbrev left : WearState
+  left = wear_of (setup_in c.formulas_of c.new.state) c.every c.new
 
-  abbrev later : WearState
-  later = wear_of (setup_in formulas_of new.state) every new
+  abbrev Answered : WearCommand → WearAnswer → Type 0
+  Answered command said = IsWearAnswered now_setup now command said left
 
-  abbrev Logs : WearCommand → Option (Unit {0}) → Type 0
-  Logs command undone =
-      (log log_new : Option (List Access)) → IsLoggedBy undone log old.state.board log_new new.state.board
-      → IsLoggedBy (wear_decided now command) log now.session.board log_new new.state.board
+  -- as contracts write it
+  answered_as : (command : WearCommand) (said : WearAnswer) → IsWearAnswered (setup_of c) (before c) command said left → Answered command said
+  answered_as command said it = subst (λ (w : WearState). IsWearAnswered (wear_setup_in c.formulas_of w) w command said left) is it
 
-  -- What is held and answered, and the log, which goes on where a call was made: as contracts write it.
-  pub record IsServed {E : Type 0} (command : WearCommand) (undone : Option (Unit {0})) (answer : Result WearAnswer E) (why : E → Type 0) : Type 0 where
-    pub held : IsWearWorld (setup_in formulas_of new.state) every new
-    pub answered : IfOk answer (λ said. IsWearAnswered (wear_setup_in formulas_of now) now command said later)
-    pub halted : IfErr answer why
-    pub logged : Logs command undone
+  still : c.new ≡ c.old → IsHeld c
+  still same = rw same c.held
 
-  off : old.store ≡ None → old.state.board.powered ≡ false
-  off none = (subst (IsLineBy engine_of setup old.state) none world.chip).unpowered
+  still_now : c.new ≡ c.old → left ≡ now
+  still_now same = rw same is
 
-  decided_now : (command : WearCommand) (answer : Option WearAnswer) → wear_decided before command ≡ answer → wear_decided now command ≡ answer
-  decided_now command answer it = subst (λ (w : WearState). wear_decided w command ≡ answer) is it
+  decided_before : (command : WearCommand) (said : WearAnswer) → wear_decided (before c) command ≡ Some said → left ≡ wear_after_decided (before c) command
+      → Answered command said
+  decided_before command said fixed kept = search (rules, answered_as, setup_of, before)
 
-  board_is : now.session.board ≡ old.state.board
-  board_is = sym (ap (λ (w : WearState). w.session.board) is)
+  -- ---- power off, and a cut that is set
 
-  still : new ≡ old → IsWearWorld (setup_in formulas_of new.state) every new
-  still same = subst (λ s. IsWearWorld (setup_in formulas_of s.state) every s) (sym same) had
+  pub off_served : (on : Bool) → on ≡ c.old.state.board.powered → c.new ≡ (if c.old.state.board.powered then session_off c.old else c.old)
+      → (said : WearAnswer) → said ≡ (if on then Say.Ok else Say.Off) → IsHeld c × Answered Do.Off said
+  off_served on on_is new_is said said_is = search rules
 
-  called_logs : (command : WearCommand) → wear_decided before command ≡ None → Logs command None
-  called_logs command none log log_new it =
-      logged_by (wear_decided now command) log log_new now.session.board new.state.board (decided_now command None none)
-      (subst (λ b. IsLoggedBy {W = Unit {0}} None log b log_new new.state.board) (sym board_is) it)
+  pub cut_served : (n : ℕ) → c.new ≡ record c.old { state = with_fuse c.old.state n } → IsHeld c × Answered (Do.Cut n) Say.Ok
+  cut_served n cut = grind (arith, common_steps, decided_before)
 
-  same_now : new ≡ old → later ≡ now
-  same_now same = ap (λ (s : StoreSession LevelledLines). wear_of (setup_in formulas_of s.state) every s) same ∙ is
+  -- ---- calls of the session
 
-  -- the state decides
-  decided_exit : {E : Type 0} {why : E → Type 0} (command : WearCommand) (said : WearAnswer) → wear_decided before command ≡ Some said
-      → wear_after_decided before command ≡ before → new ≡ old → IsServed command (Some tt) (Ok said) why
-  decided_exit command said fixed kept same =
-      record {
-        held = still same;
-        answered =
-            subst (λ (w : WearState). IsWearAnswered (wear_setup_in formulas_of w) w command said later) is
-            (subst (λ d. IsWearAnsweredAs d setup before command said later) (sym fixed)
-            (refl, ap (λ (s : StoreSession LevelledLines). wear_of (setup_in formulas_of s.state) every s) same ∙ sym kept));
-        halted = tt;
-        logged =
-            λ log log_new it.
-            subst (λ d. IsLoggedBy d log now.session.board log_new new.state.board) (sym (decided_now command (Some said) fixed)) it;
-      }
+  module _ (world : IsLineWorld engine_of (setup_of c) c.old) where
+    abbrev Logs : WearCommand → Option (Unit {0}) → Type 0
+    Logs command undone =
+        (log later : Option (List Access)) → IsLoggedBy undone log c.old.state.board later c.new.state.board
+        → IsLoggedBy (wear_decided now command) log now.session.board later c.new.state.board
 
-  -- the call does
-  called_exit : {E : Type 0} {why : E → Type 0} (command : WearCommand) (said : WearAnswer) → wear_decided before command ≡ None
-      → new.state.shape ≡ old.state.shape → new.state.keys ≡ old.state.keys
-      → IsWearWorld (setup_in formulas_of new.state) every new × IsWearAnswered setup before command said (wear_of setup every new)
-      → IsServed command None (Ok said) why
-  called_exit command said none shape keys it =
-      record {
-        held = it.0;
-        answered =
-            subst (λ (w : WearState). IsWearAnswered (wear_setup_in formulas_of w) w command said later) is
-            (subst (λ s. IsWearAnswered setup before command said (wear_of s every new)) (sym (same_setup formulas_of old.state new.state shape keys)) it.1);
-        halted = tt;
-        logged = called_logs command none;
-      }
+    -- what is held and answered, and the log, which goes on where a call was made
+    pub record IsServed {E : Type 0} (command : WearCommand) (undone : Option (Unit {0})) (answer : Result WearAnswer E) (why : E → Type 0) : Type 0 where
+      pub held : IsHeld c
+      pub answered : IfOk answer (Answered command)
+      pub halted : IfErr answer why
+      pub logged : Logs command undone
 
-  off_is : (a : ℕ) (answer : Option WearAnswer) → old.store ≡ None → wear_of_line before a answer ≡ Some Say.Off
-  off_is a answer none = ap (λ b. if b then (if nat_lt a (wear_lines_in before) then answer else Some Say.Range) else Some Say.Off) (off none)
+    off : c.old.store ≡ None → c.old.state.board.powered ≡ false
+    off none = (rw none at world.chip).unpowered
 
-  range_is : (a : ℕ) (answer : Option WearAnswer) (store : LevelledLines) → old.store ≡ Some store → store.gapped.lines ≤ a
-      → wear_of_line before a answer ≡ Some Say.Range
-  range_is a answer store there past =
-      let same = lines_are setup every old store there world in
-      ap (λ b. if b then (if nat_lt a (wear_lines_in before) then answer else Some Say.Range) else Some Say.Off)
-      (line_on_in engine_of setup old store world there).powered
-      ∙ ap (λ b. if b then answer else Some Say.Range) (le-ltb a (wear_lines_in before) (omega (arith, same, past)))
+    decided_now : (command : WearCommand) (answer : Option WearAnswer) → wear_decided (before c) command ≡ answer → wear_decided now command ≡ answer
+    decided_now command answer it = rw is at it
 
-  -- ---- a read, of which no memory is wanted
+    board_is : now.session.board ≡ c.old.state.board
+    board_is = sym (ap (λ (w : WearState). w.session.board) is)
 
-  pub read_served : (at : ℕ) (done : Result (Done Line Fault) MemFault)
-      → IfOk done (λ d. IsDone engine_of lines_of (λ setup one other from to answer. HasReadAt setup at one.gapped other.gapped from to answer) setup
-      (Some at) (λ (s : LevelledLines). at) old d new)
-      → OnErr done (IsRoomWanted lines_of (Some at) 0 old) → (said : WearAnswer) → IfOk done (λ d. said ≡ read_done_said d)
-      → IsServed {E = MemFault} (Do.Read at) (undone done) (Ok said) (λ fault. ⊥)
-  read_served at (Err fault) it wanted said as_said = let none = wanted.2 in absurd (omega (arith, none))
-  read_served at (Ok done) it wanted said as_said =
-      subst (λ a. IsServed (Do.Read at) (undone (let r : Result (Done Line Fault) MemFault = Ok done in r)) (Ok a) (λ (fault : MemFault). ⊥)) (sym as_said)
-      (go done it)
-    where
-      go : (done : Done Line Fault)
-          → IsDone engine_of lines_of (λ setup one other from to answer. HasReadAt setup at one.gapped other.gapped from to answer) setup (Some at)
-          (λ (s : LevelledLines). at) old done new
-          → IsServed {E = MemFault} (Do.Read at) (undone (let r : Result (Done Line Fault) MemFault = Ok done in r)) (Ok (read_done_said done)) (λ fault. ⊥)
-      go Make.Off it = decided_exit (Do.Read at) Say.Off (off_is at None it.0) refl it.1
-      go Make.Range it = decided_exit (Do.Read at) Say.Range (range_is at None it.0 it.1 it.2) refl it.3
-      go (Make.Ended steps sealed answer) it =
-          let call : reading.ReadWearCall =
-          record {
-            formulas_of = formulas_of;
-            every = every;
-            old = old;
-            new = new;
-            world = world;
-            held = had;
-            at = at;
-            store = it.0;
-            there = it.1.0;
-            within = it.1.1;
-            steps = steps;
-            answer = answer;
-            made = it.2;
-          } in
-          called_exit (Do.Read at) (read_done_said (Make.Ended steps sealed answer)) (reading.undecided call) it.2.shape it.2.keys (reading.exit call sealed)
+    -- the state decides
+    decided_exit : {E : Type 0} {why : E → Type 0} (command : WearCommand) (said : WearAnswer) → wear_decided (before c) command ≡ Some said
+        → wear_after_decided (before c) command ≡ before c → c.new ≡ c.old → IsServed command (Some tt) (Ok said) why
+    decided_exit command said fixed kept same = search (rules, still, decided_before, decided_now)
 
-  -- ---- a write, or why there is none
+    -- the call does
+    called_logs : (command : WearCommand) → wear_decided (before c) command ≡ None → Logs command None
+    called_logs command none log later it = search (rules, logged_by, decided_now)
 
-  module _ (at : ℕ) (plain : Line) (whole : IsLine plain) (why : MemFault → Type 0)
-      (wants : (fault : MemFault) → later ≡ now → IsWearMemoryWanted now (Do.Write at plain) → why fault) where
-    abbrev IsWritten : Result (Done Moved WriteFault) MemFault → Result WearAnswer MemFault → Type 0
-    IsWritten done answer = IsServed (Do.Write at plain) (undone done) answer why
-
-    unwritten : (fault : MemFault) → new ≡ old → IsRoomWanted lines_of (Some at) 198 old → IsWritten (Err fault) (Err fault)
-    unwritten fault same wanted =
-        let lines = lines_are setup every old wanted.0 wanted.1.0 world in
-        let low = wanted.1.1 in
-        let lit = (line_on_in engine_of setup old wanted.0 world wanted.1.0).powered in
+    called_exit : {E : Type 0} {why : E → Type 0} (command : WearCommand) (said : WearAnswer) → wear_decided (before c) command ≡ None
+        → c.new.state.shape ≡ c.old.state.shape → c.new.state.keys ≡ c.old.state.keys → Exit c command said → IsServed command None (Ok said) why
+    called_exit command said none shape keys it =
         record {
-          held = still same;
-          answered = tt;
-          halted = wants fault (same_now same) (refl, decided_now (Do.Write at plain) None (of_line_is before at None lit (omega (arith, lines, low))));
-          logged =
-              λ log log_new its.
-              subst (λ l. IsLoggedBy (wear_decided now (Do.Write at plain)) log now.session.board l new.state.board) (sym its)
-              (subst (λ b. IsLoggedBy (wear_decided now (Do.Write at plain)) log now.session.board log b)
-              (board_is ∙ sym (ap (λ (s : StoreSession LevelledLines). s.state.board) same))
-              (still_logged (wear_decided now (Do.Write at plain)) log now.session.board));
+          held = it.0;
+          answered = search (rules, answered_as, setup_of, before, same_setup);
+          halted = tt;
+          logged = called_logs command none;
         }
 
-    pub write_served : (done : Result (Done Moved WriteFault) MemFault)
-        → IfOk done (λ d. IsDone engine_of lines_of
-        (λ setup one other from to answer. IsLevelledWrite setup at plain one.gapped other.gapped from to answer) setup (Some at)
-        (λ (s : LevelledLines). place_of s.gapped.lines s.gapped.wear at) old d new)
-        → OnErr done (new ≡ old) → OnErr done (IsRoomWanted lines_of (Some at) 198 old) → (answer : Result WearAnswer MemFault)
-        → answer ≡ write_done_said done → IsWritten done answer
-    write_served done it same wanted answer said = subst (IsWritten done) (sym said) (go done it same wanted)
-      where
-        go : (done : Result (Done Moved WriteFault) MemFault)
-            → IfOk done (λ d. IsDone engine_of lines_of
-            (λ setup one other from to answer. IsLevelledWrite setup at plain one.gapped other.gapped from to answer) setup (Some at)
-            (λ (s : LevelledLines). place_of s.gapped.lines s.gapped.wear at) old d new)
-            → OnErr done (new ≡ old) → OnErr done (IsRoomWanted lines_of (Some at) 198 old) → IsWritten done (write_done_said done)
-        go (Err fault) it same wanted = unwritten fault same wanted
-        go (Ok Make.Off) it same wanted = decided_exit (Do.Write at plain) Say.Off (off_is at None it.0) refl it.1
-        go (Ok Make.Range) it same wanted = decided_exit (Do.Write at plain) Say.Range (range_is at None it.0 it.1 it.2) refl it.3
-        go (Ok (Make.Ended steps sealed answer)) it same wanted =
-            let call : writing.WriteWearCall =
-            record {
-              formulas_of = formulas_of;
-              every = every;
-              old = old;
-              new = new;
-              world = world;
-              held = had;
-              at = at;
-              store = it.0;
-              there = it.1.0;
-              within = it.1.1;
-              plain = plain;
-              whole = whole;
-              steps = steps;
-              answer = answer;
-              made = it.2;
-            } in
-            called_exit (Do.Write at plain) (move_said sealed steps answer) (writing.undecided call) it.2.shape it.2.keys
-            (subst (writing.Exit call) (sym (writing.sealed_said call sealed it.3)) (writing.exit call))
+    off_is : (a : ℕ) → c.old.store ≡ None → wear_of_line (before c) a None ≡ Some Say.Off
+    off_is a none = ap (λ b. if b then (if nat_lt a (wear_lines_in (before c)) then None else Some Say.Range) else Some Say.Off) (off none)
 
-  -- ---- power comes on
+    range_is : (a : ℕ) (store : LevelledLines) → c.old.store ≡ Some store → store.gapped.lines ≤ a → wear_of_line (before c) a None ≡ Some Say.Range
+    range_is a store there past = search (rules, lines_are, before, on_before, le-ltb)
 
-  dark_is : old.store ≡ None → wear_decided before Do.On ≡ None
-  dark_is none = ap (λ b. if b then Some Say.Already else None) (off none)
+    -- ---- a read, of which no memory is wanted
 
-  abbrev pub Halts : Halt → Type 0
-  Halts halt = IsWearHalt (wear_setup_in formulas_of now) now Do.On halt later
+    module _ (a : ℕ) where
+      abbrev pub IsReadDone : Done Line Fault → Type 0
+      IsReadDone done =
+          IsDone engine_of lines_of (λ setup old new from to answer. HasReadAt setup a old.gapped new.gapped from to answer) (setup_of c) (Some a)
+          (λ (s : LevelledLines). a) c.old done c.new
 
-  pub turn_served : (turned : Result (Turned Wear) Halt)
-      → IfOk turned (λ t. IsTurned levelled_lines (λ (g : Gapped). g.wear) (λ engine start now. IsLevelledOpening setup every engine start now) engine_of
-      setup old t new)
-      → IfErr turned (λ halt. IsTurnHalt setup old halt new) → (answer : Result WearAnswer Halt) → answer ≡ turned_said turned
-      → IsServed Do.On (unturned turned) answer Halts
-  turn_served turned it halt answer said = subst (λ a. IsServed Do.On (unturned turned) a Halts) (sym said) (go turned it halt)
-    where
-      go : (turned : Result (Turned Wear) Halt)
-          → IfOk turned (λ t. IsTurned levelled_lines (λ (g : Gapped). g.wear) (λ engine start now. IsLevelledOpening setup every engine start now)
-          engine_of setup old t new)
-          → IfErr turned (λ halt. IsTurnHalt setup old halt new) → IsServed Do.On (unturned turned) (turned_said turned) Halts
-      go (Ok Turn.Already) it halt =
-          decided_exit Do.On Say.Already
-          (ap (λ b. if b then Some Say.Already else None) (line_on_in engine_of setup old it.0 world it.1).powered) refl it.2
-      go (Ok (Turn.On steps told)) it halt =
-          let call : opening.OnWearCall =
-          record { formulas_of = formulas_of; every = every; old = old; new = new; world = world; held = had; there = it.3; left = it.5; steps = steps } in
-          called_exit Do.On (Say.Opened told.start told.gap steps) (opening.undecided call) it.4.shape it.4.keys
-          (subst (λ (w : Wear). opening.Exit call (Say.Opened w.start w.gap steps)) (sym it.1) (opening.on_exit call it.0 it.2 it.4))
-      go (Ok (Turn.Cut steps)) it halt =
-          let call : opening.OnWearCall =
-          record { formulas_of = formulas_of; every = every; old = old; new = new; world = world; held = had; there = it.1; left = it.3; steps = steps } in
-          called_exit Do.On (Say.Cut steps) (opening.undecided call)
-          (elim it.2 [ inl cut ↦ cut.shape | inr opened ↦ opened.1.shape ])
-          (elim it.2 [ inl cut ↦ cut.keys | inr opened ↦ opened.1.keys ])
-          (opening.cut_exit call it.0 it.2)
-      go (Err Stop.Memory) it halt =
+      abbrev pub IsReadServed : Result (Done Line Fault) MemFault → WearAnswer → Type 0
+      IsReadServed done said = IsServed {E = MemFault} (Do.Read a) (undone done) (Ok said) (λ fault. ⊥)
+
+      read_done : (done : Done Line Fault) → IsReadDone done → IsReadServed (Ok done) (read_done_said done)
+      read_done Make.Off it = decided_exit (Do.Read a) Say.Off (off_is a it.0) refl it.1
+      read_done Make.Range it = decided_exit (Do.Read a) Say.Range (range_is a it.0 it.1 it.2) refl it.3
+      read_done (Make.Ended steps sealed answer) it =
+          called_exit (Do.Read a) (read_done_said (Make.Ended steps sealed answer)) (undecided c world it.0 it.1.0 a it.1.1) it.2.shape it.2.keys
+          (reading.exit c world a it.0 it.1.0 it.1.1 steps answer it.2 sealed)
+
+      pub read_served : (done : Result (Done Line Fault) MemFault) → IfOk done IsReadDone → OnErr done (IsRoomWanted lines_of (Some a) 0 c.old)
+          → (said : WearAnswer) → IfOk done (λ d. said ≡ read_done_said d) → IsReadServed done said
+      read_served (Err fault) it wanted said is = let none = wanted.2 in absurd (omega (arith, none))
+      read_served (Ok done) it wanted said is = rw is (read_done done it)
+
+    -- ---- a write, or why there is none
+
+    module _ (a : ℕ) (plain : Line) (whole : IsLine plain) (why : MemFault → Type 0)
+        (wants : (fault : MemFault) → left ≡ now → IsWearMemoryWanted now (Do.Write a plain) → why fault) where
+      abbrev pub IsWriteDone : Done Moved WriteFault → Type 0
+      IsWriteDone done =
+          IsDone engine_of lines_of (λ setup old new from to answer. IsLevelledWrite setup a plain old.gapped new.gapped from to answer) (setup_of c)
+          (Some a) (λ (s : LevelledLines). place_of s.gapped.lines s.gapped.wear a) c.old done c.new
+
+      abbrev pub IsWriteServed : Result (Done Moved WriteFault) MemFault → Result WearAnswer MemFault → Type 0
+      IsWriteServed done answer = IsServed (Do.Write a plain) (undone done) answer why
+
+      unwritten : (fault : MemFault) → c.new ≡ c.old → IsRoomWanted lines_of (Some a) 198 c.old → IsWriteServed (Err fault) (Err fault)
+      unwritten fault same wanted =
           record {
-            held = still halt.1;
+            held = still same;
             answered = tt;
-            halted = (
-              (refl, decided_now Do.On None (dark_is halt.0)),
-              same_now halt.1,
-            );
-            logged = called_logs Do.On (dark_is halt.0);
+            halted = search (rules, still_now, decided_now, undecided);
+            logged = λ log later its. rw (its, same, sym board_is) (still_logged (wear_decided now (Do.Write a plain)) log now.session.board);
           }
-      go (Err (Stop.Shown (Twin at major low high cipher tag))) it halt =
-          record {
-            held =
-                off_after formulas_of every old new halt.2.shape halt.2.keys had.some_every
-                (levelled_still setup old.state.ledger.marks new.state.ledger.marks (ap (λ l. l.marks) halt.2.ledger) had.levelled) halt.2.none;
-            answered = tt;
-            halted =
-                subst (λ (w : WearState). IsWearHalt (wear_setup_in formulas_of w) w Do.On (Stop.Shown (Twin at major low high cipher tag)) later) is
-                (opening.twin_shown formulas_of every old world halt.0 at major low high cipher tag halt.1);
-            logged = called_logs Do.On (dark_is halt.0);
-          }
-      go (Err other) it halt = absurd halt
 
--- ---- power off, and a cut that is set
+      write_done : (done : Result (Done Moved WriteFault) MemFault) → IfOk done IsWriteDone → OnErr done (c.new ≡ c.old)
+          → OnErr done (IsRoomWanted lines_of (Some a) 198 c.old) → IsWriteServed done (write_done_said done)
+      write_done (Err fault) it same wanted = unwritten fault same wanted
+      write_done (Ok Make.Off) it same wanted = decided_exit (Do.Write a plain) Say.Off (off_is a it.0) refl it.1
+      write_done (Ok Make.Range) it same wanted = decided_exit (Do.Write a plain) Say.Range (range_is a it.0 it.1 it.2) refl it.3
+      write_done (Ok (Make.Ended steps sealed answer)) it same wanted =
+          called_exit (Do.Write a plain) (move_said sealed steps answer) (undecided c world it.0 it.1.0 a it.1.1) it.2.shape it.2.keys
+          (writing.exit c world a plain whole it.0 it.1.0 it.1.1 steps answer it.2 sealed it.3)
 
-module _ (formulas_of : List ℕ → Formulas) (every : ℕ) (old new : StoreSession LevelledLines) (now : WearState)
-    (is : wear_of (setup_in formulas_of old.state) every old ≡ now) (had : IsWearWorld (setup_in formulas_of old.state) every old) where
-  abbrev its_setup : Setup
-  its_setup = setup_in formulas_of old.state
+      pub write_served : (done : Result (Done Moved WriteFault) MemFault) → IfOk done IsWriteDone → OnErr done (c.new ≡ c.old)
+          → OnErr done (IsRoomWanted lines_of (Some a) 198 c.old) → (answer : Result WearAnswer MemFault) → answer ≡ write_done_said done
+          → IsWriteServed done answer
+      write_served done it same wanted answer said = rw said (write_done done it same wanted)
 
-  abbrev from : WearState
-  from = wear_of its_setup every old
+    -- ---- power comes on
 
-  abbrev pub Holds : WearCommand → WearAnswer → WearState → StoreSession LevelledLines → Type 0
-  Holds command said now session =
-      IsWearWorld (setup_in formulas_of session.state) every session
-      × IsWearAnswered (wear_setup_in formulas_of now) now command said (wear_of (setup_in formulas_of session.state) every session)
+    dark_is : c.old.store ≡ None → wear_decided (before c) Do.On ≡ None
+    dark_is none = ap (λ b. if b then Some Say.Already else None) (off none)
 
-  pub off_served : (on : Bool) → on ≡ old.state.board.powered → new ≡ (if old.state.board.powered then session_off old else old)
-      → (said : WearAnswer) → said ≡ (if on then Say.Ok else Say.Off) → Holds Do.Off said now new
-  off_served on on_is left said said_is =
-      subst (λ w. Holds Do.Off said w new) is
-      (subst (λ s. Holds Do.Off said from s) (sym left)
-      (subst (λ a. Holds Do.Off a from (if old.state.board.powered then session_off old else old))
-      (sym (said_is ∙ ap (λ o. if o then Say.Ok else Say.Off) on_is)) (go old.state.board.powered refl)))
-    where
-      go : (b : Bool) → old.state.board.powered ≡ b → Holds Do.Off (if b then Say.Ok else Say.Off) from (if b then session_off old else old)
-      go true lit = (
-        record { some_every = had.some_every; levelled = had.levelled; its_store = tt },
-        subst (λ d. IsWearAnsweredAs d its_setup from Do.Off Say.Ok (wear_of its_setup every (session_off old)))
-            (sym (ap (λ b. if b then Some Say.Ok else Some Say.Off) lit))
-            (refl, sym (ap (λ b. if b then wear_without_power from else from) lit)),
-      )
-      go false dark = (
-        had,
-        subst (λ d. IsWearAnsweredAs d its_setup from Do.Off Say.Off from) (sym (ap (λ b. if b then Some Say.Ok else Some Say.Off) dark))
-            (refl, sym (ap (λ b. if b then wear_without_power from else from) dark)),
-      )
+    abbrev pub Halts : Halt → Type 0
+    Halts halt = IsWearHalt now_setup now Do.On halt left
 
-  pub cut_served : (n : ℕ) → new ≡ record old { state = with_fuse old.state n } → Holds (Do.Cut n) Say.Ok now new
-  cut_served n left =
-      subst (λ w. Holds (Do.Cut n) Say.Ok w new) is
-      (subst (λ s. Holds (Do.Cut n) Say.Ok from s) (sym left)
-      (record { some_every = had.some_every; levelled = had.levelled; its_store = had.its_store }, (refl, refl)))
+    abbrev pub IsTurnDone : Turned Wear → Type 0
+    IsTurnDone turned =
+        IsTurned levelled_lines (λ (g : Gapped). g.wear) (λ engine start now. IsLevelledOpening (setup_of c) c.every engine start now) engine_of (setup_of c)
+        c.old turned c.new
+
+    turn_done : (turned : Result (Turned Wear) Halt) → IfOk turned IsTurnDone → IfErr turned (λ halt. IsTurnHalt (setup_of c) c.old halt c.new)
+        → IsServed Do.On (unturned turned) (turned_said turned) Halts
+    turn_done (Ok Turn.Already) it halt = search (rules, decided_exit, on_before)
+    turn_done (Ok (Turn.On steps told)) it halt =
+        called_exit Do.On (Say.Opened told.start told.gap steps) (dark_is it.3) it.4.shape it.4.keys (rw it.1 (opening.on_exit c world it.3 it.5 steps it.0 it.2 it.4))
+    turn_done (Ok (Turn.Cut steps)) it halt =
+        called_exit Do.On (Say.Cut steps) (dark_is it.1) (elim it.2 [ inl cut ↦ cut.shape | inr opened ↦ opened.1.shape ])
+        (elim it.2 [ inl cut ↦ cut.keys | inr opened ↦ opened.1.keys ]) (opening.cut_exit c world it.1 it.3 steps it.0 it.2)
+    turn_done (Err Stop.Memory) it halt = search (rules, still, decided_now, dark_is, still_now, called_logs)
+    turn_done (Err (Stop.Shown (Twin at major low high cipher tag))) it halt =
+        record {
+          held = off_after c halt.2.shape halt.2.keys (levelled_still c (ap (λ l. l.marks) halt.2.ledger)) halt.2.none;
+          answered = tt;
+          halted =
+              subst (λ (w : WearState). IsWearHalt (wear_setup_in c.formulas_of w) w Do.On (Stop.Shown (Twin at major low high cipher tag)) left) is
+              (opening.twin_shown c world halt.0 at major low high cipher tag halt.1);
+          logged = called_logs Do.On (dark_is halt.0);
+        }
+    turn_done (Err other) it halt = absurd halt
+
+    pub turn_served : (turned : Result (Turned Wear) Halt) → IfOk turned IsTurnDone → IfErr turned (λ halt. IsTurnHalt (setup_of c) c.old halt c.new)
+        → (answer : Result WearAnswer Halt) → answer ≡ turned_said turned → IsServed Do.On (unturned turned) answer Halts
+    turn_served turned it halt answer said = rw said (turn_done turned it halt)
 
 -- a call that makes no mark is made
 pub always_done : {V F : Type 0} (asked : Option ℕ) (old : StoreSession LevelledLines) (done : Result (Done V F) MemFault)

@@ -131,8 +131,7 @@ module _ (setup : Setup) (a : ℕ) (plain : Line) (old new : Gapped) (from to : 
   tried_ends : (tried : Result (Unit {0}) Fault)
       → EndsAt setup from (queue true) 1 (1 + length (move_edits n wear)) (0 + w + cost setup.shape (move_edits n wear)) tried to
       → EndsWearWrite true (write_answer_by tried) to
-  tried_ends (Ok done) gone =
-      (refl, gone_within setup from (queue true) 3 3 (0 + w + cost setup.shape (move_edits n wear)) (most_of setup.shape true) to refl (omega arith) gone)
+  tried_ends (Ok done) gone = (refl, gone_within setup from _ 3 3 _ _ to refl (omega arith) gone)
   tried_ends (Err fault) ends =
       go fault
       (ends_within setup from (queue true) 1 1 3 3 (0 + w + cost setup.shape (move_edits n wear)) (most_of setup.shape true) fault to (omega arith)

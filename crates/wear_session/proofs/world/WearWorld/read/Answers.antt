@@ -1,20 +1,24 @@
 -- A line is read, or power is cut.
-use Rattle.std.proofs.Common.{Some, Ok}
-use Rattle.wear_session.specs.declared.commands.WearCommand.TheVariants as Do
-use Rattle.line_session.specs.Made.{undone}
-use Rattle.pmem_base.specs.declared.faults.MemFault.{MemFault}
-use Rattle.wear_session.proofs.Served.{IsServed, read_served, always_done}
+use Rattle.std.proofs.Common.{Some, rules}
+use Rattle.wear_session.proofs.Worlds.{WearCall}
+use Rattle.wear_session.proofs.Served.{IsReadServed, read_served, always_done}
 use Rattle.wear_session.proofs.world.WearWorld.read.Given.{Over}
 use Rattle.wear_session.proofs.world.WearWorld.read.Goals.{After-read_answer}
 use Rattle.wear_session.proofs.world.WearWorld.read.Goals as goal
 
 module _ (g : Over) (c : After-read_answer g) where
-  served : IsServed g.S.Suite.formulas_of c.self.inside.every c.self.inside.session c.make-done.new.self c.args.self.now c.self.view_is
-      c.make-done.ensures.world c.self.invariant {E = MemFault} (Do.Read c.args.at) (undone c.make-done.result) (Ok c.read_answer.result) (λ fault. ⊥)
-  served =
-      read_served g.S.Suite.formulas_of c.self.inside.every c.self.inside.session c.make-done.new.self c.args.self.now c.self.view_is
-      c.make-done.ensures.world c.self.invariant c.args.at c.make-done.result c.make-done.ensures.done c.make-done.ensures.wanting c.read_answer.result
-      c.read_answer.ensures
+  abbrev call : WearCall
+  call =
+      record {
+        formulas_of = g.S.Suite.formulas_of;
+        every = c.self.inside.every;
+        old = c.self.inside.session;
+        new = c.make-done.new.self;
+        held = c.self.invariant;
+      }
+
+  served : IsReadServed call c.args.self.now c.self.view_is c.make-done.ensures.world c.args.at c.make-done.result c.read_answer.result
+  served = search (rules, read_served)
 
 pub read_answer-requires : goal.read_answer-requires
 read_answer-requires g c = always_done (Some c.args.at) c.self.inside.session c.make-done.result c.make-done.ensures.wanting
