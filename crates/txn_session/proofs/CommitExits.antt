@@ -1,5 +1,5 @@
 -- A commit in the session: what is held after each of its answers, and what these say.
-use Rattle.std.proofs.Common.{ℕ, ◌≡◌, ◌<◌, ◌≤◌, ◌+◌, ◌*◌, inl, inr, Bool, true, false, cond, List, [], length, take, drop, Some, None, Result, Ok, Err, refl, sym, ap, subst, ◌∙◌, mul-le-mul_right, arith}
+use Rattle.std.proofs.Common.{ℕ, ◌≡◌, ◌<◌, ◌≤◌, ◌+◌, ◌*◌, inl, inr, Bool, true, false, cond, List, [], length, take, drop, Some, None, Result, Ok, Err, refl, sym, ap, subst, ◌∙◌, mul-le-mul_right, arith, rules}
 use Rattle.std.specs.Prelude.{◌&&◌}
 use Rattle.txn_session.proofs.Common.{Committed, not, nat_lt, unwrap_or, ◌||◌, ◌==◌, list_any, true≢false, cases_lt, le-ltb, lt-ltb, eq-eqb, ne_eqb, drop_at, Posted, Setup, Fault, Parts, Store, CommitFault, targets_of, step_limit, Writing, is_own_seal, write_steps, moment_now, memory_done, TxnAnswer, IsTxnCalled, fault_said, done_said, stuck_said, TxnState, moment_in, commit_writes, IsTxnWorld, stuck_in, txn_decided, IsTxnAnswered, IsCommitting, EndsCommit, HasTxnCommitted, after_commit, IsCutAt, or_true, setup_in, is_sealed_since, txn_store}
 use Rattle.pmem_engine.specs.declared.fault.Fault.TheVariants as Fail
@@ -113,11 +113,7 @@ module _ (c : CommitCall) where
       let high = spent.high in
       let few : k ≤ 2 * count + 2 = omega (arith, high) in
       let past : count < k = omega (arith, low) in
-      let log : after.logged.items ≡ cond (nat_lt count k) (cond (k == 2 * count + 2) [] (targets_of c.entries)) [] =
-      its.its_targets
-      ∙ sym
-      (ap (λ b. cond b (cond (k == 2 * count + 2) [] (targets_of c.entries)) []) (lt-ltb count k past)
-      ∙ ap (λ b. cond b [] (targets_of c.entries)) (ne_eqb k (2 * count + 2) (λ e. omega (arith, e, high)))) in
+      let log : after.logged.items ≡ cond (nat_lt count k) (cond (k == 2 * count + 2) [] (targets_of c.entries)) [] = search (rules, lt-ltb, ne_eqb) in
       lit_exit (Say.Stuck page c.steps) (record { done = k; made = spent.made })
       (state.going_world c k spent.made few lines most (take k queue) spent.done log) (past, spent.next)
       (state.goes_stuck c k spent.made few lines most (take k queue) spent.done page its.its_page) spent.done.live
@@ -133,9 +129,7 @@ module _ (c : CommitCall) where
       let high = spent.high in
       let few : k ≤ 2 * count + 2 = omega (arith, high) in
       let before : k ≤ count = omega (arith, high) in
-      let log : after.logged.items ≡ cond (nat_lt count k) (cond (k == 2 * count + 2) [] (targets_of c.entries)) [] =
-      its.its_targets ∙ (state.no_log c)
-      ∙ sym (ap (λ b. cond b (cond (k == 2 * count + 2) [] (targets_of c.entries)) []) (le-ltb count k before)) in
+      let log : after.logged.items ≡ cond (nat_lt count k) (cond (k == 2 * count + 2) [] (targets_of c.entries)) [] = search (rules, le-ltb) in
       lit_exit (Say.Spent page c.steps) (record { done = k; made = spent.made })
       (state.going_world c k spent.made few lines most (take k queue) spent.done log) (before, spent.next)
       (state.goes c k spent.made few lines most (take k queue) spent.done (stuck_still its.its_page)) spent.done.live
@@ -167,14 +161,11 @@ module _ (c : CommitCall) where
   own_is : (it : CutAt) → state.own c ≡ list_any (is_own_seal n) it.writing.made
   own_is it =
       ap (λ m. is_sealed_since m c.old.state.ledger.marks c.new.state) (sym (state.n_is c))
-      ∙ ap (list_any (is_own_seal n))
-      (ap (drop (length c.old.state.ledger.marks)) it.cut.marks
+      ∙ ap (list_any (is_own_seal n)) (ap (drop (length c.old.state.ledger.marks)) it.cut.marks
       ∙ drop_at c.old.state.ledger.marks it.writing.made (length c.old.state.ledger.marks) refl)
 
   gone_dark : (it : CutAt) → stuck_in c.new.store ≡ cond c.new.state.board.powered (stuck_said old.stuck c.answer) None
-  gone_dark it =
-      ap stuck_in (c.made.its_store ∙ ap (λ b. cond b (Some (txn_store after)) None) it.cut.dark)
-      ∙ sym (ap (λ b. cond b (stuck_said old.stuck c.answer) None) it.cut.dark)
+  gone_dark it = search rules
 
   kept_exit : (committed : Bool) → c.answer ≡ cut_answer committed → (it : CutAt) → count < it.writing.done
       → CommitExit (done_said (state.own c) c.steps c.answer)
@@ -184,9 +175,7 @@ module _ (c : CommitCall) where
       let small = few_steps in
       let cut = state.cuts c k it.writing.made it.high it.cut.memory most (take k queue) it.cut in
       let below = cut.1 in
-      let said : done_said (state.own c) c.steps c.answer ≡ Say.CutKept c.steps =
-      ap (λ r. done_said (state.own c) c.steps r) is
-      ∙ ap (λ b. cond b (Say.CutKept c.steps) (Say.CutLost c.steps)) (or_true committed (state.own c) own) in
+      let said : done_said (state.own c) c.steps c.answer ≡ Say.CutKept c.steps = search (rules, or_true) in
       subst CommitExit (sym said)
       (exit_of (Say.CutKept c.steps) it.writing (state.cut_world c k it.writing.made it.high it.cut.memory most (take k queue) it.cut) (past, it.came) cut
       (λ dark. omega (arith, below, small)) (sym said) (gone_dark it))
@@ -198,8 +187,7 @@ module _ (c : CommitCall) where
       let small = few_steps in
       let cut = state.cuts c k it.writing.made it.high it.cut.memory most (take k queue) it.cut in
       let below = cut.1 in
-      let said : done_said (state.own c) c.steps c.answer ≡ Say.CutLost c.steps =
-      ap (λ r. done_said (state.own c) c.steps r) is ∙ ap (λ b. cond b (Say.CutKept c.steps) (Say.CutLost c.steps)) own in
+      let said : done_said (state.own c) c.steps c.answer ≡ Say.CutLost c.steps = search rules in
       subst CommitExit (sym said)
       (exit_of (Say.CutLost c.steps) it.writing (state.cut_world c k it.writing.made it.high it.cut.memory most (take k queue) it.cut) (before, it.came) cut
       (λ dark. omega (arith, below, small)) (sym said) (gone_dark it))
@@ -246,8 +234,7 @@ module _ (c : CommitCall) where
       in_cut : (committed : Bool) → c.answer ≡ cut_answer committed
           → fault_said (committed || sealed) c.steps Fail.Cut ≡ fault_said (committed || state.own c) c.steps Fail.Cut
       in_cut committed same =
-          ap (λ b. fault_said (committed || b) c.steps Fail.Cut)
-          (is ∙ ap (λ b. not b && own_here) (at_cut committed same).cut.dark
+          ap (λ b. fault_said (committed || b) c.steps Fail.Cut) (is ∙ ap (λ b. not b && own_here) (at_cut committed same).cut.dark
           ∙ ap (λ m. is_sealed_since m c.old.state.ledger.marks c.new.state) (state.n_is c))
 
       failed : (fault : Fault) (committed : Bool) → c.answer ≡ Err (record { fault = fault; committed = committed })

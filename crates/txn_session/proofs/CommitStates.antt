@@ -1,6 +1,6 @@
 -- A commit in the session: the state once so many of its engine writes are done.
-use Rattle.std.proofs.Common.{ℕ, ◌≡◌, ◌<◌, ◌≤◌, ◌+◌, ◌*◌, Bool, true, false, cond, List, [], ◌∷◌, length, take, Option, Some, None, Result, refl, sym, ap, ap₂, subst, ◌∙◌, arith}
-use Rattle.txn_session.proofs.Common.{nat_lt, ◌==◌, unwrap_or, if◌then◌else◌, Posted, Mark, put_lines, ended, Follows, Formulas, Setup, Memory, plain_memory, moment_after_writes, Parts, Store, Committed, CommitFault, AreTargets, IsLogged, commit_lines_at, targets_at, commit_memory_at, targets_of, IsEditOf, IsWholeTxn, deciding_edits, applying_edits, logged_lines, whole_at_each_stage, deciding_fit, applying_fit, All-append, step_limit, device_during, none_taken, Writing, at_most, fewer, whole_places, moment_now, AreDone, AreCut, edits_memory, Chip, commit_plan, TxnAnswer, IsTxnCalled, Said, commit_call, done_said, stuck_said, TxnState, Entries, commit_writes, with_commit, targets_in_force, redone_memory, IsTxnWorld, stuck_in, txn_of, IsTxnButForSteps, GoesToTxnState, IsTxnCutOff, after_commit, most_of_commit, few_data, with_marks, txn_without_power, StoreSession, IsLineWorld, IsLineOn, line_on_in, setup_in, HasMade, parts_during, called_store, chip_in, on_chip, is_sealed_since, HasCommitted, HasCommittedTxn, TxnStore, txn_store}
+use Rattle.std.proofs.Common.{ℕ, ◌≡◌, ◌<◌, ◌≤◌, ◌+◌, ◌*◌, Bool, true, false, cond, List, [], ◌∷◌, length, take, Option, Some, None, Result, refl, sym, ap, ap₂, subst, ◌∙◌, arith, rules}
+use Rattle.txn_session.proofs.Common.{nat_lt, ◌==◌, unwrap_or, if◌then◌else◌, Posted, Mark, put_lines, ended, Follows, Formulas, Setup, Memory, plain_memory, moment_after_writes, Parts, Store, Committed, CommitFault, AreTargets, IsLogged, commit_lines_at, targets_at, commit_memory_at, targets_of, IsEditOf, IsWholeTxn, deciding_edits, applying_edits, logged_lines, whole_at_each_stage, deciding_fit, applying_fit, All-append, step_limit, device_during, none_taken, Writing, at_most, fewer, whole_places, moment_now, AreDone, AreCut, edits_memory, Chip, commit_plan, TxnAnswer, IsTxnCalled, Said, commit_call, done_said, stuck_said, TxnState, Entries, commit_writes, with_commit, targets_in_force, redone_memory, IsTxnWorld, stuck_in, txn_of, IsTxnButForSteps, GoesToTxnState, IsTxnCutOff, after_commit, most_of_commit, few_data, with_marks, StoreSession, IsLineWorld, IsLineOn, line_on_in, setup_in, HasMade, parts_during, called_store, chip_in, on_chip, is_sealed_since, HasCommitted, HasCommittedTxn, TxnStore, txn_store}
 use Rattle.pmem_base.specs.Layout as layout
 use Rattle.txn_session.specs.declared.commands.TxnCommand.TheVariants as Do
 use Rattle.txn_session.proofs.Worlds.{engine_of, targets_held, memory_held, logged_is, IsOpenTxn, open_as, lines_are, on_after, off_after}
@@ -27,8 +27,7 @@ with_commit_is : (state : TxnState) (entries : Entries) (k : ℕ)
       memory = cond (nat_lt (length entries) k) (put_lines entries state.memory) state.memory;
       in_force = cond (nat_lt (length entries) k) (cond (k == 2 * length entries + 2) [] (targets_of entries)) state.in_force;
     }
-with_commit_is state entries k =
-    by_done (nat_lt (length entries) k) (k == 2 * length entries + 2) state (put_lines entries state.memory) (targets_of entries)
+with_commit_is state entries k = search (rules, by_done, nat_lt, put_lines)
 
 long_queue : (n : ℕ) (entries : Entries) → (entries ≡ [] → ⊥) → length (commit_writes n entries) ≡ 2 * length entries + 2
 long_queue n [] some = absurd (some refl)
@@ -100,10 +99,7 @@ module _ (c : CommitCall) where
   n_is = lines_are setup c.old c.store c.there c.world
 
   size : n + 16 ≡ layout.data_lines setup.shape
-  size =
-      let its = c.store.its_lines in
-      let same : layout.data_lines c.store.engine.shape ≡ layout.data_lines setup.shape = ap layout.data_lines on.its_shape in
-      omega (arith, its, same)
+  size = search rules
 
   -- a transaction is open, so none is in force
   free : (c.store.stuck ≡ None) × AreTargets (logged_lines setup.shape) (targets_of c.entries)
@@ -137,8 +133,7 @@ module _ (c : CommitCall) where
       (commit_ends_at setup n c.entries c.some from on.sound on.powered size targets.below whole c.store after to c.answer refl committed.committed)
 
   pub serves : (answer : Result Committed CommitFault) → c.answer ≡ answer → CommitServes c.entries c.store after answer
-  serves answer is =
-      subst (CommitServes c.entries c.store after) is (commit_serves setup c.entries c.store after from to c.answer c.some committed.committed)
+  serves answer is = search (rules, CommitServes, commit_serves)
 
   pub long : length queue ≡ 2 * count + 2
   long = long_queue n c.entries c.some
@@ -168,8 +163,7 @@ module _ (c : CommitCall) where
     held_lines =
         subst (λ m. IsLogged m places_now (targets_at stage.stage c.entries) (commit_memory_at stage.stage c.entries (redone_memory setup places))) n_is
         (subst (λ l. IsLogged n l (targets_at stage.stage c.entries) (commit_memory_at stage.stage c.entries (redone_memory setup places)))
-        (sym (lines_there k is stage))
-        (whole_at_each_stage n places (redone_memory setup places) c.entries stage.stage targets had))
+        (sym (lines_there k is stage)) (whole_at_each_stage n places (redone_memory setup places) c.entries stage.stage targets had))
 
     logged : IsLogged (logged_lines setup.shape) places_now (targets_in_force setup places_now) (redone_memory setup places_now)
     logged = logged_is setup c.world.whole_shape places_now (commit_memory_at stage.stage c.entries (redone_memory setup places)) (targets_at stage.stage c.entries) held_lines
@@ -213,16 +207,7 @@ module _ (c : CommitCall) where
             session = with_marks old.session made;
           })
           new
-      at_page page its_page =
-          record {
-            memory = memory_now_is;
-            in_force = in_force_now;
-            stuck = ap stuck_in stays ∙ its_page;
-            txn = refl;
-            power = done.live ∙ sym on.powered;
-            loss = done.loss;
-            marks = done.marks;
-          }
+      at_page page its_page = search (rules, memory_now_is, in_force_now)
 
       pub goes_stuck : (page : ℕ) → after.stuck ≡ Some page
           → GoesToTxnState (record (after_commit old c.entries writing) { stuck = Some page }) c.steps limit new
@@ -247,19 +232,7 @@ module _ (c : CommitCall) where
       cut_world = off_after c.formulas_of c.old c.new c.made.shape c.made.keys logged gone
 
       pub cuts : IsTxnCutOff (after_commit old c.entries writing) c.steps limit new
-      cuts = (
-        subst (λ e. IsTxnButForSteps (txn_without_power (record e { session = with_marks old.session made })) new) (sym (with_commit_is old c.entries k))
-            (record {
-              memory = memory_now_is;
-              in_force = in_force_now;
-              stuck = ap stuck_in gone;
-              txn = refl;
-              power = cut.dark;
-              loss = cut.loss;
-              marks = cut.marks;
-            }),
-        subst (λ s. s < limit) (sym c.made.its_steps) (fewer c.made.taken limit c.made.watched.follows.few cut.takes.sum),
-      )
+      cuts = search (rules, with_marks, with_commit_is, memory_now_is, in_force_now, fewer)
 
   -- ---- the call of the session
 

@@ -1,7 +1,7 @@
 -- The calls of a store leave sound lines sound, or power is cut.
-use Rattle.std.proofs.Common.{ℕ, ◌≡◌, ◌+◌, ◌*◌, Bool, true, false, List, [], ◌∷◌, inl, inr, length, take, Result, Ok, Err, sym, subst, refl}
+use Rattle.std.proofs.Common.{ℕ, ◌≡◌, ◌+◌, ◌*◌, Bool, true, false, List, [], ◌∷◌, inl, inr, length, take, Result, Ok, Err, sym, subst, refl, rules}
 use Rattle.std.specs.Prelude.{◌||◌, not, IfOk}
-use Rattle.txn_session.proofs.Common.{⊤, Line, Mark, Posted, IsShape, Setup, data_lines, Fault, EngineState, Parts, AreSound, Store, Opened, Committed, CommitFault, TxnFault, AreDistinctBelow, targets_of, IsWholeTxn, HasStoreCommitted, HasStoreStarted, IsOpenedBy, IsStoreOpening, HasOpenedStore, logged_lines, redoing_edits, AreDone, none_done, read_cut, read_steps, Entries, commit_writes, most_of_commit, most_of_redo, EndsAt, HoldsLogged}
+use Rattle.txn_session.proofs.Common.{Mark, Posted, IsShape, Setup, data_lines, Fault, EngineState, Parts, AreSound, Store, Opened, Committed, CommitFault, TxnFault, AreDistinctBelow, targets_of, IsWholeTxn, HasStoreCommitted, HasStoreStarted, IsOpenedBy, IsStoreOpening, HasOpenedStore, logged_lines, redoing_edits, AreDone, none_done, read_cut, read_steps, Entries, commit_writes, most_of_commit, most_of_redo, EndsAt, HoldsLogged}
 use Rattle.pmem_engine.specs.declared.fault.Fault.TheVariants as Fail
 use Rattle.line_txn.specs.declared.store.Committed.TheVariants as Do
 use Rattle.line_txn.specs.declared.store.TxnFault.TheVariants as Txn
@@ -20,8 +20,7 @@ module _ (setup : Setup) (old new : Store) (from to : Parts) (sound : AreSound s
     (size : old.lines + 16 ≡ data_lines setup.shape) (up : old.engine.down ≡ false) where
   left : (writes : List Posted) (made : List Mark) (most : ℕ) → AreDone setup from writes made most to → (outcome : Outcome) → is_going outcome ≡ true
       → new.engine.down ≡ (old.engine.down || not (is_going outcome)) → IsLeft setup false new.engine from to
-  left writes made most done outcome goes after =
-      done_left setup from to writes made most new.engine done (still_up old.engine.down new.engine.down outcome up after goes)
+  left writes made most done outcome goes after = search (rules, done_left, still_up)
 
   module _ (queue : List Posted) (count most : ℕ) where
     failed : (fault : Fault) (committed : Bool) → new.engine.down ≡ (old.engine.down || not (is_going (outcome_of_fault fault)))
@@ -37,24 +36,15 @@ module _ (setup : Setup) (old new : Store) (from to : Parts) (sound : AreSound s
     ended_left (Ok (Do.Stuck page)) after end = left (take end.count queue) end.made most end.done going refl after
     ended_left (Err fault) after end = failed fault.fault fault.committed after end
 
-  some_more : (entry : ℕ × Line) (txn : Entries) → (entry ∷ txn) ≡ [] → ⊥
-  some_more entry txn e = subst HasMore e tt
-    where
-      HasMore : Entries → Type 0
-      HasMore [] = ⊥
-      HasMore (entry ∷ txn) = ⊤
-
   pub commit_keeps : (txn : Entries) (answer : Result Committed CommitFault) → AreDistinctBelow old.lines (targets_of txn) → IsWholeTxn txn
       → HasStoreCommitted setup txn old new from to answer
       → new.engine.down ≡ (old.engine.down || not (is_going (commit_outcome_by answer))) → IsLeft setup (is_commit_cut answer) new.engine from to
   commit_keeps [] answer below whole it after =
       subst (λ a. new.engine.down ≡ (old.engine.down || not (is_going (commit_outcome_by a))) → IsLeft setup (is_commit_cut a) new.engine from to)
-      (sym it.its_answer)
-      (left [] [] 0 (subst (AreDone setup from [] [] 0) (sym it.nothing_done) (none_done setup from sound live)) going refl)
-      after
+      (sym it.its_answer) (left [] [] 0 (subst (AreDone setup from [] [] 0) (sym it.nothing_done) (none_done setup from sound live)) going refl) after
   commit_keeps (entry ∷ txn) answer below whole it after =
       ended_left (commit_writes old.lines (entry ∷ txn)) (length (entry ∷ txn)) (most_of_commit setup.shape (length (entry ∷ txn))) answer after
-      (commit_ends_at setup old.lines (entry ∷ txn) (some_more entry txn) from sound live size below whole old new to answer refl it)
+      (commit_ends_at setup old.lines (entry ∷ txn) (search rules) from sound live size below whole old new to answer refl it)
 
 -- ---- an opening
 
@@ -87,23 +77,15 @@ module _ (setup : Setup) (shape : IsShape setup.shape) (old : Parts) (now : Engi
   opening_on (Ok opened) its up = opened_on opened.0 opened.1 its.opened up
   opening_on (Err (Txn.Engine Fail.Cut)) its up =
       elim its.opened.1 [
-        | inl read ↦
-            (let cut = read_cut setup old old [] [] 0 begun n (now its.opened.0) read in
-            (its.opened.0, record { durable = cut.durable; dark = cut.dark; small_group = cut.small_group }))
+        | inl read ↦ search (rules, read_cut)
         | inr redone ↦
             (let end = redo.redo_ends setup shape old old 0 holds begun redone.targets (now its.opened.0) (Err Fail.Cut) redone.was_redone in
             (its.opened.0, record { durable = end.cut.durable; dark = end.cut.dark; small_group = end.cut.small_group }))
       ]
-  opening_on (Err (Txn.Engine (Fail.Spent page))) its up =
-      elim its.opened.1 [ inl read ↦ absurd read.possible | inr redone ↦ absurd redone.unspent ]
-  opening_on (Err (Txn.Engine fault)) its up =
-      elim its.opened.1 [
-        | inl read ↦ absurd (read.unrefused sound)
-        | inr redone ↦ absurd (redo.redo_ends setup shape old old 0 holds begun redone.targets (now its.opened.0) (Err fault) redone.was_redone)
-      ]
+  opening_on (Err (Txn.Engine (Fail.Spent page))) its up = search rules
+  opening_on (Err (Txn.Engine fault)) its up = search rules
   opening_on (Err (Txn.Header line)) its up =
-      absurd
-      (its.opened.1.none (redo.in_force setup shape old old 0 holds begun)
+      absurd (its.opened.1.none (redo.in_force setup shape old old 0 holds begun)
       (redo.header_read setup shape old old 0 holds begun (now its.opened.0) line its.opened.1.was_read))
 
 pub opening_keeps : (setup : Setup) (engine : EngineState) (old : Parts) (now : EngineState → Parts) (answer : Result (Store × Opened) TxnFault)

@@ -1,6 +1,7 @@
 -- A new session: formatting, and the opening of zero lines.
+use Rattle.std.proofs.lemmas.Grind.{common_steps}
 use Rattle.std.proofs.Common.{ℕ, ◌≡◌, ◌<◌, ◌+◌, inl, inr, List, [], replicate, Some, None, Result, Ok, Err, refl, sym, ap, subst, subst₂, ◌∙◌, arith, rules}
-use Rattle.txn_session.proofs.Common.{⊤, true≢false, get_or-replicate, Line, LineSession, Mark, line_at, zero_line, Shape, device_of, Setup, plain_memory, Fault, EngineState, IsSound, Parts, parts_of, HasReadLine, Store, Opened, TxnFault, IsHeader, IsLogged, AreEdited, redoing_edits, HasStoreOpened, HasStoreStarted, HasTargetsRedone, IsOpenedBy, IsStoreOpening, logged_lines, one_header, zero_logged, logged_size, IsNewTxn, targets_in_force, txn_left, IsTxnWorld, IsOpenBy, HoldsLogged, StoreSession, Formulas, setup_in, txn_of, stuck_in, on_chip, TxnStore, txn_store}
+use Rattle.txn_session.proofs.Common.{true≢false, get_or-replicate, Line, LineSession, Mark, line_at, zero_line, Shape, device_of, Setup, plain_memory, Fault, EngineState, IsSound, Parts, parts_of, HasReadLine, Store, Opened, TxnFault, IsHeader, IsLogged, AreEdited, HasStoreOpened, HasStoreStarted, HasTargetsRedone, IsOpenedBy, IsStoreOpening, logged_lines, one_header, zero_logged, logged_size, IsNewTxn, targets_in_force, txn_left, IsTxnWorld, IsOpenBy, HoldsLogged, StoreSession, Formulas, setup_in, txn_of, stuck_in, on_chip, TxnStore, txn_store}
 use Rattle.pmem_base.specs.Layout as layout
 use Rattle.line_session.proofs.NewSessions.{zero_places, marks_stay, new_session}
 use Rattle.line_session.specs.State.{IsNewSession}
@@ -19,13 +20,10 @@ pub record NewTxnCall : Type 0 where
 -- zero lines are those of a store
 zeros_logged : (setup : Setup) (lines : List Line) → lines ≡ replicate (layout.data_lines setup.shape) zero_line
     → IsLogged (logged_lines setup.shape) lines [] (replicate (logged_lines setup.shape) zero_line)
-zeros_logged setup lines zeros =
-    subst (λ l. IsLogged (logged_lines setup.shape) l [] (replicate (logged_lines setup.shape) zero_line))
-    (ap (λ k. replicate k zero_line) (logged_size setup.shape) ∙ sym zeros) (zero_logged (logged_lines setup.shape))
+zeros_logged setup lines zeros = grind (arith, common_steps, logged_size, zero_logged)
 
 pub holds_zeros : (setup : Setup) → HoldsZeros HoldsLogged setup
-holds_zeros setup shape marks zeros =
-    logged_is setup shape (plain_memory setup marks) (replicate (logged_lines setup.shape) zero_line) [] (zeros_logged setup (plain_memory setup marks) zeros)
+holds_zeros setup shape marks zeros = search (rules, logged_is, plain_memory, zeros_logged)
 
 module _ (c : NewTxnCall) where
   abbrev g : Shape
@@ -61,8 +59,7 @@ module _ (c : NewTxnCall) where
       let plain = (it.answered sound.trusted).0 in
       let zero = c.it.formatted.plain n header_inside in
       let same : line ≡ zero_line = let both : Some line ≡ Some zero_line = sym plain ∙ zero in search (rules, both) in
-      let here : line_at (plain_memory c.setup c.it.ledger.marks) n ≡ zero_line =
-      ap (λ l. line_at l n) places ∙ get_or-replicate (layout.data_lines g) n zero_line zero_line header_inside in
+      let here : line_at _ n ≡ zero_line = ap (λ l. line_at l n) places ∙ get_or-replicate _ n zero_line zero_line header_inside in
       subst (λ l. IsHeader n l []) (here ∙ sym same) begun.header
 
   no_targets : (new : Parts) (line : Line) (found : List ℕ) → HasReadLine c.setup n from new (Ok line) → IsHeader n line found → found ≡ []
@@ -80,8 +77,7 @@ module _ (c : NewTxnCall) where
       → IsReadAlone found new redone
   read_alone found new redone it =
       let none = no_targets it.between it.line found it.was_read it.header in
-      let nothing : AreEdited c.setup [] it.between new redone =
-      subst (λ ts. AreEdited c.setup (redoing_edits n ts) it.between new redone) none it.was_redone in
+      let nothing : AreEdited c.setup [] it.between new redone = search (rules, AreEdited) in
       record {
         line = it.line;
         was_read = subst (λ q. HasReadLine c.setup n from q (Ok it.line)) (sym nothing.1) it.was_read;
@@ -145,11 +141,7 @@ module _ (c : NewTxnCall) where
       )
 
   fault_none : (fault : Fault) → (let done : Result (Unit {0}) Fault = Ok tt in Err fault ≡ done) → ⊥
-  fault_none fault e = subst IsFault e tt
-    where
-      IsFault : Result (Unit {0}) Fault → Type 0
-      IsFault (Ok done) = ⊥
-      IsFault (Err fault) = ⊤
+  fault_none fault e = search rules
 
   pub new_outcome : IsStored c.answer
   new_outcome = go c.answer (c.it.opened.did (ap (λ (e : EngineState). e.down) c.it.formatted.engine_new)).opened

@@ -1,5 +1,5 @@
 -- Power comes on in the session: what is held after recovery, the opening and its redo, and what is answered.
-use Rattle.std.proofs.Common.{ℕ, ◌≡◌, ◌<◌, ◌≤◌, ◌+◌, ◌⊎◌, inl, inr, true, false, cond, List, [], length, take, Option, Some, None, Result, Ok, Err, refl, sym, ap, ap₂, subst, ◌∙◌, arith}
+use Rattle.std.proofs.Common.{ℕ, ◌≡◌, ◌<◌, ◌≤◌, ◌+◌, ◌⊎◌, inl, inr, true, false, cond, List, [], length, take, Option, Some, None, Result, Ok, Err, refl, sym, ap, ap₂, subst, ◌∙◌, arith, rules}
 use Rattle.txn_session.proofs.Common.{option_map, open_call, MatchOption, le-ltb, true≢false, append-nil, Line, Twin, Posted, Device, LedgerState, Setup, recovery_bound, Fault, EngineState, Parts, parts_of, AreSound, HasReadLine, TakesAtMost, TakesFewer, Store, Opened, TxnFault, redoing_edits, HasStoreStarted, HasFailedRedo, HasTargetsRedone, IsOpenedBy, Writing, read_steps, sound_recovered, fewer_within, at_most, fewer, memory_done, read_cut, TxnAnswer, Regs, Chip, chip_of, OpeningStop, opened_of, FollowsOpening, IsOpenedAs, LineSession, started_as, HasOpenedStore, IsStoreOpening, IsTxnCalled, Said, open_said, opened_said, serving_said, TxnState, IsTxnWorld, stuck_in, IsTxnAnswered, IsTxnShownBy, GoesToTxnState, HasTxnOpened, after_redo, IsCutAt, EndsAt, refused_from, turned_off, HasTurned, IsCutInRecovery, HasShownTwin, setup_in, chip_in, on_chip, TxnStore, txn_store}
 use Rattle.pmem_engine.specs.declared.fault.Fault.TheVariants as Fail
 use Rattle.pmem_recovery.specs.declared.faults.RecFault.TheVariants as Rec
@@ -56,8 +56,7 @@ module _ (c : OnTxnCall) where
   -- no engine is there
   no_engine : (dropped : EngineState) → c.new.store ≡ None → c.new.state.board.powered ≡ false
       → c.new.state.engine ≡ cond c.new.state.board.powered (Some (on_chip dropped)) None
-  no_engine dropped gone dark =
-      c.left.its_engine ∙ ap (option_map (λ (s : TxnStore). on_chip s.inner.engine)) gone ∙ sym (ap (λ b. cond b (Some (on_chip dropped)) None) dark)
+  no_engine dropped gone dark = search (rules, option_map)
 
   -- ---- the header was read, and its transaction redone, or power was cut
 
@@ -102,8 +101,7 @@ module _ (c : OnTxnCall) where
     lit_call : (store : Store) (opened : Opened) (said : TxnAnswer) → Along store opened → c.new.store ≡ Some (txn_store store) → c.new.state.board.powered ≡ true
         → said ≡ opened_said opened.redone c.steps store.stuck → IsTxnCalled setup old Do.On said new
     lit_call store opened_so said along there lit is =
-        state.called c said (started_as along.opening.end)
-        (state.opened_along c opened it along.opening.end store.engine
+        state.called c said (started_as along.opening.end) (state.opened_along c opened it along.opening.end store.engine
         (c.left.its_engine ∙ ap (option_map (λ (s : TxnStore). on_chip s.inner.engine)) there ∙ sym (ap (λ b. cond b (Some (on_chip store.engine)) None) lit))
         (λ dark. absurd (true≢false (sym lit ∙ dark))) along.opening.follows)
         (ap₂ (λ (a : TxnAnswer) (s : Option ℕ). (let last : Said = (a, (s, None)) in last)) is
@@ -123,8 +121,7 @@ module _ (c : OnTxnCall) where
 
     opened_exit : (store : Store) (opened : Opened) → c.new.store ≡ Some (txn_store store) → HasStoreStarted setup middle (parts_to store.engine) store opened
         → Along store opened → Opens opened
-    opened_exit store opened_so there its along =
-        go its.redone its.its_end (redo_ends its.targets (parts_to store.engine) its.redone its.was_redone)
+    opened_exit store opened_so there its along = go its.redone its.its_end (redo_ends its.targets (parts_to store.engine) its.redone its.was_redone)
       where
         same : its.targets ≡ targets
         same = redo.found_targets setup c.world.whole_shape first middle bound c.held.logged (state.recovered_to c opened it) its.was_redone.between its.was_redone.line its.targets its.was_redone.was_read its.was_redone.header
@@ -136,10 +133,8 @@ module _ (c : OnTxnCall) where
             let come : state.HasTxnCome c writing =
             state.come_to c writing gone.done.marks (memory_done setup first (parts_to store.engine) (take writing.done queue) gone.made most gone.done) in
             let stuck : store.stuck ≡ old.stuck = by.1 ∙ sym (ap stuck_in c.there) in
-            subst (λ o. MatchOption o (OpenExit (Say.Opened opened_so.redone c.steps))
-            (λ page. OpenExit (Say.Stuck page c.steps))) (sym by.2)
-            (exit_of (Say.Opened opened_so.redone c.steps)
-            (state.lit_world c writing come store there (by.0 ∙ sym (none_redone n targets)))
+            subst (λ o. MatchOption o (OpenExit (Say.Opened opened_so.redone c.steps)) (λ page. OpenExit (Say.Stuck page c.steps))) (sym by.2)
+            (exit_of (Say.Opened opened_so.redone c.steps) (state.lit_world c writing come store there (by.0 ∙ sym (none_redone n targets)))
             (let said : HasTxnOpened setup old (Say.Opened opened_so.redone c.steps) new =
             record {
               writing = writing;
@@ -158,10 +153,8 @@ module _ (c : OnTxnCall) where
             state.come_to c writing spent.done.marks (memory_done setup first (parts_to store.engine) (take spent.count queue) spent.made most spent.done) in
             let high = spent.high in
             let before : spent.count ≤ length targets = let all = few_redone n targets in omega (arith, high, all) in
-            subst (λ o. MatchOption o (OpenExit (Say.Opened opened_so.redone c.steps))
-            (λ page. OpenExit (Say.Stuck page c.steps))) (sym by.2)
-            (exit_of (Say.Stuck page c.steps)
-            (state.lit_world c writing come store there
+            subst (λ o. MatchOption o (OpenExit (Say.Opened opened_so.redone c.steps)) (λ page. OpenExit (Say.Stuck page c.steps))) (sym by.2)
+            (exit_of (Say.Stuck page c.steps) (state.lit_world c writing come store there
             (by.0 ∙ same ∙ sym (ap (λ b. cond b [] targets) (le-ltb (length targets) spent.count before))))
             (let said : HasTxnOpened setup old (Say.Stuck page c.steps) new =
             record {
@@ -171,15 +164,13 @@ module _ (c : OnTxnCall) where
                   subst (λ s. GoesToTxnState (record (after_redo old writing) { stuck = s }) c.steps most new) by.1
                   (state.goes c writing come store there spent.done.live spent.done.loss (at_most_taken spent.done.takes));
             } in said)
-            (lit_call store opened_so (Say.Stuck page c.steps) along there spent.done.live
-            (sym (ap (opened_said opened_so.redone c.steps) by.1))))
+            (lit_call store opened_so (Say.Stuck page c.steps) along there spent.done.live (sym (ap (opened_said opened_so.redone c.steps) by.1))))
         go (Err fault) by ends = absurd by
 
     -- power was cut in the redo
     redo_cut_exit : (dropped : EngineState) → c.new.store ≡ None → HasFailedRedo setup middle (parts_to dropped) Fail.Cut → CutAlong → OpenExit (Say.Cut c.steps)
     redo_cut_exit dropped gone redone along =
-        let end : IsCutAt setup first queue 0 (length (redoing_edits n targets)) most (parts_to dropped) =
-        redo_ends redone.targets (parts_to dropped) (Err Fail.Cut) redone.was_redone in
+        let end : IsCutAt setup first queue 0 (length (redoing_edits n targets)) most (parts_to dropped) = search (rules, redo_ends) in
         let come : state.HasTxnCome c end.writing = state.come_to c end.writing end.cut.marks end.cut.memory in
         let few = fewer_taken end.cut.takes in
         exit_of (Say.Cut c.steps) (state.dark_world c end.writing come gone)
@@ -199,8 +190,7 @@ module _ (c : OnTxnCall) where
     did = it.opened.did (ap (λ (e : EngineState). e.down) it.recovered.engine)
 
     sound : AreSound setup middle
-    sound =
-        sound_recovered setup c.old.state.ledger (state.lit c) it.between _ it.suite_between it.engine it.work it.recovered (state.off c).durable
+    sound = sound_recovered setup c.old.state.ledger (state.lit c) it.between _ it.suite_between it.engine it.work it.recovered (state.off c).durable
 
   pub on_exit : (store : Store) (opened : Opened) → c.new.store ≡ Some (txn_store store)
       → (it : HasTurned setup (λ engine start now. IsStoreOpening setup engine start now) c.steps (Ok (store, opened)) c.old.state c.new.state)
@@ -216,8 +206,7 @@ module _ (c : OnTxnCall) where
         | inl read ↦ read_cut_exit (Err (Txn.Engine Fail.Cut)) it its.opened.0 gone read its.plan
         | inr redo ↦ redo_cut_exit (Err (Txn.Engine Fail.Cut)) it its.opened.0 gone redo its.plan
       ]
-  unopened (Txn.Engine (Fail.Spent page)) gone it =
-      elim (did (Err (Txn.Engine (Fail.Spent page))) it).opened.1 [ inl read ↦ absurd read.possible | inr redo ↦ absurd redo.unspent ]
+  unopened (Txn.Engine (Fail.Spent page)) gone it = elim (did _ it).opened.1 [ inl read ↦ absurd read.possible | inr redo ↦ absurd redo.unspent ]
   unopened (Txn.Engine fault) gone it =
       let its = did (Err (Txn.Engine fault)) it in
       elim its.opened.1 [
@@ -225,12 +214,7 @@ module _ (c : OnTxnCall) where
         | inr redone ↦
             absurd (redo_ends (Err (Txn.Engine fault)) it redone.targets (parts_to (Err (Txn.Engine fault)) it its.opened.0) (Err fault) redone.was_redone)
       ]
-  unopened (Txn.Header line) gone it =
-      let its = did (Err (Txn.Header line)) it in
-      absurd
-      (its.opened.1.none targets
-      (redo.header_read setup c.world.whole_shape (first (Err (Txn.Header line)) it) (middle (Err (Txn.Header line)) it) (recovery_bound setup.shape)
-      c.held.logged (state.recovered_to c (Err (Txn.Header line)) it) (parts_to (Err (Txn.Header line)) it its.opened.0) line its.opened.1.was_read))
+  unopened (Txn.Header line) gone it = search (rules, did, recovery_bound)
 
   pub cut_exit : c.new.store ≡ None
       → IsCutInRecovery setup c.steps c.old.state c.new.state

@@ -1,5 +1,5 @@
 -- A read of a data line: it shows memory's line, or power is cut.
-use Rattle.std.proofs.Common.{ℕ, ◌≡◌, ◌<◌, ◌≤◌, true, false, cond, List, [], Option, Some, None, Result, Ok, Err, refl, sym, ap, ap₂, subst, ◌∙◌, arith}
+use Rattle.std.proofs.Common.{ℕ, ◌≡◌, ◌<◌, ◌≤◌, true, false, cond, List, [], Option, Some, None, Result, Ok, Err, refl, sym, ap, ap₂, subst, ◌∙◌, arith, rules}
 use Rattle.txn_session.proofs.Common.{unwrap_or, IfOk, true≢false, append-nil, Line, line_at, ended, Follows, Formulas, Setup, Memory, plain_memory, path_length, Fault, Parts, read_plan, going, cut_short, OneLossEffect, HasReadLine, HasLines, Store, IsLogged, logged_lines, step_limit, device_during, none_taken, at_most, fewer, whole_places, TxnAnswer, Said, read_call, read_said, TxnState, Entries, entry_in, targets_in_force, IsTxnWorld, stuck_in, txn_of, txn_decided, IsTxnAnswered, HasTxnRead, StoreSession, IsLineWorld, IsLineOn, line_on_in, setup_in, HasMade, parts_during, called_store, chip_in, on_chip, HasReadAt, HasReadServed, TxnStore, txn_store}
 use Rattle.pmem_engine.specs.declared.fault.Fault.TheVariants as Fail
 use Rattle.line_txn.specs.Serving.{served_from}
@@ -69,8 +69,7 @@ module _ (c : ReadTxnCall) where
   -- the line is that of memory
   shown : (line : Line) → c.answer ≡ Ok line → line ≡ line_at old.memory c.at
   shown line is =
-      subst (λ r. IfOk r (λ read. read ≡ line_at old.memory c.at)) is
-      (read.logged on.sound.trusted places old.memory lines_there logged_there)
+      subst (λ r. IfOk r (λ read. read ≡ line_at old.memory c.at)) is (read.logged on.sound.trusted places old.memory lines_there logged_there)
     where
       lines_there : HasLines setup places from
       lines_there =
@@ -90,12 +89,7 @@ module _ (c : ReadTxnCall) where
 
   follows : Follows (read_call setup old c.at c.old.state.board.regs (chip_in c.old.state (on_chip c.store.engine))) (device_during c.old.state.board none_taken)
       (device_during c.new.state.board c.made.taken) (ended c.answer (chip_in c.new.state (on_chip after.engine)))
-  follows =
-      subst (λ at. Follows (read_plan setup c.old.state.board.regs at (chip_in c.old.state (on_chip c.store.engine)))
-      (device_during c.old.state.board none_taken) (device_during c.new.state.board c.made.taken)
-      (ended c.answer (chip_in c.new.state (on_chip after.engine))))
-      (ap (λ n. served_from n c.store.logged.items c.at) n_is ∙ ap (λ ts. served_from (logged_lines setup.shape) ts c.at) its_log)
-      read.was_read.plan
+  follows = search (rules, Follows, read_plan, device_during, ended)
 
   -- what is answered, by what the call did
   seen_as : (txn : Option Entries) (said : TxnAnswer) → HasTxnRead old c.at said (left txn) → (c.new.state.board.powered ≡ false → c.steps < step_limit)
@@ -190,9 +184,7 @@ module _ (c : ReadTxnCall) where
     cut_seen : IsTxnAnswered setup old (Do.Read c.at) (Say.Cut c.steps) (left None)
     cut_seen =
         let levels = c.world.whole_shape.at_most_six_levels in
-        let below : c.steps < path_length setup.shape =
-        subst (λ k. k < path_length setup.shape) (sym c.made.its_steps)
-        (fewer c.made.taken (path_length setup.shape) c.made.watched.follows.few (cut.steps_of_path.1 on.powered).sum) in
+        let below : c.steps < path_length setup.shape = search (rules, fewer, path_length) in
         seen_as None (Say.Cut c.steps) (
           record {
             memory = same_memory setup c.old.state.ledger.marks c.new.state.ledger.marks marks_off;

@@ -1,5 +1,5 @@
 -- How far a redo came, from any sound lines on: how many of its engine writes are done.
-use Rattle.std.proofs.Common.{ℕ, ◌≡◌, ◌<◌, ◌≤◌, ◌+◌, List, [], length, Result, Ok, sym, ap, subst, ◌∙◌, arith}
+use Rattle.std.proofs.Common.{ℕ, ◌≡◌, ◌<◌, ◌≤◌, ◌+◌, List, [], length, Result, Ok, sym, ap, subst, ◌∙◌, arith, rules}
 use Rattle.txn_session.proofs.Common.{append-nil, Line, line_at, Mark, Posted, IsShape, Setup, Memory, plain_memory, Fault, Parts, HasReadLine, AreTargets, IsHeader, AreEdited, redoing_edits, HasTargetsRedone, logged_lines, one_header, logged_size, redoing_fit, read_steps, memory_now, AreDone, memory_done, read_line, read_done, redo_writes, targets_in_force, all_posted, cost, EndsAt, edits_go, most_of_redo, HoldsLogged}
 use Rattle.pmem_base.specs.Layout as layout
 use Rattle.txn_session.proofs.Worlds.{few_lines}
@@ -20,10 +20,7 @@ module _ (setup : Setup) (shape : IsShape setup.shape) (marks : List Mark) (hold
   its_targets = holds.header.its_targets
 
   pub long : n + 1 + length targets ≤ length places
-  long =
-      let few = its_targets.few in
-      let size = holds.size in
-      omega (arith, few, size)
+  long = search rules
 
   pub header_inside : n < layout.data_lines setup.shape
   header_inside = let its = logged_size setup.shape in omega (arith, its)

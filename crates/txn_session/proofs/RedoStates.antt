@@ -1,6 +1,6 @@
 -- Power comes on in the session: the state once so many writes of the redo are done.
-use Rattle.std.proofs.Common.{ℕ, ◌≡◌, ◌<◌, ◌≤◌, ◌+◌, ◌^◌, ◌++◌, true, false, cond, List, [], length, take, Some, None, Result, refl, sym, ap, subst, ◌∙◌, arith}
-use Rattle.txn_session.proofs.Common.{option_map, nat_lt, le-ltb, append-nil, Mark, Posted, Device, BoardMemory, Setup, Memory, plain_memory, Moment, moment_after_writes, recovery_bound, EngineState, Parts, parts_of, Store, Opened, TxnFault, AreTargets, IsLogged, lines_opened, targets_opened, redoing_edits, logged_lines, kept_by_opening, logged_size, redoing_fit, step_limit, device_during, none_taken, Writing, IsCutAmong, recovered, whole_places, AreDone, Regs, ended, Follows, chip_of, OpeningStop, open_plan, StartFault, TxnAnswer, IsTxnCalled, Said, open_call, open_said, started_as, IsStoreOpening, TxnState, moment_in, redo_writes, targets_in_force, redone_memory, IsTxnWorld, stuck_in, txn_of, GoesToTxnState, HasTxnOpened, after_redo, txn_most_of_on, few_data, edits_memory, IsLineOff, IsLineBy, setup_in, chip_in, on_chip, HasStarted, HasTurned, turned_on, TxnStore, txn_store}
+use Rattle.std.proofs.Common.{ℕ, ◌≡◌, ◌<◌, ◌≤◌, ◌+◌, ◌^◌, ◌++◌, true, false, cond, List, [], length, take, Some, None, Result, refl, sym, ap, subst, ◌∙◌, arith, rules}
+use Rattle.txn_session.proofs.Common.{Mark, option_map, nat_lt, le-ltb, append-nil, Posted, Device, BoardMemory, Setup, Memory, plain_memory, Moment, moment_after_writes, recovery_bound, EngineState, Parts, parts_of, Store, Opened, TxnFault, AreTargets, IsLogged, lines_opened, targets_opened, redoing_edits, logged_lines, kept_by_opening, logged_size, redoing_fit, step_limit, device_during, none_taken, Writing, IsCutAmong, recovered, whole_places, AreDone, Regs, ended, Follows, chip_of, OpeningStop, open_plan, StartFault, TxnAnswer, IsTxnCalled, Said, open_call, open_said, started_as, IsStoreOpening, TxnState, moment_in, redo_writes, targets_in_force, redone_memory, IsTxnWorld, stuck_in, txn_of, GoesToTxnState, HasTxnOpened, after_redo, txn_most_of_on, few_data, edits_memory, IsLineOff, IsLineBy, setup_in, chip_in, on_chip, HasStarted, HasTurned, turned_on, TxnStore, txn_store}
 use Rattle.pmem_base.specs.Layout as layout
 use Rattle.txn_session.specs.declared.commands.TxnCommand.TheVariants as Do
 use Rattle.txn_session.specs.declared.answers.TxnAnswer.TheVariants as Say
@@ -69,8 +69,7 @@ module _ (c : OnTxnCall) where
   called said end along is = (record { steps = c.steps; end = end; called = along; is_said = is }, refl)
 
   pub few_steps : c.steps < most → c.steps < step_limit
-  few_steps below =
-      let small = few_of_on setup.shape c.world.whole_shape (length targets) c.held.logged.header.its_targets.few in omega (arith, small, below)
+  few_steps below = search (rules, few_of_on)
 
   abbrev its_targets : AreTargets n targets
   its_targets = c.held.logged.header.its_targets
@@ -101,13 +100,9 @@ module _ (c : OnTxnCall) where
   still_come marks =
       record {
         marks = marks ∙ sym (append-nil c.old.state.ledger.marks);
-        logged =
-            subst (λ (m : List Mark). IsLogged n (plain_memory setup m) (targets_in_force setup (plain_memory setup m))
-            (redone_memory setup (plain_memory setup m))) (sym marks) c.held.logged;
+        logged = search (rules, plain_memory);
         its_memory = ap (λ (m : List Mark). redone_memory setup (plain_memory setup m)) marks;
-        in_force =
-            ap (λ (m : List Mark). targets_in_force setup (plain_memory setup m)) marks
-            ∙ sym (ap (λ b. cond b [] targets) (le-ltb (length targets) 0 (omega arith)));
+        in_force = search (rules, plain_memory, le-ltb);
       }
 
   -- where these are done
@@ -152,40 +147,13 @@ module _ (c : OnTxnCall) where
     -- power was cut
     pub cut_seen : IsCutAmong setup.formulas start queue writing → c.new.store ≡ None → c.new.state.board.powered ≡ false
         → c.new.state.board.regs.loss ≡ c.old.state.board.regs.loss → c.steps < most → HasTxnOpened setup old (Say.Cut c.steps) new
-    cut_seen came gone dark loss few =
-        record {
-          writing = writing;
-          came = came;
-          ends = (
-            record {
-              memory = come.its_memory;
-              in_force = come.in_force;
-              stuck = ap stuck_in gone;
-              txn = refl;
-              power = dark;
-              loss = loss;
-              marks = come.marks;
-            },
-            few,
-          );
-        }
+    cut_seen came gone dark loss few = search rules
 
     -- power is on, and the store is stuck at this page, or isn't
     pub goes : (store : Store) → c.new.store ≡ Some (txn_store store) → c.new.state.board.powered ≡ true
         → c.new.state.board.regs.loss ≡ c.old.state.board.regs.loss → c.steps ≤ most
         → GoesToTxnState (record (after_redo old writing) { stuck = store.stuck }) c.steps most new
-    goes store there powered loss few = (
-      record {
-        memory = come.its_memory;
-        in_force = come.in_force;
-        stuck = ap stuck_in there;
-        txn = sym no_txn;
-        power = powered;
-        loss = loss;
-        marks = come.marks;
-      },
-      few,
-    )
+    goes store there powered loss few = search rules
 
     pub lit_world : (store : Store) → c.new.store ≡ Some (txn_store store) → store.logged.items ≡ cond (nat_lt (length targets) writing.done) [] targets
         → IsTxnWorld (setup_in c.formulas_of c.new.state) c.new None
@@ -211,8 +179,7 @@ module _ (c : OnTxnCall) where
         (ended answer (chip_in c.new.state (on_chip now)))
         → IsStartedBy (started_as answer)
     opened_along answer now kept within opens =
-        turned_on setup (λ engine start now. IsStoreOpening setup engine start now) (open_call setup) c.steps opened answer c.old.state c.new.state
-        (on_chip now) was_off kept it within opens
+        turned_on setup (λ engine start now. IsStoreOpening setup engine start now) _ c.steps opened answer _ _ _ was_off kept it within opens
 
     pub recovered_to : AreDone setup parts_from [] [] (recovery_bound setup.shape) parts_between
     recovered_to =

@@ -1,7 +1,6 @@
 -- What a session holds of its store, before and after a call.
-use Rattle.std.proofs.Common.{ℕ, ◌≡◌, ◌<◌, ◌^◌, List, Option, Some, None, refl, sym, ap, subst, subst₂, ◌∙◌, arith}
-use Rattle.txn_session.proofs.Common.{IfSome, line_at, Formulas, IsShape, Shape, Setup, Mark, Memory, plain_memory, EngineState, Store, AreTargets, IsLogged, memory_in, targets_of, logged_lines, targets_of_header, logged_size, few_data, Entries, targets_in_force, redone_memory, IsTxnWorld, IsOpenBy, HoldsLogged, StoreSession, IsLineWorld, line_on_in, setup_in, same_setup, TxnStore, txn_store}
-use Rattle.pmem_base.specs.Layout as layout
+use Rattle.std.proofs.Common.{ℕ, ◌≡◌, ◌<◌, ◌^◌, List, Option, Some, None, sym, ap, subst, subst₂, ◌∙◌, arith, rules}
+use Rattle.txn_session.proofs.Common.{IfSome, line_at, Formulas, IsShape, Shape, Setup, Mark, Memory, plain_memory, EngineState, Store, AreTargets, IsLogged, memory_in, targets_of, logged_lines, targets_of_header, logged_size, few_data, Entries, targets_in_force, redone_memory, IsTxnWorld, HoldsLogged, StoreSession, IsLineWorld, line_on_in, setup_in, same_setup, TxnStore, txn_store}
 
 abbrev pub engine_of : TxnStore → EngineState
 engine_of store = store.inner.engine
@@ -15,9 +14,7 @@ few_lines g shape = let few = few_data g shape in let size = logged_size g in om
 module _ (setup : Setup) (shape : IsShape setup.shape) (lines memory : Memory) (targets : List ℕ)
     (it : IsLogged (logged_lines setup.shape) lines targets memory) where
   pub targets_held : targets_in_force setup lines ≡ targets
-  targets_held =
-      targets_of_header (logged_lines setup.shape) (line_at lines (logged_lines setup.shape)) targets
-      (let few = few_lines setup.shape shape in omega (arith, few)) it.header
+  targets_held = search (rules, targets_of_header, line_at, few_lines)
 
   pub memory_held : redone_memory setup lines ≡ memory
   memory_held = ap (λ ts. memory_in (logged_lines setup.shape) ts lines) targets_held ∙ it.its_memory
@@ -36,32 +33,19 @@ module _ (setup : Setup) (session : StoreSession TxnStore) (store : Store) (ther
   -- with power on, what is held of the store
   pub open_as : (txn : Option Entries) → IsTxnWorld setup session txn
       → (store.logged.items ≡ targets_in_force setup (plain_memory setup session.state.ledger.marks)) × IsOpenTxn setup store.stuck txn
-  open_as txn held =
-      subst (λ s. IsOpenBy setup (targets_in_force setup (plain_memory setup session.state.ledger.marks)) s txn) there held.its_txn
+  open_as txn held = search (rules, plain_memory)
 
   -- there are as many lines as the geometry says
   pub lines_are : IsLineWorld engine_of setup session → store.lines ≡ logged_lines setup.shape
-  lines_are world =
-      let size = store.its_lines in
-      let all = logged_size setup.shape in
-      let same : layout.data_lines store.engine.shape ≡ layout.data_lines setup.shape =
-      ap layout.data_lines (line_on_in engine_of setup session (txn_store store) world there).its_shape in
-      omega (arith, size, same, all)
+  lines_are world = search (rules, logged_size, line_on_in)
 
   -- another transaction is open
   pub put_world : (txn later : Option Entries) → IsTxnWorld setup session txn → IsOpenTxn setup store.stuck later → IsTxnWorld setup session later
-  put_world txn later held its_txn =
-      record {
-        logged = held.logged;
-        its_txn =
-            subst (λ s. IsOpenBy setup (targets_in_force setup (plain_memory setup session.state.ledger.marks)) s later) (sym there)
-            ((open_as txn held).0, its_txn);
-      }
+  put_world txn later held its_txn = search (rules, plain_memory, open_as)
 
 -- without power none is open
 pub none_open : (setup : Setup) (session : StoreSession TxnStore) (txn : Option Entries) → session.store ≡ None → IsTxnWorld setup session txn → txn ≡ None
-none_open setup session txn none held =
-    subst (λ s. IsOpenBy setup (targets_in_force setup (plain_memory setup session.state.ledger.marks)) s txn) none held.its_txn
+none_open setup session txn none held = search (rules, plain_memory)
 
 module _ (setup : Setup) (marks made : List Mark) (same : made ≡ marks) where
   -- where no mark is made
@@ -85,12 +69,8 @@ module _ (formulas_of : List ℕ → Formulas) (old new : StoreSession TxnStore)
   -- after a call with power on
   pub on_after : (after : Store) (txn : Option Entries) → new.store ≡ Some (txn_store after) → after.logged.items ≡ targets_now → IsOpenTxn its_setup after.stuck txn
       → IsTxnWorld (setup_in formulas_of new.state) new txn
-  on_after after txn is log its_txn =
-      subst (λ s. IsTxnWorld s new txn) (sym (same_setup formulas_of old.state new.state shape keys))
-      (record { logged = logged; its_txn = subst (λ s. IsOpenBy its_setup targets_now s txn) (sym is) (log, its_txn) })
+  on_after after txn is log its_txn = search (rules, same_setup)
 
   -- with power off
   pub off_after : new.store ≡ None → IsTxnWorld (setup_in formulas_of new.state) new None
-  off_after is =
-      subst (λ s. IsTxnWorld s new None) (sym (same_setup formulas_of old.state new.state shape keys))
-      (record { logged = logged; its_txn = subst (λ s. IsOpenBy its_setup targets_now s None) (sym is) refl })
+  off_after is = search (rules, same_setup)
