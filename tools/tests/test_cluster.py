@@ -20,6 +20,8 @@ WEAK = words_of(QUICK)
 SWEEP = ("--sets", "1,2,4,8", "--loss", "1,2,4,16")
 
 
+# Whether an interpreter has both, which takes a second to load.
+FOUND = "import sys; from importlib.util import find_spec; sys.exit(not (find_spec('distributed') and find_spec('cloudpickle')))"
 # What a run with a cluster takes, which is loaded late.
 DASK = ("distributed.diagnostics.plugin", "cloudpickle")
 
@@ -28,8 +30,7 @@ DASK = ("distributed.diagnostics.plugin", "cloudpickle")
 def python_with_distributed() -> Optional[str]:
     """An interpreter that has dask.distributed."""
     for path in (sys.executable, "/usr/bin/python3"):
-        if shutil.which(path) and subprocess.run([path, "-c", "import distributed, cloudpickle"], stdout=subprocess.DEVNULL,
-                                                 stderr=subprocess.DEVNULL, check=False).returncode == 0:
+        if shutil.which(path) and subprocess.run([path, "-c", FOUND], check=False).returncode == 0:
             return path
     return None
 
