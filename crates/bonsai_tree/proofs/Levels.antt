@@ -1,5 +1,5 @@
 -- Positions and levels: children and parents are inverse, each level is an interval, and a parent is one level up.
-use Rattle.std.proofs.Common.{ℕ, zero, suc, ◌≡◌, ◌<◌, ◌≤◌, ◌+◌, ◌-◌, ◌*◌, ◌/◌, ◌^◌, cond, inl, inr, refl, sym, ap, subst, ◌∙◌, arith, add-one}
+use Rattle.std.proofs.Common.{ℕ, zero, suc, ◌≡◌, ◌<◌, ◌≤◌, ◌+◌, ◌-◌, ◌*◌, ◌/◌, ◌^◌, cond, inl, inr, refl, sym, ap, subst, ◌∙◌, arith, add-one, rules}
 use Rattle.std.proofs.Math.Nat.{pow-suc}
 use Rattle.std.specs.Prelude.{nat_le}
 use Rattle.std.proofs.lemmas.Bool.{cases_Bool, cases_lt, leb-true, leb-false}
@@ -36,10 +36,7 @@ level_start-next j = omega (arith, level_start-suc j, level_start-pow j)
 
 -- levels begin one after the other
 level_start-more : (j d : ℕ) → level_start j ≤ level_start (d + j)
-level_start-more j zero = subst (λ n. level_start j ≤ level_start n) (sym zero_plus) (omega arith)
-  where
-    zero_plus : 0 + j ≡ j
-    zero_plus = omega arith
+level_start-more j zero = search rules
 level_start-more j (suc d) =
     let up = level_start-more j d in
     let next = level_start-suc (d + j) in
@@ -64,30 +61,15 @@ IsAtLevel-place j i inside = record { from = omega arith; below = omega (arith, 
 
 -- the parent is one level up
 pub parent-IsAtLevel : (j x : ℕ) → IsAtLevel (suc j) x → IsAtLevel j (parent x)
-parent-IsAtLevel j x at =
-    let a = level_start-suc j in
-    let b = level_start-suc (suc j) in
-    record { from = omega (arith, at.from); below = omega (arith, at.below) }
+parent-IsAtLevel j x at = search (rules, level_start-suc)
 
 -- the children are one level down
 pub child-IsAtLevel : (j x i : ℕ) → IsAtLevel j x → i < 4 → IsAtLevel (suc j) (child_position x i)
-child-IsAtLevel j x i at small =
-    record {
-      from = omega (arith, at.from, level_start-suc j);
-      below = omega (arith, at.below, small, level_start-suc (suc j));
-    }
+child-IsAtLevel j x i at small = search (rules, level_start-suc)
 
 -- a position is at one level
 pub IsAtLevel-once : (i j x : ℕ) → IsAtLevel i x → IsAtLevel j x → i ≡ j
-IsAtLevel-once i j x one two =
-    elim (cases_lt i j) [
-      | inl less ↦ absurd (omega (arith, level_start-le (suc i) j (omega (arith, less)), one.below, two.from))
-      | inr le ↦
-          elim (cases_lt j i) [
-            | inl less ↦ absurd (omega (arith, level_start-le (suc j) i (omega (arith, less)), two.below, one.from))
-            | inr back ↦ omega (arith, le, back)
-          ]
-    ]
+IsAtLevel-once i j x one two = search (rules, cases_lt, level_start-le)
 
 -- a position at a level above is an inner one
 pub IsAtLevel-inner : (n j x : ℕ) → j < n → IsAtLevel j x → x < level_start n
@@ -111,8 +93,7 @@ pub meta_lines-level : (g : Shape) → meta_lines g ≡ level_start (suc g.level
 meta_lines-level g = ap (λ n. (4 ^ n - 1) / 3) (add-one g.levels)
 
 pub level_of-IsAtLevel : (g : Shape) (x : ℕ) → g.levels ≤ 6 → x < meta_lines g → IsAtLevel (level_of x) x
-level_of-IsAtLevel g x few inside =
-    level_up_to-is 6 x (omega (arith, level_start-le (suc g.levels) 7 (omega (arith, few)), meta_lines-level g, inside))
+level_of-IsAtLevel g x few inside = search (rules, level_up_to-is, level_start-le, meta_lines-level)
 
 -- the level of a position at level j, at most 6
 pub level_of-at : (j x : ℕ) → j ≤ 6 → IsAtLevel j x → level_of x ≡ j
@@ -122,12 +103,7 @@ level_of-at j x few at =
 
 -- a metadata line is at most on the last level
 pub level_of-le : (g : Shape) (x : ℕ) → g.levels ≤ 6 → x < meta_lines g → level_of x ≤ g.levels
-level_of-le g x few inside =
-    let at = level_of-IsAtLevel g x few inside in
-    elim (cases_lt g.levels (level_of x)) [
-      | inl deep ↦ absurd (omega (arith, level_start-le (suc g.levels) (level_of x) (omega (arith, deep)), meta_lines-level g, at.from, inside))
-      | inr fine ↦ fine
-    ]
+level_of-le g x few inside = search (rules, level_of-IsAtLevel, cases_lt, level_start-le, meta_lines-level)
 
 -- ---- counter blocks
 

@@ -1,5 +1,5 @@
 -- Nodes: a node is the digests of its four children, and depends on their lines alone.
-use Rattle.std.proofs.Common.{ℕ, zero, suc, ◌≡◌, ◌≢◌, ◌<◌, length, refl, sym, ap, ◌∙◌, arith}
+use Rattle.std.proofs.Common.{ℕ, zero, suc, ◌≡◌, ◌≢◌, ◌<◌, length, ap, arith, rules}
 use Rattle.pmem_base.specs.declared.lines.Line.{Line}
 use Rattle.suite.specs.Formulas.{Formulas}
 use Rattle.bonsai_tree.specs.Positions.{child_position}
@@ -13,8 +13,7 @@ digest-same f x i a b e = ap (f.digest_of (child_position x i)) e
 
 -- a node depends on the lines of its four children alone
 pub node_over-same : (f : Formulas) (x : ℕ) (a b : ℕ → Line) → ((i : ℕ) → i < 4 → a (child_position x i) ≡ b (child_position x i)) → node_over f x a ≡ node_over f x b
-node_over-same f x a b same =
-    four-same _ _ _ _ _ _ _ _ (digest-same f x 0 a b (same 0 (omega arith))) (digest-same f x 1 a b (same 1 (omega arith))) (digest-same f x 2 a b (same 2 (omega arith))) (digest-same f x 3 a b (same 3 (omega arith)))
+node_over-same f x a b same = search (rules, four-same, digest-same)
 
 -- each digest of the four children is 16 bytes
 abbrev pub AreSixteen : Formulas → ℕ → (ℕ → Line) → Type 0
@@ -22,34 +21,16 @@ AreSixteen f x a = (i : ℕ) → i < 4 → length (child_digest_over f x a i) �
 
 -- the node whose child in slot s has a new line
 pub child_replaced : (f : Formulas) (x s : ℕ) (a b : ℕ → Line) → s < 4 → AreSixteen f x a → AreSixteen f x b → ((i : ℕ) → i < 4 → i ≢ s → a (child_position x i) ≡ b (child_position x i)) → with_child_digest (node_over f x a) s (f.digest_of (child_position x s) (b (child_position x s))) ≡ node_over f x b
-child_replaced f x zero a b small la lb same =
-    let D = child_digest_over f x in
-    put_first (D a 0) (D a 1) (D a 2) (D a 3) (D b 0) (lb 0 (omega arith) ∙ sym (la 0 (omega arith)))
-    ∙ four-same _ _ _ _ _ _ _ _ refl (digest-same f x 1 a b (same 1 (omega arith) (omega arith))) (digest-same f x 2 a b (same 2 (omega arith) (omega arith))) (digest-same f x 3 a b (same 3 (omega arith) (omega arith)))
-child_replaced f x (suc zero) a b small la lb same =
-    let D = child_digest_over f x in
-    put_second (D a 0) (D a 1) (D a 2) (D a 3) (D b 1) (la 0 (omega arith)) (lb 1 (omega arith) ∙ sym (la 1 (omega arith)))
-    ∙ four-same _ _ _ _ _ _ _ _ (digest-same f x 0 a b (same 0 (omega arith) (omega arith))) refl (digest-same f x 2 a b (same 2 (omega arith) (omega arith))) (digest-same f x 3 a b (same 3 (omega arith) (omega arith)))
-child_replaced f x (suc (suc zero)) a b small la lb same =
-    let D = child_digest_over f x in
-    put_third (D a 0) (D a 1) (D a 2) (D a 3) (D b 2) (la 0 (omega arith)) (la 1 (omega arith)) (lb 2 (omega arith) ∙ sym (la 2 (omega arith)))
-    ∙ four-same _ _ _ _ _ _ _ _ (digest-same f x 0 a b (same 0 (omega arith) (omega arith))) (digest-same f x 1 a b (same 1 (omega arith) (omega arith))) refl (digest-same f x 3 a b (same 3 (omega arith) (omega arith)))
-child_replaced f x (suc (suc (suc zero))) a b small la lb same =
-    let D = child_digest_over f x in
-    put_fourth (D a 0) (D a 1) (D a 2) (D a 3) (D b 3) (la 0 (omega arith)) (la 1 (omega arith)) (la 2 (omega arith)) (lb 3 (omega arith) ∙ sym (la 3 (omega arith)))
-    ∙ four-same _ _ _ _ _ _ _ _ (digest-same f x 0 a b (same 0 (omega arith) (omega arith))) (digest-same f x 1 a b (same 1 (omega arith) (omega arith))) (digest-same f x 2 a b (same 2 (omega arith) (omega arith))) refl
+child_replaced f x zero a b small la lb same = search (rules, put_first, four-same, digest-same)
+child_replaced f x (suc zero) a b small la lb same = search (rules, put_second, four-same, digest-same)
+child_replaced f x (suc (suc zero)) a b small la lb same = search (rules, put_third, four-same, digest-same)
+child_replaced f x (suc (suc (suc zero))) a b small la lb same = search (rules, put_fourth, four-same, digest-same)
 child_replaced f x (suc (suc (suc (suc s)))) a b small la lb same = absurd (omega arith)
 
 -- the slots of a node are the digests of the children
 pub child_digest-node_over : (f : Formulas) (x i : ℕ) (line : ℕ → Line) → AreSixteen f x line → i < 4 → child_digest (node_over f x line) i ≡ child_digest_over f x line i
-child_digest-node_over f x zero line long small =
-    let D = child_digest_over f x line in first_of_four (D 0) (D 1) (D 2) (D 3) (long 0 (omega arith))
-child_digest-node_over f x (suc zero) line long small =
-    let D = child_digest_over f x line in second_of_four (D 0) (D 1) (D 2) (D 3) (long 0 (omega arith)) (long 1 (omega arith))
-child_digest-node_over f x (suc (suc zero)) line long small =
-    let D = child_digest_over f x line in
-    third_of_four (D 0) (D 1) (D 2) (D 3) (long 0 (omega arith)) (long 1 (omega arith)) (long 2 (omega arith))
-child_digest-node_over f x (suc (suc (suc zero))) line long small =
-    let D = child_digest_over f x line in
-    fourth_of_four (D 0) (D 1) (D 2) (D 3) (long 0 (omega arith)) (long 1 (omega arith)) (long 2 (omega arith)) (long 3 (omega arith))
+child_digest-node_over f x zero line long small = search (rules, first_of_four)
+child_digest-node_over f x (suc zero) line long small = search (rules, second_of_four)
+child_digest-node_over f x (suc (suc zero)) line long small = search (rules, third_of_four)
+child_digest-node_over f x (suc (suc (suc zero))) line long small = search (rules, fourth_of_four)
 child_digest-node_over f x (suc (suc (suc (suc i)))) line long small = absurd (omega (arith, small))

@@ -1,9 +1,10 @@
 -- Paths: one position a level from the top down to a page's counter block, and what two paths share.
+use Rattle.std.proofs.lemmas.Grind.{common_steps}
 use Rattle.std.proofs.Common.{rules}
-use Rattle.std.proofs.Common.{ℕ, zero, suc, ◌≡◌, ◌<◌, ◌≤◌, ◌+◌, ◌-◌, ◌*◌, ◌/◌, ◌%◌, ◌^◌, true, false, List, [], ◌∷◌, ◌++◌, length, inl, inr, refl, sym, ap, subst, ◌∙◌, arith, length-append, add-one, lit<}
+use Rattle.std.proofs.Common.{ℕ, zero, suc, ◌≡◌, ◌<◌, ◌≤◌, ◌+◌, ◌-◌, ◌*◌, ◌/◌, ◌%◌, ◌^◌, true, false, List, [], ◌∷◌, ◌++◌, length, inl, inr, refl, sym, ap, subst, ◌∙◌, arith, length-append, add-one}
 use Rattle.std.specs.Prelude.{◌==◌, All, slice_index}
 use Rattle.std.specs.List.{list_any}
-use Rattle.std.proofs.Math.Nat.{pow-suc, div-one, div-eq_of_lt, div-div-eq-div-mul}
+use Rattle.std.proofs.Math.Nat.{pow-suc, div-div-eq-div-mul}
 use Rattle.std.proofs.lemmas.Bool.{cases_eq, eqb-true, eq-eqb, or_cases, or_left, or_right, false≢true}
 use Rattle.std.proofs.lemmas.List.{get_or_at, get_or_append_left}
 use Rattle.std.proofs.lemmas.List.Folds.{list_any-append, list_any_at}
@@ -36,13 +37,10 @@ path_position-suc g page j above =
     omega (arith, quarter, level_start-suc j)
 
 pub path_position-parent : (g : Shape) (page j : ℕ) → j < g.levels → parent (path_position g page (suc j)) ≡ path_position g page j
-path_position-parent g page j above =
-    ap parent (path_position-suc g page j above)
-    ∙ parent-child (path_position g page j) (page / 4 ^ (g.levels - suc j) % 4) (omega arith)
+path_position-parent g page j above = search (rules, path_position-suc, parent-child)
 
 pub path_position-IsAtLevel : (g : Shape) (page j : ℕ) → page < pages g → j ≤ g.levels → IsAtLevel j (path_position g page j)
-path_position-IsAtLevel g page zero inside le =
-    subst (IsAtLevel 0) (sym (path_position-top g page inside)) (record { from = omega arith; below = lit< tt })
+path_position-IsAtLevel g page zero inside le = search (rules, IsAtLevel, path_position-top)
 path_position-IsAtLevel g page (suc j) inside le =
     let above = path_position-IsAtLevel g page j inside (omega (arith, le)) in
     let slot = page / 4 ^ (g.levels - suc j) % 4 in
@@ -60,13 +58,10 @@ length-path_down_to (suc j) x = length-append (path_down_to j (parent x)) (x ∷
 
 -- one more position at the end of a path
 pub path_down_to-suc : (g : Shape) (page j : ℕ) → j < g.levels → path_down_to (suc j) (path_position g page (suc j)) ≡ path_down_to j (path_position g page j) ++ path_position g page (suc j) ∷ []
-path_down_to-suc g page j above =
-    ap (λ x. path_down_to j x ++ path_position g page (suc j) ∷ []) (path_position-parent g page j above)
+path_down_to-suc g page j above = search (rules, path_position-parent)
 
 path_down_to-at : (g : Shape) (page j i : ℕ) → j ≤ g.levels → i ≤ j → slice_index (path_down_to j (path_position g page j)) i ≡ path_position g page i
-path_down_to-at g page zero i le within =
-    let top : i ≡ 0 = omega (arith, within) in
-    subst (λ n. slice_index (path_down_to 0 (path_position g page 0)) n ≡ path_position g page n) (sym top) refl
+path_down_to-at g page zero i le within = search rules
 path_down_to-at g page (suc j) i le within =
     let above : j < g.levels = omega (arith, le) in
     let front = path_down_to j (path_position g page j) in
@@ -98,14 +93,11 @@ path_of-block g page = path_of-at g page g.levels (omega arith) ∙ path_positio
 
 -- each position is the parent of the next
 pub path_of-parent : (g : Shape) (page j : ℕ) → j < g.levels → parent (slice_index (path_of g page) (suc j)) ≡ slice_index (path_of g page) j
-path_of-parent g page j above =
-    ap parent (path_of-at g page (suc j) (omega (arith, above)))
-    ∙ (path_position-parent g page j above ∙ sym (path_of-at g page j (omega (arith, above))))
+path_of-parent g page j above = search (rules, path_of-at, path_position-parent)
 
 -- one position a level
 pub path_of-IsAtLevel : (g : Shape) (page j : ℕ) → page < pages g → j ≤ g.levels → IsAtLevel j (slice_index (path_of g page) j)
-path_of-IsAtLevel g page j inside le =
-    subst (IsAtLevel j) (sym (path_of-at g page j le)) (path_position-IsAtLevel g page j inside le)
+path_of-IsAtLevel g page j inside le = search (rules, IsAtLevel, path_of-at, path_position-IsAtLevel)
 
 path_down_to-bounded : (j x : ℕ) → All (λ y. y ≤ x) (path_down_to j x)
 path_down_to-bounded zero x = All-cons (λ y. y ≤ x) x [] (omega arith) (All-nil (λ y. y ≤ x))
@@ -117,18 +109,12 @@ path_down_to-bounded (suc j) x =
 
 -- the positions of a page's path are metadata lines
 pub path_of-within : (g : Shape) (page : ℕ) → page < pages g → All (λ x. x < meta_lines g) (path_of g page)
-path_of-within g page inside =
-    All-weaker (λ y. y ≤ counter_position g page) (λ y. y < meta_lines g)
-    (λ y l. omega (arith, l, counter_position-lt g page inside)) (path_of g page)
-    (path_down_to-bounded g.levels (counter_position g page))
+path_of-within g page inside = grind (arith, common_steps, All-weaker, counter_position-lt, path_down_to-bounded)
 
 -- ---- a path built from the top down
 
 pub path_position-small : (g : Shape) (page j : ℕ) → page < pages g → g.levels ≤ 6 → j < g.levels → path_position g page j < 1365
-path_position-small g page j inside few above =
-    let at = path_position-IsAtLevel g page j inside (omega (arith, above)) in
-    let six : level_start 6 ≡ 1365 = refl in
-    omega (arith, at.below, level_start-le (suc j) 6 (omega (arith, few, above)), six)
+path_position-small g page j inside few above = search (rules, path_position-IsAtLevel, level_start-le)
 
 pub quarter-is : (levels j below : ℕ) → j < levels → below ≡ 4 ^ (levels - j) → below / 4 ≡ 4 ^ (levels - (j + 1))
 quarter-is levels j below above is =
@@ -161,10 +147,7 @@ path-done g page j path end built = search rules
 -- a path ends in its position
 pub path_down_to-last : (j x : ℕ) → list_any (λ z. z == x) (path_down_to j x) ≡ true
 path_down_to-last zero x = or_left (x == x) false (eq-eqb x x refl)
-path_down_to-last (suc j) x =
-    list_any-append (λ z. z == x) (path_down_to j (parent x)) (x ∷ [])
-    ∙ or_right (list_any (λ z. z == x) (path_down_to j (parent x))) (list_any (λ z. z == x) (x ∷ []))
-    (or_left (x == x) false (eq-eqb x x refl))
+path_down_to-last (suc j) x = search (rules, list_any-append, or_right, or_left, eq-eqb)
 
 -- the page's own counter block is on its path
 pub own_block_on_path : (g : Shape) (page : ℕ) → is_on_path g page (counter_position g page) ≡ true
@@ -177,11 +160,7 @@ path_position-on_path g page j le =
     (eq-eqb (slice_index (path_of g page) j) (path_position g page j) (path_of-at g page j le))
 
 on_path_down_to : (g : Shape) (page j x : ℕ) → j ≤ g.levels → list_any (λ z. z == x) (path_down_to j (path_position g page j)) ≡ true → (i : ℕ) × (i ≤ j) × (x ≡ path_position g page i)
-on_path_down_to g page zero x le on =
-    elim (or_cases (path_position g page 0 == x) false on) [
-      | inl same ↦ (0, omega arith, sym (eqb-true (path_position g page 0) x same))
-      | inr none ↦ absurd (false≢true none)
-    ]
+on_path_down_to g page zero x le on = search (rules, or_cases, eqb-true, false≢true)
 on_path_down_to g page (suc j) x le on =
     let here = path_position g page (suc j) in
     let front = path_down_to j (path_position g page j) in
@@ -200,9 +179,7 @@ on_path_down_to g page (suc j) x le on =
 
 -- what is on the path is the position of some level
 pub on_path-position : (g : Shape) (page x : ℕ) → is_on_path g page x ≡ true → (j : ℕ) × (j ≤ g.levels) × (x ≡ path_position g page j)
-on_path-position g page x on =
-    on_path_down_to g page g.levels x (omega arith)
-    (ap (λ y. list_any (λ z. z == x) (path_down_to g.levels y)) (path_position-block g page) ∙ on)
+on_path-position g page x on = search (rules, on_path_down_to, path_position-block)
 
 -- at level j that is the path's position there
 pub on_path-at : (g : Shape) (page j x : ℕ) → page < pages g → IsAtLevel j x → is_on_path g page x ≡ true → x ≡ path_position g page j

@@ -1,5 +1,5 @@
 -- A node's slots: what a digest put into one of them changes.
-use Rattle.std.proofs.Common.{ℕ, ◌≡◌, ◌≢◌, ◌<◌, ◌+◌, ◌*◌, List, [], ◌∷◌, ◌++◌, length, take, drop, get_or, refl, sym, ap, subst, inl, inr, ◌∙◌, arith, append_assoc, append-nil, length-append}
+use Rattle.std.proofs.Common.{ℕ, ◌≡◌, ◌≢◌, ◌<◌, ◌+◌, ◌*◌, List, [], ◌∷◌, ◌++◌, length, take, drop, get_or, refl, sym, ap, subst, ◌∙◌, arith, append_assoc, append-nil, length-append, rules}
 use Rattle.std.specs.List.{concat}
 use Rattle.std.proofs.lemmas.Bool.{cases_lt}
 use Rattle.std.proofs.lemmas.Grind.{take_at_read}
@@ -14,13 +14,7 @@ use Rattle.bonsai_tree.specs.Paths.{with_child_digest}
 -- ---- the digest of a slot
 
 pub child_digest-with_other : (node : Line) (slot other : ℕ) (digest : List ℕ) → length node.0 ≡ 64 → slot < 4 → length digest ≡ 16 → other ≢ slot → child_digest (with_child_digest node slot digest) other ≡ child_digest node other
-child_digest-with_other node slot other digest whole small long apart =
-    elim (cases_lt other slot) [
-      | inl before ↦
-          part-put_bytes_before node (16 * slot) digest (16 * other) (16 * other + 16) (omega (arith, whole, small)) (omega (arith, before))
-      | inr after ↦
-          part-put_bytes_behind node (16 * slot) digest (16 * other) (16 * other + 16) (omega (arith, whole, small)) (omega (arith, after, apart, long))
-    ]
+child_digest-with_other node slot other digest whole small long apart = search (rules, cases_lt, part-put_bytes_before, part-put_bytes_behind)
 
 -- ---- four digests
 
@@ -89,18 +83,4 @@ pub digests_copied : (digests : List (List ℕ)) (line new : List ℕ) (slot : �
     length new ≡ 64 → take (16 * slot) line ≡ concat (take slot digests) →
     new ≡ take (16 * slot) line ++ get_or digests slot [] ++ drop (16 * slot + 16) line →
     take (16 * (slot + 1)) new ≡ concat (take (slot + 1) digests)
-digests_copied digests line new slot count long small new-long before is-new =
-    let digest = get_or digests slot [] in
-    let digest-long : length digest ≡ 16 =
-    omega
-    (arith, ap length is-new, length-append (take (16 * slot) line ++ digest) (drop (16 * slot + 16) line), length-append (take (16 * slot) line) digest, length-take-le (16 * slot) line (omega (arith, long, small)), length-drop (16 * slot + 16) line, long, small, new-long) in
-    let front : length (take (16 * slot) line ++ digest) ≡ 16 * (slot + 1) =
-    omega (arith, length-append (take (16 * slot) line) digest, length-take-le (16 * slot) line (omega (arith, long, small)), digest-long) in
-    let more : take (slot + 1) digests ≡ take slot digests ++ digest ∷ [] =
-    (take_at_read digests slot [] (omega (arith, count, small))).1 in
-    ap (take (16 * (slot + 1))) is-new
-    ∙ (take_at (take (16 * slot) line ++ digest) (drop (16 * slot + 16) line) (16 * (slot + 1)) front
-    ∙ (ap (λ t. t ++ digest) before
-    ∙ sym (ap concat more
-    ∙ (concat-append (take slot digests) (digest ∷ [])
-    ∙ ap (λ t. concat (take slot digests) ++ t) (append-nil digest)))))
+digests_copied digests line new slot count long small new-long before is-new = search (rules, get_or, length-append, length-take-le, length-drop, take_at_read, take_at, concat-append, append-nil)

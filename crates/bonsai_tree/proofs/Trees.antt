@@ -1,6 +1,6 @@
 -- A tree with a path's new lines is a tree again.
 use Rattle.std.proofs.Common.{rules}
-use Rattle.std.proofs.Common.{ℕ, zero, suc, ◌≡◌, ◌≢◌, ◌<◌, ◌≤◌, ◌*◌, List, [], ◌∷◌, ◌++◌, length, refl, sym, ap, subst, inl, inr, ◌∙◌, arith, true, false, map, get_or}
+use Rattle.std.proofs.Common.{ℕ, zero, suc, ◌≡◌, ◌≢◌, ◌<◌, ◌≤◌, List, [], ◌∷◌, ◌++◌, length, refl, sym, ap, subst, inl, inr, ◌∙◌, arith, true, false, map, get_or}
 use Rattle.std.specs.List.{All}
 use Rattle.std.proofs.lemmas.List.{length-set, map-append}
 use Rattle.std.specs.List.{list_any}
@@ -34,9 +34,7 @@ IsHashTree-child g f lines x in_range tree whole below inside =
     ∙ ap (λ y. f.digest_of y (line_at lines y)) (child-of_parent x below)
 
 pub node_above-IsLine : (f : Formulas) → AreInRange f → (lines : List Line) → All IsLine lines → (x : ℕ) (line : Line) → IsLine line → IsLine (node_above f (line_at lines) x line)
-node_above-IsLine f in_range lines whole x line is_line =
-    let tag = in_range.digests x line is_line in
-    put_bytes-IsLine (line_at lines (parent x)) (16 * child_slot x) (f.digest_of x line) (IsLine-line_at lines (parent x) whole) tag.bytes (omega (arith, tag.long))
+node_above-IsLine f in_range lines whole x line is_line = search (rules, put_bytes-IsLine, IsLine-line_at)
 
 -- all lines with the path down to x made anew
 abbrev pub grown : Formulas → List Line → ℕ → ℕ → Line → List Line
@@ -107,14 +105,7 @@ grown_down f in_range j x line old new at room whole is_line nodes above =
 
 -- a new path from level j up
 pub grown-IsGrown : (f : Formulas) → AreInRange f → (lines : List Line) (j x : ℕ) (line : Line) → IsAtLevel j x → level_start (suc j) ≤ length lines → All IsLine lines → IsLine line → AreNodesAbove f j lines → IsGrown f j x line lines (grown f lines j x line)
-grown-IsGrown f in_range lines zero x line at room whole is_line nodes =
-    record {
-      count = length-set lines x line;
-      whole = All-set IsLine lines x line is_line whole;
-      here = line_at-set_same lines x line (omega (arith, at.below, room));
-      others = λ y low apart. line_at-set_other lines x y line apart;
-      inner = λ y low. absurd (omega (arith, low));
-    }
+grown-IsGrown f in_range lines zero x line at room whole is_line nodes = search (rules, length-set, All-set, line_at-set_same, line_at-set_other)
 grown-IsGrown f in_range lines (suc j) x line at room whole is_line nodes =
     let deeper = level_start-suc j in
     let deepest = level_start-suc (suc j) in
@@ -124,10 +115,7 @@ grown-IsGrown f in_range lines (suc j) x line at room whole is_line nodes =
 
 -- the root digest is that of the new top
 pub new_root-is : (f : Formulas) (lines : List Line) (j x : ℕ) (line : Line) → IsAtLevel j x → level_start (suc j) ≤ length lines → new_root f (line_at lines) j x line ≡ f.digest_of 0 (line_at (grown f lines j x line) 0)
-new_root-is f lines zero x line at room =
-    let top : x ≡ 0 = omega (arith, at.below) in
-    let here : line_at (slice_set lines x line) x ≡ line = line_at-set_same lines x line (omega (arith, at.below, room)) in
-    sym (ap (λ z. f.digest_of z (line_at (slice_set lines x line) z)) (sym top) ∙ ap (f.digest_of x) here)
+new_root-is f lines zero x line at room = search (rules, line_at-set_same)
 new_root-is f lines (suc j) x line at room =
     let deeper = level_start-suc j in
     let deepest = level_start-suc (suc j) in
@@ -179,9 +167,7 @@ new_path-before f old (suc j) x line at =
     at.below
 
 grown-entries : (f : Formulas) (lines : List Line) (j x : ℕ) (line : Line) → IsAtLevel j x → level_start (suc j) ≤ length lines → All (λ entry. line_at (grown f lines j x line) entry.0 ≡ entry.1) (new_path f (line_at lines) j x line)
-grown-entries f lines zero x line at room =
-    All-cons (λ entry. line_at (slice_set lines x line) entry.0 ≡ entry.1) (x, line) [] (line_at-set_same lines x line (omega (arith, at.below, room)))
-    (All-nil (λ entry. line_at (slice_set lines x line) entry.0 ≡ entry.1))
+grown-entries f lines zero x line at room = search (rules, All-cons, line_at-set_same, All-nil)
 grown-entries f lines (suc j) x line at room =
     let node = node_above f (line_at lines) x line in
     let deeper = level_start-suc j in
@@ -230,8 +216,7 @@ path_with-same g f a b page block same = new_path-same f a b g.levels (counter_p
 -- its entries are the new lines of their positions
 pub path_with-entries : (g : Shape) (f : Formulas) (lines : List Line) (page : ℕ) (block : Line) → length lines ≡ meta_lines g → page < pages g → All (λ entry. line_at (lines_with g f lines page block) entry.0 ≡ entry.1) (path_with g f (line_at lines) page block)
 unfolding lines_with path_with
-path_with-entries g f lines page block size inside =
-    grown-entries f lines g.levels (counter_position g page) block (counter_position-IsAtLevel g page inside) (omega (arith, size, meta_lines-level g))
+path_with-entries g f lines page block size inside = search (rules, grown-entries, counter_position-IsAtLevel, meta_lines-level)
 
 -- ---- one new tree after another
 

@@ -1,22 +1,18 @@
 -- Plans one after another, and plans in other words: put together, and taken apart again.
-use Rattle.std.proofs.Common.{◌≡◌, ◌⊎◌, Result, Ok, Err, refl, ap, subst₂, inl, inr}
+use Rattle.std.proofs.Common.{rules, ◌≡◌, ◌⊎◌, Result, Ok, Err, refl, ap, inl, inr}
 use Rattle.board.specs.Device.{Device}
 use Rattle.call_plan.specs.Plans.{Plan, done, stop, read, write, latch, bind, mapped, lifted, mapped_end}
 use Rattle.call_plan.specs.Following.{Took, Follows}
 
 pub same_err : {E T U : Type 0} (a b : E) → (let x : Result T E = Err a in x ≡ Err b) → (let x : Result U E = Err a in x ≡ Err b)
-same_err {E = E} {U = U} a b e =
-    let same : a ≡ b = cc in
-    let err : E → Result U E = Err in
-    ap err same
+same_err {E = E} {U = U} a b e = search rules
 
 -- ---- one after another
 
 bind_took : {E T U : Type 0} (plan : Plan E T) (next : T → Plan E U) (old mid new : Device) (t : T) (end : Result U E)
     → Took plan old mid (Ok t) → Took (next t) mid new end → Took (bind plan next) old new end
 unfolding Took bind
-bind_took (done s) next old mid new t end first second =
-    subst₂ (λ s (d : Device). Took (next s) d new end) (cc) first.1 second
+bind_took (done s) next old mid new t end first second = search rules
 bind_took (stop s) next old mid new t end first second = absurd (cc)
 bind_took (read left at later) next old mid new t end (inl s) second =
     inl (record {
@@ -47,8 +43,7 @@ bind_stopped (read l at later) next old new left (inl s) =
       step = s.step;
       rest = bind_stopped (later s.line) next s.mid new left s.rest;
     })
-bind_stopped (read l at later) next old new left (inr s) =
-    inr (record { ends = same_err left l s.0.ends; cut = s.0.cut }, s.1)
+bind_stopped (read l at later) next old new left (inr s) = search (rules, same_err)
 bind_stopped (write l at line later) next old new left (inl s) =
     inl (record { mid = s.mid; step = s.step; rest = bind_stopped later next s.mid new left s.rest })
 bind_stopped (write l at line later) next old new left (inr s) = inr (record { ends = same_err left l s.ends; cut = s.cut })
@@ -59,14 +54,12 @@ bind_stopped (latch l regs later) next old new left (inr s) = inr (record { ends
 -- the first was done, and the second went on from there
 pub bind_ok : {E T U : Type 0} {plan : Plan E T} (next : T → Plan E U) {old mid new : Device} {t : T} {end : Result U E}
     → Follows plan old mid (Ok t) → Follows (next t) mid new end → Follows (bind plan next) old new end
-bind_ok {plan = plan} next {old = old} {mid = mid} {new = new} {t = t} {end = end} first second =
-    record { took = bind_took plan next old mid new t end first.took second.took }
+bind_ok {plan = plan} next {old = old} {mid = mid} {new = new} {t = t} {end = end} first second = search (rules, bind_took)
 
 -- the first stopped, and so did the whole
 pub bind_err : {E T U : Type 0} {plan : Plan E T} (next : T → Plan E U) {old new : Device} {left : E}
     → Follows plan old new (Err left) → Follows (bind plan next) old new (Err left)
-bind_err {plan = plan} next {old = old} {new = new} {left = left} first =
-    record { took = bind_stopped plan next old new left first.took }
+bind_err {plan = plan} next {old = old} {new = new} {left = left} first = search (rules, bind_stopped)
 
 -- where two plans were followed, the first was done and the second followed from there, or the first stopped
 pub record WentOn {E T U : Type 0} (plan : Plan E T) (next : T → Plan E U) (old new : Device) (end : Result U E) : Type 0 where
@@ -83,56 +76,18 @@ pub record HasStopped {E T U : Type 0} (plan : Plan E T) (old new : Device) (end
 parts_took : {E T U : Type 0} (plan : Plan E T) (next : T → Plan E U) (old new : Device) (end : Result U E)
     → Took (bind plan next) old new end → WentOn plan next old new end ⊎ HasStopped plan old new end
 unfolding Took bind
-parts_took (done t) next old new end it =
-    inl (record { mid = old; value = t; first = record { took = (refl, refl) }; second = record { took = it } })
-parts_took (stop left) next old new end it =
-    inr (record { left = left; first = record { took = (refl, it.1) }; same = it.0 })
+parts_took (done t) next old new end it = search rules
+parts_took (stop left) next old new end it = search rules
 parts_took (read left at later) next old new end (inl s) =
     elim (parts_took (later s.line) next s.mid new end s.rest) [
-      | inl p ↦
-          inl (record {
-            mid = p.mid;
-            value = p.value;
-            first = record { took = inl (record { line = s.line; whole = s.whole; mid = s.mid; step = s.step; rest = p.first.took }) };
-            second = p.second;
-          })
-      | inr p ↦
-          inr (record {
-            left = p.left;
-            first = record { took = inl (record { line = s.line; whole = s.whole; mid = s.mid; step = s.step; rest = p.first.took }) };
-            same = p.same;
-          })
+      | inl p ↦ search rules
+      | inr p ↦ search rules
     ]
-parts_took (read left at later) next old new end (inr s) =
-    inr (record { left = left; first = record { took = inr (record { ends = refl; cut = s.0.cut }, s.1) }; same = s.0.ends })
-parts_took (write left at line later) next old new end (inl s) =
-    elim (parts_took later next s.mid new end s.rest) [
-      | inl p ↦
-          inl (record {
-            mid = p.mid;
-            value = p.value;
-            first = record { took = inl (record { mid = s.mid; step = s.step; rest = p.first.took }) };
-            second = p.second;
-          })
-      | inr p ↦
-          inr (record { left = p.left; first = record { took = inl (record { mid = s.mid; step = s.step; rest = p.first.took }) }; same = p.same })
-    ]
-parts_took (write left at line later) next old new end (inr s) =
-    inr (record { left = left; first = record { took = inr (record { ends = refl; cut = s.cut }) }; same = s.ends })
-parts_took (latch left regs later) next old new end (inl s) =
-    elim (parts_took later next s.mid new end s.rest) [
-      | inl p ↦
-          inl (record {
-            mid = p.mid;
-            value = p.value;
-            first = record { took = inl (record { mid = s.mid; step = s.step; rest = p.first.took }) };
-            second = p.second;
-          })
-      | inr p ↦
-          inr (record { left = p.left; first = record { took = inl (record { mid = s.mid; step = s.step; rest = p.first.took }) }; same = p.same })
-    ]
-parts_took (latch left regs later) next old new end (inr s) =
-    inr (record { left = left; first = record { took = inr (record { ends = refl; cut = s.cut }) }; same = s.ends })
+parts_took (read left at later) next old new end (inr s) = search rules
+parts_took (write left at line later) next old new end (inl s) = search (rules, (parts_took later next s.mid new end s.rest))
+parts_took (write left at line later) next old new end (inr s) = search rules
+parts_took (latch left regs later) next old new end (inl s) = search (rules, (parts_took later next s.mid new end s.rest))
+parts_took (latch left regs later) next old new end (inr s) = search rules
 
 pub parts : {E T U : Type 0} (plan : Plan E T) (next : T → Plan E U) {old new : Device} {end : Result U E}
     → Follows (bind plan next) old new end → WentOn plan next old new end ⊎ HasStopped plan old new end
@@ -153,22 +108,18 @@ mapped_took f h (read left at later) old new end (inl s) =
       step = s.step;
       rest = mapped_took f h (later s.line) s.mid new end s.rest;
     })
-mapped_took f h (read left at later) old new end (inr s) =
-    inr (record { ends = ap (mapped_end f h) s.0.ends; cut = s.0.cut }, s.1)
+mapped_took f h (read left at later) old new end (inr s) = search rules
 mapped_took f h (write left at line later) old new end (inl s) =
     inl (record { mid = s.mid; step = s.step; rest = mapped_took f h later s.mid new end s.rest })
-mapped_took f h (write left at line later) old new end (inr s) =
-    inr (record { ends = ap (mapped_end f h) s.ends; cut = s.cut })
+mapped_took f h (write left at line later) old new end (inr s) = search rules
 mapped_took f h (latch left regs later) old new end (inl s) =
     inl (record { mid = s.mid; step = s.step; rest = mapped_took f h later s.mid new end s.rest })
-mapped_took f h (latch left regs later) old new end (inr s) =
-    inr (record { ends = ap (mapped_end f h) s.ends; cut = s.cut })
+mapped_took f h (latch left regs later) old new end (inr s) = search rules
 
 -- the same steps lead to the same end, in other words
 pub mapped_follows : {E F T U : Type 0} (f : E → F) (h : T → U) {plan : Plan E T} {old new : Device} {end : Result T E}
     → Follows plan old new end → Follows (mapped f h plan) old new (mapped_end f h end)
-mapped_follows f h {plan = plan} {old = old} {new = new} {end = end} first =
-    record { took = mapped_took f h plan old new end first.took }
+mapped_follows f h {plan = plan} {old = old} {new = new} {end = end} first = search (rules, mapped_took)
 
 -- the end of a plan that was said in other words
 pub record EndIn {E F T U : Type 0} (f : E → F) (h : T → U) (plan : Plan E T) (old new : Device) (end : Result U F) : Type 0 where

@@ -1,11 +1,10 @@
 -- Two runs of one plan from one board, which has power and tells its lines, end alike: where neither is cut, where both
 -- take as many steps, and where both burn the same fuse.
-use Rattle.std.proofs.Common.{ℕ, ◌≡◌, ◌<◌, ◌≤◌, ◌+◌, ◌⊎◌, Result, refl, sym, ap, subst, ◌∙◌, inl, inr, arith}
-use Rattle.std.specs.Prelude.{Bool, true, false, List, Option, Some, IfSome, slice_set}
+use Rattle.std.proofs.Common.{rules, ℕ, ◌≡◌, ◌<◌, ◌≤◌, ◌+◌, ◌⊎◌, Result, refl, sym, ap, subst, ◌∙◌, inl, inr, arith}
+use Rattle.std.specs.Prelude.{Bool, true, false, List, Option, Some, slice_set}
 use Rattle.pmem_base.specs.declared.lines.Line.{Line}
 use Rattle.pmem_base.specs.declared.registers.Regs.{Regs}
 use Rattle.pmem_base.specs.Lines.{line_at}
-use Rattle.board.specs.declared.access.Access.{Access}
 use Rattle.board.specs.Device.{Device}
 use Rattle.board.specs.Steps.{HasRead, HasWritten, HasLatched, WasCut, Tells, with_line}
 use Rattle.board.proofs.CountLemmas.{RisesBy-once}
@@ -19,17 +18,7 @@ use Rattle.call_plan.proofs.Keeping.{Grows, follows_grows, on_and_off, stays_on}
 -- a device is its fields
 same_device : (a b : Device) → a.size ≡ b.size → a.lines ≡ b.lines → a.regs ≡ b.regs → a.steady ≡ b.steady → a.live ≡ b.live → a.reads ≡ b.reads
     → a.writes ≡ b.writes → a.latches ≡ b.latches → a.cuts ≡ b.cuts → a.accesses ≡ b.accesses → a ≡ b
-same_device a b size lines regs steady live reads writes latches cuts accesses =
-    ap (λ (n : ℕ). record a { size = n }) size
-    ∙ ap (λ (l : Option (List Line)). record a { size = b.size; lines = l }) lines
-    ∙ ap (λ (r : Regs). record a { size = b.size; lines = b.lines; regs = r }) regs
-    ∙ ap (λ (s : Bool). record a { size = b.size; lines = b.lines; regs = b.regs; steady = s }) steady
-    ∙ ap (λ (s : Bool). record b { live = s; reads = a.reads; writes = a.writes; latches = a.latches; cuts = a.cuts; accesses = a.accesses }) live
-    ∙ ap (λ (n : ℕ). record b { reads = n; writes = a.writes; latches = a.latches; cuts = a.cuts; accesses = a.accesses }) reads
-    ∙ ap (λ (n : ℕ). record b { writes = n; latches = a.latches; cuts = a.cuts; accesses = a.accesses }) writes
-    ∙ ap (λ (n : ℕ). record b { latches = n; cuts = a.cuts; accesses = a.accesses }) latches
-    ∙ ap (λ (n : ℕ). record b { cuts = n; accesses = a.accesses }) cuts
-    ∙ ap (λ (l : Option (List Access)). record b { accesses = l }) accesses
+same_device a b size lines regs steady live reads writes latches cuts accesses = search rules
 
 told_line : (told : Option (List Line)) (lines : List Line) (at : ℕ) (line : Line) → told ≡ Some lines → Tells told at line → line ≡ line_at lines at
 told_line told lines at line is tells = subst (λ t. Tells t at line) is tells
@@ -37,48 +26,29 @@ told_line told lines at line is tells = subst (λ t. Tells t at line) is tells
 -- two reads of told lines give one line
 pub same_line : (lines : List Line) (old a b : Device) (at : ℕ) (line other : Line) → old.lines ≡ Some lines → HasRead old at line a
     → HasRead old at other b → line ≡ other
-same_line lines old a b at line other told first second =
-    told_line old.lines lines at line told first.tells ∙ sym (told_line old.lines lines at other told second.tells)
+same_line lines old a b at line other told first second = search (rules, told_line)
 
 pub read_is_determined : (old a b : Device) (at : ℕ) (line other : Line) → HasRead old at line a → HasRead old at other b → a ≡ b
-read_is_determined old a b at line other x y =
-    same_device a b (x.size ∙ sym y.size) (x.lines ∙ sym y.lines) (x.regs ∙ sym y.regs) (x.steady ∙ sym y.steady) (x.live ∙ sym y.live)
-    (x.reads.is_risen ∙ sym y.reads.is_risen) (x.writes ∙ sym y.writes) (x.latches ∙ sym y.latches) (x.cuts ∙ sym y.cuts)
-    (x.accesses ∙ sym y.accesses)
+read_is_determined old a b at line other x y = search (rules, same_device)
 
 pub write_is_determined : (old a b : Device) (at : ℕ) (line : Line) → HasWritten old at line a → HasWritten old at line b → a ≡ b
-write_is_determined old a b at line x y =
-    same_device a b (x.size ∙ sym y.size) (x.lines ∙ sym y.lines) (x.regs ∙ sym y.regs) (x.steady ∙ sym y.steady) (x.live ∙ sym y.live)
-    (x.reads ∙ sym y.reads) (x.writes.is_risen ∙ sym y.writes.is_risen) (x.latches ∙ sym y.latches) (x.cuts ∙ sym y.cuts)
-    (x.accesses ∙ sym y.accesses)
+write_is_determined old a b at line x y = search (rules, same_device)
 
 pub latch_is_determined : (old a b : Device) (regs : Regs) → HasLatched old regs a → HasLatched old regs b → a ≡ b
-latch_is_determined old a b regs x y =
-    same_device a b (x.size ∙ sym y.size) (x.lines ∙ sym y.lines) (x.regs ∙ sym y.regs) (x.steady ∙ sym y.steady) (x.live ∙ sym y.live)
-    (x.reads ∙ sym y.reads) (x.writes ∙ sym y.writes) (x.latches.is_risen ∙ sym y.latches.is_risen) (x.cuts ∙ sym y.cuts)
-    (x.accesses ∙ sym y.accesses)
+latch_is_determined old a b regs x y = search (rules, same_device)
 
 pub cut_is_determined : (old a b : Device) → WasCut old a → WasCut old b → a ≡ b
-cut_is_determined old a b x y =
-    same_device a b (x.size ∙ sym y.size) (x.lines ∙ sym y.lines) (x.regs ∙ sym y.regs) (x.still_unsteady ∙ sym y.still_unsteady)
-    (x.off ∙ sym y.off) (x.reads ∙ sym y.reads) (x.writes ∙ sym y.writes) (x.latches ∙ sym y.latches)
-    (x.cuts.is_risen ∙ sym y.cuts.is_risen) (x.accesses ∙ sym y.accesses)
+cut_is_determined old a b x y = search (rules, same_device)
 
 -- ---- a run that goes on past a step takes more steps than one that is cut before it
 
 write_steps : (old mid new : Device) (at : ℕ) (line : Line) → HasWritten old at line mid → Grows mid new → AreBelowEnd new
     → old.writes + old.latches + 1 ≤ new.writes + new.latches
-write_steps old mid new at line was grows below =
-    let a = grows.writes in let b = grows.latches in let c = below.writes in let same = was.latches in
-    let one = (RisesBy-once was.writes).exact (omega arith) in
-    omega arith
+write_steps old mid new at line was grows below = search (rules, RisesBy-once)
 
 latch_steps : (old mid new : Device) (regs : Regs) → HasLatched old regs mid → Grows mid new → AreBelowEnd new
     → old.writes + old.latches + 1 ≤ new.writes + new.latches
-latch_steps old mid new regs was grows below =
-    let a = grows.writes in let b = grows.latches in let c = below.latches in let same = was.writes in
-    let one = (RisesBy-once was.latches).exact (omega arith) in
-    omega arith
+latch_steps old mid new regs was grows below = search (rules, RisesBy-once)
 
 cut_steps : (old new : Device) → WasCut old new → new.writes + new.latches ≡ old.writes + old.latches
 cut_steps old new was = let a = was.writes in let b = was.latches in omega arith
@@ -126,8 +96,7 @@ alike (write left at line later) lines old a b first second told live below_a be
     parted old a b t.cut (write_steps old s.mid a at line s.step (grows_from later s.mid a first s.rest) below_a) (second_on a b together)
 alike (write left at line later) lines old a b first second told live below_a below_b together (inr s) (inl t) =
     parted old b a s.cut (write_steps old t.mid b at line t.step (grows_from later t.mid b second t.rest) below_b) (first_on a b together)
-alike (write left at line later) lines old a b first second told live below_a below_b together (inr s) (inr t) =
-    (s.ends ∙ sym t.ends, cut_is_determined old a b s.cut t.cut)
+alike (write left at line later) lines old a b first second told live below_a below_b together (inr s) (inr t) = search (rules, cut_is_determined)
 alike (latch left regs later) lines old a b first second told live below_a below_b together (inl s) (inl t) =
     let mid = latch_is_determined old s.mid t.mid regs s.step t.step in
     alike later lines s.mid a b first second (s.step.lines ∙ told) (s.step.live ∙ live) below_a below_b together s.rest
@@ -136,8 +105,7 @@ alike (latch left regs later) lines old a b first second told live below_a below
     parted old a b t.cut (latch_steps old s.mid a regs s.step (grows_from later s.mid a first s.rest) below_a) (second_on a b together)
 alike (latch left regs later) lines old a b first second told live below_a below_b together (inr s) (inl t) =
     parted old b a s.cut (latch_steps old t.mid b regs t.step (grows_from later t.mid b second t.rest) below_b) (first_on a b together)
-alike (latch left regs later) lines old a b first second told live below_a below_b together (inr s) (inr t) =
-    (s.ends ∙ sym t.ends, cut_is_determined old a b s.cut t.cut)
+alike (latch left regs later) lines old a b first second told live below_a below_b together (inr s) (inr t) = search (rules, cut_is_determined)
 
 -- ---- a run that is cut takes fewer steps than one that isn't
 
@@ -159,18 +127,13 @@ fewer (write left at line later) lines old a b first second told live below off 
     fewer later (slice_set lines at line) s.mid a b first second (s.step.lines ∙ ap (λ told. with_line told at line) told) (s.step.live ∙ live)
     below off on s.rest (subst (λ (d : Device). Took later d b second) (sym mid) t.rest)
 fewer (write left at line later) lines old a b first second told live below off on (inr s) (inl t) =
-    let more = write_steps old t.mid b at line t.step (grows_from later t.mid b second t.rest) below in
-    let here = cut_steps old a s.cut in
-    omega arith
+    search (rules, write_steps, grows_from, cut_steps)
 fewer (write left at line later) lines old a b first second told live below off on it (inr t) = on_and_off b.live on t.cut.off
 fewer (latch left regs later) lines old a b first second told live below off on (inl s) (inl t) =
     let mid = latch_is_determined old s.mid t.mid regs s.step t.step in
     fewer later lines s.mid a b first second (s.step.lines ∙ told) (s.step.live ∙ live) below off on s.rest
     (subst (λ (d : Device). Took later d b second) (sym mid) t.rest)
-fewer (latch left regs later) lines old a b first second told live below off on (inr s) (inl t) =
-    let more = latch_steps old t.mid b regs t.step (grows_from later t.mid b second t.rest) below in
-    let here = cut_steps old a s.cut in
-    omega arith
+fewer (latch left regs later) lines old a b first second told live below off on (inr s) (inl t) = search (rules, latch_steps, grows_from, cut_steps)
 fewer (latch left regs later) lines old a b first second told live below off on it (inr t) = on_and_off b.live on t.cut.off
 
 -- ---- the law, for runs that burn one fuse
@@ -182,45 +145,18 @@ on_or_off false = inr refl
 -- one is cut by the fuse that lasts for the other
 cannot_part : {X : Type 0} (fuse : Option ℕ) (old a b : Device) → BurnsFuse fuse old a → BurnsFuse fuse old b → a.live ≡ false → b.live ≡ true
     → a.writes + a.latches < b.writes + b.latches → X
-cannot_part fuse old a b burns_a burns_b off on less =
-    let spent = burns_a.spent off in
-    let lasts : b.writes + b.latches ≤ old.writes + old.latches + spent.0 =
-    subst (λ f. IfSome f (λ n. b.writes + b.latches ≤ old.writes + old.latches + n)) spent.1 (burns_b.lasting on) in
-    let took = spent.2 in
-    absurd (omega arith)
+cannot_part fuse old a b burns_a burns_b off on less = search rules
 
 same_spent : (fuse : Option ℕ) (old a b : Device) → BurnsFuse fuse old a → BurnsFuse fuse old b → a.live ≡ false → b.live ≡ false
     → a.writes + a.latches ≡ b.writes + b.latches
-same_spent fuse old a b burns_a burns_b off_a off_b =
-    let one = burns_a.spent off_a in let two = burns_b.spent off_b in
-    let both : Some one.0 ≡ Some two.0 = sym one.1 ∙ two.1 in
-    let same : one.0 ≡ two.0 = cc in
-    let took = one.2 in let its = two.2 in
-    omega arith
+same_spent fuse old a b burns_a burns_b off_a off_b = search rules
 
 -- two runs of a plan that burn one fuse end alike, and leave one board
 pub determined_by_fuse : {E T : Type 0} (fuse : Option ℕ) (lines : List Line) {plan : Plan E T} {old a b : Device} {first second : Result T E}
     → old.lines ≡ Some lines → old.live ≡ true → AreBelowEnd a → AreBelowEnd b → BurnsFuse fuse old a → BurnsFuse fuse old b
     → Follows plan old a first → Follows plan old b second → (first ≡ second) × (a ≡ b)
 determined_by_fuse fuse lines {plan = plan} {old = old} {a = a} {b = b} {first = first} {second = second} told live below_a below_b burns_a burns_b it its =
-    elim (on_or_off a.live) [
-      | inl on_a ↦
-          (elim (on_or_off b.live) [
-            | inl on_b ↦ alike plan lines old a b first second told live below_a below_b (inl (on_a, on_b)) it.took its.took
-            | inr off_b ↦
-                cannot_part fuse old b a burns_b burns_a off_b on_a
-                (fewer plan lines old b a second first told live below_a off_b on_a its.took it.took)
-          ])
-      | inr off_a ↦
-          (elim (on_or_off b.live) [
-            | inl on_b ↦
-                cannot_part fuse old a b burns_a burns_b off_a on_b
-                (fewer plan lines old a b first second told live below_b off_a on_b it.took its.took)
-            | inr off_b ↦
-                alike plan lines old a b first second told live below_a below_b (inr (same_spent fuse old a b burns_a burns_b off_a off_b))
-                it.took its.took
-          ])
-    ]
+    search (rules, on_or_off, alike, cannot_part, fewer, same_spent)
 
 -- ---- runs that aren't cut
 
@@ -251,5 +187,4 @@ took_alike (latch left regs later) lines old a b first second told on lit (inl s
 -- two of them, of one plan on a board that tells its lines, are the same, whatever their fuses
 pub uncut_alike : {E T : Type 0} (lines : List Line) {plan : Plan E T} {old a b : Device} {first second : Result T E} → old.lines ≡ Some lines
     → a.live ≡ true → b.live ≡ true → Follows plan old a first → Follows plan old b second → (first ≡ second) × (a ≡ b)
-uncut_alike lines {plan = plan} {old = old} {a = a} {b = b} {first = first} {second = second} told on lit it its =
-    took_alike plan lines old a b first second told on lit it.took its.took
+uncut_alike lines {plan = plan} {old = old} {a = a} {b = b} {first = first} {second = second} told on lit it its = search (rules, took_alike)

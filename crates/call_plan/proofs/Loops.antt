@@ -1,5 +1,5 @@
 -- How far a run of a plan has come: the invariant of any loop, and of a call in the middle of its plan.
-use Rattle.std.proofs.Common.{ℕ, zero, suc, ◌≡◌, ◌<◌, ◌≤◌, ◌+◌, List, ◌∷◌, Result, Ok, Err, refl, subst, ◌∙◌, get_or, drop, length, arith}
+use Rattle.std.proofs.Common.{rules, ℕ, zero, suc, ◌≡◌, ◌<◌, ◌≤◌, ◌+◌, List, ◌∷◌, Result, Ok, Err, refl, get_or, drop, length, arith}
 use Rattle.std.proofs.lemmas.List.{drop_more}
 use Rattle.std.proofs.Math.ListN.{drop_of_length-le}
 use Rattle.board.specs.Device.{Device}
@@ -22,11 +22,7 @@ module _ {E T U : Type 0} {whole : Plan E U} {start now : Device} (plan : Plan E
     (so_far : HasReached whole start (bind plan next) now) where
   -- the first of two plans was done, and the second is left
   pub reached_ok : {mid : Device} {t : T} → Follows plan now mid (Ok t) → HasReached whole start (next t) mid
-  reached_ok first =
-      record {
-        size = follows_size first ∙ so_far.size;
-        follows = λ new end rest. so_far.follows new end (bind_ok next first rest);
-      }
+  reached_ok first = search (rules, follows_size, bind_ok)
 
   -- the first of them stopped, and so the whole
   pub reached_err : {new : Device} {left : E} → Follows plan now new (Err left) → Follows whole start new (Err left)
@@ -80,9 +76,7 @@ module _ {E T : Type 0} {whole : Plan E T} {start now : Device} {turn : ℕ → 
   -- none is left
   pub turns_end : end ≤ i → Follows whole start now (Ok t)
   unfolding repeated
-  turns_end none =
-      let last : so_far.left ≡ 0 = let all = so_far.all in omega arith in
-      reached_end (subst (λ n. HasReached whole start (repeated turn i n t) now) last so_far.reached)
+  turns_end none = search (rules, reached_end)
 
 -- ---- a turn for each item
 
@@ -92,19 +86,16 @@ module _ {X E T : Type 0} {whole : Plan E T} {start now : Device} (turn : X → 
       → HasReached whole start (for_each turn (drop (i + 1) items) s) mid
   unfolding for_each
   item_ok other more first =
-      let here : HasReached whole start (for_each turn (get_or items i other ∷ drop (i + 1) items) t) now =
-      subst (λ left. HasReached whole start (for_each turn left t) now) (drop_more items i other more) so_far in
+      let here : HasReached whole start (for_each turn (get_or items i other ∷ drop (i + 1) items) t) now = search (rules, drop_more) in
       reached_ok (turn (get_or items i other) t) (λ t. for_each turn (drop (i + 1) items) t) here first
 
   pub item_err : {new : Device} {fault : E} (other : X) → i < length items → Follows (turn (get_or items i other) t) now new (Err fault)
       → Follows whole start new (Err fault)
   unfolding for_each
   item_err other more first =
-      let here : HasReached whole start (for_each turn (get_or items i other ∷ drop (i + 1) items) t) now =
-      subst (λ left. HasReached whole start (for_each turn left t) now) (drop_more items i other more) so_far in
+      let here : HasReached whole start (for_each turn (get_or items i other ∷ drop (i + 1) items) t) now = search (rules, drop_more) in
       reached_err (turn (get_or items i other) t) (λ t. for_each turn (drop (i + 1) items) t) here first
 
   pub items_end : length items ≤ i → Follows whole start now (Ok t)
   unfolding for_each
-  items_end none =
-      reached_end (subst (λ left. HasReached whole start (for_each turn left t) now) (drop_of_length-le items none) so_far)
+  items_end none = search (rules, reached_end, drop_of_length-le)

@@ -1,5 +1,5 @@
 -- One lemma a step: what is followed of the rest is followed of the step and the rest. And ends as functions answer them.
-use Rattle.std.proofs.Common.{ℕ, ◌≡◌, false, Result, Ok, Err, refl, sym, subst, inl, inr}
+use Rattle.std.proofs.Common.{rules, ℕ, ◌≡◌, false, Result, Ok, Err, refl, subst, inl, inr}
 use Rattle.std.specs.Prelude.{OnOk, OnErr, IsErrAnd}
 use Rattle.std.proofs.lemmas.Result.{err_from_is_err_and}
 use Rattle.pmem_base.specs.declared.faults.Cut.{Cut}
@@ -23,8 +23,7 @@ module _ {E T : Type 0} where
   pub read_then : (left : E) {at : ℕ} {line : Line} {later : Line → Plan E T} {old mid new : Device} {end : Result T E} → HasRead old at line mid → IsLine line
       → Follows (later line) mid new end → Follows (read left at later) old new end
   unfolding Took
-  read_then left {line = line} {mid = mid} was whole rest =
-      record { took = inl (record { line = line; whole = whole; mid = mid; step = was; rest = rest.took }) }
+  read_then left {line = line} {mid = mid} was whole rest = search rules
 
   pub write_then : (left : E) {at : ℕ} {line : Line} {later : Plan E T} {old mid new : Device} {end : Result T E} → HasWritten old at line mid
       → Follows later mid new end → Follows (write left at line later) old new end
@@ -56,18 +55,12 @@ module _ {E T : Type 0} where
 -- what a `?` answers
 pub answered_err : {E T : Type 0} {plan : Plan E T} {old new : Device} {left : E} (answer : Result T E) → IsErrAnd answer (λ (x : E). x ≡ left)
     → Follows plan old new (Err left) → Follows plan old new answer
-answered_err {E = E} {T = T} {plan = plan} {old = old} {new = new} answer is it =
-    let end = err_from_is_err_and answer is in
-    let err : E → Result T E = Err in
-    subst (λ (r : Result T E). Follows plan old new r) (sym end.1) (subst (λ x. Follows plan old new (err x)) (sym end.2) it)
+answered_err {E = E} {T = T} {plan = plan} {old = old} {new = new} answer is it = search (rules, err_from_is_err_and)
 
 -- the same, with the state that it leaves
 pub ended_err : {S A F : Type 0} {plan : Plan (S × F) (S × A)} {old new : Device} {state : S} {fault : F} (answer : Result A F)
     → IsErrAnd answer (λ (x : F). x ≡ fault) → Follows plan old new (Err (state, fault)) → Follows plan old new (ended answer state)
-ended_err {S = S} {A = A} {F = F} {plan = plan} {old = old} {new = new} {state = state} answer is it =
-    let end = err_from_is_err_and answer is in
-    let err : F → Result (S × A) (S × F) = λ x. Err (state, x) in
-    subst (λ (r : Result A F). Follows plan old new (ended r state)) (sym end.1) (subst (λ x. Follows plan old new (err x)) (sym end.2) it)
+ended_err {S = S} {A = A} {F = F} {plan = plan} {old = old} {new = new} {state = state} answer is it = search (rules, err_from_is_err_and)
 
 -- a write or a latch that ends a call
 pub last_write : (at : ℕ) (line : Line) (old new : Device) (answer : Result (Unit {0}) Cut) → OnOk answer (HasWritten old at line new)

@@ -1,12 +1,11 @@
 -- One set of a cache changes.
-use Rattle.std.proofs.Common.{◌≡◌, ℕ, ◌+◌, ◌<◌, ◌≤◌, List, [], length, get_or, set, replicate, refl, sym, ap, subst, ◌∙◌, inl, inr, arith}
+use Rattle.std.proofs.Common.{◌≡◌, ℕ, ◌+◌, ◌<◌, ◌≤◌, List, [], length, get_or, set, replicate, sym, ap, subst, ◌∙◌, inl, inr, arith, rules}
 use Rattle.std.proofs.lemmas.Bool.{cases_lt, cases_eq}
 use Rattle.std.proofs.lemmas.Option.{unwrap_or-slice_get}
 use Rattle.std.proofs.lemmas.List.{length-set, length-replicate, get_or-set_same, get_or-set_other, get_or-replicate, get_or_past, set-set, set-get_or, set_past}
 use Rattle.std.proofs.lemmas.List.Elements.{All-nil}
-use Rattle.pmem_base.specs.Lines.{IsLine}
 use Rattle.pmem_base.specs.Shape.{Shape}
-use Rattle.meta_cache.specs.Banks.{Slot, Banks, set_of, set_index}
+use Rattle.meta_cache.specs.Banks.{Slot, Banks, set_of}
 use Rattle.meta_cache.specs.Sets.{IsSetOf, KeepsWays}
 use Rattle.meta_cache.specs.State.{CacheState, bank_of, empty_banks, with_slots, IsCacheOf, ChangesSet}
 
@@ -14,8 +13,7 @@ pub bank_of-get_or : (banks : Banks) (bank : ℕ) → bank_of banks bank ≡ get
 bank_of-get_or banks bank = unwrap_or-slice_get banks bank []
 
 pub set_of-get_or : (banks : Banks) (bank n : ℕ) → set_of banks bank n ≡ get_or (get_or banks bank []) n []
-set_of-get_or banks bank n =
-    unwrap_or-slice_get (bank_of banks bank) n [] ∙ ap (λ sets. get_or sets n []) (bank_of-get_or banks bank)
+set_of-get_or banks bank n = search (rules, unwrap_or-slice_get, get_or, bank_of-get_or)
 
 -- the banks with other slots in one set
 abbrev pub with_set : Banks → ℕ → ℕ → List Slot → Banks
@@ -42,73 +40,28 @@ set_within g banks bank n inside =
 
 here_changed : (g : Shape) (banks : Banks) (bank n : ℕ) (slots : List Slot) → IsInside g banks bank n
     → set_of (with_set banks bank n slots) bank n ≡ slots
-here_changed g banks bank n slots inside =
-    set_of-get_or (with_set banks bank n slots) bank n
-    ∙ ap (λ sets. get_or sets n [])
-    (get_or-set_same banks bank (set (get_or banks bank []) n slots) [] (bank_within g banks bank n inside))
-    ∙ get_or-set_same (get_or banks bank []) n slots [] (set_within g banks bank n inside)
+here_changed g banks bank n slots inside = search (rules, set_of-get_or, get_or, get_or-set_same, bank_within, set_within)
 
 elsewhere_same : (g : Shape) (banks : Banks) (bank n : ℕ) (slots : List Slot) (bank' n' : ℕ) → IsInside g banks bank n
     → ((bank' ≡ bank) × (n' ≡ n) → ⊥)
     → set_of (with_set banks bank n slots) bank' n' ≡ set_of banks bank' n'
-elsewhere_same g banks bank n slots bank' n' inside apart =
-    set_of-get_or (with_set banks bank n slots) bank' n'
-    ∙ elim (cases_eq bank' bank) [
-      | inl same ↦
-          ap (λ b. get_or (get_or (with_set banks bank n slots) b []) n' []) same
-          ∙ ap (λ sets. get_or sets n' [])
-          (get_or-set_same banks bank (set (get_or banks bank []) n slots) [] (bank_within g banks bank n inside))
-          ∙ get_or-set_other (get_or banks bank []) n n' slots [] (λ e. apart (same, e))
-          ∙ ap (λ b. get_or (get_or banks b []) n' []) (sym same)
-      | inr other ↦
-          ap (λ sets. get_or sets n' [])
-          (get_or-set_other banks bank bank' (set (get_or banks bank []) n slots) [] other)
-    ]
-    ∙ sym (set_of-get_or banks bank' n')
+elsewhere_same g banks bank n slots bank' n' inside apart = search (rules, set_of-get_or, cases_eq, get_or, get_or-set_same, bank_within, get_or-set_other)
 
 pub ChangesSet-with_set : (g : Shape) (banks : Banks) (bank n : ℕ) (slots : List Slot) → IsInside g banks bank n
     → KeepsWays (set_of banks bank n) slots
     → ChangesSet (record { shape = g; banks = banks }) (record { shape = g; banks = with_set banks bank n slots }) bank n slots
-ChangesSet-with_set g banks bank n slots inside ways =
-    record {
-      exact =
-          ap (λ (sets : List (List Slot)). record { shape = g; banks = set banks bank (set sets n slots) })
-          (sym (bank_of-get_or banks bank));
-      shape = refl;
-      ways = ways;
-      here = here_changed g banks bank n slots inside;
-      elsewhere = λ bank' n' apart. elsewhere_same g banks bank n slots bank' n' inside apart;
-    }
+ChangesSet-with_set g banks bank n slots inside ways = search (rules, bank_of-get_or, here_changed, elsewhere_same)
 
 -- ---- the cache with other slots in a set, as a value
 
 -- a set has its own slots
 pub with_slots-own : (cache : CacheState) (bank n : ℕ) → with_slots cache bank n (set_of cache.banks bank n) ≡ cache
-with_slots-own cache bank n =
-    ap (λ (banks : Banks). let made : CacheState = record { shape = cache.shape; banks = banks } in made)
-    (ap (λ slots. set cache.banks bank (set (bank_of cache.banks bank) n slots)) (unwrap_or-slice_get (bank_of cache.banks bank) n [])
-    ∙ ap (set cache.banks bank) (set-get_or (bank_of cache.banks bank) n [] ∙ bank_of-get_or cache.banks bank)
-    ∙ set-get_or cache.banks bank [])
+with_slots-own cache bank n = search (rules, unwrap_or-slice_get, set-get_or, bank_of-get_or)
 
 -- the later of two changes of a set stands
 pub with_slots-twice : (cache : CacheState) (bank n : ℕ) (first second : List Slot)
     → with_slots (with_slots cache bank n first) bank n second ≡ with_slots cache bank n second
-with_slots-twice cache bank n first second =
-    ap (λ (banks : Banks). let made : CacheState = record { shape = cache.shape; banks = banks } in made)
-    (elim (cases_lt bank (length banks)) [
-      | inl low ↦
-          set-set banks bank changed (set (bank_of (set banks bank changed) bank) n second)
-          ∙ ap (λ sets. set banks bank (set sets n second))
-          (bank_of-get_or (set banks bank changed) bank ∙ get_or-set_same banks bank changed [] low)
-          ∙ ap (set banks bank) (set-set (bank_of banks bank) n first second)
-      | inr past ↦ ap (λ (b : Banks). set b bank (set (bank_of b bank) n second)) (set_past banks bank changed past)
-    ])
-  where
-    banks : Banks
-    banks = cache.banks
-
-    changed : List (List Slot)
-    changed = set (bank_of banks bank) n first
+with_slots-twice cache bank n first second = search (rules, cases_lt, set-set, bank_of-get_or, get_or-set_same, set_past)
 
 pub IsCacheOf-with_set : (g : Shape) (banks : Banks) (bank n : ℕ) (slots : List Slot) → IsInside g banks bank n
     → IsSetOf g n slots → IsCacheOf g (with_set banks bank n slots)
@@ -160,15 +113,7 @@ IsCacheOf-with_set g banks bank n slots inside form =
 -- ---- an empty cache, and the form that other crates know
 
 pub IsSetOf-nil : (g : Shape) (n : ℕ) → IsSetOf g n []
-IsSetOf-nil g n =
-    record {
-      room = omega arith;
-      its_ways = All-nil (λ (s : Slot). s.way < g.ways);
-      its_positions = All-nil (λ (s : Slot). set_index g s.position ≡ n);
-      whole_lines = All-nil (λ (s : Slot). IsLine s.line);
-      distinct_ways = λ i j d less h e. absurd (omega arith);
-      distinct_positions = λ i j d less h e. absurd (omega arith);
-    }
+IsSetOf-nil g n = search (rules, All-nil)
 
 abbrev pub no_slots : List Slot
 no_slots = []
@@ -203,8 +148,5 @@ IsCacheOf-empty g =
         set_of-get_or (empty_banks g) bank n
         ∙ elim (cases_lt bank (g.levels + 1)) [
           | inl low ↦ ap (λ sets. get_or sets n []) (empty_banks_at g bank low) ∙ none_at n
-          | inr past ↦
-              ap (λ sets. get_or sets n [])
-              (get_or_past (empty_banks g) bank []
-              (omega (arith, length-replicate (g.levels + 1) (empty_sets g))))
+          | inr past ↦ search (rules, get_or, get_or_past, length-replicate)
         ]

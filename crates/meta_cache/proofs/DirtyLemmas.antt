@@ -75,13 +75,9 @@ record IsSlotDirtyAt (slots : List Slot) (x : ℕ) : Type 0 where
 dirty_at : (slots : List Slot) (x : ℕ) → oldest_dirty_in slots ≡ Some x → IsSlotDirtyAt slots x
 dirty_at slots x e =
     let slot = position_found (find (λ (s : Slot). s.dirty) (reverse slots)) x e in
-    let found : IsFound (λ (s : Slot). s.dirty) (reverse slots) slot.0 =
-    find_found (λ (s : Slot). s.dirty) (reverse slots) slot.0 slot.1 in
+    let found : IsFound (λ (s : Slot). s.dirty) (reverse slots) slot.0 = search (rules, find_found) in
     let within : found.place < length slots = omega (arith, found.within, length-reverse slots) in
-    let at : (d : Slot) → get_or slots (length slots - 1 - found.place) d ≡ slot.0 =
-    λ d.
-    get_or_default slots (length slots - 1 - found.place) d slot.0 (omega arith)
-    ∙ sym (get_or-reverse slots found.place slot.0 within) ∙ found.here in
+    let at : (d : Slot) → get_or slots (length slots - 1 - found.place) d ≡ slot.0 = search (rules, get_or_default, get_or-reverse) in
     record {
       place = length slots - 1 - found.place;
       within = omega arith;
@@ -93,13 +89,10 @@ dirty_at slots x e =
 pub oldest_of_bank_cached : (g : Shape) (banks : Banks) (bank x : ℕ) → IsCacheOf g banks
     → oldest_dirty_of (bank_of banks bank) ≡ Some x → is_cached_dirty g banks bank x ≡ true
 oldest_of_bank_cached g banks bank x form e =
-    let answer : IsDirtyAnswer oldest_dirty_in (bank_of banks bank) x =
-    answer_found oldest_dirty_in (bank_of banks bank) x e in
+    let answer : IsDirtyAnswer oldest_dirty_in (bank_of banks bank) x = search (rules, answer_found) in
     let n : ℕ = answer.place in
-    let set : get_or (bank_of banks bank) n [] ≡ set_of banks bank n =
-    ap (λ (sets : List (List Slot)). get_or sets n []) (bank_of-get_or banks bank) ∙ sym (set_of-get_or banks bank n) in
-    let dirty : IsSlotDirtyAt (set_of banks bank n) x =
-    dirty_at (set_of banks bank n) x (ap oldest_dirty_in (sym set) ∙ answer.answers []) in
+    let set : get_or (bank_of banks bank) n [] ≡ set_of banks bank n = search (rules, get_or, bank_of-get_or, set_of-get_or) in
+    let dirty : IsSlotDirtyAt (set_of banks bank n) x = search (rules, dirty_at) in
     let its : set_index g x ≡ n =
     ap (set_index g) (sym (dirty.position blank)) ∙ (form.each_set bank n).its_positions dirty.place blank dirty.within in
     ap (λ m. list_any (λ (s : Slot). s.position == x && s.dirty) (set_of banks bank m)) its
@@ -115,8 +108,7 @@ pair_found v0 bank found e = search rules
 pub oldest_cached : (g : Shape) (banks : Banks) (found : ℕ × ℕ) → IsCacheOf g banks
     → oldest_dirty banks ≡ Some found → (found.0 ≤ g.levels) × (is_cached_dirty g banks found.0 found.1 ≡ true)
 oldest_cached g banks found form e =
-    let answer : IsDirtyAnswer (dirty_in_bank banks) (range_with_len 0 (length banks)) found =
-    answer_found (dirty_in_bank banks) (range_with_len 0 (length banks)) found e in
+    let answer : IsDirtyAnswer (dirty_in_bank banks) (range_with_len 0 (length banks)) found = search (rules, answer_found) in
     let low : answer.place < length banks = omega (arith, answer.within, length-range_with_len 0 (length banks)) in
     let at : get_or (range_with_len 0 (length banks)) answer.place 0 ≡ answer.place =
     omega (arith, get_or-range_with_len 0 (length banks) answer.place 0 low) in
@@ -158,8 +150,7 @@ mapped_none f v1 e = search rules
 -- no slot of the set is dirty
 all_clean : (slots : List Slot) → oldest_dirty_in slots ≡ None → All (λ (slot : Slot). slot.dirty ≡ false) slots
 all_clean slots e =
-    let none : find (λ (s : Slot). s.dirty) (reverse slots) ≡ None =
-    mapped_none (λ (s : Slot). s.position) (find (λ (s : Slot). s.dirty) (reverse slots)) e in
+    let none : find (λ (s : Slot). s.dirty) (reverse slots) ≡ None = search (rules, mapped_none) in
     subst (All (λ (slot : Slot). slot.dirty ≡ false)) (reverse-reverse slots)
     (All-reverse (reverse slots) (find_none (λ (s : Slot). s.dirty) (reverse slots) none))
   where
@@ -201,9 +192,7 @@ cache_clean g banks bank x e =
           (ap (dirty_in_bank banks) (sym at)
           ∙ no_answers (dirty_in_bank banks) (range_with_len 0 (length banks)) e bank 0
           (omega (arith, low, length-range_with_len 0 (length banks)))))
-      | inr past ↦
-          bank_clean g banks bank x
-          (ap oldest_dirty_of (bank_of-get_or banks bank ∙ get_or_past banks bank [] past))
+      | inr past ↦ search (rules, bank_clean, bank_of-get_or, get_or_past)
     ]
 
 pub bank_clean_if : (g : Shape) (banks : Banks) (bank : ℕ) (answer : Option ℕ)

@@ -6,7 +6,7 @@ use Rattle.std.specs.List.{list_any, position_or_len, range_with_len}
 use Rattle.std.proofs.lemmas.Bool.{cases_lt, cases_order, eq-eqb, eqb-true, cond-true, cond-false, false≢true, both_ways, lt-ltb, le-ltb, not-true}
 use Rattle.std.proofs.lemmas.List.{get_or-take, get_or_default, get_or-map, length-map, length-take-le}
 use Rattle.std.proofs.lemmas.List.Edits.{length-remove, get_or-remove_below, get_or-remove_above}
-use Rattle.std.proofs.lemmas.List.Elements.{All-cons, All-head, All-tail, All-append, All-take, All-drop, All-map}
+use Rattle.std.proofs.lemmas.List.Elements.{All-head, All-tail, All-append, All-take, All-drop, All-map}
 use Rattle.std.proofs.lemmas.List.Quantifiers.{all_pairs_remove}
 use Rattle.std.proofs.lemmas.List.Folds.{Any-from_list_any, list_any_at}
 use Rattle.std.proofs.lemmas.List.FromFn.{length-range_with_len, get_or-range_with_len}
@@ -16,7 +16,7 @@ use Rattle.pmem_base.specs.Lines.{IsLine}
 use Rattle.pmem_base.specs.Shape.{Shape}
 use Rattle.meta_cache.specs.Alone.{IsAlone}
 use Rattle.meta_cache.specs.Banks.{Slot, set_index}
-use Rattle.meta_cache.specs.Sets.{holds, slot_with, touched, lined, slot_marked, with_slot_line, with_mark, free_way, next_way, placed, IsSetOf}
+use Rattle.meta_cache.specs.Sets.{holds, slot_with, touched, with_slot_line, with_mark, free_way, next_way, placed, IsSetOf}
 use Rattle.meta_cache.proofs.SetLemmas.{numbered, blank, is_of, alone_at, touched_is, next_way-room, next_way-full}
 
 -- ---- pairs
@@ -24,12 +24,7 @@ use Rattle.meta_cache.proofs.SetLemmas.{numbered, blank, is_of, alone_at, touche
 -- one element in front that differs from the others
 pub AllPairs-cons : {X : Type 0} (R : X → X → Type 0) (x : X) (xs : List X) → All (R x) xs → AllPairs R xs
     → AllPairs R (x ∷ xs)
-AllPairs-cons {X = X} R x xs first rest = λ i j d less h. pair i j d less h
-  where
-    pair : (i j : ℕ) (d : X) → i < j → j < length (x ∷ xs) → R (get_or (x ∷ xs) i d) (get_or (x ∷ xs) j d)
-    pair i zero d less h = absurd (omega arith)
-    pair zero (suc j) d less h = first j d (omega arith)
-    pair (suc i) (suc j) d less h = rest i j d (omega arith) (omega arith)
+AllPairs-cons {X = X} R x xs first rest = search rules
 
 pub All-remove : {X : Type 0} (P : X → Type 0) (xs : List X) (i : ℕ) → All P xs → All P (remove xs i)
 All-remove P xs i all = All-append P (take i xs) (drop (suc i) xs) (All-take P i xs all) (All-drop P (suc i) xs all)
@@ -54,11 +49,7 @@ apart_from_others {X = X} R xs i d turned h pairs = λ k e l. other k e l (cases
 
 pub AllPairs-take : {X : Type 0} (R : X → X → Type 0) (n : ℕ) (xs : List X) → n ≤ length xs → AllPairs R xs
     → AllPairs R (take n xs)
-AllPairs-take R n xs long pairs =
-    λ i j d less h.
-    let low : j < n = omega (arith, h, length-take-le n xs long) in
-    subst (λ x. R x (get_or (take n xs) j d)) (sym (get_or-take n xs i d (omega arith)))
-    (subst (λ x. R (get_or xs i d) x) (sym (get_or-take n xs j d low)) (pairs i j d less (omega arith)))
+AllPairs-take R n xs long pairs = search (rules, length-take-le, get_or, get_or-take)
 
 -- ---- a change that keeps ways and positions
 
@@ -100,20 +91,12 @@ whole_if v0 a b ha hb = search rules
 pub IsSetOf-with_slot_line : (g : Shape) (n : ℕ) (slots : List Slot) (x : ℕ) (line : Line) → IsLine line
     → IsSetOf g n slots → IsSetOf g n (with_slot_line slots x line)
 unfolding with_slot_line
-IsSetOf-with_slot_line g n slots x line whole form =
-    IsSetOf-map g n (λ slot. cond (slot.position == x) (lined slot line) slot) slots
-    (λ slot. same_way_if (slot.position == x) (lined slot line) slot refl)
-    (λ slot. same_position_if (slot.position == x) (lined slot line) slot refl)
-    (λ slot h. whole_if (slot.position == x) (lined slot line) slot whole h) form
+IsSetOf-with_slot_line g n slots x line whole form = search (rules, IsSetOf-map, same_way_if, same_position_if, whole_if)
 
 pub IsSetOf-with_mark : (g : Shape) (n : ℕ) (slots : List Slot) (x : ℕ) (dirty : Bool)
     → IsSetOf g n slots → IsSetOf g n (with_mark slots x dirty)
 unfolding with_mark
-IsSetOf-with_mark g n slots x dirty form =
-    IsSetOf-map g n (λ slot. cond (slot.position == x) (slot_marked slot dirty) slot) slots
-    (λ slot. same_way_if (slot.position == x) (slot_marked slot dirty) slot refl)
-    (λ slot. same_position_if (slot.position == x) (slot_marked slot dirty) slot refl)
-    (λ slot h. whole_if (slot.position == x) (slot_marked slot dirty) slot h h) form
+IsSetOf-with_mark g n slots x dirty form = search (rules, IsSetOf-map, same_way_if, same_position_if, whole_if)
 
 -- ---- one slot comes first
 
@@ -158,8 +141,7 @@ pub ways_fit : (n : ℕ) (slots : List Slot)
     → ((w : ℕ) → w < n → list_any (λ (slot : Slot). slot.way == w) slots ≡ true) → n ≤ length slots
 ways_fit zero slots used = omega arith
 ways_fit (suc n) slots used =
-    let found : Any (λ (slot : Slot). (slot.way == n) ≡ true) slots =
-    Any-from_list_any (λ (slot : Slot). slot.way == n) slots (used n (omega arith)) in
+    let found : Any (λ (slot : Slot). (slot.way == n) ≡ true) slots = search (rules, Any-from_list_any) in
     let fewer : n ≤ length (remove slots found.0) =
     ways_fit n (remove slots found.0) (λ w h. still w h found.0 found.2
     (ap (λ (slot : Slot). slot.way) (get_or_default slots found.0 blank found.1 found.2 ∙ found.3) ∙ eqb-true found.1.way n found.4)
@@ -170,15 +152,10 @@ ways_fit (suc n) slots used =
         → Any (λ (slot : Slot). (slot.way == w) ≡ true) slots
         → list_any (λ (slot : Slot). slot.way == w) (remove slots i) ≡ true
     still w h i inside top found =
-        let here : (get_or slots found.0 blank).way ≡ w =
-        ap (λ (slot : Slot). slot.way) (get_or_default slots found.0 blank found.1 found.2 ∙ found.3) ∙ eqb-true found.1.way w found.4 in
+        let here : (get_or slots found.0 blank).way ≡ w = search (rules, get_or_default, eqb-true) in
         elim (cases_order found.0 i) [
           | inl same ↦ absurd (omega (arith, here, top, h, ap (λ k. (get_or slots k blank).way) same))
-          | inr (inl less) ↦
-              list_any_at (λ (slot : Slot). slot.way == w) (remove slots i) found.0 blank
-              (omega (arith, length-remove slots i inside))
-              (eq-eqb (get_or (remove slots i) found.0 blank).way w
-              (ap (λ (slot : Slot). slot.way) (get_or-remove_below slots i blank found.0 less inside) ∙ here))
+          | inr (inl less) ↦ search (rules, list_any_at, length-remove, eq-eqb, get_or, get_or-remove_below)
           | inr (inr more) ↦
               let next : found.0 - 1 + 1 ≡ found.0 = omega arith in
               list_any_at (λ (slot : Slot). slot.way == w) (remove slots i) (found.0 - 1) blank
@@ -234,10 +211,7 @@ free_way_free ways slots room =
 -- no slot holds the position
 pub apart_from_all : (slots : List Slot) (x : ℕ) → holds slots x ≡ false
     → All (λ (slot : Slot). x ≢ slot.position) slots
-apart_from_all slots x none =
-    λ k d h e.
-    both_ways (holds slots x) none
-    (list_any_at (is_of x) slots k d h (eq-eqb (get_or slots k d).position x (sym e)))
+apart_from_all slots x none = search (rules, both_ways, list_any_at, is_of, eq-eqb, get_or)
 
 IsSetOf-take : (g : Shape) (n m : ℕ) (slots : List Slot) → m ≤ length slots → IsSetOf g n slots
     → IsSetOf g n (take m slots)
@@ -256,12 +230,7 @@ pub IsSetOf-placed : (g : Shape) (n : ℕ) (slots : List Slot) (x : ℕ) (line :
     → IsSetOf g n (placed g.ways slots x line)
 IsSetOf-placed g n slots x line some whole its none form =
     elim (cases_lt (length slots) g.ways) [
-      | inl room ↦
-          subst (λ kept. IsSetOf g n (slot (next_way g.ways slots) ∷ kept))
-          (sym (cond-true (nat_lt (length slots) g.ways) slots (take (g.ways - 1) slots) (lt-ltb (length slots) g.ways room)))
-          (subst (λ way. IsSetOf g n (slot way ∷ slots)) (sym (next_way-room g.ways slots room))
-          (IsSetOf-cons g n (slot (free_way g.ways slots)) slots room (free_way_below g.ways slots room) its whole
-          (free_way_free g.ways slots room) (apart_from_all slots x none) form))
+      | inl room ↦ search (rules, cond-true, lt-ltb, next_way-room, IsSetOf-cons, free_way_below, free_way_free, apart_from_all)
       | inr full ↦
           let last : g.ways - 1 < length slots = omega arith in
           subst (λ kept. IsSetOf g n (slot (next_way g.ways slots) ∷ kept))

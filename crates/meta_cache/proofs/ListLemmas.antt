@@ -1,10 +1,11 @@
 -- Lists with one element apart from the others.
+use Rattle.std.proofs.lemmas.Grind.{common_steps}
 use Rattle.std.proofs.Common.{rules}
-use Rattle.std.proofs.Common.{◌≡◌, ℕ, suc, ◌+◌, ◌<◌, Bool, true, false, cond, List, [], ◌∷◌, ◌++◌, length, get_or, set, take, drop, map, refl, sym, ap, ap₂, ◌∙◌, arith, Option, Some, None}
+use Rattle.std.proofs.Common.{◌≡◌, ℕ, suc, ◌+◌, ◌<◌, Bool, true, false, cond, List, [], ◌∷◌, ◌++◌, length, get_or, set, take, drop, map, refl, sym, ap, ap₂, ◌∙◌, arith, Option}
 use Rattle.std.specs.Prelude.{not, slice_get, filter, remove, IsSome, is_some}
 use Rattle.std.specs.List.{cons_option, refill, All, filter_map}
 use Rattle.meta_cache.specs.Alone.{IsAlone}
-use Rattle.std.proofs.lemmas.Bool.{cond-true, cond-false, false≢true, not_from_true, not_from_false}
+use Rattle.std.proofs.lemmas.Bool.{cond-true, cond-false, not_from_true, not_from_false}
 use Rattle.std.proofs.lemmas.List.{take_at, set_at, map-append, drop_more, take_more, take-append-drop, length-take-le}
 use Rattle.std.proofs.lemmas.List.Elements.{All-head, All-tail, filter-append, filter_map-append}
 use Rattle.std.proofs.lemmas.List.Folds.{map_fixed}
@@ -97,7 +98,4 @@ none_of v0 none = search rules
 
 pub no_answer_more : {X Y : Type 0} (f : X → Option Y) (xs : List X) (i : ℕ) (d : X) → i < length xs
     → filter_map f (take i xs) ≡ [] → is_some (f (get_or xs i d)) ≡ false → filter_map f (take (i + 1) xs) ≡ []
-no_answer_more f xs i d h none silent =
-    ap (filter_map f) (take_more xs i d h)
-    ∙ filter_map-append f (take i xs) (get_or xs i d ∷ [])
-    ∙ ap₂ (λ a b. a ++ b) none (none_of (f (get_or xs i d)) silent)
+no_answer_more f xs i d h none silent = grind (arith, common_steps, take_more, filter_map-append, get_or, none_of)

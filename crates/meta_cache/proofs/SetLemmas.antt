@@ -1,9 +1,9 @@
 -- Slots of one set: where a position is, and what a call makes of the set.
 use Rattle.std.proofs.Common.{rules}
-use Rattle.std.proofs.Common.{◌≡◌, ℕ, ◌+◌, ◌-◌, ◌<◌, ◌≤◌, Bool, true, false, cond, List, [], ◌∷◌, ◌++◌, length, get_or, set, take, drop, refl, sym, ap, ap₂, ◌∙◌, inl, inr, subst, arith, Some, None}
-use Rattle.std.specs.Prelude.{◌==◌, ◌||◌, nat_lt, not, is_some, slice_get, remove, All, Any}
+use Rattle.std.proofs.Common.{◌≡◌, ℕ, ◌+◌, ◌-◌, ◌<◌, ◌≤◌, Bool, true, false, List, [], ◌∷◌, ◌++◌, length, get_or, set, take, drop, refl, sym, ap, ap₂, ◌∙◌, inl, inr, subst, arith}
+use Rattle.std.specs.Prelude.{◌==◌, not, is_some, remove, All, Any}
 use Rattle.std.specs.List.{list_any, position_or_len, range_with_len}
-use Rattle.std.proofs.lemmas.Bool.{cases_lt, eq-eqb, eqb-true, ne_eqb, cond-true, cond-false, both_ways, lt-ltb, le-ltb, not_from_true, not_from_false}
+use Rattle.std.proofs.lemmas.Bool.{cases_lt, eq-eqb, eqb-true, ne_eqb, cond-false, both_ways, le-ltb, not_from_true, not_from_false}
 use Rattle.std.proofs.lemmas.List.{get_or-take, get_or-drop, length-take-le, length-drop}
 use Rattle.std.proofs.lemmas.Option.{slice_get-get_or}
 use Rattle.std.proofs.lemmas.List.Folds.{Any-from_list_any}
@@ -12,7 +12,7 @@ use Rattle.std.proofs.lemmas.List.Sums.{position_or_len_is, fails_before_first, 
 use Rattle.pmem_base.specs.declared.lines.Line.{Line}
 use Rattle.meta_cache.specs.Alone.{IsAlone}
 use Rattle.meta_cache.specs.Banks.{Slot}
-use Rattle.meta_cache.specs.Sets.{holds, slot_with, touched, lined, slot_marked, with_slot_line, with_mark, free_way, way_over, next_way, ArePositionsApart}
+use Rattle.meta_cache.specs.Sets.{holds, slot_with, touched, lined, slot_marked, with_slot_line, with_mark, free_way, next_way, ArePositionsApart}
 use Rattle.meta_cache.proofs.ListLemmas.{filter_alone, filter_others, map_alone}
 
 -- whether a slot is that of position x
@@ -81,12 +81,7 @@ alone_at slots x d held apart =
 -- whether a slot is found
 pub is_some-slot_with : (slots : List Slot) (x : ℕ) → is_some (slot_with slots x) ≡ holds slots x
 is_some-slot_with [] x = refl
-is_some-slot_with (slot ∷ slots) x = by_test (slot.position == x) (is_some-slot_with slots x)
-  where
-    by_test : (test : Bool) → is_some (slot_with slots x) ≡ holds slots x
-        → is_some (cond test (Some slot) (slot_with slots x)) ≡ (test || holds slots x)
-    by_test true rest = refl
-    by_test false rest = rest
+is_some-slot_with (slot ∷ slots) x = search (rules, (is_some-slot_with slots x))
 
 -- ---- what a call makes of the set
 
@@ -144,7 +139,4 @@ next_way-room ways slots h = search rules
 pub next_way-full : (ways : ℕ) (slots : List Slot) (d : Slot) → 1 ≤ ways → ways ≤ length slots
     → next_way ways slots ≡ (get_or slots (ways - 1) d).way
 unfolding next_way
-next_way-full ways slots d some h =
-    ap (way_over ways slots)
-    (cond-false (nat_lt (length slots) ways) None (slice_get slots (ways - 1)) (le-ltb (length slots) ways h)
-    ∙ slice_get-get_or slots (ways - 1) d (omega arith))
+next_way-full ways slots d some h = search (rules, cond-false, le-ltb, slice_get-get_or)

@@ -1,8 +1,9 @@
 -- Slots that stand in a cache: cached and dirty positions, ways and numbers.
+use Rattle.std.proofs.lemmas.Grind.{common_steps}
 use Rattle.std.proofs.Common.{rules}
-use Rattle.std.proofs.Common.{◌≡◌, ◌≢◌, ℕ, zero, suc, ◌+◌, ◌*◌, ◌<◌, ◌≤◌, Bool, true, false, cond, Some, List, [], ◌∷◌, map, length, get_or, mul-le-mul_right, refl, sym, ap, ap₂, subst, ◌∙◌, inl, inr, arith}
-use Rattle.std.specs.Prelude.{◌==◌, ◌&&◌}
-use Rattle.std.specs.List.{All, AllPairs, Any, Contains}
+use Rattle.std.proofs.Common.{◌≡◌, ◌≢◌, ℕ, zero, suc, ◌+◌, ◌*◌, ◌<◌, ◌≤◌, Bool, true, false, cond, Some, List, [], ◌∷◌, map, length, get_or, mul-le-mul_right, sym, ap, ap₂, subst, ◌∙◌, inl, inr, arith}
+use Rattle.std.specs.Prelude.{◌==◌}
+use Rattle.std.specs.List.{All, AllPairs, Contains}
 use Rattle.std.proofs.lemmas.Bool.{cases_order, cond-true, cond-false, eqb-true, eq-eqb, ne_eqb, and_parts, and_from, false≢true}
 use Rattle.std.proofs.lemmas.List.{get_or_default, get_or-map, length-map}
 use Rattle.std.proofs.lemmas.List.Folds.{Any-from_list_any, list_any_at}
@@ -18,8 +19,7 @@ pub All-stands : (P : Slot → Type 0) (set : List Slot) (slot : Slot) → All P
 All-stands P set slot all stands = subst P stands.2 (all stands.0 slot stands.1)
 
 pub stands_at : (set : List Slot) (k : ℕ) (d : Slot) → k < length set → Contains set (get_or set k d)
-stands_at set k d h =
-    (k, h, get_or_default set k (get_or set k d) d h)
+stands_at set k d h = search (rules, get_or_default, get_or)
 
 pub All-from_stands : (P : Slot → Type 0) (set : List Slot) → ((slot : Slot) → Contains set slot → P slot) → All P set
 All-from_stands P set each = λ k d h. each (get_or set k d) (stands_at set k d h)
@@ -27,34 +27,18 @@ All-from_stands P set each = λ k d h. each (get_or set k d) (stands_at set k d 
 -- a position that is cached dirty has a dirty slot
 pub dirty_slot : (g : Shape) (cache : Banks) (bank x : ℕ) → is_cached_dirty g cache bank x ≡ true
     → (slot : Slot) × Contains (set_of cache bank (set_index g x)) slot × (slot.position ≡ x) × (slot.dirty ≡ true)
-dirty_slot g cache bank x dirty =
-    let found : Any (λ (slot : Slot). (slot.position == x && slot.dirty) ≡ true) (set_of cache bank (set_index g x)) =
-    Any-from_list_any (λ (slot : Slot). slot.position == x && slot.dirty) (set_of cache bank (set_index g x)) dirty in
-    let parts : (found.1.position == x ≡ true) × (found.1.dirty ≡ true) =
-    and_parts (found.1.position == x) found.1.dirty found.4 in (
-      found.1,
-      (found.0, found.2, found.3),
-      eqb-true found.1.position x parts.0,
-      parts.1,
-    )
+dirty_slot g cache bank x dirty = search (rules, Any-from_list_any, and_parts, eqb-true)
 
 -- a position that is cached has a slot
 pub cached_slot : (g : Shape) (cache : Banks) (bank x : ℕ) → is_cached g cache bank x ≡ true
     → (slot : Slot) × Contains (set_of cache bank (set_index g x)) slot × (slot.position ≡ x)
-cached_slot g cache bank x cached =
-    let found : Any (λ (slot : Slot). (slot.position == x) ≡ true) (set_of cache bank (set_index g x)) =
-    Any-from_list_any (λ (slot : Slot). slot.position == x) (set_of cache bank (set_index g x)) cached in
-    (found.1, (found.0, found.2, found.3), eqb-true found.1.position x found.4)
+cached_slot g cache bank x cached = search (rules, Any-from_list_any, eqb-true)
 
 -- a dirty slot in its position's set makes the position cached dirty
 pub is_cached_dirty_from : (g : Shape) (cache : Banks) (bank : ℕ) (slot : Slot)
     → Contains (set_of cache bank (set_index g slot.position)) slot → slot.dirty ≡ true
     → is_cached_dirty g cache bank slot.position ≡ true
-is_cached_dirty_from g cache bank slot stands dirty =
-    list_any_at (λ (s : Slot). s.position == slot.position && s.dirty) (set_of cache bank (set_index g slot.position))
-    stands.0 slot stands.1
-    (ap (λ (s : Slot). s.position == slot.position && s.dirty) stands.2
-    ∙ and_from (slot.position == slot.position) slot.dirty (eq-eqb slot.position slot.position refl) dirty)
+is_cached_dirty_from g cache bank slot stands dirty = search (rules, list_any_at, and_from, eq-eqb)
 
 -- two slots of a set with one way are one
 pub same_way : (set : List Slot) (a b : Slot) → AllPairs (λ a b. a.way ≢ b.way) set → Contains set a → Contains set b
@@ -134,10 +118,7 @@ is_cached_dirty_still g old new bank x still dirty = by_slot (dirty_slot g old b
 slot_with-at : (slots : List Slot) (k : ℕ) (d slot : Slot) → ArePositionsApart slots → k < length slots
     → get_or slots k d ≡ slot → slot_with slots slot.position ≡ Some slot
 slot_with-at [] k d slot apart h e = absurd (omega (arith, h))
-slot_with-at (first ∷ rest) zero d slot apart h e =
-    cond-true (first.position == slot.position) (Some first) (slot_with rest slot.position)
-    (eq-eqb first.position slot.position (ap (λ (s : Slot). s.position) e))
-    ∙ ap (λ (s : Slot). Some s) e
+slot_with-at (first ∷ rest) zero d slot apart h e = search (rules, cond-true, eq-eqb)
 slot_with-at (first ∷ rest) (suc k) d slot apart h e =
     cond-false (first.position == slot.position) (Some first) (slot_with rest slot.position)
     (ne_eqb first.position slot.position
@@ -167,11 +148,7 @@ contained-map f slots slot stands =
 
 map-contained : (f : Slot → Slot) (slots : List Slot) (slot : Slot) → Contains slots slot
     → Contains (map f slots) (f slot)
-map-contained f slots slot stands = (
-  stands.0,
-  omega (arith, stands.1, length-map slots f),
-  get_or-map f slots stands.0 slot (f slot) stands.1 ∙ ap f stands.2,
-)
+map-contained f slots slot stands = search (rules, length-map, get_or-map)
 
 -- a block is cleaned: each slot was there before, ..
 pub IsFromBefore-cleaned : (slots : List Slot) (x : ℕ) (slot : Slot) → Contains (with_mark slots x false) slot
@@ -198,14 +175,4 @@ IsFromBefore-cleaned slots x slot stands =
 pub IsStillDirty-cleaned : (slots : List Slot) (x : ℕ) (slot : Slot) → Contains slots slot → slot.dirty ≡ true
     → slot.position ≢ x → IsStillDirty (with_mark slots x false) slot
 unfolding with_mark
-IsStillDirty-cleaned slots x slot stands dirty apart =
-    let same : cond (slot.position == x) (slot_marked slot false) slot ≡ slot =
-    cond-false (slot.position == x) (slot_marked slot false) slot (ne_eqb slot.position x apart) in
-    record {
-      now = slot;
-      stands =
-          subst (Contains (map (λ s. cond (s.position == x) (slot_marked s false) s) slots)) same
-          (map-contained (λ s. cond (s.position == x) (slot_marked s false) s) slots slot stands);
-      position = refl;
-      dirty = dirty;
-    }
+IsStillDirty-cleaned slots x slot stands dirty apart = grind (arith, common_steps, cond-false, ne_eqb, map-contained)

@@ -1,6 +1,6 @@
 -- A call changes one set through the bank that it stands in.
 use Rattle.std.proofs.Common.{rules}
-use Rattle.std.proofs.Common.{◌≡◌, ℕ, ◌<◌, ◌≤◌, true, false, List, [], length, get_or, set, sym, ap, subst, ◌∙◌, arith}
+use Rattle.std.proofs.Common.{◌≡◌, ℕ, ◌<◌, ◌≤◌, true, false, List, [], get_or, set, sym, subst}
 use Rattle.std.proofs.lemmas.List.{get_or_default}
 use Rattle.pmem_base.specs.Shape.{Shape}
 use Rattle.meta_cache.specs.Banks.{Slot, Banks, set_of, set_index, is_cached}
@@ -34,17 +34,7 @@ its_slots change g banks now bank x n from here new step = search rules
 new_banks : (change : List Slot → List Slot) (g : Shape) (banks : Banks) (now : CacheState) (bank x n from : ℕ)
     (here new : List (List Slot)) → IsStep change g banks now bank x n from here new
     → set banks from new ≡ with_set banks bank n (change (set_of banks bank n))
-new_banks change g banks now bank x n from here new step =
-    let levels : bank ≤ g.levels = (inside change g banks now bank x n from here new step).its_bank in
-    let place : from ≡ bank = step.place in
-    let low : from < length banks = omega (arith, step.form.its_banks, levels, place) in
-    let bank_read : here ≡ get_or banks bank [] =
-    step.read ∙ get_or_default banks from here [] low ∙ ap (λ b. get_or banks b []) place in
-    ap (λ b. set banks b new) place
-    ∙ ap (set banks bank)
-    (step.written
-    ∙ ap (λ sets. set sets n (change (get_or sets n []))) bank_read
-    ∙ ap (λ slots. set (get_or banks bank []) n (change slots)) (sym (set_of-get_or banks bank n)))
+new_banks change g banks now bank x n from here new step = search (rules, inside, get_or_default, get_or, set_of-get_or)
 
 -- the cache keeps its form where the set does
 pub keeps_form : (change : List Slot → List Slot) (g : Shape) (banks : Banks) (now : CacheState) (bank x n from : ℕ)

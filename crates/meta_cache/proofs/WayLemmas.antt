@@ -7,7 +7,7 @@ use Rattle.std.proofs.lemmas.Bool.{both_ways, eqb-true, cond-false}
 use Rattle.std.proofs.lemmas.List.Folds.{find-append}
 use Rattle.pmem_base.specs.declared.lines.Line.{Line}
 use Rattle.meta_cache.specs.Banks.{Slot}
-use Rattle.meta_cache.specs.Sets.{holds, slot_with, way_in, KeepsWays, touched, lined, slot_marked, with_slot_line, with_mark, next_way, placed}
+use Rattle.meta_cache.specs.Sets.{holds, slot_with, way_in, KeepsWays, touched, with_slot_line, with_mark, next_way, placed}
 use Rattle.meta_cache.proofs.SetLemmas.{is_of, is_some-slot_with}
 use Rattle.meta_cache.proofs.FormLemmas.{same_way_if, same_position_if}
 
@@ -16,22 +16,12 @@ use Rattle.meta_cache.proofs.FormLemmas.{same_way_if, same_position_if}
 find-filter_kept : {X : Type 0} (p q : X → Bool) (xs : List X) → ((x : X) → q x ≡ false → p x ≡ false)
     → find p (filter q xs) ≡ find p xs
 find-filter_kept p q [] only = refl
-find-filter_kept p q (x ∷ xs) only = by_test (q x) refl (find-filter_kept p q xs only)
-  where
-    by_test : (test : Bool) → q x ≡ test → find p (filter q xs) ≡ find p xs
-        → find p (cond test (x ∷ filter q xs) (filter q xs)) ≡ cond (p x) (Some x) (find p xs)
-    by_test true e rest = ap (λ found. cond (p x) (Some x) found) rest
-    by_test false e rest = rest ∙ sym (cond-false (p x) (Some x) (find p xs) (only x e))
+find-filter_kept p q (x ∷ xs) only = search (rules, (find-filter_kept p q xs only))
 
 find-filter_none : {X : Type 0} (p q : X → Bool) (xs : List X) → ((x : X) → q x ≡ true → p x ≡ false)
     → find p (filter q xs) ≡ None
 find-filter_none p q [] none = refl
-find-filter_none p q (x ∷ xs) none = by_test (q x) refl (find-filter_none p q xs none)
-  where
-    by_test : (test : Bool) → q x ≡ test → find p (filter q xs) ≡ None
-        → find p (cond test (x ∷ filter q xs) (filter q xs)) ≡ None
-    by_test true e rest = cond-false (p x) (Some x) (find p (filter q xs)) (none x e) ∙ rest
-    by_test false e rest = rest
+find-filter_none p q (x ∷ xs) none = search (rules, (find-filter_none p q xs none))
 
 option_or-some : {X : Type 0} (found other : Option X) → is_some found ≡ true → option_or found other ≡ found
 option_or-some v0 other e = search rules
@@ -42,30 +32,15 @@ ways-map : (f : Slot → Slot) → ((slot : Slot) → (f slot).position ≡ slot
     → ((slot : Slot) → (f slot).way ≡ slot.way) → (slots : List Slot) (x : ℕ)
     → way_in (map f slots) x ≡ way_in slots x
 ways-map f positions ways [] x = refl
-ways-map f positions ways (slot ∷ slots) x =
-    ap (λ position. option_map (λ (s : Slot). s.way) (cond (position == x) (Some (f slot)) (slot_with (map f slots) x)))
-    (positions slot)
-    ∙ by_test (slot.position == x) (ways-map f positions ways slots x)
-  where
-    by_test : (test : Bool) → way_in (map f slots) x ≡ way_in slots x
-        → option_map (λ (s : Slot). s.way) (cond test (Some (f slot)) (slot_with (map f slots) x))
-        ≡ option_map (λ (s : Slot). s.way) (cond test (Some slot) (slot_with slots x))
-    by_test true rest = ap (λ way. Some way) (ways slot)
-    by_test false rest = rest
+ways-map f positions ways (slot ∷ slots) x = search (rules, (ways-map f positions ways slots x))
 
 pub KeepsWays-with_slot_line : (slots : List Slot) (x : ℕ) (line : Line) → KeepsWays slots (with_slot_line slots x line)
 unfolding with_slot_line
-KeepsWays-with_slot_line slots x line y before after =
-    ways-map (λ slot. cond (slot.position == x) (lined slot line) slot)
-    (λ slot. same_position_if (slot.position == x) (lined slot line) slot refl)
-    (λ slot. same_way_if (slot.position == x) (lined slot line) slot refl) slots y
+KeepsWays-with_slot_line slots x line y before after = search (rules, ways-map, same_position_if, same_way_if)
 
 pub KeepsWays-with_mark : (slots : List Slot) (x : ℕ) (dirty : Bool) → KeepsWays slots (with_mark slots x dirty)
 unfolding with_mark
-KeepsWays-with_mark slots x dirty y before after =
-    ways-map (λ slot. cond (slot.position == x) (slot_marked slot dirty) slot)
-    (λ slot. same_position_if (slot.position == x) (slot_marked slot dirty) slot refl)
-    (λ slot. same_way_if (slot.position == x) (slot_marked slot dirty) slot refl) slots y
+KeepsWays-with_mark slots x dirty y before after = search (rules, ways-map, same_position_if, same_way_if)
 
 -- one number is not another
 apart : (position x y : ℕ) → (x == y) ≡ false → (position == x) ≡ true → (position == y) ≡ false

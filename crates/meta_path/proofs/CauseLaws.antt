@@ -1,5 +1,5 @@
 -- What the faults of a fetch say of the cache and of the board.
-use Rattle.std.proofs.Common.{◌≡◌, ℕ, zero, suc, ◌+◌, ◌<◌, ◌≤◌, true, cond, List, [], ◌∷◌, refl, sym, ap, subst, ◌∙◌, inl, inr, arith, mod-lt, Option, Some, None}
+use Rattle.std.proofs.Common.{rules, ◌≡◌, ℕ, zero, suc, ◌+◌, ◌<◌, ◌≤◌, true, cond, List, [], ◌∷◌, refl, sym, ap, subst, ◌∙◌, inl, inr, arith, mod-lt, Option, Some, None}
 use Rattle.std.specs.Prelude.{All, Contains, IsSomeAnd}
 use Rattle.std.proofs.lemmas.Bool.{cases_eq, cond-true}
 use Rattle.std.proofs.lemmas.List.Sums.{sum_by-cons}
@@ -9,7 +9,7 @@ use Rattle.pmem_base.specs.Layout.{pages}
 use Rattle.pmem_base.specs.Lines.{IsLine, line_at}
 use Rattle.suite.specs.Formulas.{Formulas, AreInRange}
 use Rattle.seal_ledger.specs.Ledger.{LedgerState}
-use Rattle.bonsai_tree.specs.Positions.{parent, child_slot}
+use Rattle.bonsai_tree.specs.Positions.{child_slot}
 use Rattle.bonsai_tree.specs.Nodes.{child_digest}
 use Rattle.bonsai_tree.proofs.PathPositions.{path_of-top}
 use Rattle.bonsai_tree.proofs.Trees.{IsHashTree-child}
@@ -101,13 +101,10 @@ pub record IsRight (g : Shape) (f : Formulas) (truth : List Line) (root : List �
 pub expected_digest-true : (g : Shape) (f : Formulas) (truth : List Line) (root : List ℕ) (banks : Banks) (page n : ℕ)
     → page < pages g → n ≤ g.levels → HasParent g banks n (path_at g page n) → IsRight g f truth root banks
     → expected_digest g root banks n (path_at g page n) ≡ f.digest_of (path_at g page n) (line_at truth (path_at g page n))
-expected_digest-true g f truth root banks page zero inside le parent_here right =
-    right.tree.root_digest ∙ ap (λ x. f.digest_of x (line_at truth x)) (sym (path_of-top g page inside))
+expected_digest-true g f truth root banks page zero inside le parent_here right = search (rules, path_of-top)
 expected_digest-true g f truth root banks page (suc above) inside le parent_here right =
-    ap (λ l. child_digest l (child_slot (path_at g page (suc above))))
-    (line_in-true g banks truth above (parent (path_at g page (suc above))) right.is_true parent_here.1)
-    ∙ IsHashTree-child g f truth (path_at g page (suc above)) right.in_range right.tree.tree right.whole parent_here.0
-    (path_at-lt g page (suc above) inside le)
+    ap (λ l. child_digest l (child_slot (path_at g page (suc above)))) (line_in-true g banks truth above _ right.is_true parent_here.1)
+    ∙ IsHashTree-child g f truth _ right.in_range right.tree.tree right.whole parent_here.0 (path_at-lt g page (suc above) inside le)
 
 -- so a refused line has another digest than the true one, and a shown one has its digest
 pub IsFaultCaused-fault : (g : Shape) (f : Formulas) (page : ℕ) (old new : FetchState) (old_ledger new_ledger : LedgerState)

@@ -1,24 +1,20 @@
 -- A path is fetched level by level.
 use Rattle.std.proofs.Common.{rules, ◌≡◌, ℕ, zero, suc, ◌+◌, ◌<◌, ◌≤◌, true, false, cond, List, [], ◌++◌, length, refl, sym, ap, subst, subst₂, ◌∙◌, inl, inr, arith}
-use Rattle.std.specs.Prelude.{option_map, unwrap_or}
 use Rattle.std.proofs.lemmas.Bool.{cases_eq, both_ways}
 use Rattle.std.proofs.lemmas.List.{append-nil}
 use Rattle.pmem_base.specs.declared.lines.Line.{Line}
 use Rattle.pmem_base.specs.Counts.{HasRisen, risen_times}
 use Rattle.pmem_base.specs.Shape.{Shape}
 use Rattle.pmem_base.specs.Layout.{pages, meta_line}
-use Rattle.pmem_base.specs.Lines.{line_at, zero_line}
+use Rattle.pmem_base.specs.Lines.{line_at}
 use Rattle.suite.specs.Formulas.{Formulas}
 use Rattle.board.specs.Counts.{RisesBy}
 use Rattle.board.specs.Device.{Device}
 use Rattle.board.specs.Steps.{Tells, WasCut}
 use Rattle.board.proofs.CountLemmas.{HasRisen-once}
 use Rattle.seal_ledger.specs.Ledger.{LedgerState}
-use Rattle.bonsai_tree.specs.Positions.{parent, child_slot}
-use Rattle.bonsai_tree.specs.Nodes.{child_digest}
-use Rattle.meta_cache.specs.declared.slot.Slot.{Slot}
 use Rattle.meta_cache.specs.Banks.{Banks, set_of, set_index, is_cached}
-use Rattle.meta_cache.specs.Sets.{holds, slot_with}
+use Rattle.meta_cache.specs.Sets.{holds}
 use Rattle.meta_cache.specs.State.{CacheState}
 use Rattle.meta_path.specs.declared.faults.PathFault.{PathFault}
 use Rattle.meta_path.specs.declared.faults.PathFault.TheVariants as Fault
@@ -65,9 +61,7 @@ expected_digest-same : (g : Shape) (root : List ℕ) (a b : Banks) (bank x : ℕ
     → ((above set : ℕ) → above < bank → set_of a above set ≡ set_of b above set)
     → expected_digest g root a bank x ≡ expected_digest g root b bank x
 expected_digest-same g root a b zero x same = refl
-expected_digest-same g root a b (suc above) x same =
-    ap (λ slots. child_digest (unwrap_or (option_map (λ (s : Slot). s.line) (slot_with slots (parent x))) zero_line) (child_slot x))
-    (same above (set_index g (parent x)) (omega arith))
+expected_digest-same g root a b (suc above) x same = search rules
 
 -- ---- one level more
 
@@ -85,11 +79,7 @@ module _ {g : Shape} {f : Formulas} {truth : List Line} {page n : ℕ} {old mid 
         shape = level.cache.shape ∙ before.cache.shape;
         fetched = λ j h.
             elim (cases_eq j n) [
-              | inl same ↦
-                  subst (λ k. slots_at g new.cache.banks k (path_at g page k) ≡ fetched_set g truth old.cache.banks k (path_at g page k))
-                  (sym same)
-                  (level.cache.here
-                  ∙ fetched_set-same g truth mid.cache.banks old.cache.banks n (path_at g page n) (same_here before))
+              | inl same ↦ search (rules, fetched_set-same, same_here)
               | inr other ↦
                   level.cache.elsewhere j (set_index g (path_at g page j)) (λ e. other e.0) ∙ before.cache.fetched j (omega arith)
             ];
@@ -116,12 +106,7 @@ module _ {g : Shape} {f : Formulas} {truth : List Line} {page n : ℕ} {old mid 
             ];
         checked = λ j h absent.
             elim (cases_eq j n) [
-              | inl same ↦
-                  subst (λ k. f.digest_of (path_at g page k) (line_at truth (path_at g page k))
-                  ≡ expected_digest g old.device.regs.root new.cache.banks k (path_at g page k)) (sym same)
-                  (level.checked (still (ap (λ k. is_cached g old.cache.banks k (path_at g page k)) (sym same) ∙ absent))
-                  ∙ ap (λ root. expected_digest g root mid.cache.banks n (path_at g page n)) (ap (λ regs. regs.root) before.work.regs)
-                  ∙ expected_later n (omega arith))
+              | inl same ↦ search rules
               | inr other ↦ before.levels.checked j (omega arith) absent ∙ expected_later j (omega arith)
             ];
       }
@@ -146,17 +131,14 @@ module _ {g : Shape} {f : Formulas} {truth : List Line} {page n : ℕ} {old mid 
         levels = checked_more of le;
         work =
             subst₂ (λ times entries. HasWorked (absent_count g old.cache.banks page n + times)
-            (spilled g old.cache.banks page n ++ entries) old.device new.device)
-            (level_reads-same g mid.cache.banks old.cache.banks n (path_at g page n) same)
-            (level_write-same g mid.cache.banks old.cache.banks n (path_at g page n) same)
-            (HasWorked-then (absent_count g old.cache.banks page n) (level_reads g mid.cache.banks n (path_at g page n))
-            (spilled g old.cache.banks page n) (level_write g mid.cache.banks n (path_at g page n)) old.device mid.device new.device
+            (spilled g old.cache.banks page n ++ entries) old.device new.device) (level_reads-same g mid.cache.banks old.cache.banks n _ same)
+            (level_write-same g mid.cache.banks old.cache.banks n _ same) (HasWorked-then _ _ _ _ old.device mid.device new.device
             before.work level.work);
         digests =
             level.digests
-            ∙ ap (λ times. risen_times times mid.digests) (level_reads-same g mid.cache.banks old.cache.banks n (path_at g page n) same)
-            ∙ ap (risen_times (level_reads g old.cache.banks n (path_at g page n))) before.digests
-            ∙ sym (risen_times-add (absent_count g old.cache.banks page n) (level_reads g old.cache.banks n (path_at g page n)) old.digests);
+            ∙ ap (λ times. risen_times times mid.digests) (level_reads-same g mid.cache.banks old.cache.banks n _ same)
+            ∙ ap (risen_times _) before.digests
+            ∙ sym (risen_times-add _ _ old.digests);
       }
 
 -- ---- a level that isn't fetched
@@ -176,23 +158,21 @@ pub cut_at : {g : Shape} {truth : List Line} {n : ℕ} (f : Formulas) (page : �
 cut_at {g = g} {n = n} f page old mid new tries between le before absent few read cut victim =
     let same = same_here before in
     let work : HasWorked (absent_count g old.cache.banks page n + tries) (spilled g old.cache.banks page n) old.device between =
-    subst (λ entries. HasWorked (absent_count g old.cache.banks page n + tries) entries old.device between)
-    (append-nil (spilled g old.cache.banks page n))
-    (HasWorked-then _ tries (spilled g old.cache.banks page n) [] old.device mid.device between before.work read) in
+    subst (λ entries. HasWorked (absent_count g old.cache.banks page n + tries) entries old.device between) (append-nil _)
+    (HasWorked-then _ tries _ [] old.device mid.device between before.work read) in
     record {
       n = n;
       on_path = le;
-      absent = sym (is_cached-same g mid.cache.banks old.cache.banks n (path_at g page n) same) ∙ absent;
+      absent = sym (is_cached-same g mid.cache.banks old.cache.banks n _ same) ∙ absent;
       cache = before.cache;
       levels = record { told = before.levels.told; checked = before.levels.checked };
       tries = absent_count g old.cache.banks page n + tries;
       at_least = omega arith;
       at_most = omega (arith, few);
-      reads = subst (RisesBy (absent_count g old.cache.banks page n + tries) old.device.reads) (sym cut.reads) work.reads;
-      digests =
-          ap (risen_times tries) before.digests ∙ sym (risen_times-add (absent_count g old.cache.banks page n) tries old.digests);
+      reads = subst (RisesBy _ old.device.reads) (sym cut.reads) work.reads;
+      digests = ap (risen_times tries) before.digests ∙ sym (risen_times-add _ tries old.digests);
       lines = cut.lines ∙ work.lines;
-      writes = subst (RisesBy (length (spilled g old.cache.banks page n)) old.device.writes) (sym cut.writes) work.writes;
+      writes = subst (RisesBy (length _) old.device.writes) (sym cut.writes) work.writes;
       unsteady = not_steady work.steady cut.unsteady;
       off = cut.off;
       never_falls = omega (arith, cut.cuts.never_falls, work.cuts);
@@ -208,9 +188,7 @@ cut_at {g = g} {n = n} f page old mid new tries between le before absent few rea
 -- a fetched position is cached
 pub cached_at : (g : Shape) (truth : List Line) (page n : ℕ) (old new : CacheState) (j : ℕ)
     → HasFetchedSets g truth page n old new → j < n → is_cached g new.banks j (path_at g page j) ≡ true
-cached_at g truth page n old new j fetched h =
-    ap (λ slots. holds slots (path_at g page j)) (fetched.fetched j h)
-    ∙ holds-fetched_set g truth old.banks j (path_at g page j)
+cached_at g truth page n old new j fetched h = search (rules, holds-fetched_set)
 
 pub HasParent-at : (g : Shape) (truth : List Line) (page n : ℕ) (old new : CacheState) → page < pages g → n ≤ g.levels
     → HasFetchedSets g truth page n old new → HasParent g new.banks n (path_at g page n)
@@ -232,9 +210,6 @@ IsPathCached-fetched g truth page old new fetched =
 pub cached_no_fault : (g : Shape) (f : Formulas) (page : ℕ) (old new : FetchState) (old_ledger new_ledger : LedgerState)
     (fault : PathFault) → IsPathCached g old.cache.banks page
     → IsPathFault g f page old new old_ledger new_ledger fault → ⊥
-cached_no_fault g f page old new old_ledger new_ledger Fault.Cut cached h =
-    both_ways (is_cached g old.cache.banks h.0.n (path_at g page h.0.n)) h.0.absent (cached.each h.0.n h.0.on_path)
-cached_no_fault g f page old new old_ledger new_ledger (Fault.Meta x) cached h =
-    both_ways (is_cached g old.cache.banks h.0.n (path_at g page h.0.n)) h.0.read.absent (cached.each h.0.n h.0.read.on_path)
-cached_no_fault g f page old new old_ledger new_ledger Fault.Shown cached h =
-    both_ways (is_cached g old.cache.banks h.n (path_at g page h.n)) h.read.absent (cached.each h.n h.read.on_path)
+cached_no_fault g f page old new old_ledger new_ledger Fault.Cut cached h = search (rules, both_ways)
+cached_no_fault g f page old new old_ledger new_ledger (Fault.Meta x) cached h = search (rules, both_ways)
+cached_no_fault g f page old new old_ledger new_ledger Fault.Shown cached h = search (rules, both_ways)

@@ -1,5 +1,5 @@
 -- The plans of a level that is fetched, at each of their ends.
-use Rattle.std.proofs.Common.{◌≡◌, ◌≢◌, ℕ, Bool, true, false, List, Result, Ok, Err, sym, ap₂, subst}
+use Rattle.std.proofs.Common.{rules, ◌≡◌, ◌≢◌, ℕ, Bool, true, false, List, Result, Ok, Err, sym, ap₂, subst}
 use Rattle.std.specs.Prelude.{if◌then◌else◌}
 use Rattle.pmem_base.specs.declared.faults.Cut.{Cut}
 use Rattle.pmem_base.specs.declared.lines.Line.{Line}
@@ -45,8 +45,7 @@ module _ (f : Formulas) (root : List ℕ) (bank x : ℕ) (at : FetchParts) (old 
 
   pub check_cut : WasCut old new → old.live ≡ false → Follows (check_plan f root bank x at) old new (Err (at, Fault.Cut))
   unfolding check_plan
-  check_cut was off =
-      read_cut (at, Fault.Cut) (meta_line at.cache.shape x) (λ line. plan_of (same_bytes (f.digest_of x line) expected) line) was off
+  check_cut was off = search (rules, read_cut)
 
   module _ (line : Line) (was : HasRead old (meta_line at.cache.shape x) line new) (whole : IsLine line) where
     by_line : (fits : Bool) (end : Result (FetchParts × Line) (FetchParts × PathFault)) → same_bytes (f.digest_of x line) expected ≡ fits
@@ -56,8 +55,7 @@ module _ (f : Formulas) (root : List ℕ) (bank x : ℕ) (at : FetchParts) (old 
         read_then (at, Fault.Cut) was whole (subst (λ b. Follows (plan_of b line) new new end) (sym is) it)
 
     pub check_refused : f.digest_of x line ≢ expected → Follows (check_plan f root bank x at) old new (Err (after, Fault.Meta x))
-    check_refused differs =
-        by_line false (Err (after, Fault.Meta x)) (other_bytes (f.digest_of x line) expected differs) (is_stopped (after, Fault.Meta x) new)
+    check_refused differs = search (rules, by_line, other_bytes, is_stopped)
 
     -- both lines are shown
     abbrev clash : FetchParts × PathFault
@@ -72,14 +70,11 @@ module _ (f : Formulas) (root : List ℕ) (bank x : ℕ) (at : FetchParts) (old 
 
     module _ (fits : same_bytes (f.digest_of x line) expected ≡ true) where
       pub check_known : line ≡ line_at at.ledger.truth x → Follows (check_plan f root bank x at) old new (Ok (after, line))
-      check_known is =
-          by_line true (Ok (after, line)) fits (by_truth true (Ok (after, line)) (same_line line (line_at at.ledger.truth x) is) (is_done (after, line) new))
+      check_known is = search (rules, by_line, by_truth, same_line, is_done)
 
       pub check_shown : line ≢ line_at at.ledger.truth x
           → Follows (check_plan f root bank x at) old new (Err clash)
-      check_shown differs =
-          by_line true (Err clash) fits
-          (by_truth false (Err clash) (other_line line (line_at at.ledger.truth x) differs) (is_stopped clash new))
+      check_shown differs = search (rules, by_line, by_truth, other_line, is_stopped)
 
 -- ---- a level
 
@@ -93,17 +88,14 @@ module _ (f : Formulas) (root : List ℕ) (bank x : ℕ) (at : FetchParts) where
   pub level_cached : (d : Device) → is_cached at.cache.shape at.cache.banks bank x ≡ true
       → Follows (level_plan f root bank x at) d d (Ok (fetch_parts (touched_in at.cache bank x) at.ledger at.digests, tt))
   unfolding level_plan
-  level_cached d cached =
-      subst (λ b. Follows (level_of b) d d (Ok (fetch_parts (touched_in at.cache bank x) at.ledger at.digests, tt))) (sym cached)
-      (is_done (fetch_parts (touched_in at.cache bank x) at.ledger at.digests, tt) d)
+  level_cached d cached = search (rules, is_done)
 
   module _ (old new : Device) (absent : is_cached at.cache.shape at.cache.banks bank x ≡ false) where
     -- the line wasn't had
     pub level_unread : (left : FetchParts) (fault : PathFault) → Follows (check_plan f root bank x at) old new (Err (left, fault))
         → Follows (level_plan f root bank x at) old new (Err (left, fault))
     unfolding level_plan
-    level_unread left fault it =
-        subst (λ b. Follows (level_of b) old new (Err (left, fault))) (sym absent) (bind_err (place_plan bank x) it)
+    level_unread left fault it = search (rules, bind_err)
 
     -- the line was read and checked, and room was to be made
     pub level_placed : (mid : Device) (after : FetchParts) (line : Line) (end : Result (CacheState × Unit {0}) (CacheState × Cut))

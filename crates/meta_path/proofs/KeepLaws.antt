@@ -1,5 +1,5 @@
 -- What a fetch keeps, whatever it answers.
-use Rattle.std.proofs.Common.{◌≡◌, ℕ, ◌+◌, ◌-◌, ◌<◌, true, false, cond, List, [], ◌∷◌, get_or, refl, sym, ap, subst, ◌∙◌, ◌⊎◌, inl, inr, arith, Some}
+use Rattle.std.proofs.Common.{rules, ◌≡◌, ℕ, ◌+◌, ◌-◌, ◌<◌, true, false, cond, List, [], ◌∷◌, get_or, refl, sym, ap, subst, ◌∙◌, ◌⊎◌, inl, inr, arith, Some}
 use Rattle.std.specs.Prelude.{◌==◌, ◌||◌, option_map, unwrap_or, All, Contains}
 use Rattle.std.proofs.lemmas.Bool.{cases_Bool, cond-false, eqb-true, false≢true}
 use Rattle.std.proofs.lemmas.List.Elements.{All-contains, All-contains_itself, All-head, All-tail}
@@ -112,16 +112,15 @@ module _ {g : Shape} {truth : List Line} {page n : ℕ} {old new : CacheState} {
   written_back : (at : ℕ) → IsSpilledAt g old.banks page n at → WasWrittenBack g old.banks new.banks after.lines at
   written_back at spilled =
       let bank : ℕ = spilled.level in
-      let set : ℕ = set_index g (path_at g page spilled.level) in
+      let set : ℕ = set_index g _ in
       let way =
       given_way part bank set spilled.victim (record { reached = spilled.reached; its_set = refl }) spilled.absent
-      (part.fetched.fetched bank spilled.reached ∙ cond-false (is_cached g old.banks bank (path_at g page bank)) _ _ spilled.absent)
-      spilled.is_victim in
+      (part.fetched.fetched bank spilled.reached ∙ cond-false _ _ _ spilled.absent) spilled.is_victim in
       record {
         bank = bank;
         set = set;
         slot = spilled.victim;
-        was_cached = victim_contained g.ways (set_of old.banks bank set) spilled.victim (part.of.sets.each bank set).room spilled.is_victim;
+        was_cached = victim_contained g.ways _ spilled.victim (part.of.sets.each bank set).room spilled.is_victim;
         was_dirty = spilled.dirty;
         gone = way.gone;
         place = spilled.place;
@@ -156,12 +155,11 @@ module _ {g : Shape} {truth : List Line} {page n : ℕ} {old new : CacheState} {
   cached_true is_true =
       record {
         each = λ bank set.
-            all_of (λ slot. slot.line ≡ line_at truth slot.position) (set_of new.banks bank set)
+            all_of (λ slot. slot.line ≡ line_at truth slot.position) _
             (λ slot found.
             elim (slots_now part bank set slot found) [
               | inl stood ↦
-                  All-contains (λ (s : Slot). s.line ≡ line_at truth s.position) (set_of old.banks bank set) slot
-                  (is_true.each bank set) stood
+                  All-contains (λ (s : Slot). s.line ≡ line_at truth s.position) (set_of old.banks bank set) slot (is_true.each bank set) stood
               | inr came ↦ came.true_line
             ]);
       }
@@ -207,10 +205,7 @@ line_in-true g banks truth bank x is_true cached =
     found [] all held = absurd (false≢true held)
     found (slot ∷ slots) all held =
         elim (cases_Bool (slot.position == x)) [
-          | inl same ↦
-              ap (λ test. unwrap_or (option_map (λ (s : Slot). s.line) (cond test (Some slot) (slot_with slots x))) zero_line) same
-              ∙ All-head (λ (s : Slot). s.line ≡ line_at truth s.position) slot slots all
-              ∙ ap (line_at truth) (eqb-true slot.position x same)
+          | inl same ↦ search (rules, All-head, eqb-true)
           | inr other ↦
               ap (λ test. unwrap_or (option_map (λ (s : Slot). s.line) (cond test (Some slot) (slot_with slots x))) zero_line) other
               ∙ found slots (All-tail (λ (s : Slot). s.line ≡ line_at truth s.position) slot slots all)

@@ -1,5 +1,5 @@
 -- What a fetch keeps, from the levels that it fetched.
-use Rattle.std.proofs.Common.{◌≡◌, ◌≢◌, ℕ, zero, suc, ◌+◌, ◌-◌, ◌<◌, ◌≤◌, Bool, true, false, cond, List, [], ◌∷◌, ◌++◌, length, refl, sym, ap, ap₂, subst, ◌∙◌, ◌⊎◌, inl, inr, arith, mod-lt, Option, Some, None}
+use Rattle.std.proofs.Common.{rules, ◌≡◌, ◌≢◌, ℕ, zero, suc, ◌+◌, ◌-◌, ◌<◌, ◌≤◌, Bool, true, false, cond, List, [], ◌∷◌, ◌++◌, length, refl, sym, ap, ap₂, subst, ◌∙◌, ◌⊎◌, inl, inr, arith, mod-lt, Option, Some, None}
 use Rattle.std.specs.Prelude.{Contains}
 use Rattle.std.proofs.lemmas.Bool.{cases_eq, cases_lt, cases_Bool, cond-true, cond-false}
 use Rattle.std.proofs.lemmas.List.{length-append}
@@ -51,13 +51,7 @@ pub record IsPathSet (g : Shape) (page n bank set : ℕ) : Type 0 where
 
 pub path_set_or_not : (g : Shape) (page n bank set : ℕ)
     → IsPathSet g page n bank set ⊎ ((bank < n) × (set ≡ set_index g (path_at g page bank)) → ⊥)
-path_set_or_not g page n bank set = by (cases_lt bank n) (cases_eq set (set_index g (path_at g page bank)))
-  where
-    by : (bank < n) ⊎ (n ≤ bank) → (set ≡ set_index g (path_at g page bank)) ⊎ (set ≡ set_index g (path_at g page bank) → ⊥)
-        → IsPathSet g page n bank set ⊎ ((bank < n) × (set ≡ set_index g (path_at g page bank)) → ⊥)
-    by (inl less) (inl same) = inl (record { reached = less; its_set = same })
-    by (inl less) (inr other) = inr (λ e. other e.1)
-    by (inr more) which = inr (λ e. omega (arith, e.0, more))
+path_set_or_not g page n bank set = search (rules, cases_lt, cases_eq)
 
 -- a fetched set: its position was cached, and only the order changed, or it was placed
 pub used_or_placed : (g : Shape) (truth : List Line) (page n : ℕ) (old new : CacheState) (bank set : ℕ)
@@ -66,30 +60,7 @@ pub used_or_placed : (g : Shape) (truth : List Line) (page n : ℕ) (old new : C
     ⊎ ((is_cached g old.banks bank (path_at g page bank) ≡ false)
     × (set_of new.banks bank set
     ≡ placed g.ways (set_of old.banks bank set) (path_at g page bank) (line_at truth (path_at g page bank))))
-used_or_placed g truth page n old new bank set fetched at = by (cases_Bool (is_cached g old.banks bank x))
-  where
-    x : ℕ
-    x = path_at g page bank
-
-    now : set_of new.banks bank set ≡ fetched_set g truth old.banks bank x
-    now = ap (set_of new.banks bank) at.its_set ∙ fetched.fetched bank at.reached
-
-    back : slots_at g old.banks bank x ≡ set_of old.banks bank set
-    back = ap (set_of old.banks bank) (sym at.its_set)
-
-    by : (is_cached g old.banks bank x ≡ true) ⊎ (is_cached g old.banks bank x ≡ false)
-        → (set_of new.banks bank set ≡ touched (set_of old.banks bank set) x)
-        ⊎ ((is_cached g old.banks bank x ≡ false)
-        × (set_of new.banks bank set ≡ placed g.ways (set_of old.banks bank set) x (line_at truth x)))
-    by (inl cached) =
-        inl
-        (now ∙ cond-true (is_cached g old.banks bank x) _ _ cached ∙ ap (λ slots. touched slots x) back)
-    by (inr absent) =
-        inr (
-          absent,
-          now ∙ cond-false (is_cached g old.banks bank x) _ _ absent
-              ∙ ap (λ slots. placed g.ways slots x (line_at truth x)) back,
-        )
+used_or_placed g truth page n old new bank set fetched at = search (rules, cases_Bool)
 
 -- ---- lines that are written
 
@@ -150,8 +121,7 @@ pub spilled_told : (g : Shape) (banks : Banks) (page : ℕ) (told : Option (List
     → (n : ℕ) → j < n → n ≤ g.levels + 1
     → Tells (redone_told (spilled g banks page n) told) (meta_line g victim.position) victim.line
 spilled_told g banks page None of whole j victim le absent some dirty n less low = tt
-spilled_told g banks page (Some lines) of whole j victim le absent some dirty n less low =
-    sym (spilled_stands g banks page lines of whole.count j victim le absent some dirty n less low)
+spilled_told g banks page (Some lines) of whole j victim le absent some dirty n less low = search (rules, spilled_stands)
 
 -- a level's write-back is at this place
 pub record IsSpilledAt (g : Shape) (banks : Banks) (page n at : ℕ) : Type 0 where
@@ -235,11 +205,7 @@ spilled_or_kept g banks page lines at (suc n) =
 pub spilled_or_kept_told : (g : Shape) (banks : Banks) (page : ℕ) (told : Option (List Line)) (at n : ℕ)
     → (told_line (redone_told (spilled g banks page n) told) at ≡ told_line told at) ⊎ IsSpilledAt g banks page n at
 spilled_or_kept_told g banks page None at n = inl refl
-spilled_or_kept_told g banks page (Some lines) at n =
-    elim (spilled_or_kept g banks page lines at n) [
-      | inl kept ↦ inl (ap Some kept)
-      | inr spilled ↦ inr spilled
-    ]
+spilled_or_kept_told g banks page (Some lines) at n = search (rules, spilled_or_kept)
 
 -- at most one write for each level that isn't cached, and no more such levels than levels
 pub length-spilled : (g : Shape) (banks : Banks) (page n : ℕ) → length (spilled g banks page n) ≤ absent_count g banks page n
@@ -273,8 +239,7 @@ absent_count-le g banks page (suc n) =
 
 -- more levels, no fewer that aren't cached
 pub absent_count-more : (g : Shape) (banks : Banks) (page n d : ℕ) → absent_count g banks page n ≤ absent_count g banks page (d + n)
-absent_count-more g banks page n zero =
-    let same : 0 + n ≡ n = omega arith in omega (arith, ap (absent_count g banks page) same)
+absent_count-more g banks page n zero = search rules
 absent_count-more g banks page n (suc d) =
     let next : suc d + n ≡ suc (d + n) = omega arith in
     omega (arith, absent_count-more g banks page n d, ap (absent_count g banks page) next)
@@ -308,8 +273,7 @@ sum_below-one a b (suc n) i change h here same =
         → sum_below a n + a n + change ≡ sum_below b n + b n
     by (inl last) rest =
         let at : a n + change ≡ b n = ap (λ k. a k + change) (sym last) ∙ here ∙ ap b last in
-        let front : sum_below a n ≡ sum_below b n =
-        sum_below-same a b n (λ k l. same k (omega arith) (λ e. omega (arith, e, l, last))) in
+        let front : sum_below a n ≡ sum_below b n = search (rules, sum_below-same) in
         omega arith
     by (inr other) rest =
         let front : sum_below a n + change ≡ sum_below b n = rest (omega (arith, h, other)) in
@@ -337,12 +301,10 @@ bank_fetched : (g : Shape) (truth : List Line) (page n : ℕ) (old new : CacheSt
     → bank_dirty_count g new.banks bank + length (level_write g old.banks bank (path_at g page bank))
     ≡ bank_dirty_count g old.banks bank
 bank_fetched g truth page n old new bank sets way some fetched reached =
-    sum_below-one (λ set. dirty_in (set_of new.banks bank set)) (λ set. dirty_in (set_of old.banks bank set)) g.sets
-    (set_index g (path_at g page bank)) (length (level_write g old.banks bank (path_at g page bank)))
-    (mod-lt (path_at g page bank) (omega (arith, some)))
+    sum_below-one (λ set. dirty_in (set_of new.banks bank set)) (λ set. dirty_in (set_of old.banks bank set)) g.sets _ (length _)
+    (mod-lt _ (omega (arith, some)))
     (ap (λ slots. dirty_in slots + length (level_write g old.banks bank (path_at g page bank))) (fetched.fetched bank reached)
-    ∙ dirty_in-fetched g truth old.banks bank (path_at g page bank) (sets.each bank (set_index g (path_at g page bank))) way)
-    (λ set h other. ap dirty_in (fetched.elsewhere bank set (λ e. other e.1)))
+    ∙ dirty_in-fetched g truth old.banks bank _ (sets.each bank _) way) (λ set h other. ap dirty_in (fetched.elsewhere bank set (λ e. other e.1)))
 
 -- the banks that are fetched
 banks_fetched : (g : Shape) (truth : List Line) (page n : ℕ) (old new : CacheState) → AreSets g old.banks

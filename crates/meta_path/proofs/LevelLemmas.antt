@@ -1,14 +1,13 @@
 -- One level fetched: the read, the room, and the place.
-use Rattle.std.proofs.Common.{◌≡◌, ℕ, ◌≤◌, Bool, true, false, cond, List, [], ◌∷◌, refl, sym, ap, ap₂, subst, subst₂, ◌∙◌, ◌⊎◌, inl, inr, Option, Some, None}
+use Rattle.std.proofs.Common.{rules, ◌≡◌, ℕ, ◌≤◌, Bool, true, false, List, [], ◌∷◌, refl, sym, ap, ap₂, subst, subst₂, ◌∙◌, inl, inr, Option, Some, None}
 use Rattle.std.specs.Prelude.{IfSome, option_map, unwrap_or}
 use Rattle.std.proofs.lemmas.Bool.{cases_Bool, cond-true, cond-false}
-use Rattle.std.proofs.lemmas.Option.{none-some, same_Some}
+use Rattle.std.proofs.lemmas.Option.{none-some}
 use Rattle.std.proofs.lemmas.List.Elements.{All-contains}
 use Rattle.pmem_base.specs.declared.lines.Line.{Line}
 use Rattle.pmem_base.specs.Shape.{Shape}
 use Rattle.pmem_base.specs.Layout.{meta_line}
 use Rattle.pmem_base.specs.Lines.{line_at, zero_line}
-use Rattle.pmem_base.specs.Counts.{risen_times}
 use Rattle.suite.specs.Formulas.{Formulas}
 use Rattle.board.specs.Device.{Device}
 use Rattle.board.specs.Steps.{Tells}
@@ -16,7 +15,7 @@ use Rattle.commit_regs.proofs.GroupLemmas.{redone-nil}
 use Rattle.meta_cache.specs.declared.slot.Slot.{Slot}
 use Rattle.meta_cache.specs.Banks.{Banks, set_of, set_index, is_cached}
 use Rattle.meta_cache.specs.Sets.{holds, slot_with, with_mark, victim_of, placed, IsSetOf, KeepsWays}
-use Rattle.meta_cache.specs.State.{CacheState, slots_of, with_slots, ChangesSet}
+use Rattle.meta_cache.specs.State.{CacheState, slots_of, ChangesSet}
 use Rattle.meta_cache.proofs.CacheLemmas.{with_slots-own, with_slots-twice}
 use Rattle.meta_cache.proofs.WayLemmas.{KeepsWays-placed}
 use Rattle.meta_path.specs.Blocks.{slots_at, line_in}
@@ -37,41 +36,20 @@ pub record IsDirtyOf (g : Shape) (slots : List Slot) (position : ℕ) : Type 0 w
 
 pub dirty_victim_is : (g : Shape) (slots : List Slot) (position : ℕ)
     → dirty_position (victim_of g.ways slots) ≡ Some position → IsDirtyOf g slots position
-dirty_victim_is g slots position is = by_victim (victim_of g.ways slots) refl is
-  where
-    by_mark : (victim : Slot) → victim_of g.ways slots ≡ Some victim → (victim.dirty ≡ true) ⊎ (victim.dirty ≡ false)
-        → cond victim.dirty (Some victim.position) None ≡ Some position → IsDirtyOf g slots position
-    by_mark victim is_victim (inl dirty) e =
-        record {
-          victim = victim;
-          is_victim = is_victim;
-          dirty = dirty;
-          its_position = same_Some victim.position position (sym (cond-true victim.dirty (Some victim.position) None dirty) ∙ e);
-        }
-    by_mark victim is_victim (inr clean) e =
-        absurd (none-some position (sym (cond-false victim.dirty (Some victim.position) None clean) ∙ e))
-
-    by_victim : (victim : Option Slot) → victim_of g.ways slots ≡ victim → dirty_position victim ≡ Some position
-        → IsDirtyOf g slots position
-    by_victim None none e = absurd (none-some position e)
-    by_victim (Some victim) some e = by_mark victim some (cases_Bool victim.dirty) e
+dirty_victim_is g slots position is = search rules
 
 -- it is of the same set
 same_set : (g : Shape) (n : ℕ) (slots : List Slot) (position : ℕ) → IsSetOf g n slots → IsDirtyOf g slots position
     → set_index g position ≡ n
-same_set g n slots position form of =
-    ap (set_index g) (sym of.its_position)
-    ∙ All-contains (λ (s : Slot). set_index g s.position ≡ n) slots of.victim form.its_positions
-    (victim_contained g.ways slots of.victim form.room of.is_victim)
+same_set g n slots position form of = search (rules, All-contains, victim_contained)
 
 -- and cached
 pub victim_is_cached : (g : Shape) (banks : Banks) (bank x position : ℕ) → IsSetOf g (set_index g x) (slots_at g banks bank x)
     → IsDirtyOf g (slots_at g banks bank x) position → is_cached g banks bank position ≡ true
 victim_is_cached g banks bank x position form of =
-    ap (λ n. holds (set_of banks bank n) position) (same_set g (set_index g x) (slots_at g banks bank x) position form of)
-    ∙ ap (holds (slots_at g banks bank x)) (sym of.its_position)
-    ∙ holds_slot (slots_at g banks bank x) of.victim
-    (victim_contained g.ways (slots_at g banks bank x) of.victim form.room of.is_victim)
+    ap (λ n. holds (set_of banks bank n) position) (same_set g _ _ position form of)
+    ∙ ap (holds _) (sym of.its_position)
+    ∙ holds_slot _ of.victim (victim_contained g.ways _ of.victim form.room of.is_victim)
 
 -- writing it back makes room
 pub room_made : (g : Shape) (bank x position : ℕ) (old_cache new_cache : CacheState) (old new : Device)
@@ -161,24 +139,15 @@ pub room_clean : (g : Shape) (bank x : ℕ) (old_cache new_cache : CacheState) (
     → IfSome (victim_of new_cache.shape.ways (slots_of new_cache bank x)) (λ slot. slot.dirty ≡ false)
 room_clean g bank x old_cache new_cache old new its form made =
     subst (λ (h : Shape). IfSome (victim_of h.ways (set_of new_cache.banks bank (set_index h x))) (λ slot. slot.dirty ≡ false))
-    (sym (made.cache.shape ∙ its))
-    (subst (λ slots. IfSome (victim_of g.ways slots) (λ slot. slot.dirty ≡ false)) (sym made.cache.here)
-    (clean_victim g.ways (slots_at g old_cache.banks bank x) form.room form.distinct_positions))
+    (sym (made.cache.shape ∙ its)) (subst (λ slots. IfSome (victim_of g.ways slots) (λ slot. slot.dirty ≡ false)) (sym made.cache.here)
+    (clean_victim g.ways _ form.room form.distinct_positions))
 
 -- ---- two changes of one set are one
 
 pub ChangesSet-twice : (old mid new : CacheState) (bank set : ℕ) (first second : List Slot)
     → ChangesSet old mid bank set first → ChangesSet mid new bank set second
     → KeepsWays (set_of old.banks bank set) second → ChangesSet old new bank set second
-ChangesSet-twice old mid new bank set first second one two ways =
-    record {
-      exact =
-          two.exact ∙ ap (λ (c : CacheState). with_slots c bank set second) one.exact ∙ with_slots-twice old bank set first second;
-      shape = two.shape ∙ one.shape;
-      here = two.here;
-      ways = ways;
-      elsewhere = λ bank' set' apart. two.elsewhere bank' set' apart ∙ one.elsewhere bank' set' apart;
-    }
+ChangesSet-twice old mid new bank set first second one two ways = search (rules, with_slots-twice)
 
 -- ---- the level
 
@@ -208,9 +177,7 @@ IsLevelFetched-placed g f truth bank x line old read room placed_cache new h =
           subst₂ (λ times entries. HasWorked times entries old.device new)
           (sym (cond-false test 0 1 h.was_read.absent)) (sym (cond-false test [] (room_write g slots) h.was_read.absent))
           (HasWorked-then 1 0 [] (room_write g slots) old.device read.device new h.was_read.work h.made.work);
-      digests =
-          h.was_read.digests
-          ∙ ap (λ times. risen_times times old.digests) (sym (cond-false test 0 1 h.was_read.absent));
+      digests = search (rules, cond-false);
       told = λ absent.
           subst₂ (λ lines (l : Line). Tells lines (meta_line g x) l)
           (h.was_read.work.lines ∙ redone-nil old.device.lines) h.is_true h.was_read.tells;

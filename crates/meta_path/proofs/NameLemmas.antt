@@ -55,13 +55,12 @@ module _ {g : Shape} {banks : Banks} {page n : ℕ} {old_mirror mid_mirror new_m
               | inl same ↦
                   subst (λ k. slot_entry g new_mirror k (path_number g banks page k) ≡ path_at g page k + 1) (sym same) names.entry
               | inr other ↦
-                  names.others j (path_number g banks page j) (low j (omega arith)) (λ e. other e.0)
+                  names.others j _ (low j (omega arith)) (λ e. other e.0)
                   ∙ before.entries.named j (omega arith)
             ];
         others =
             λ bank m h apart.
-            names.others bank m h
-            (λ e. apart (omega (arith, e.0), e.1 ∙ ap (path_number g banks page) (sym e.0)))
+            names.others bank m h (λ e. apart (omega (arith, e.0), e.1 ∙ ap (path_number g banks page) (sym e.0)))
             ∙ before.entries.others bank m h (λ e. apart (omega (arith, e.0), e.1));
       }
 
@@ -75,25 +74,22 @@ module _ {g : Shape} {banks : Banks} {page n : ℕ} {old_mirror mid_mirror new_m
   pub IsNamedTo-more : {new : Device} → Follows (slot_plan g n (path_number g banks page n) (path_at g page n) mid_mirror) mid new (Ok (new_mirror, tt))
       → IsNamedTo g banks page (n + 1) old_mirror new_mirror old new
   IsNamedTo-more {new} it =
-      let level = slot_named g n (path_number g banks page n) (path_at g page n) mid_mirror mid new_mirror new it in
+      let level = slot_named g n _ _ mid_mirror mid new_mirror new it in
       let next : suc n ≡ n + 1 = omega arith in
       record {
         mirror = mirror_more level.0;
         entries = entries_more;
         work =
-            subst (λ k. HasWorked 0 (naming_writes g banks page old_mirror k) old new) next
-            (subst (λ shadow. HasWorked 0
+            subst (λ k. HasWorked 0 (naming_writes g banks page old_mirror k) old new) next (subst (λ shadow. HasWorked 0
             (naming_writes g banks page old_mirror n ++ naming_write g shadow n (path_number g banks page n) (path_at g page n))
-            old new) before.mirror
-            (HasWorked-then 0 0 (naming_writes g banks page old_mirror n)
-            (naming_write g mid_mirror n (path_number g banks page n) (path_at g page n)) old mid new before.work level.1));
+            old new) before.mirror (HasWorked-then 0 0 _ _ old mid new before.work level.1));
       }
 
   pub IsNamingCut-at : {new : Device} → n ≤ g.levels
       → Follows (slot_plan g n (path_number g banks page n) (path_at g page n) mid_mirror) mid new (Err (new_mirror, the_cut))
       → IsNamingCut g banks page old_mirror new_mirror old new
   IsNamingCut-at {new} le it =
-      let level = slot_stopped g n (path_number g banks page n) (path_at g page n) mid_mirror mid new_mirror the_cut new it in
+      let level = slot_stopped g n _ _ mid_mirror mid new_mirror the_cut new it in
       let cut : WasCut mid new = level.2 in
       record {
         n = n;
@@ -101,12 +97,9 @@ module _ {g : Shape} {banks : Banks} {page n : ℕ} {old_mirror mid_mirror new_m
         mirror = mirror_more level.0;
         entries = entries_more;
         unnamed = λ e.
-            both_ways (is_slot_named g mid_mirror n (path_number g banks page n) (path_at g page n)) level.1
-            (eq-eqb (slot_entry g mid_mirror n (path_number g banks page n)) (path_at g page n + 1)
-            (before.entries.others n (path_number g banks page n) (low n (omega arith)) (λ h. omega (arith, h.0)) ∙ e));
+            both_ways _ level.1 (eq-eqb _ _ (before.entries.others n _ (low n (omega arith)) (λ h. omega (arith, h.0)) ∙ e));
         lines = cut.lines ∙ before.work.lines;
-        writes =
-            subst (RisesBy (length (naming_writes g banks page old_mirror n)) old.writes) (sym cut.writes) before.work.writes;
+        writes = subst (RisesBy (length _) old.writes) (sym cut.writes) before.work.writes;
         unsteady = not_steady before.work.steady cut.unsteady;
         off = cut.off;
         never_falls = omega (arith, cut.cuts.never_falls, before.work.cuts);
@@ -160,8 +153,4 @@ number_in_low g banks bank x some form cached =
 pub path_number_low : (g : Shape) (cache : CacheState) (page : ℕ) → 1 ≤ g.sets → cache.shape ≡ g
     → IsCacheOf cache.shape cache.banks → IsPathCached g cache.banks page
     → (j : ℕ) → j ≤ g.levels → path_number g cache.banks page j < slots g
-path_number_low g cache page some its form cached j le =
-    number_in_low g cache.banks j (path_at g page j) some
-    (subst (λ (k : Shape). IsSetOf k (set_index g (path_at g page j)) (slots_at g cache.banks j (path_at g page j))) its
-    (form.each_set j (set_index g (path_at g page j))))
-    (cached.each j le)
+path_number_low g cache page some its form cached j le = search (rules, number_in_low)

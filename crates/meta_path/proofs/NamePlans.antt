@@ -1,5 +1,5 @@
 -- The plan of a slot that is named, at each of its ends, and what it leaves.
-use Rattle.std.proofs.Common.{◌≡◌, ℕ, ◌+◌, Bool, true, false, List, [], ◌∷◌, Ok, Err, refl, sym, subst, subst₂}
+use Rattle.std.proofs.Common.{rules, ◌≡◌, ℕ, ◌+◌, Bool, true, false, List, [], ◌∷◌, Ok, Err, refl, sym, subst}
 use Rattle.std.specs.Prelude.{if◌then◌else◌}
 use Rattle.std.proofs.lemmas.Bool.{eq-eqb}
 use Rattle.pmem_base.specs.declared.faults.Cut.{Cut}
@@ -41,8 +41,7 @@ module _ (g : Shape) (bank n x : ℕ) (mirror next : List Line) (old new : Devic
       → Follows (slot_plan g bank n x mirror) old new (Ok (next, tt))
   unfolding slot_plan
   slot_written at line named written place bytes was =
-      let done_so : HasWritten old (shadow_line g (entry_line g bank n)) (naming_line g mirror bank n x) new =
-      subst₂ (λ at line. HasWritten old at line new) place bytes was in
+      let done_so : HasWritten old (shadow_line g (entry_line g bank n)) (naming_line g mirror bank n x) new = search rules in
       subst (λ m. Follows (slot_plan g bank n x mirror) old new (Ok (m, tt))) (sym written)
       (subst (λ b. Follows (if b then done (mirror, tt) else unnamed_plan) old new (Ok (with_named g mirror bank n x, tt))) (sym named)
       (write_then (with_named g mirror bank n x, the_cut) done_so (is_done (with_named g mirror bank n x, tt) new)))
@@ -54,8 +53,7 @@ module _ (g : Shape) (bank n x : ℕ) (mirror next : List Line) (old new : Devic
   slot_cut named written was =
       subst (λ m. Follows (slot_plan g bank n x mirror) old new (Err (m, the_cut))) (sym written)
       (subst (λ b. Follows (if b then done (mirror, tt) else unnamed_plan) old new (Err (with_named g mirror bank n x, the_cut))) (sym named)
-      (write_cut (with_named g mirror bank n x, the_cut) (shadow_line g (entry_line g bank n)) (naming_line g mirror bank n x)
-      (done (with_named g mirror bank n x, tt)) was))
+      (write_cut _ _ _ _ was))
 
 -- what the plan leaves: the slot is named, on the board as in the copy; or it didn't name the position, its write was cut,
 -- and the copy has it already

@@ -1,9 +1,9 @@
 -- Positions of a page's path, and what earlier levels leave to later ones.
-use Rattle.std.proofs.Common.{◌≡◌, ◌≢◌, ℕ, zero, suc, ◌+◌, ◌<◌, ◌≤◌, true, false, List, [], ◌∷◌, get_or, replicate, refl, sym, ap, subst, ◌∙◌, ◌⊎◌, inl, inr, arith, Option, Some, None}
-use Rattle.std.specs.Prelude.{◌==◌, slice_set, All, Contains}
+use Rattle.std.proofs.Common.{rules, ◌≡◌, ◌≢◌, ℕ, zero, suc, ◌+◌, ◌<◌, ◌≤◌, true, false, List, [], ◌∷◌, get_or, replicate, refl, sym, ap, ◌∙◌, ◌⊎◌, inl, inr, arith, Option, Some, None}
+use Rattle.std.specs.Prelude.{◌==◌, All, Contains}
 use Rattle.std.proofs.lemmas.Bool.{cases_Bool, cases_lt, cond-true, cond-false, eq-eqb, or_left}
 use Rattle.std.proofs.lemmas.List.{length-replicate, get_or-replicate, get_or_past}
-use Rattle.std.proofs.lemmas.List.Elements.{All-head, All-tail, All-cons, All-nil, All-append, All-contains}
+use Rattle.std.proofs.lemmas.List.Elements.{All-head, All-tail, All-nil, All-append, All-contains}
 use Rattle.pmem_base.specs.declared.lines.Line.{Line}
 use Rattle.pmem_base.specs.Shape.{Shape}
 use Rattle.pmem_base.specs.Layout.{pages, meta_lines, meta_line}
@@ -11,7 +11,7 @@ use Rattle.pmem_base.specs.Lines.{line_at, put_lines}
 use Rattle.board.specs.Steps.{Tells}
 use Rattle.commit_regs.specs.Groups.{redone_told}
 use Rattle.bonsai_tree.specs.Positions.{parent, level_of}
-use Rattle.bonsai_tree.proofs.Levels.{IsAtLevel, level_of-at, level_start-suc, meta_lines-level, level_start-le}
+use Rattle.bonsai_tree.proofs.Levels.{level_of-at, level_start-suc, meta_lines-level, level_start-le}
 use Rattle.pmem_base.proofs.LineSets.{line_at-set_other}
 use Rattle.bonsai_tree.proofs.PathPositions.{path_of-IsAtLevel, path_of-parent}
 use Rattle.meta_cache.specs.declared.slot.Slot.{Slot}
@@ -20,7 +20,7 @@ use Rattle.meta_cache.specs.State.{empty_banks}
 use Rattle.meta_cache.proofs.CacheLemmas.{set_of-get_or}
 use Rattle.meta_cache.specs.Sets.{holds, touched, placed, victim_of, IsSetOf}
 use Rattle.meta_path.specs.Blocks.{path_at, slots_at, IsOfItsBank, AreInTheirBanks}
-use Rattle.meta_path.specs.Levels.{victim_write, room_write, level_write, fetched_set}
+use Rattle.meta_path.specs.Levels.{level_write, fetched_set}
 use Rattle.meta_path.specs.Fetching.{spilled}
 use Rattle.meta_path.proofs.SetFacts.{holds_slot, slot_held, contains_touched, victim_contained}
 
@@ -31,14 +31,10 @@ path_at-level g page j inside few le =
     level_of-at j (path_at g page j) (omega (arith, few, le)) (path_of-IsAtLevel g page j inside le)
 
 pub path_at-lt : (g : Shape) (page j : ℕ) → page < pages g → j ≤ g.levels → path_at g page j < meta_lines g
-path_at-lt g page j inside le =
-    let at : IsAtLevel j (path_at g page j) = path_of-IsAtLevel g page j inside le in
-    omega (arith, at.below, level_start-le (suc j) (suc g.levels) (omega arith), meta_lines-level g)
+path_at-lt g page j inside le = search (rules, path_of-IsAtLevel, level_start-le, meta_lines-level)
 
 pub path_at-below : (g : Shape) (page j : ℕ) → page < pages g → suc j ≤ g.levels → 1 ≤ path_at g page (suc j)
-path_at-below g page j inside le =
-    let at : IsAtLevel (suc j) (path_at g page (suc j)) = path_of-IsAtLevel g page (suc j) inside le in
-    omega (arith, at.from, level_start-suc j)
+path_at-below g page j inside le = search (rules, path_of-IsAtLevel, level_start-suc)
 
 pub path_at-parent : (g : Shape) (page j : ℕ) → suc j ≤ g.levels → parent (path_at g page (suc j)) ≡ path_at g page j
 path_at-parent g page j le = path_of-parent g page j (omega arith)
@@ -58,8 +54,7 @@ pub put_lines-elsewhere : (entries : List (ℕ × Line)) (lines : List Line) (at
     → All (λ entry. entry.0 ≢ at) entries → line_at (put_lines entries lines) at ≡ line_at lines at
 put_lines-elsewhere [] lines at apart = refl
 put_lines-elsewhere (entry ∷ entries) lines at apart =
-    put_lines-elsewhere entries (slice_set lines entry.0 entry.1) at
-    (All-tail (λ (e : ℕ × Line). e.0 ≢ at) entry entries apart)
+    put_lines-elsewhere entries _ at (All-tail (λ (e : ℕ × Line). e.0 ≢ at) entry entries apart)
     ∙ line_at-set_other lines entry.0 at entry.1 (λ e. All-head (λ (e : ℕ × Line). e.0 ≢ at) entry entries apart (sym e))
 
 -- what is told of a place after writes elsewhere was told before
@@ -73,29 +68,7 @@ pub level_write-all : (P : ℕ × Line → Type 0) (g : Shape) (banks : Banks) (
     → ((victim : Slot) → victim_of g.ways (slots_at g banks bank x) ≡ Some victim → victim.dirty ≡ true
     → is_cached g banks bank x ≡ false → P (meta_line g victim.position, victim.line))
     → All P (level_write g banks bank x)
-level_write-all P g banks bank x each = by_test (cases_Bool (is_cached g banks bank x))
-  where
-    slots : List Slot
-    slots = slots_at g banks bank x
-
-    by_mark : (victim : Slot) → victim_of g.ways slots ≡ Some victim → is_cached g banks bank x ≡ false
-        → (victim.dirty ≡ true) ⊎ (victim.dirty ≡ false) → All P (victim_write g (Some victim))
-    by_mark victim some absent (inl dirty) =
-        subst (All P) (sym (cond-true victim.dirty ((meta_line g victim.position, victim.line) ∷ []) [] dirty))
-        (All-cons P (meta_line g victim.position, victim.line) [] (each victim some dirty absent) (All-nil P))
-    by_mark victim some absent (inr clean) =
-        subst (All P) (sym (cond-false victim.dirty ((meta_line g victim.position, victim.line) ∷ []) [] clean)) (All-nil P)
-
-    by_victim : (victim : Option Slot) → victim_of g.ways slots ≡ victim → is_cached g banks bank x ≡ false
-        → All P (victim_write g victim)
-    by_victim None none absent = All-nil P
-    by_victim (Some victim) some absent = by_mark victim some absent (cases_Bool victim.dirty)
-
-    by_test : (is_cached g banks bank x ≡ true) ⊎ (is_cached g banks bank x ≡ false) → All P (level_write g banks bank x)
-    by_test (inl cached) = subst (All P) (sym (cond-true (is_cached g banks bank x) [] (room_write g slots) cached)) (All-nil P)
-    by_test (inr absent) =
-        subst (All P) (sym (cond-false (is_cached g banks bank x) [] (room_write g slots) absent))
-        (by_victim (victim_of g.ways slots) refl absent)
+level_write-all P g banks bank x each = search (rules, cases_Bool)
 
 -- a slot of a bank
 pub its_bank_of : (g : Shape) (banks : Banks) (bank set : ℕ) (slot : Slot) → AreInTheirBanks g banks
@@ -112,9 +85,8 @@ pub spilled-apart : (g : Shape) (banks : Banks) (page n : ℕ) → page < pages 
     → All (λ entry. entry.0 ≢ meta_line g (path_at g page n)) (spilled g banks page m)
 spilled-apart g banks page n inside few le sets its zero low = All-nil (λ entry. entry.0 ≢ meta_line g (path_at g page n))
 spilled-apart g banks page n inside few le sets its (suc m) low =
-    All-append (λ entry. entry.0 ≢ meta_line g (path_at g page n)) (spilled g banks page m) (level_write g banks m (path_at g page m))
-    (spilled-apart g banks page n inside few le sets its m (omega arith))
-    (level_write-all (λ entry. entry.0 ≢ meta_line g (path_at g page n)) g banks m (path_at g page m)
+    All-append (λ entry. entry.0 ≢ meta_line g (path_at g page n)) _ _ (spilled-apart g banks page n inside few le sets its m (omega arith))
+    (level_write-all (λ entry. entry.0 ≢ meta_line g (path_at g page n)) g banks m _
     (λ victim some dirty absent e.
     let stands : Contains (slots_at g banks m (path_at g page m)) victim =
     victim_contained g.ways (slots_at g banks m (path_at g page m)) victim (sets.each m (set_index g (path_at g page m))).room some in
@@ -173,7 +145,4 @@ set_of-empty_banks g bank set =
 
 -- each slot of an empty cache is in its bank
 pub AreInTheirBanks-empty : (g : Shape) → AreInTheirBanks g (empty_banks g)
-AreInTheirBanks-empty g =
-    record {
-      each = λ bank set. subst (All (IsOfItsBank g bank)) (sym (set_of-empty_banks g bank set)) (All-nil (IsOfItsBank g bank));
-    }
+AreInTheirBanks-empty g = search (rules, set_of-empty_banks, All-nil)

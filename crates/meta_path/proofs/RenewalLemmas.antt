@@ -1,5 +1,5 @@
 -- A path is made anew over the cached lines, from the counter block up.
-use Rattle.std.proofs.Common.{◌≡◌, ℕ, suc, ◌+◌, ◌<◌, ◌≤◌, List, [], ◌∷◌, ◌++◌, length, drop, map, reverse, true, sym, ap, ap₂, subst, ◌∙◌, arith}
+use Rattle.std.proofs.Common.{rules, ◌≡◌, ℕ, suc, ◌+◌, ◌<◌, ◌≤◌, List, [], ◌∷◌, ◌++◌, length, reverse, true, sym, ap, ◌∙◌}
 use Rattle.std.specs.Prelude.{All}
 use Rattle.std.specs.List.{refill}
 use Rattle.std.proofs.lemmas.List.{append_assoc, append-nil, reverse-append, length-reverse, take_at}
@@ -9,7 +9,7 @@ use Rattle.pmem_base.specs.Shape.{Shape}
 use Rattle.pmem_base.specs.Layout.{pages}
 use Rattle.pmem_base.specs.Lines.{IsLine, line_at}
 use Rattle.suite.specs.Formulas.{Formulas}
-use Rattle.bonsai_tree.specs.Positions.{parent, child_slot, level_of, counter_position, is_on_path}
+use Rattle.bonsai_tree.specs.Positions.{parent, child_slot, level_of, is_on_path}
 use Rattle.bonsai_tree.specs.Paths.{with_child_digest, node_above, new_path, new_root, path_with, root_with}
 use Rattle.bonsai_tree.proofs.PathPositions.{path_of-block, on_path-position, path_of-at}
 use Rattle.bonsai_tree.proofs.Trees.{path_with-positions, path_with-same}
@@ -26,10 +26,7 @@ reverse_pushed {A} lines more entry put = ap (λ (xs : List A). reverse xs) put 
 -- the list that is turned in its place, with one entry more
 pub turned_pushed : {A : Type 0} (lines more here turned : List A) (entry : A) → more ≡ lines ++ entry ∷ [] → here ≡ more
     → turned ≡ reverse here → refill (length more) more turned ≡ entry ∷ reverse lines
-turned_pushed {A} lines more here turned entry put is after =
-    let long : length turned ≡ length more = ap (λ (xs : List A). length xs) after ∙ length-reverse here ∙ ap (λ (xs : List A). length xs) is in
-    take_at turned (drop (length turned) more) (length more) long ∙ after ∙ ap (λ (xs : List A). reverse xs) is
-    ∙ reverse_pushed lines more entry put
+turned_pushed {A} lines more here turned entry put is after = search (rules, length-reverse, take_at, reverse_pushed)
 
 -- i levels are made, and j are left: their lines stand behind those that the rest will make
 pub record IsRenewedTo (g : Shape) (f : Formulas) (old : ℕ → Line) (page : ℕ) (block : Line) (i j x : ℕ) (line : Line)
@@ -46,60 +43,28 @@ module _ {g : Shape} {f : Formulas} {old : ℕ → Line} {page : ℕ} {block : L
   pub IsRenewedTo-none : {j x : ℕ} {lines : List (ℕ × Line)} → j ≡ g.levels → x ≡ path_at g page g.levels → IsLine block
       → lines ≡ [] → IsRenewedTo g f old page block 0 j x block lines
   unfolding path_with root_with
-  IsRenewedTo-none {j} {x} {lines} all is whole none =
-      let place : x ≡ path_at g page j = is ∙ ap (path_at g page) (sym all) in
-      let at : (j ≡ g.levels) × (x ≡ counter_position g page) = (all, is ∙ path_of-block g page) in
-      record {
-        levels = omega (arith, all);
-        count = ap (λ (xs : List (ℕ × Line)). length xs) none;
-        position = place;
-        whole = whole;
-        rest = ap (λ xs. new_path f old j x block ++ xs) none ∙ append-nil (new_path f old j x block) ∙ ap₂ (λ k y. new_path f old k y block) at.0 at.1;
-        top = ap₂ (λ k y. new_root f old k y block) at.0 at.1;
-        each = subst (λ (xs : List (ℕ × Line)). All (λ entry. IsLine entry.1) xs) (sym none) (All-nil (λ entry. IsLine entry.1));
-      }
+  IsRenewedTo-none {j} {x} {lines} all is whole none = search (rules, path_of-block, append-nil, All-nil)
 
   -- one level more
   pub IsRenewedTo-more : {i j x next_x : ℕ} {line next : Line} {lines more : List (ℕ × Line)}
       → IsRenewedTo g f old page block i (suc j) x line lines → next_x ≡ parent x → next ≡ node_above f old x line → IsLine next
       → more ≡ (x, line) ∷ lines → IsRenewedTo g f old page block (i + 1) j next_x next more
   IsRenewedTo-more {i} {j} {x} {next_x} {line} {next} {lines} {more} before above is whole put =
-      record {
-        levels = omega (arith, before.levels);
-        count = ap (λ (xs : List (ℕ × Line)). length xs) put ∙ omega (arith, before.count);
-        position = above ∙ ap parent before.position ∙ path_at-parent g page j (omega (arith, before.levels));
-        whole = whole;
-        rest =
-            ap₂ (λ y l. new_path f old j y l ++ more) above is
-            ∙ ap (λ xs. new_path f old j (parent x) (node_above f old x line) ++ xs) put
-            ∙ sym (append_assoc (new_path f old j (parent x) (node_above f old x line)) ((x, line) ∷ []) lines)
-            ∙ before.rest;
-        top = ap₂ (new_root f old j) above is ∙ before.top;
-        each =
-            subst (λ (xs : List (ℕ × Line)). All (λ entry. IsLine entry.1) xs) (sym put)
-            (All-cons (λ entry. IsLine entry.1) (x, line) lines before.whole before.each);
-      }
+      search (rules, path_at-parent, append_assoc, All-cons)
 
 -- the cached parent
 pub parent_line : (g : Shape) (banks : Banks) (page j x : ℕ) → page < pages g → g.levels ≤ 6 → suc j ≤ g.levels
     → x ≡ path_at g page (suc j) → line_in g banks j (parent x) ≡ cached_line g banks (parent x)
-parent_line g banks page j x inside few le is =
-    ap (λ bank. line_in g banks bank (parent x))
-    (sym (ap level_of (ap parent is ∙ path_at-parent g page j le) ∙ path_at-level g page j inside few (omega arith)))
+parent_line g banks page j x inside few le is = search (rules, path_at-parent, path_at-level)
 
 pub parent_cached : (g : Shape) (banks : Banks) (page j x : ℕ) → suc j ≤ g.levels → x ≡ path_at g page (suc j)
     → IsPathCached g banks page → is_cached g banks j (parent x) ≡ true
-parent_cached g banks page j x le is cached =
-    ap (is_cached g banks j) (ap parent is ∙ path_at-parent g page j le) ∙ cached.each j (omega arith)
+parent_cached g banks page j x le is cached = search (rules, path_at-parent)
 
 -- its positions are the path
 pub IsPathOf-path_with : (g : Shape) (f : Formulas) (old : ℕ → Line) (page : ℕ) (block : Line) (lines : List (ℕ × Line))
     → page < pages g → lines ≡ path_with g f old page block → IsPathOf g page lines
-IsPathOf-path_with g f old page block lines inside is =
-    record {
-      its_page = inside;
-      positions = ap (λ entries. map (λ (entry : ℕ × Line). entry.0) entries) is ∙ path_with-positions g f old page block;
-    }
+IsPathOf-path_with g f old page block lines inside is = search (rules, path_with-positions)
 
 -- over cached lines that are true it is that over the true lines
 pub IsRenewed-true : (g : Shape) (f : Formulas) (banks : Banks) (truth : List Line) (page : ℕ) (block : Line)
@@ -125,9 +90,4 @@ pub node_is : {g k : Shape} {f other : Formulas} (banks : Banks) {page left x ba
     → page < pages g → g.levels ≤ 6 → suc left ≤ g.levels → x ≡ path_at g page (suc left) → k ≡ g → bank ≡ left → other ≡ f
     → node ≡ with_child_digest (line_in k banks bank (parent x)) (child_slot x) (other.digest_of x line)
     → node ≡ node_above f (cached_line g banks) x line
-node_is {g} {k} {f} {other} banks {page} {left} {x} {bank} line {node} inside few le position its bank_is formulas is =
-    is
-    ∙ ap (λ (h : Formulas). with_child_digest (line_in k banks bank (parent x)) (child_slot x) (h.digest_of x line)) formulas
-    ∙ ap (λ (h : Shape). with_child_digest (line_in h banks bank (parent x)) (child_slot x) (f.digest_of x line)) its
-    ∙ ap (λ b. with_child_digest (line_in g banks b (parent x)) (child_slot x) (f.digest_of x line)) bank_is
-    ∙ ap (λ (l : Line). with_child_digest l (child_slot x) (f.digest_of x line)) (parent_line g banks page left x inside few le position)
+node_is {g} {k} {f} {other} banks {page} {left} {x} {bank} line {node} inside few le position its bank_is formulas is = search (rules, parent_line)

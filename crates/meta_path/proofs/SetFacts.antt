@@ -1,6 +1,6 @@
 -- One set of slots: its slots, its dirty ones, and the block to give way.
 use Rattle.std.proofs.lemmas.Grind.{common_steps}
-use Rattle.std.proofs.Common.{◌≡◌, ◌≢◌, ℕ, zero, suc, ◌+◌, ◌-◌, ◌<◌, ◌≤◌, Bool, true, false, cond, List, [], ◌∷◌, ◌++◌, length, get_or, take, drop, map, refl, sym, ap, ap₂, subst, ◌∙◌, ◌⊎◌, inl, inr, arith, Option, Some, None}
+use Rattle.std.proofs.Common.{rules, ◌≡◌, ◌≢◌, ℕ, zero, suc, ◌+◌, ◌-◌, ◌<◌, ◌≤◌, Bool, true, false, cond, List, [], ◌∷◌, ◌++◌, length, get_or, take, drop, map, refl, sym, ap, ap₂, subst, ◌∙◌, ◌⊎◌, inl, inr, arith, Option, Some, None}
 use Rattle.std.specs.Prelude.{◌==◌, ◌||◌, nat_lt, not, filter, slice_get, All, Contains, IfSome}
 use Rattle.std.proofs.lemmas.Bool.{cases_Bool, cases_lt, eq-eqb, eqb-true, ne_eqb, cond-true, cond-false, both_ways, le-ltb, lt-ltb, not_from_false}
 use Rattle.std.proofs.lemmas.Option.{slice_get_within, slice_get-get_or, get_or_from_slice_get, none-some, slice_get_read}
@@ -13,7 +13,7 @@ use Rattle.pmem_base.specs.declared.lines.Line.{Line}
 use Rattle.pmem_base.specs.Shape.{Shape}
 use Rattle.pmem_base.specs.Layout.{meta_line}
 use Rattle.meta_cache.specs.declared.slot.Slot.{Slot}
-use Rattle.meta_cache.specs.Sets.{holds, slot_with, touched, lined, slot_marked, with_slot_line, with_mark, victim_of, way_over, next_way, without_victim, placed, ArePositionsApart}
+use Rattle.meta_cache.specs.Sets.{holds, slot_with, touched, slot_marked, with_slot_line, with_mark, victim_of, next_way, without_victim, placed, ArePositionsApart}
 use Rattle.meta_cache.proofs.SetLemmas.{blank}
 use Rattle.meta_path.specs.Blocks.{dirty_in}
 use Rattle.meta_path.specs.Levels.{victim_write, room_write, without_dirty}
@@ -31,11 +31,7 @@ only_one y x (zero, within, is) = is
 only_one y x (suc k, within, is) = absurd (omega arith)
 
 pub contains_cases : {X : Type 0} (y : X) (xs : List X) (x : X) → Contains (y ∷ xs) x → (y ≡ x) ⊎ Contains xs x
-contains_cases y xs x found =
-    elim (Contains-append_cases (y ∷ []) xs x found) [
-      | inl first ↦ inl (only_one y x first)
-      | inr later ↦ inr later
-    ]
+contains_cases y xs x found = search (rules, Contains-append_cases, only_one)
 
 pub contains_none : {X : Type 0} (x : X) → Contains [] x → ⊥
 contains_none x (k, within, is) = omega arith
@@ -122,9 +118,7 @@ holds_slot slots slot v2 = grind (arith, common_steps)
 -- a held position has a slot
 pub slot_held : (slots : List Slot) (x : ℕ) → holds slots x ≡ true
     → (slot : Slot) × Contains slots slot × (slot.position ≡ x)
-slot_held slots x held =
-    let found = Any-from_list_any (λ (s : Slot). s.position == x) slots held in
-    (found.1, (found.0, found.2, found.3), eqb-true found.1.position x found.4)
+slot_held slots x held = search (rules, Any-from_list_any, eqb-true)
 
 -- ---- a use changes the order alone
 
@@ -158,15 +152,7 @@ contains_touched slots x slot found = by_test (cases_Bool (slot.position == x))
 
 pub dirty_in-touched : (slots : List Slot) (x : ℕ) → dirty_in (touched slots x) ≡ dirty_in slots
 unfolding touched
-dirty_in-touched slots x =
-    sum_by-append dirty (filter is slots) (filter (λ s. not (is s)) slots)
-    ∙ sum_by-filter_both is (λ s. not (is s)) (λ s. refl) dirty slots
-  where
-    is : Slot → Bool
-    is s = s.position == x
-
-    dirty : Slot → ℕ
-    dirty s = cond s.dirty 1 0
+dirty_in-touched slots x = search (rules, sum_by-append, sum_by-filter_both)
 
 -- ---- the block to give way
 
@@ -182,8 +168,7 @@ victim_last ways slots victim room some =
       | inl less ↦
           absurd (none-some victim (sym (cond-true (nat_lt (length slots) ways) None (slice_get slots (ways - 1)) (lt-ltb (length slots) ways less)) ∙ some))
       | inr full ↦
-          let last : slice_get slots (ways - 1) ≡ Some victim =
-          sym (cond-false (nat_lt (length slots) ways) None (slice_get slots (ways - 1)) (le-ltb (length slots) ways full)) ∙ some in
+          let last : slice_get slots (ways - 1) ≡ Some victim = search (rules, cond-false, le-ltb) in
           let within : ways - 1 < length slots = slice_get_within slots (ways - 1) victim last in
           let front : length (take (ways - 1) slots) ≡ ways - 1 = length-take-le (ways - 1) slots (omega arith) in
           let back : drop (ways - 1) slots ≡ victim ∷ [] =
@@ -232,29 +217,17 @@ without_victim-full ways front victim long = grind (arith, common_steps)
 next_way-full : (ways : ℕ) (front : List Slot) (victim : Slot) → length front + 1 ≡ ways
     → next_way ways (front ++ victim ∷ []) ≡ victim.way
 unfolding next_way
-next_way-full ways front victim long =
-    ap (way_over ways (front ++ victim ∷ [])) (victim_of-full ways front victim long)
+next_way-full ways front victim long = search (rules, victim_of-full)
 
 placed-full : (ways : ℕ) (front : List Slot) (victim : Slot) (x : ℕ) (line : Line) → length front + 1 ≡ ways
     → placed ways (front ++ victim ∷ []) x line
     ≡ record { way = victim.way; position = x; line = line; dirty = false } ∷ front
-placed-full ways front victim x line long =
-    ap₂ (λ way kept. record { way = way; position = x; line = line; dirty = false } ∷ kept)
-    (next_way-full ways front victim long) (without_victim-full ways front victim long)
+placed-full ways front victim x line long = search (rules, next_way-full, without_victim-full)
 
 -- the block to give way is none of the others
 apart_front : (front : List Slot) (victim : Slot) → ArePositionsApart (front ++ victim ∷ [])
     → All (λ slot. slot.position ≢ victim.position) front
-apart_front front victim apart =
-    λ k d h e.
-    apart k (length front) d h (omega (arith, length-append front (victim ∷ [])))
-    (ap (λ (s : Slot). s.position) (get_or_append_left front (victim ∷ []) d k h) ∙ e
-    ∙ ap (λ (s : Slot). s.position)
-    (sym (get_or-append_right front (victim ∷ []) (length front) (length front) d refl (omega arith)
-    ∙ ap (λ n. get_or (victim ∷ []) n d) none)))
-  where
-    none : length front - length front ≡ 0
-    none = omega arith
+apart_front front victim apart = search (rules, length-append, get_or_append_left, get_or-append_right)
 
 -- marking the last slot leaves the others
 with_mark-last : (front : List Slot) (victim : Slot) (dirty : Bool) → ArePositionsApart (front ++ victim ∷ [])
@@ -334,22 +307,12 @@ clean_victim ways slots room apart = by_victim (victim_of ways slots) refl
 pub holds-with_mark : (slots : List Slot) (y : ℕ) (dirty : Bool) (x : ℕ) → holds (with_mark slots y dirty) x ≡ holds slots x
 unfolding with_mark
 holds-with_mark [] y dirty x = refl
-holds-with_mark (slot ∷ slots) y dirty x =
-    ap₂ (λ a b. a || b) (ap (λ p. p == x) (by_test (slot.position == y))) (holds-with_mark slots y dirty x)
-  where
-    by_test : (test : Bool) → (cond test (slot_marked slot dirty) slot).position ≡ slot.position
-    by_test true = refl
-    by_test false = refl
+holds-with_mark (slot ∷ slots) y dirty x = search (rules, (holds-with_mark slots y dirty x))
 
 pub holds-with_line : (slots : List Slot) (y : ℕ) (line : Line) (x : ℕ) → holds (with_slot_line slots y line) x ≡ holds slots x
 unfolding with_slot_line
 holds-with_line [] y line x = refl
-holds-with_line (slot ∷ slots) y line x =
-    ap₂ (λ a b. a || b) (ap (λ p. p == x) (by_test (slot.position == y))) (holds-with_line slots y line x)
-  where
-    by_test : (test : Bool) → (cond test (lined slot line) slot).position ≡ slot.position
-    by_test true = refl
-    by_test false = refl
+holds-with_line (slot ∷ slots) y line x = search (rules, (holds-with_line slots y line x))
 
 pub holds-without_dirty : (slots : List Slot) (victim : Option Slot) (x : ℕ)
     → holds (without_dirty slots victim) x ≡ holds slots x
@@ -449,13 +412,11 @@ placed_gone ways slots x line victim room apart is absent =
     let front : List Slot = take (ways - 1) slots in
     let full : IsFull ways slots front victim = victim_last ways slots victim room is in
     let other : x ≢ victim.position =
-    λ e. both_ways (holds slots x) absent (ap (holds slots) e ∙ holds_slot slots victim (victim_contained ways slots victim room is)) in
+    λ e. both_ways _ absent (ap (holds slots) e ∙ holds_slot slots victim (victim_contained ways slots victim room is)) in
     ap (λ set. holds (placed ways set x line) victim.position) full.split
     ∙ ap (λ set. holds set victim.position) (placed-full ways front victim x line full.long)
-    ∙ ap₂ (λ a b. a || b) (ne_eqb x victim.position other)
-    (list_any_none (λ (s : Slot). s.position == victim.position) front
-    (λ k d h. ne_eqb (get_or front k d).position victim.position
-    (apart_front front victim (subst ArePositionsApart full.split apart) k d h)))
+    ∙ ap₂ (λ a b. a || b) (ne_eqb x victim.position other) (list_any_none (λ (s : Slot). s.position == victim.position) front
+    (λ k d h. ne_eqb (get_or front k d).position victim.position (apart_front front victim (subst ArePositionsApart full.split apart) k d h)))
 
 -- dirty slots before, and after with the write that made room
 pub dirty_in-placed : (g : Shape) (slots : List Slot) (x : ℕ) (line : Line) → length slots ≤ g.ways → 1 ≤ g.ways
@@ -481,10 +442,7 @@ dirty_in-placed g slots x line room some = by_victim (victim_of g.ways slots) re
     by_victim (Some victim) is =
         let front : List Slot = take (g.ways - 1) slots in
         let full : IsFull g.ways slots front victim = victim_last g.ways slots victim room is in
-        let kept : dirty_in (without_victim g.ways slots) ≡ dirty_in front =
-        ap dirty_in (ap (without_victim g.ways) full.split ∙ without_victim-full g.ways front victim full.long) in
-        let before : dirty_in slots ≡ dirty_in front + dirty victim =
-        ap dirty_in full.split ∙ sum_by-append dirty front (victim ∷ []) ∙ omega arith in
-        let written : length (room_write g slots) ≡ dirty victim =
-        ap (λ found. length (victim_write g found)) is ∙ one victim victim.dirty in
+        let kept : dirty_in (without_victim g.ways slots) ≡ dirty_in front = search (rules, without_victim-full) in
+        let before : dirty_in slots ≡ dirty_in front + dirty victim = search (rules, sum_by-append) in
+        let written : length (room_write g slots) ≡ dirty victim = search rules in
         omega arith

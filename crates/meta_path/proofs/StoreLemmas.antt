@@ -1,6 +1,6 @@
 -- New lines are stored, level by level.
 use Rattle.std.proofs.lemmas.Grind.{common_steps}
-use Rattle.std.proofs.Common.{rules, ◌≡◌, ◌≢◌, ℕ, ◌+◌, ◌<◌, ◌≤◌, Bool, true, cond, List, [], ◌∷◌, ◌++◌, length, get_or, take, map, set, add-one, refl, sym, ap, subst, ◌∙◌, inl, inr, arith}
+use Rattle.std.proofs.Common.{rules, ◌≡◌, ◌≢◌, ℕ, ◌+◌, ◌<◌, ◌≤◌, Bool, true, cond, List, [], ◌∷◌, ◌++◌, length, get_or, take, map, set, sym, ap, subst, ◌∙◌, inl, inr, arith}
 use Rattle.std.specs.Prelude.{◌==◌, ◌||◌, nat_lt, not, Contains}
 use Rattle.std.proofs.lemmas.Bool.{cases_eq, cases_Bool, cond-true, cond-false, eq-eqb, eqb-true, false≢true}
 use Rattle.std.proofs.lemmas.List.{map-id, length-map, take_more, get_or-map}
@@ -18,8 +18,8 @@ use Rattle.seal_ledger.specs.Notes.{HasMeta, with_truth}
 use Rattle.seal_ledger.proofs.NoteLemmas.{same_ledger}
 use Rattle.meta_cache.specs.declared.slot.Slot.{Slot}
 use Rattle.meta_cache.specs.Banks.{Banks, set_of, set_index, is_cached}
-use Rattle.meta_cache.specs.Sets.{holds, lined, slot_marked, with_slot_line, with_mark}
-use Rattle.meta_cache.specs.State.{CacheState, with_slots, ChangesSet}
+use Rattle.meta_cache.specs.Sets.{lined, with_slot_line, with_mark}
+use Rattle.meta_cache.specs.State.{CacheState, ChangesSet}
 use Rattle.meta_cache.proofs.CacheLemmas.{with_slots-twice}
 use Rattle.meta_cache.proofs.WayLemmas.{KeepsWays-with_slot_line, KeepsWays-with_mark}
 use Rattle.meta_path.specs.Blocks.{path_at, slots_at, IsPathCached, IsOfItsBank, AreInTheirBanks}
@@ -37,53 +37,22 @@ pub stored_twice : (old mid new : CacheState) (bank x : ℕ) (line : Line) (dirt
     → ChangesSet old mid bank (set_index old.shape x) (with_slot_line (slots_at old.shape old.banks bank x) x line)
     → ChangesSet mid new bank (set_index mid.shape x) (with_mark (slots_at mid.shape mid.banks bank x) x dirty)
     → ChangesSet old new bank (set_index old.shape x) (stored_set (slots_at old.shape old.banks bank x) x line dirty)
-stored_twice old mid new bank x line dirty one two =
-    record {
-      exact =
-          two.exact ∙ ap (λ (k : Shape). with_slots mid bank (set_index k x) (with_mark (slots_at k mid.banks bank x) x dirty)) one.shape
-          ∙ ap (λ (c : CacheState). with_slots c bank (set_index old.shape x) (with_mark (slots_at old.shape mid.banks bank x) x dirty)) one.exact
-          ∙ with_slots-twice old bank (set_index old.shape x) (with_slot_line slots x line) (with_mark (slots_at old.shape mid.banks bank x) x dirty)
-          ∙ ap (λ set. with_slots old bank (set_index old.shape x) (with_mark set x dirty)) one.here;
-      shape = two.shape ∙ one.shape;
-      here =
-          ap (λ (k : Shape). set_of new.banks bank (set_index k x)) (sym one.shape) ∙ two.here ∙ same;
-      ways = λ y before after.
-          KeepsWays-with_mark (with_slot_line slots x line) x dirty y
-          (holds-with_line slots x line y ∙ before) after
-          ∙ KeepsWays-with_slot_line slots x line y before (holds-with_line slots x line y ∙ before);
-      elsewhere =
-          λ bank' set' apart.
-          two.elsewhere bank' set' (λ e. apart (e.0, e.1 ∙ ap (λ (k : Shape). set_index k x) one.shape))
-          ∙ one.elsewhere bank' set' apart;
-    }
-  where
-    slots : List Slot
-    slots = slots_at old.shape old.banks bank x
-
-    same : with_mark (slots_at mid.shape mid.banks bank x) x dirty ≡ stored_set slots x line dirty
-    same =
-        ap (λ set. with_mark set x dirty)
-        (ap (λ (k : Shape). set_of mid.banks bank (set_index k x)) one.shape ∙ one.here)
+stored_twice old mid new bank x line dirty one two = search (rules, with_slots-twice, KeepsWays-with_mark, holds-with_line, KeepsWays-with_slot_line)
 
 -- the position is still cached
 pub lined_cached : (old mid : CacheState) (bank x : ℕ) (line : Line)
     → ChangesSet old mid bank (set_index old.shape x) (with_slot_line (slots_at old.shape old.banks bank x) x line)
     → is_cached old.shape old.banks bank x ≡ true → is_cached mid.shape mid.banks bank x ≡ true
-lined_cached old mid bank x line one cached =
-    ap (λ (k : Shape). is_cached k mid.banks bank x) one.shape
-    ∙ ap (λ slots. holds slots x) one.here
-    ∙ holds-with_line (slots_at old.shape old.banks bank x) x line x ∙ cached
+lined_cached old mid bank x line one cached = search (rules, holds-with_line)
 
 -- ---- the path's lines
 
 pub length-path_lines : (g : Shape) (page : ℕ) (lines : List (ℕ × Line)) → IsPathOf g page lines → length lines ≡ g.levels + 1
-length-path_lines g page lines path =
-    sym (length-map lines (λ (entry : ℕ × Line). entry.0)) ∙ ap (λ (xs : List ℕ). length xs) path.positions ∙ length-path_of g page
+length-path_lines g page lines path = search (rules, length-map, length-path_of)
 
 pub position_of : (g : Shape) (page : ℕ) (lines : List (ℕ × Line)) (j : ℕ) (d : ℕ × Line) → IsPathOf g page lines
     → j < length lines → (get_or lines j d).0 ≡ path_at g page j
-position_of g page lines j d path h =
-    sym (get_or-map (λ (entry : ℕ × Line). entry.0) lines j d 0 h) ∙ ap (λ (xs : List ℕ). get_or xs j 0) path.positions
+position_of g page lines j d path h = search (rules, get_or-map)
 
 -- ---- level by level
 
@@ -98,21 +67,11 @@ pub IsStoredTo-more : {g : Shape} {page : ℕ} {persisted : Bool} {lines : List 
     → IsStoredTo g page persisted lines (n + 1) old new
 IsStoredTo-more {g} {page} {persisted} {lines} {n} {old} {mid} {new} before level =
     record {
-      exact =
-          rw add-one (level.exact
-          ∙ ap (λ (c : CacheState). with_slots c n (set_index g (path_at g page n))
-          (stored_set (slots_at g c.banks n (path_at g page n)) (path_at g page n) (new_line lines n) (stored_mark g persisted n)))
-          before.exact);
+      exact = search rules;
       shape = level.shape ∙ before.shape;
       stored = λ j h.
           elim (cases_eq j n) [
-            | inl same ↦
-                subst (λ k. slots_at g new.banks k (path_at g page k)
-                ≡ stored_set (slots_at g old.banks k (path_at g page k)) (path_at g page k) (new_line lines k) (stored_mark g persisted k))
-                (sym same)
-                (level.here
-                ∙ ap (λ slots. stored_set slots (path_at g page n) (new_line lines n) (stored_mark g persisted n))
-                (before.elsewhere n (set_index g (path_at g page n)) (λ e. omega (arith, e.0))))
+            | inl same ↦ search rules
             | inr other ↦
                 level.elsewhere j (set_index g (path_at g page j)) (λ e. other e.0) ∙ before.stored j (omega arith)
           ];
@@ -137,12 +96,7 @@ pub next_cached : (g : Shape) (page : ℕ) (persisted : Bool) (lines : List (ℕ
     (old mid : CacheState) → IsPathOf g page lines → n < length lines → old.shape ≡ g → entry ≡ get_or lines n d
     → IsStoredTo g page persisted lines n old mid → IsPathCached g old.banks page
     → is_cached mid.shape mid.banks n entry.0 ≡ true
-next_cached g page persisted lines n entry d old mid path h its is stored cached =
-    ap (λ (k : Shape). is_cached k mid.banks n entry.0) (stored.shape ∙ its)
-    ∙ ap (is_cached g mid.banks n) (ap (λ (e : ℕ × Line). e.0) is ∙ position_of g page lines n d path h)
-    ∙ ap (λ slots. holds slots (path_at g page n))
-    (stored.elsewhere n (set_index g (path_at g page n)) (λ e. omega (arith, e.0)))
-    ∙ cached.each n (omega (arith, h, length-path_lines g page lines path))
+next_cached g page persisted lines n entry d old mid path h its is stored cached = search (rules, position_of, length-path_lines)
 
 -- and on the tree
 pub next_on_tree : (g : Shape) (page : ℕ) (lines : List (ℕ × Line)) (n : ℕ) (entry d : ℕ × Line)
@@ -161,8 +115,7 @@ mark_is levels n last persisted mark same is = is ∙ ap (λ k. nat_lt n k || no
 -- the ledger is known whole
 pub HasMetaLines-is : (lines : List (ℕ × Line)) (old new : LedgerState) → HasMetaLines lines old new
     → new ≡ with_truth old (put_lines lines old.truth)
-HasMetaLines-is lines old new it =
-    same_ledger new (with_truth old (put_lines lines old.truth)) it.marks it.truth it.data_lines it.exhibit
+HasMetaLines-is lines old new it = search (rules, same_ledger)
 
 pub HasMetaLines-none : (ledger : LedgerState) → HasMetaLines [] ledger ledger
 HasMetaLines-none ledger = search rules
@@ -200,31 +153,7 @@ pub record IsStoreOf (x : ℕ) (line : Line) (dirty : Bool) (before now : Slot) 
   pub its_mark : now.position ≡ x → now.dirty ≡ dirty
 
 pub store_at-is : (x : ℕ) (line : Line) (dirty : Bool) (slot : Slot) → IsStoreOf x line dirty slot (store_at x line dirty slot)
-store_at-is x line dirty slot =
-    elim (cases_Bool (slot.position == x)) [
-      | inl here ↦
-          subst (IsStoreOf x line dirty slot)
-          (sym (ap (mark_at x dirty) (cond-true (slot.position == x) (lined slot line) slot here)
-          ∙ cond-true (slot.position == x) (slot_marked (lined slot line) dirty) (lined slot line) here))
-          (record {
-            way = refl;
-            position = refl;
-            same = λ other. absurd (other (eqb-true slot.position x here));
-            its_line = λ e. refl;
-            its_mark = λ e. refl;
-          })
-      | inr other ↦
-          subst (IsStoreOf x line dirty slot)
-          (sym (ap (mark_at x dirty) (cond-false (slot.position == x) (lined slot line) slot other)
-          ∙ cond-false (slot.position == x) (slot_marked slot dirty) slot other))
-          (record {
-            way = refl;
-            position = refl;
-            same = λ e. refl;
-            its_line = λ e. absurd (false≢true (sym other ∙ eq-eqb slot.position x e));
-            its_mark = λ e. absurd (false≢true (sym other ∙ eq-eqb slot.position x e));
-          })
-    ]
+store_at-is x line dirty slot = search (rules, cases_Bool, mark_at, cond-true, eqb-true, cond-false, false≢true, eq-eqb)
 
 stored_map : (slots : List Slot) (x : ℕ) (line : Line) (dirty : Bool) → stored_set slots x line dirty ≡ map (store_at x line dirty) slots
 unfolding with_slot_line with_mark
@@ -278,17 +207,7 @@ module _ {g : Shape} {page : ℕ} {persisted : Bool} {lines : List (ℕ × Line)
 
   -- each position is cached as it was
   is_cached-stored : (bank x : ℕ) → is_cached g new.banks bank x ≡ is_cached g old.banks bank x
-  is_cached-stored bank x =
-      elim (path_set_or_not g page (g.levels + 1) bank (set_index g x)) [
-        | inl at ↦
-            let y : ℕ = path_at g page bank in
-            ap (λ n. holds (set_of new.banks bank n) x) at.its_set
-            ∙ ap (λ slots. holds slots x) (stored.stored bank at.reached)
-            ∙ holds-with_mark (with_slot_line (slots_at g old.banks bank y) y (new_line lines bank)) y (stored_mark g persisted bank) x
-            ∙ holds-with_line (slots_at g old.banks bank y) y (new_line lines bank) x
-            ∙ ap (λ n. holds (set_of old.banks bank n) x) (sym at.its_set)
-        | inr apart ↦ ap (λ slots. holds slots x) (stored.elsewhere bank (set_index g x) apart)
-      ]
+  is_cached-stored bank x = search (rules, path_set_or_not, holds-with_mark, holds-with_line)
 
   pub IsPathCached-stored : {other : ℕ} → IsPathCached g old.banks other → IsPathCached g new.banks other
   IsPathCached-stored {other} cached =

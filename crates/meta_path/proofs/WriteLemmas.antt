@@ -17,7 +17,7 @@ use Rattle.meta_cache.specs.declared.slot.Slot.{Slot}
 use Rattle.meta_cache.specs.Banks.{Banks, set_of, set_index, is_cached, is_cached_dirty}
 use Rattle.meta_cache.specs.Sets.{holds, slot_marked, with_mark, ArePositionsApart}
 use Rattle.meta_cache.specs.State.{CacheState, ChangesSet}
-use Rattle.meta_path.specs.Blocks.{slots_at, dirty_in, bank_dirty_count, dirty_count, IsOfItsBank, AreInTheirBanks, AreCachedTrue}
+use Rattle.meta_path.specs.Blocks.{slots_at, dirty_in, dirty_count, IsOfItsBank, AreInTheirBanks, AreCachedTrue}
 use Rattle.meta_path.specs.Storing.{IsCleanedSlot, KeepsCleaned}
 use Rattle.meta_path.proofs.SetFacts.{holds_slot, map_contains, slots_from, slots_to}
 use Rattle.meta_path.proofs.PathFacts.{its_bank_of, AreSets}
@@ -34,16 +34,7 @@ pub record IsDirtyAt (g : Shape) (banks : Banks) (bank x : ℕ) : Type 0 where
   pub dirty : slot.dirty ≡ true
 
 pub dirty_at : (g : Shape) (banks : Banks) (bank x : ℕ) → is_cached_dirty g banks bank x ≡ true → IsDirtyAt g banks bank x
-dirty_at g banks bank x dirty =
-    let found = Any-from_list_any (λ (s : Slot). s.position == x && s.dirty) (slots_at g banks bank x) dirty in
-    let parts : (found.1.position == x ≡ true) × (found.1.dirty ≡ true) =
-    and_parts (found.1.position == x) found.1.dirty found.4 in
-    record {
-      slot = found.1;
-      stands = (found.0, found.2, found.3);
-      position = eqb-true found.1.position x parts.0;
-      dirty = parts.1;
-    }
+dirty_at g banks bank x dirty = search (rules, Any-from_list_any, and_parts, eqb-true)
 
 pub dirty_is_cached : (g : Shape) (banks : Banks) (bank x : ℕ) → is_cached_dirty g banks bank x ≡ true
     → is_cached g banks bank x ≡ true
@@ -64,12 +55,10 @@ abbrev pub mark_at : ℕ → Bool → Slot → Slot
 mark_at x dirty slot = cond (slot.position == x) (slot_marked slot dirty) slot
 
 pub mark_at-position : (x : ℕ) (dirty : Bool) (slot : Slot) → (mark_at x dirty slot).position ≡ slot.position
-mark_at-position x dirty slot =
-    elim (slot.position == x) as (λ test. (cond test (slot_marked slot dirty) slot).position ≡ slot.position) [ true ↦ refl | false ↦ refl ]
+mark_at-position x dirty slot = search rules
 
 pub mark_at-line : (x : ℕ) (dirty : Bool) (slot : Slot) → (mark_at x dirty slot).line ≡ slot.line
-mark_at-line x dirty slot =
-    elim (slot.position == x) as (λ test. (cond test (slot_marked slot dirty) slot).line ≡ slot.line) [ true ↦ refl | false ↦ refl ]
+mark_at-line x dirty slot = search rules
 
 -- a slot after a mark was one before
 pub with_mark_contains : (slots : List Slot) (x : ℕ) (dirty : Bool) (slot : Slot) → Contains (with_mark slots x dirty) slot
@@ -176,8 +165,7 @@ rest_clean : (slot : Slot) (slots : List Slot) (x : ℕ) → slot.position ≡ x
     → list_any (λ (s : Slot). s.position == x && s.dirty) slots ≡ true → ⊥
 rest_clean slot slots x here apart dirty =
     let found = Any-from_list_any (λ (s : Slot). s.position == x && s.dirty) slots dirty in
-    let parts : (found.1.position == x ≡ true) × (found.1.dirty ≡ true) =
-    and_parts (found.1.position == x) found.1.dirty found.4 in
+    let parts : (found.1.position == x ≡ true) × (found.1.dirty ≡ true) = search (rules, and_parts) in
     AllPairs-head (λ (a b : Slot). a.position ≢ b.position) slot slots apart found.0 found.1 found.2
     (here ∙ sym (eqb-true found.1.position x parts.0) ∙ ap (λ (s : Slot). s.position) (sym found.3))
 
@@ -206,8 +194,7 @@ dirty_in-cleaned (slot ∷ slots) x apart dirty =
         let here : slot.position ≡ x = eqb-true slot.position x same in
         let one : marks slot ≡ 1 =
         first slot.dirty refl here (ap (λ (b : Bool). (b && slot.dirty) || list_any (λ (s : Slot). s.position == x && s.dirty) slots) (sym same) ∙ any) in
-        let none : marks (mark_at x false slot) ≡ 0 =
-        ap (λ (s : Slot). marks s) (cond-true (slot.position == x) (slot_marked slot false) slot same) in
+        let none : marks (mark_at x false slot) ≡ 0 = search (rules, cond-true) in
         omega (
           arith,
           one,
@@ -217,10 +204,8 @@ dirty_in-cleaned (slot ∷ slots) x apart dirty =
           sum_by-cons marks (mark_at x false slot) (map (mark_at x false) slots),
         )
     by_test (inr other) any rest =
-        let kept : marks (mark_at x false slot) ≡ marks slot =
-        ap (λ (s : Slot). marks s) (cond-false (slot.position == x) (slot_marked slot false) slot other) in
-        let more : dirty_in (map (mark_at x false) slots) + 1 ≡ dirty_in slots =
-        rest (ap (λ (b : Bool). (b && slot.dirty) || list_any (λ (s : Slot). s.position == x && s.dirty) slots) (sym other) ∙ any) in
+        let kept : marks (mark_at x false slot) ≡ marks slot = search (rules, cond-false) in
+        let more : dirty_in (map (mark_at x false) slots) + 1 ≡ dirty_in slots = search rules in
         omega (
           arith,
           kept,
@@ -236,12 +221,10 @@ pub dirty_count-cleaned : (g : Shape) (old new : CacheState) (bank x : ℕ) → 
     → dirty_count g new.banks + 1 ≡ dirty_count g old.banks
 unfolding dirty_count
 dirty_count-cleaned g old new bank x sets some low dirty changes =
-    sum_below-one (bank_dirty_count g new.banks) (bank_dirty_count g old.banks) (g.levels + 1) bank 1 (omega arith)
+    sum_below-one _ _ (g.levels + 1) bank 1 (omega arith)
     (sum_below-one (λ set. dirty_in (set_of new.banks bank set)) (λ set. dirty_in (set_of old.banks bank set)) g.sets
-    (set_index g x) 1 (mod-lt x (omega (arith, some)))
-    (ap (λ slots. dirty_in slots + 1) changes.here
-    ∙ dirty_in-cleaned (slots_at g old.banks bank x) x (sets.each bank (set_index g x)).distinct_positions dirty)
-    (λ set h other. ap dirty_in (changes.elsewhere bank set (λ e. other e.1))))
+    _ 1 (mod-lt x (omega (arith, some))) (ap (λ slots. dirty_in slots + 1) changes.here
+    ∙ dirty_in-cleaned _ x (sets.each bank _).distinct_positions dirty) (λ set h other. ap dirty_in (changes.elsewhere bank set (λ e. other e.1))))
     (λ other h apart.
     sum_below-same (λ set. dirty_in (set_of new.banks other set)) (λ set. dirty_in (set_of old.banks other set)) g.sets
     (λ set l. ap dirty_in (changes.elsewhere other set (λ e. apart e.0))))
@@ -249,27 +232,7 @@ dirty_count-cleaned g old new bank x sets some low dirty changes =
 -- ---- each slot
 
 mark_at-is : (cleaned x bank : ℕ) (slot : Slot) → bank ≡ cleaned → IsCleanedSlot cleaned x bank slot (mark_at x false slot)
-mark_at-is cleaned x bank slot here =
-    elim (cases_Bool (slot.position == x)) [
-      | inl same ↦
-          subst (IsCleanedSlot cleaned x bank slot) (sym (cond-true (slot.position == x) (slot_marked slot false) slot same))
-          (record {
-            way = refl;
-            position = refl;
-            line = refl;
-            same = λ other. absurd (other (here, eqb-true slot.position x same));
-            clean = λ b e. refl;
-          })
-      | inr other ↦
-          subst (IsCleanedSlot cleaned x bank slot) (sym (cond-false (slot.position == x) (slot_marked slot false) slot other))
-          (record {
-            way = refl;
-            position = refl;
-            line = refl;
-            same = λ e. refl;
-            clean = λ b e. absurd (false≢true (sym other ∙ eq-eqb slot.position x e));
-          })
-    ]
+mark_at-is cleaned x bank slot here = search (rules, cases_Bool, cond-true, eqb-true, cond-false, false≢true, eq-eqb)
 
 -- a slot of any other set
 kept_slot : (g : Shape) (cleaned x bank set : ℕ) (slot : Slot) → set_index g slot.position ≡ set

@@ -1,5 +1,5 @@
 -- Laws of shadow entries: zero lines name nothing, and a table names no more positions than it has slots.
-use Rattle.std.proofs.Common.{ℕ, ◌≡◌, ◌+◌, ◌-◌, ◌*◌, ◌/◌, ◌%◌, ◌^◌, false, eqb, List, [], ◌∷◌, length, drop, replicate, All, slice_range, refl, ap, sym, ◌∙◌, arith}
+use Rattle.std.proofs.Common.{rules, ℕ, ◌≡◌, ◌+◌, ◌-◌, ◌*◌, ◌^◌, false, eqb, List, [], ◌∷◌, length, replicate, All, slice_range, refl, ap, sym, ◌∙◌, arith}
 use Rattle.std.specs.List.{list_any, range_with_len}
 use Rattle.std.proofs.lemmas.List.Elements.{All-head, All-tail, All-take, All-drop, All-replicate}
 use Rattle.std.proofs.lemmas.List.Folds.{list_any_none}
@@ -21,10 +21,7 @@ from_zero_bytes (b ∷ bytes) all =
     ap (λ c. c * 256 ^ length bytes + from_big_endian bytes) first ∙ (omega arith)
 
 zero_range : (n i k : ℕ) → from_big_endian (slice_range (replicate n 0) i k) ≡ 0
-zero_range n i k =
-    from_zero_bytes (slice_range (replicate n 0) i k)
-    (All-take (λ b. b ≡ 0) (k - i) (drop i (replicate n 0))
-    (All-drop (λ b. b ≡ 0) i (replicate n 0) (All-replicate (λ b. b ≡ 0) n 0 refl)))
+zero_range n i k = search (rules, from_zero_bytes, slice_range, All-take, All-drop, All-replicate)
 
 pub entry_of-zero : (i : ℕ) → entry_of zero_line i ≡ 0
 unfolding zero_line
@@ -35,8 +32,7 @@ pub record AreAllZero (shadow : List Line) : Type 0 where
   pub zero_lines : (n : ℕ) → line_at shadow n ≡ zero_line
 
 pub table_entry-zero : (shadow : List Line) (first n : ℕ) → AreAllZero shadow → table_entry shadow first n ≡ 0
-table_entry-zero shadow first n h =
-    ap (λ line. entry_of line (n % 16)) (h.zero_lines (first + n / 16)) ∙ entry_of-zero (n % 16)
+table_entry-zero shadow first n h = search (rules, entry_of-zero)
 
 none_named : (shadow : List Line) (first m x : ℕ) → AreAllZero shadow → list_any (λ n. eqb (table_entry shadow first n) (x + 1)) (range_with_len 0 m) ≡ false
 none_named shadow first m x h =
@@ -49,9 +45,5 @@ none_named shadow first m x h =
 
 pub is_named_in-zero : (g : Shape) (shadow : List Line) (bank x : ℕ) → AreAllZero shadow → is_named_in g shadow bank x ≡ false
 is_named_in-zero g shadow bank x h =
-    cond_both (eqb bank g.levels)
-    (list_any (λ n. eqb (table_entry shadow 0 n) (x + 1)) (range_with_len 0 (slots g)))
-    (list_any (λ n. eqb (table_entry shadow (shadow_counter_lines g) n) (x + 1)) (range_with_len 0 (g.levels * slots g)))
-    (λ b. b ≡ false)
-    (λ _. none_named shadow 0 (slots g) x h)
+    cond_both (eqb bank g.levels) _ _ (λ b. b ≡ false) (λ _. none_named shadow 0 (slots g) x h)
     (λ _. none_named shadow (shadow_counter_lines g) (g.levels * slots g) x h)

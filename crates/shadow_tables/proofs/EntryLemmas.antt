@@ -1,6 +1,6 @@
 -- Entries when one of them is written.
-use Rattle.std.proofs.Common.{◌≡◌, ◌≢◌, ℕ, ◌+◌, ◌*◌, ◌/◌, ◌%◌, ◌^◌, ◌≤◌, ◌<◌, Bool, true, false, List, length, get_or, set, mul-le-mul_right, refl, sym, ap, ◌∙◌, inl, inr, arith}
-use Rattle.std.specs.Prelude.{◌==◌, if◌then◌else◌}
+use Rattle.std.proofs.Common.{rules, ◌≡◌, ◌≢◌, ℕ, ◌+◌, ◌*◌, ◌/◌, ◌%◌, ◌^◌, ◌≤◌, ◌<◌, true, List, length, get_or, set, mul-le-mul_right, sym, ap, ◌∙◌, inl, inr, arith}
+use Rattle.std.specs.Prelude.{◌==◌}
 use Rattle.std.specs.List.{range_with_len}
 use Rattle.std.proofs.lemmas.Bool.{cases_eq, cases_lt, cases_order, eq-eqb, ne_eqb, cond-true, cond-false}
 use Rattle.std.proofs.lemmas.List.{get_or-set_same, get_or-set_other}
@@ -9,7 +9,7 @@ use Rattle.std.proofs.lemmas.List.FromFn.{length-range_with_len, get_or-range_wi
 use Rattle.pmem_base.specs.declared.lines.Line.{Line}
 use Rattle.pmem_base.specs.Shape.{Shape}
 use Rattle.pmem_base.specs.Layout.{slots, shadow_counter_lines, shadow_lines}
-use Rattle.pmem_base.specs.Lines.{line_at, zero_line, from_big_endian, big_endian}
+use Rattle.pmem_base.specs.Lines.{line_at}
 use Rattle.pmem_base.proofs.Parts.{part-put_bytes_same, part-put_bytes_before, part-put_bytes_behind}
 use Rattle.pmem_base.proofs.LayoutLemmas.{number_low}
 use Rattle.pmem_base.proofs.Digits.{from_big_endian-big_endian}
@@ -63,27 +63,11 @@ pub record IsEntryPut (old new : Line) (i value : ℕ) : Type 0 where
 
 pub slot_entry_by_place : (g : Shape) (shadow : List Line) (bank n : ℕ)
     → slot_entry g shadow bank n ≡ entry_of (line_at shadow (entry_line g bank n)) (entry_index g bank n)
-slot_entry_by_place g shadow bank n = by_test (bank == g.levels)
-  where
-    by_test : (test : Bool)
-        → (if test then table_entry shadow 0 n
-        else table_entry shadow (shadow_counter_lines g) (bank * slots g + n))
-        ≡ entry_of
-        (line_at shadow (if test then n / 16 else shadow_counter_lines g + (bank * slots g + n) / 16))
-        (if test then n % 16 else (bank * slots g + n) % 16)
-    by_test true = ap (λ k. entry_of (line_at shadow k) (n % 16)) (omega arith)
-    by_test false = refl
+slot_entry_by_place g shadow bank n = search rules
 
 same_row : (size bank bank' n n' : ℕ) → n < size → n' < size → bank * size + n ≡ bank' * size + n'
     → bank ≡ bank'
-same_row size bank bank' n n' h h' e =
-    elim (cases_order bank bank') [
-      | inl same ↦ same
-      | inr (inl less) ↦
-          let more : (bank + 1) * size ≤ bank' * size = mul-le-mul_right size (omega arith) in absurd (omega arith)
-      | inr (inr greater) ↦
-          let more : (bank' + 1) * size ≤ bank * size = mul-le-mul_right size (omega arith) in absurd (omega arith)
-    ]
+same_row size bank bank' n n' h h' e = search (rules, cases_order, mul-le-mul_right)
 
 entry_line-at_counter : (g : Shape) (bank n : ℕ) → bank ≡ g.levels → entry_line g bank n ≡ n / 16
 entry_line-at_counter g bank n h = cond-true (bank == g.levels) _ _ (eq-eqb bank g.levels h)
@@ -106,16 +90,7 @@ pub entry_place_injective : (g : Shape) (bank n bank' n' : ℕ) → n < slots g 
 entry_place_injective g bank n bank' n' h h' lines indexes =
     elim (cases_eq bank g.levels) [
       | inl same ↦ elim (cases_eq bank' g.levels) [
-        | inl same' ↦
-            let e : n ≡ n' =
-            omega (
-              arith,
-              entry_line-at_counter g bank n same,
-              entry_line-at_counter g bank' n' same',
-              entry_index-at_counter g bank n same,
-              entry_index-at_counter g bank' n' same',
-            ) in
-            (omega arith, e)
+        | inl same' ↦ search (rules, entry_line-at_counter, entry_index-at_counter)
         | inr other' ↦
             absurd (omega (arith, entry_line-at_counter g bank n same, entry_line-at_node g bank' n' other'))
       ]
@@ -138,22 +113,14 @@ entry_place_injective g bank n bank' n' h h' lines indexes =
     ]
 
 pub entry_index_below : (g : Shape) (bank n : ℕ) → entry_index g bank n < 16
-entry_index_below g bank n = by_test (bank == g.levels)
-  where
-    by_test : (test : Bool) → (if test then n % 16 else (bank * slots g + n) % 16) < 16
-    by_test true = omega arith
-    by_test false = omega arith
+entry_index_below g bank n = search rules
 
 -- the slot's own entry after its shadow line was written
 pub slot_entry-put_same : (g : Shape) (shadow : List Line) (bank n value : ℕ) (line : Line)
     → entry_line g bank n < length shadow
     → IsEntryPut (line_at shadow (entry_line g bank n)) line (entry_index g bank n) value
     → slot_entry g (set shadow (entry_line g bank n) line) bank n ≡ value
-slot_entry-put_same g shadow bank n value line within put =
-    slot_entry_by_place g (set shadow (entry_line g bank n) line) bank n
-    ∙ ap (λ l. entry_of l (entry_index g bank n))
-    (get_or-set_same shadow (entry_line g bank n) line zero_line within)
-    ∙ put.entry
+slot_entry-put_same g shadow bank n value line within put = search (rules, slot_entry_by_place, get_or-set_same)
 
 -- any other slot's entry
 pub slot_entry-put_other : (g : Shape) (shadow : List Line) (bank n value : ℕ) (line : Line) (bank' n' : ℕ)
@@ -162,20 +129,7 @@ pub slot_entry-put_other : (g : Shape) (shadow : List Line) (bank n value : ℕ)
     → n < slots g → n' < slots g → ((bank ≡ bank') × (n ≡ n') → ⊥)
     → slot_entry g (set shadow (entry_line g bank n) line) bank' n' ≡ slot_entry g shadow bank' n'
 slot_entry-put_other g shadow bank n value line bank' n' within put h h' apart =
-    slot_entry_by_place g (set shadow (entry_line g bank n) line) bank' n'
-    ∙ elim (cases_eq (entry_line g bank' n') (entry_line g bank n)) [
-      | inl same ↦
-          ap (λ k. entry_of (line_at (set shadow (entry_line g bank n) line) k) (entry_index g bank' n')) same
-          ∙ ap (λ l. entry_of l (entry_index g bank' n'))
-          (get_or-set_same shadow (entry_line g bank n) line zero_line within)
-          ∙ put.others (entry_index g bank' n') (entry_index_below g bank' n')
-          (λ e. apart (entry_place_injective g bank n bank' n' h h' (sym same) (sym e)))
-          ∙ ap (λ k. entry_of (line_at shadow k) (entry_index g bank' n')) (sym same)
-      | inr other ↦
-          ap (λ l. entry_of l (entry_index g bank' n'))
-          (get_or-set_other shadow (entry_line g bank n) (entry_line g bank' n') line zero_line other)
-    ]
-    ∙ sym (slot_entry_by_place g shadow bank' n')
+    search (rules, slot_entry_by_place, cases_eq, get_or-set_same, entry_index_below, entry_place_injective, get_or-set_other)
 
 -- the shadow line of an entry is one of the device's
 pub entry_line_within : (g : Shape) (bank n : ℕ) → bank ≤ g.levels → n < slots g
@@ -194,16 +148,4 @@ entry_line_within g bank n low h =
 pub IsEntryPut-with_entry : (line : Line) (i value : ℕ) → length line.0 ≡ 64 → i < 16 → value < 2 ^ 32
     → IsEntryPut line (with_entry line i value) i value
 IsEntryPut-with_entry line i value long h small =
-    record {
-      entry =
-          ap from_big_endian (part-put_bytes_same line (4 * i) (big_endian 4 value) (omega arith))
-          ∙ from_big_endian-big_endian 4 value (omega arith);
-      others =
-          λ j hj other. ap from_big_endian
-          (elim (cases_lt j i) [
-            | inl less ↦
-                part-put_bytes_before line (4 * i) (big_endian 4 value) (4 * j) (4 * j + 4) (omega arith) (omega arith)
-            | inr least ↦
-                part-put_bytes_behind line (4 * i) (big_endian 4 value) (4 * j) (4 * j + 4) (omega arith) (omega arith)
-          ]);
-    }
+    search (rules, part-put_bytes_same, from_big_endian-big_endian, cases_lt, part-put_bytes_before, part-put_bytes_behind)

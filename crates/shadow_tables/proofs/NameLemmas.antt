@@ -1,6 +1,7 @@
 -- Naming a position by a slot's entry.
-use Rattle.std.proofs.Common.{◌≡◌, ◌≢◌, ℕ, ◌+◌, ◌*◌, ◌/◌, ◌%◌, ◌^◌, ◌≤◌, ◌<◌, true, List, length, Option, Some, None, refl, sym, ap, subst, ◌∙◌, ◌⊎◌, inl, inr, arith}
-use Rattle.std.specs.Prelude.{All, Any, ◌==◌, IsNone, IfNone, OnSome}
+use Rattle.std.proofs.lemmas.Grind.{common_steps}
+use Rattle.std.proofs.Common.{rules, ◌≡◌, ◌≢◌, ℕ, ◌+◌, ◌*◌, ◌/◌, ◌%◌, ◌^◌, ◌≤◌, ◌<◌, true, List, length, Option, Some, None, refl, sym, ap, subst, ◌∙◌, ◌⊎◌, inl, inr, arith}
+use Rattle.std.specs.Prelude.{All, ◌==◌, IsNone, IfNone, OnSome}
 use Rattle.std.specs.List.{list_any, range_with_len}
 use Rattle.std.proofs.Math.Nat.{div-add-mod, div-lt_iff_lt-mul}
 use Rattle.std.proofs.lemmas.Bool.{cases_eq, eq-eqb, eqb-true, ne_eqb, cond-true, cond-false}
@@ -33,23 +34,10 @@ record HasEntry (shadow : List Line) (first size x : ℕ) : Type 0 where
 entry_found : (shadow : List Line) (first size x : ℕ)
     → list_any (λ n. table_entry shadow first n == x + 1) (range_with_len 0 size) ≡ true
     → HasEntry shadow first size x
-entry_found shadow first size x found =
-    let any : Any (λ n. (table_entry shadow first n == x + 1) ≡ true) (range_with_len 0 size) =
-    Any-from_list_any (λ n. table_entry shadow first n == x + 1) (range_with_len 0 size) found in
-    let inside : any.0 < size = omega (arith, any.2, length-range_with_len 0 size) in
-    let at : any.1 ≡ any.0 = omega (arith, any.3, get_or-range_with_len 0 size any.0 any.1 inside) in
-    record {
-      number = any.1;
-      within = omega arith;
-      names = eqb-true (table_entry shadow first any.1) (x + 1) any.4;
-    }
+entry_found shadow first size x found = search (rules, Any-from_list_any, length-range_with_len, get_or-range_with_len, eqb-true)
 
 row_of : (size levels m : ℕ) → m < levels * size → (m / size < levels) × (m % size < size) × (m / size * size + m % size ≡ m)
-row_of size levels m h =
-    let some : 0 < size = grind arith in
-    let parts : size * (m / size) + m % size ≡ m = div-add-mod m size in
-    let low : m / size < levels = (div-lt_iff_lt-mul some).1 h in
-    (low, omega arith, omega arith)
+row_of size levels m h = search (rules, div-add-mod, div-lt_iff_lt-mul)
 
 -- a position that is named is named by a slot's entry
 pub slot_that_names : (g : Shape) (shadow : List Line) (bank x : ℕ) → bank ≤ g.levels
@@ -57,8 +45,7 @@ pub slot_that_names : (g : Shape) (shadow : List Line) (bank x : ℕ) → bank �
 slot_that_names g shadow bank x low named =
     elim (cases_eq bank g.levels) [
       | inl same ↦
-          let found : HasEntry shadow 0 (slots g) x =
-          entry_found shadow 0 (slots g) x (sym (cond-true (bank == g.levels) _ _ (eq-eqb bank g.levels same)) ∙ named) in
+          let found : HasEntry shadow 0 (slots g) x = search (rules, entry_found, cond-true, eq-eqb) in
           record {
             its_bank = bank;
             slot = found.number;
@@ -68,9 +55,7 @@ slot_that_names g shadow bank x low named =
             one_table = λ other. refl;
           }
       | inr other ↦
-          let found : HasEntry shadow (shadow_counter_lines g) (g.levels * slots g) x =
-          entry_found shadow (shadow_counter_lines g) (g.levels * slots g) x
-          (sym (cond-false (bank == g.levels) _ _ (ne_eqb bank g.levels other)) ∙ named) in
+          let found : HasEntry shadow (shadow_counter_lines g) (g.levels * slots g) x = search (rules, entry_found, cond-false, ne_eqb) in
           let row = row_of (slots g) g.levels found.number found.within in
           let apart : found.number / slots g ≢ g.levels = λ e. absurd (omega (arith, row.0)) in
           record {
@@ -112,9 +97,7 @@ Names-from_entries g old new bank n x low h entry others =
     still bank' y found =
         elim (cases_eq found.its_bank bank) [
           | inl same ↦ elim (cases_eq found.slot n) [
-            | inl here ↦
-                inr (ap (λ b. slot_entry g old b n) (sym same)
-                ∙ ap (slot_entry g old found.its_bank) (sym here) ∙ found.names)
+            | inl here ↦ search rules
             | inr there ↦ inl (kept bank' y found (λ e. there e.1))
           ]
           | inr other ↦ inl (kept bank' y found (λ e. other e.0))
@@ -142,16 +125,14 @@ Names-with_named g shadow bank n x low h long each small =
 -- where the entry names the position already, nothing changes
 pub Names-already : (g : Shape) (shadow : List Line) (bank n x : ℕ) → bank ≤ g.levels → n < slots g
     → slot_entry g shadow bank n ≡ x + 1 → Names g shadow shadow bank n x
-Names-already g shadow bank n x low h entry =
-    Names-from_entries g shadow shadow bank n x low h entry (λ bank' n' h' apart. refl)
+Names-already g shadow bank n x low h entry = search (rules, Names-from_entries)
 
 -- what naming answers says which of the two it was
 pub Names-from_answer : {W : Type 0} (g : Shape) (old new : List Line) (bank n x : ℕ) (answer : Option W)
     → bank ≤ g.levels → n < slots g → length old ≡ shadow_lines g → All IsLine old → x + 1 < 2 ^ 32
     → (IsNone answer → slot_entry g old bank n ≡ x + 1) → IfNone answer (new ≡ old)
     → OnSome answer (new ≡ with_named g old bank n x) → Names g old new bank n x
-Names-from_answer g old new bank n x None low h long each small already same written =
-    subst (λ shadow. Names g old shadow bank n x) (sym same) (Names-already g old bank n x low h (already refl))
+Names-from_answer g old new bank n x None low h long each small already same written = grind (arith, common_steps, Names-already)
 Names-from_answer g old new bank n x (Some write) low h long each small already same written =
     subst (λ shadow. Names g old shadow bank n x) (sym written)
     (Names-with_named g old bank n x low h long each small)

@@ -1,10 +1,10 @@
 -- The shadow lines among a device's lines, after one of the device's lines was set.
-use Rattle.std.proofs.Common.{◌≡◌, ℕ, zero, suc, ◌+◌, ◌-◌, ◌*◌, ◌<◌, List, [], ◌∷◌, take, drop, refl, ap, ◌∙◌, arith}
+use Rattle.std.proofs.Common.{rules, ◌≡◌, ℕ, zero, suc, ◌+◌, ◌-◌, ◌<◌, List, [], ◌∷◌, take, drop, refl, ap, ◌∙◌, arith}
 use Rattle.std.specs.Prelude.{slice_set}
 use Rattle.pmem_base.specs.declared.lines.Line.{Line}
 use Rattle.pmem_base.specs.Shape.{Shape}
-use Rattle.pmem_base.specs.Layout.{shadow_line, device_lines}
-use Rattle.pmem_base.specs.Lines.{IsLine, big_endian}
+use Rattle.pmem_base.specs.Layout.{shadow_line}
+use Rattle.pmem_base.specs.Lines.{IsLine}
 use Rattle.pmem_base.proofs.LineSets.{put_bytes-IsLine}
 use Rattle.pmem_base.proofs.ByteLaws.{big_endian-AreBytes, length-big_endian}
 use Rattle.shadow_tables.specs.Entries.{shadow_of}
@@ -32,19 +32,15 @@ drop-set_from (suc m) (x ∷ xs) (suc n) k y h = drop-set_from m xs n k y (omega
 -- a write before the shadow lines leaves them
 pub shadow_of-set_before : (g : Shape) (lines : List Line) (at : ℕ) (line : Line) → at < shadow_line g 0
     → shadow_of g (slice_set lines at line) ≡ shadow_of g lines
-shadow_of-set_before g lines at line h =
-    ap (take (device_lines g - shadow_line g 0)) (drop-set_before (shadow_line g 0) lines at line h)
+shadow_of-set_before g lines at line h = search (rules, drop-set_before)
 
 -- a write of shadow line n
 pub shadow_of-set : (g : Shape) (lines : List Line) (n : ℕ) (line : Line)
     → shadow_of g (slice_set lines (shadow_line g n) line) ≡ slice_set (shadow_of g lines) n line
 shadow_of-set g lines n line =
-    ap (take (device_lines g - shadow_line g 0))
-    (drop-set_from (shadow_line g 0) lines (shadow_line g n) n line (omega arith))
-    ∙ take-set_within (device_lines g - shadow_line g 0) (drop (shadow_line g 0) lines) n line
+    ap (take _) (drop-set_from _ lines _ n line (omega arith))
+    ∙ take-set_within _ (drop _ lines) n line
 
 -- a shadow line with an entry written into it is a line
 pub IsLine-with_entry : (line : Line) (i value : ℕ) → IsLine line → i < 16 → IsLine (with_entry line i value)
-IsLine-with_entry line i value whole h =
-    put_bytes-IsLine line (4 * i) (big_endian 4 value) whole (big_endian-AreBytes 4 value)
-    (omega (arith, length-big_endian 4 value))
+IsLine-with_entry line i value whole h = search (rules, put_bytes-IsLine, big_endian-AreBytes, length-big_endian)

@@ -1,9 +1,10 @@
 -- Eight minors are seven bytes: the line of a block and the block of a line, by groups.
-use Rattle.std.proofs.Common.{ℕ, zero, suc, slice_index, ◌≡◌, ◌<◌, ◌≤◌, ◌+◌, ◌-◌, ◌*◌, ◌/◌, ◌%◌, ◌^◌, List, [], ◌∷◌, ◌++◌, length, take, drop, refl, sym, ap, subst, ◌∙◌, arith}
+use Rattle.std.proofs.lemmas.Grind.{common_steps}
+use Rattle.std.proofs.Common.{rules, ℕ, zero, suc, slice_index, ◌≡◌, ◌<◌, ◌≤◌, ◌+◌, ◌-◌, ◌*◌, ◌/◌, ◌%◌, ◌^◌, List, [], ◌∷◌, ◌++◌, length, take, drop, refl, sym, ap, subst, ◌∙◌, arith}
 use Rattle.std.specs.Prelude.{All}
 use Rattle.std.proofs.lemmas.List.{append_assoc, append-nil, get_or_append_left, get_or-append-add, length-drop, length-take-le, take_all, drop-drop}
 use Rattle.std.proofs.lemmas.Slice.{take-put_mid}
-use borrow.Rule.Slice.PartMut.{put_mid, same_len_mid}
+use borrow.Rule.Slice.PartMut.{put_mid}
 use Rattle.std.specs.Int.{w64, to_be_bytes, from_be_bytes}
 use Rattle.std.proofs.Math.Nat.{pow-le-pow_right, div-one}
 use Rattle.std.proofs.lemmas.List.Elements.{All-take, All-drop}
@@ -18,11 +19,7 @@ use Rattle.split_counters.proofs.MinorDigits.{length-minors_of_number, minors_of
 
 -- seven minors have 49 bits
 pub number_of_minors-few : (minors : List ℕ) (i : ℕ) → i ≤ 7 → length minors ≡ 8 → All (λ m. m ≤ 127) minors → number_of_minors (take i minors) < 2 ^ 49
-number_of_minors-few minors i few long small =
-    let below = number_of_minors-below (take i minors) (All-take (λ m. m ≤ 127) i minors small) in
-    let power : 128 ^ i ≤ 128 ^ 7 = pow-le-pow_right {n = 128} (omega arith) few in
-    let same : 128 ^ length (take i minors) ≡ 128 ^ i = ap (λ n. 128 ^ n) (length-take-le i minors (omega arith)) in
-    omega (arith, below, power, same)
+number_of_minors-few minors i few long small = grind (arith, common_steps, number_of_minors-below, All-take, pow-le-pow_right, length-take-le)
 
 -- a major's bytes and those of the first g groups of minors
 unfoldable pub packed_front : ℕ → List ℕ → ℕ → List ℕ
@@ -44,10 +41,7 @@ packed_front-more major minors g small long =
     (number_of_minors-below group (All-take (λ m. m ≤ 127) 8 (drop (8 * g) minors) (All-drop (λ m. m ≤ 127) (8 * g) minors small))) in
     let longer : 8 * (g + 1) ≡ 8 * g + 8 = omega arith in
     let whole : number_of_minors (take (8 * (g + 1)) minors) ≡ number_of_minors front * 256 ^ 7 + number_of_minors group =
-    ap (λ n. number_of_minors (take n minors)) longer
-    ∙ (ap number_of_minors (take-add (8 * g) 8 minors)
-    ∙ (number_of_minors-append front group
-    ∙ ap (λ n. number_of_minors front * 128 ^ n + number_of_minors group) eight)) in
+    search (rules, take-add, number_of_minors-append) in
     let bytes : 7 * g + 7 ≡ 7 * (g + 1) = omega arith in
     append_assoc (big_endian 8 major) (big_endian (7 * g) (number_of_minors front)) (big_endian 7 (number_of_minors group))
     ∙ ap (λ bs. big_endian 8 major ++ bs)
@@ -156,17 +150,14 @@ counter_read line first group major i g k whole inside its_group its_place read 
 -- ---- the steps of the loops: a group is written at its place
 
 put_mid-length : (a k : ℕ) (xs ys : List ℕ) → length ys ≡ k → a + k ≤ length xs → length (put_mid a k xs ys) ≡ length xs
-put_mid-length a k xs ys same inside =
-    same_len_mid a k xs ys (same ∙ sym (length-take-le k (drop a xs) (omega (arith, length-drop a xs))))
+put_mid-length a k xs ys same inside = grind (arith, common_steps, length-take-le, length-drop)
 
 -- the places of a group in the line and among the minors
 pub bytes_long : (bytes group : List ℕ) (g : ℕ) → length group ≡ 7 → length bytes ≡ 64 → g < 8 → length (put_mid (7 * g + 8) (7 * g + 15 - (7 * g + 8)) bytes group) ≡ 64
-bytes_long bytes group g seven long inside =
-    put_mid-length (7 * g + 8) (7 * g + 15 - (7 * g + 8)) bytes group (omega (arith, seven)) (omega (arith, long)) ∙ long
+bytes_long bytes group g seven long inside = search (rules, put_mid-length)
 
 pub minors_long : (minors group : List ℕ) (g : ℕ) → length group ≡ 8 → length minors ≡ 64 → g < 8 → length (put_mid (8 * g) (8 * g + 8 - 8 * g) minors group) ≡ 64
-minors_long minors group g eight long inside =
-    put_mid-length (8 * g) (8 * g + 8 - 8 * g) minors group (omega (arith, eight)) (omega (arith, long)) ∙ long
+minors_long minors group g eight long inside = search (rules, put_mid-length)
 
 pub pack_step : (major : ℕ) (minors bytes group : List ℕ) (g : ℕ) → All (λ m. m ≤ 127) minors → length minors ≡ 64 → length bytes ≡ 64 → g < 8 → take (7 * g + 8) bytes ≡ packed_front major minors g → group ≡ big_endian 7 (number_of_minors (take (8 * g + 8 - 8 * g) (drop (8 * g) minors))) → take (7 * (g + 1) + 8) (put_mid (7 * g + 8) (7 * g + 15 - (7 * g + 8)) bytes group) ≡ packed_front major minors (g + 1)
 pack_step major minors bytes group g small count long inside before written =
@@ -203,16 +194,13 @@ pack_end block bytes count long all =
 
 -- the bytes of a word, the highest first
 pub to_eight : (value : ℕ) → to_be_bytes w64 value ≡ big_endian 8 value
-to_eight value =
-    ap (λ z. value / 256 ^ 7 % 256 ∷ value / 256 ^ 6 % 256 ∷ value / 256 ^ 5 % 256 ∷ value / 256 ^ 4 % 256 ∷ value / 256 ^ 3 % 256 ∷ value / 256 ^ 2 % 256 ∷ value / 256 ^ 1 % 256 ∷ z % 256 ∷ [])
-    (sym (div-one value))
+to_eight value = search (rules, div-one)
 
 pub unpack_end : (line : Line) (first minors : List ℕ) (major : ℕ) → IsLine line → length minors ≡ 64 → take 64 minors ≡ unpacked_front (drop 8 line.0) 8 → first ≡ take 8 line.0 → major ≡ from_be_bytes w64 first → record { major = major; minors = minors } ≡ unpacked line
 unfolding unpacked
 unpack_end line first minors major whole count all read value =
     let eight : length (take 8 line.0) ≡ 8 = length-take-le 8 line.0 (omega (arith, whole.long)) in
-    let its_major : major ≡ from_big_endian (take 8 line.0) =
-    value ∙ (ap (λ t. from_be_bytes w64 t) read ∙ from_eight (take 8 line.0) eight) in
+    let its_major : major ≡ from_big_endian (take 8 line.0) = search (rules, from_eight) in
     let its_minors : minors ≡ minors_of_number 64 (from_big_endian (drop 8 line.0)) =
     sym (take_all 64 minors (omega (arith, count)))
     ∙ (all ∙ unpacked_front-all (drop 8 line.0) (length-drop 8 line.0 ∙ omega (arith, whole.long))) in

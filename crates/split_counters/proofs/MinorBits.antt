@@ -1,5 +1,5 @@
 -- The bits of a block's minors in its line.
-use Rattle.std.proofs.Common.{ℕ, zero, suc, ◌≡◌, ◌<◌, ◌+◌, ◌-◌, ◌*◌, ◌/◌, ◌%◌, ◌^◌, get_or, refl, sym, ap, ◌∙◌, arith}
+use Rattle.std.proofs.Common.{rules, ℕ, zero, suc, ◌≡◌, ◌<◌, ◌+◌, ◌-◌, ◌*◌, ◌/◌, ◌%◌, ◌^◌, get_or, refl, sym, ap, ◌∙◌, arith}
 use Rattle.std.proofs.lemmas.List.{drop_at}
 use Rattle.std.proofs.lemmas.Nat.{field_of, shr-shr, pow-add, mod-pow-add}
 use Rattle.std.proofs.Math.Nat.{pow-suc}
@@ -17,12 +17,7 @@ parity-low n r = ap (λ z. z % 2) (mod-pow-add n r 1) ∙ omega arith
 
 -- a bit of a digit of w bits, which p digits follow, is a bit of the number
 bit-digit : (w base p : ℕ) → base ≡ 2 ^ w → base ^ p ≡ 2 ^ (w * p) → (value s r : ℕ) → w ≡ r + 1 + s → (value / base ^ p % base / 2 ^ s) % 2 ≡ (value / 2 ^ (w * p + s)) % 2
-bit-digit w base p one all value s r width =
-    ap (λ z. (value / z % base / 2 ^ s) % 2) all
-    ∙ (ap (λ z. (value / 2 ^ (w * p) % z / 2 ^ s) % 2) (one ∙ ap (λ z. 2 ^ z) width)
-    ∙ (ap (λ z. z % 2) (field_of (value / 2 ^ (w * p)) (r + 1) s)
-    ∙ (parity-low (value / 2 ^ (w * p) / 2 ^ s) r
-    ∙ ap (λ z. z % 2) (shr-shr value (w * p) s))))
+bit-digit w base p one all value s r width = search (rules, field_of, parity-low, shr-shr)
 
 bytes-power : (p : ℕ) → 256 ^ p ≡ 2 ^ (8 * p)
 bytes-power zero = refl

@@ -1,5 +1,5 @@
 -- Minors as digits of base 128, the highest first.
-use Rattle.std.proofs.Common.{ℕ, zero, suc, ◌≡◌, ◌<◌, ◌≤◌, ◌+◌, ◌*◌, ◌/◌, ◌%◌, ◌^◌, List, [], ◌∷◌, ◌++◌, length, get_or, refl, sym, ap, subst, ◌∙◌, arith}
+use Rattle.std.proofs.Common.{rules, ℕ, zero, suc, ◌≡◌, ◌<◌, ◌≤◌, ◌+◌, ◌*◌, ◌/◌, ◌%◌, ◌^◌, List, [], ◌∷◌, ◌++◌, length, get_or, refl, sym, ap, subst, ◌∙◌, arith}
 use Rattle.std.specs.List.{All}
 use Rattle.std.proofs.lemmas.List.Elements.{All-weaker}
 use Rattle.pmem_base.proofs.Digits.{digits, number, length-digits, digits-small, number-below, digits-number, number-digits, digits-join, number-append, get_or-digits}
@@ -17,9 +17,7 @@ pub length-minors_of_number : (n value : ℕ) → length (minors_of_number n val
 length-minors_of_number n value = ap length (minors_of_number-digits n value) ∙ length-digits 128 n value
 
 pub minors_of_number-small : (n value : ℕ) → All (λ m. m ≤ 127) (minors_of_number n value)
-minors_of_number-small n value =
-    subst (λ ms. All (λ m. m ≤ 127) ms) (sym (minors_of_number-digits n value))
-    (All-weaker (λ d. d < 128) (λ m. m ≤ 127) (λ m below. omega (arith, below)) (digits 128 n value) (digits-small 128 n value (omega arith)))
+minors_of_number-small n value = search (rules, minors_of_number-digits, All-weaker, digits, digits-small)
 
 are_digits : (minors : List ℕ) → All (λ m. m ≤ 127) minors → All (λ m. m < 128) minors
 are_digits minors small = All-weaker (λ m. m ≤ 127) (λ d. d < 128) (λ m below. omega (arith, below)) minors small
@@ -34,17 +32,10 @@ pub minors_of_number-number_of_minors : (minors : List ℕ) → All (λ m. m ≤
 minors_of_number-number_of_minors minors small = minors_of_number-digits (length minors) (number_of_minors minors) ∙ (ap (digits 128 (length minors)) (number_of_minors-number minors) ∙ digits-number 128 minors (omega arith) (are_digits minors small))
 
 pub minors_of_number-join : (m n high low : ℕ) → low < 128 ^ n → minors_of_number (m + n) (high * 128 ^ n + low) ≡ minors_of_number m high ++ minors_of_number n low
-minors_of_number-join m n high low below =
-    minors_of_number-digits (m + n) (high * 128 ^ n + low)
-    ∙ (digits-join 128 m n high low (omega arith) below
-    ∙ (ap (λ ds. ds ++ digits 128 n low) (sym (minors_of_number-digits m high)) ∙ ap (λ ds. minors_of_number m high ++ ds) (sym (minors_of_number-digits n low))))
+minors_of_number-join m n high low below = search (rules, minors_of_number-digits, digits-join)
 
 pub number_of_minors-append : (xs ys : List ℕ) → number_of_minors (xs ++ ys) ≡ number_of_minors xs * 128 ^ length ys + number_of_minors ys
-number_of_minors-append xs ys =
-    number_of_minors-number (xs ++ ys)
-    ∙ (number-append 128 xs ys
-    ∙ (ap (λ z. z * 128 ^ length ys + number 128 ys) (sym (number_of_minors-number xs))
-    ∙ ap (λ z. number_of_minors xs * 128 ^ length ys + z) (sym (number_of_minors-number ys))))
+number_of_minors-append xs ys = search (rules, number_of_minors-number, number-append)
 
 -- minor i, which k minors follow
 pub get_or-minors_of_number : (n value i k : ℕ) → i + 1 + k ≡ n → get_or (minors_of_number n value) i 0 ≡ value / 128 ^ k % 128

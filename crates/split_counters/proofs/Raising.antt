@@ -1,5 +1,5 @@
 -- A minor is raised in a block's line: its group alone is written anew.
-use Rattle.std.proofs.Common.{ℕ, slice_index, ◌≡◌, ◌≢◌, ◌<◌, ◌≤◌, ◌+◌, ◌-◌, ◌*◌, ◌/◌, ◌%◌, ◌^◌, List, length, take, drop, sym, ap, subst, ◌∙◌, inl, inr, arith}
+use Rattle.std.proofs.Common.{rules, ℕ, slice_index, ◌≡◌, ◌≢◌, ◌<◌, ◌≤◌, ◌+◌, ◌-◌, ◌*◌, ◌/◌, ◌%◌, ◌^◌, List, length, take, drop, sym, ap, subst, ◌∙◌, inl, inr, arith}
 use Rattle.std.specs.Prelude.{All, slice_set}
 use Rattle.std.proofs.lemmas.Bool.{cases_eq, cases_order}
 use Rattle.std.proofs.lemmas.List.{same_lists, length-set, get_or-set_same, get_or-set_other, get_or_default}
@@ -9,10 +9,9 @@ use borrow.Rule.Slice.PartMut.{put_mid}
 use Rattle.std.specs.Int.{w64, from_be_bytes}
 use Rattle.pmem_base.specs.declared.lines.Line.{Line}
 use Rattle.pmem_base.specs.declared.lines.Ctr.{Ctr}
-use Rattle.pmem_base.specs.Lines.{IsLine, line_of, big_endian, from_big_endian}
+use Rattle.pmem_base.specs.Lines.{IsLine, big_endian, from_big_endian}
 use Rattle.pmem_base.proofs.ByteLaws.{length-big_endian}
 use Rattle.pmem_base.proofs.Digits.{from_big_endian-big_endian}
-use Rattle.split_counters.specs.declared.Block.{Block}
 use Rattle.split_counters.specs.Blocks.{packed, unpacked, minor_of, with_minor, number_of_minors, minors_of_number}
 use Rattle.split_counters.proofs.MinorDigits.{length-minors_of_number, minors_of_number-small, number_of_minors-below, minors_of_number-number_of_minors}
 use Rattle.split_counters.proofs.Packing.{packed-unpacked}
@@ -27,22 +26,11 @@ abbrev with_group : List ℕ → ℕ → List ℕ → List ℕ
 with_group bytes g group = put_mid (7 * g + 8) (7 * g + 8 + 7 - (7 * g + 8)) bytes group
 
 group_here : (bytes group : List ℕ) (g : ℕ) → length bytes ≡ 64 → g < 8 → length group ≡ 7 → group_at g (with_group bytes g group) ≡ group
-group_here bytes group g long inside seven =
-    between-put_mid (7 * g + 8) (7 * g + 8 + 7 - (7 * g + 8)) bytes group (7 * g + 8 + 7) (omega (arith, long, inside)) (omega (arith, seven))
+group_here bytes group g long inside seven = search (rules, between-put_mid)
 
 group_other : (bytes group : List ℕ) (g j : ℕ) → length bytes ≡ 64 → g < 8 → j < 8 → j ≢ g → length group ≡ 7
     → group_at j (with_group bytes g group) ≡ group_at j bytes
-group_other bytes group g j long inside low apart seven =
-    elim (cases_order j g) [
-      | inl same ↦ absurd (apart same)
-      | inr (inl below) ↦
-          between_is (with_group bytes g group) (7 * j + 8) (7 * j + 8 + 7)
-          ∙ ap (drop (7 * j + 8)) (take-put_mid_below (7 * g + 8) (7 * g + 8 + 7 - (7 * g + 8)) bytes group (7 * j + 8 + 7) (omega (arith, below)) (omega (arith, long, inside)))
-          ∙ sym (between_is bytes (7 * j + 8) (7 * j + 8 + 7))
-      | inr (inr above) ↦
-          ap (take (7 * j + 8 + 7 - (7 * j + 8)))
-          (drop-put_mid (7 * g + 8) (7 * g + 8 + 7 - (7 * g + 8)) bytes group (7 * j + 8) (omega (arith, above)) (omega (arith, long, inside)) (omega (arith, seven)))
-    ]
+group_other bytes group g j long inside low apart seven = search (rules, cases_order, between_is, take-put_mid_below, drop-put_mid)
 
 -- the minors of a group come back from its bytes
 group_back : (minors : List ℕ) → length minors ≡ 8 → All (λ m. m ≤ 127) minors → minors_of_number 8 (from_big_endian (big_endian 7 (number_of_minors minors))) ≡ minors

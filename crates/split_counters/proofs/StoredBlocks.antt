@@ -1,5 +1,5 @@
 -- What a stored counter block keeps of the true one, also when a minor rises.
-use Rattle.std.proofs.Common.{◌≡◌, ◌≢◌, ℕ, ◌+◌, ◌*◌, ◌/◌, ◌%◌, ◌≤◌, ◌<◌, length, mul-le-mul_right, refl, sym, ap, ◌∙◌, ◌⊎◌, inl, inr, arith}
+use Rattle.std.proofs.Common.{rules, ◌≡◌, ◌≢◌, ℕ, ◌+◌, ◌*◌, ◌/◌, ◌%◌, ◌≤◌, ◌<◌, length, mul-le-mul_right, refl, sym, ap, ◌∙◌, ◌⊎◌, inl, inr, arith}
 use Rattle.std.proofs.lemmas.List.{get_or-set_same, get_or-set_other}
 use Rattle.std.proofs.Math.Nat.{div-div-eq-div-mul}
 use Rattle.std.proofs.lemmas.Bool.{cases_eq, cases_order}
@@ -12,15 +12,7 @@ IsStoredBlock-same loss block = record { same_major = refl; close_minors = λ i 
 
 -- a number and the one before it have one quotient, but where the divisor divides the number
 pub div_before : (m n : ℕ) → 0 < n → (m + 1) % n ≢ 0 → m / n ≡ (m + 1) / n
-div_before m n pos rest =
-    elim (cases_order (m / n) ((m + 1) / n)) [
-      | inl same ↦ same
-      | inr (inl less) ↦
-          let more : (m / n + 1) * n ≤ (m + 1) / n * n = mul-le-mul_right n (omega arith) in
-          absurd (rest (omega arith))
-      | inr (inr greater) ↦
-          let more : ((m + 1) / n + 1) * n ≤ m / n * n = mul-le-mul_right n (omega arith) in absurd (omega arith)
-    ]
+div_before m n pos rest = search (rules, cases_order, mul-le-mul_right)
 
 -- what was stored of the old block is stored of the bumped one, while the minor doesn't reach a
 -- multiple of the stop-loss number
@@ -36,8 +28,7 @@ IsStoredBlock-bumped loss stored old new i pos kept bumped rest =
     at : (j : ℕ) → j < 64 → (j ≡ i) ⊎ (j ≡ i → ⊥)
         → (minor_of stored j ≤ minor_of new j) × (minor_of stored j / loss ≡ minor_of new j / loss)
     at j h (inl same) =
-        let now : minor_of new j ≡ minor_of old j + 1 =
-        ap (minor_of new) same ∙ bumped.one_more ∙ ap (λ k. minor_of old k + 1) (sym same) in
+        let now : minor_of new j ≡ minor_of old j + 1 = search rules in
         let rest' : (minor_of old j + 1) % loss ≢ 0 =
         λ e. rest (ap (λ k. minor_of new k % loss) (sym same) ∙ ap (λ m. m % loss) now ∙ e) in (
           omega (arith, (kept.close_minors j h).0),

@@ -59,8 +59,7 @@ dirty_in_bank-none g banks bank sets clean =
     not_dirty : (set : ℕ) (slot : Slot) → Contains (set_of banks bank set) slot → (b : Bool) → slot.dirty ≡ b → slot.dirty ≡ false
     not_dirty set slot stands false is = is
     not_dirty set slot stands true is =
-        let own : set_index g slot.position ≡ set =
-        All-stands (λ (s : Slot). set_index g s.position ≡ set) (set_of banks bank set) slot (sets.each bank set).its_positions stands in
+        let own : set_index g slot.position ≡ set = search (rules, All-stands) in
         absurd (true≢false
         (sym (is_cached_dirty_from g banks bank slot (subst (λ n. Contains (set_of banks bank n) slot) (sym own) stands) is)
         ∙ clean slot.position))

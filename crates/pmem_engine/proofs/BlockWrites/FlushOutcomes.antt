@@ -4,7 +4,6 @@ use Rattle.std.proofs.Common.{rules, ℕ, ◌≡◌, ◌<◌, ◌≤◌, true, [
 use Rattle.std.specs.Prelude.{option_map, is_some, IfOk}
 use Rattle.std.proofs.lemmas.Bool.{true≢false}
 use Rattle.pmem_base.specs.declared.faults.Cut.{Cut}
-use Rattle.pmem_base.specs.Shape.{Shape}
 use Rattle.pmem_base.specs.Layout.{device_lines, meta_lines}
 use Rattle.bonsai_tree.specs.Positions.{level_of}
 use Rattle.board.proofs.CountLemmas.{RisesBy-once, HasRisen-once}
@@ -13,7 +12,7 @@ use Rattle.seal_ledger.specs.Ledger.{LedgerState}
 use Rattle.suite.specs.Setup.{Setup}
 use Rattle.board.specs.Steps.{WasCut}
 use Rattle.meta_cache.specs.Banks.{set_index, is_cached, is_cached_dirty}
-use Rattle.meta_cache.specs.State.{CacheState, IsCacheOf, oldest_dirty}
+use Rattle.meta_cache.specs.State.{IsCacheOf, oldest_dirty}
 use Rattle.meta_cache.proofs.DirtyLemmas.{oldest_cached, cache_clean}
 use Rattle.meta_path.specs.Blocks.{AreInTheirBanks}
 use Rattle.meta_path.specs.Storing.{IsCleaned, IsOneWrittenBack}
@@ -35,9 +34,7 @@ use Rattle.pmem_engine.proofs.CallEnds.StillParts.{nothing_done, no_steps_of}
 use Rattle.pmem_engine.proofs.BlockWrites.WrittenBlocks.{written_back, clean_after, cached_after}
 
 same_engine : (old new : ChipState) → cache_of new ≡ cache_of old → new.mirror ≡ old.mirror → new ≡ old
-same_engine old new cache mirror =
-    ap (λ (c : CacheState). record { shape = c.shape; cache = c.banks; mirror = new.mirror }) cache
-    ∙ ap (λ m. record { shape = old.shape; cache = old.cache; mirror = m }) mirror
+same_engine old new cache mirror = search rules
 
 module _ (old new : ChipState) (before after : Device) (mirror : new.mirror ≡ old.mirror)
     (form : IsCacheOf old.shape old.cache) (its_banks : AreInTheirBanks old.shape old.cache) where
@@ -55,8 +52,7 @@ module _ (old new : ChipState) (before after : Device) (mirror : new.mirror ≡ 
   pub oldest_written : (found : Option (ℕ × ℕ)) → oldest_dirty old.cache ≡ found
       → IsOneWrittenBack old.shape found (cache_of old) (cache_of new) before after
       → HasWrittenOldest old new before after (Ok (option_map (λ f. f.1) found))
-  oldest_written None none it =
-      (same_engine old new it.0 mirror, it.1, λ bank x. cache_clean old.shape old.cache bank x none)
+  oldest_written None none it = search (rules, same_engine, cache_clean)
   oldest_written (Some found) is it =
       let dirty = oldest_cached old.shape old.cache found form is in
       let block : HasWrittenBack found.0 found.1 old new before after = written_block found.0 found.1 dirty.0 dirty.1 it.0 in
@@ -90,8 +86,7 @@ module _ (setup : Setup) (old new : ChipState) (before after : Device) (ledger :
       → OneLossEffect setup (outcome_of (of_cut answer)) [] start finish
   flush_done (Ok None) it =
       subst₂ (λ e d. OneLossEffect setup going [] start (parts_with e d ledger tags digests)) (sym it.0) (sym it.1) (nothing_done setup start)
-  flush_done (Ok (Some x)) it =
-      written_back setup (level_of x) x old new before after ledger tags digests its_shape its_size whole it
+  flush_done (Ok (Some x)) it = search (rules, written_back)
   flush_done (Err cut) it =
       subst (λ e. OneLossEffect setup cut_short [] start (parts_with e after ledger tags digests)) (sym it.0)
       (cut_still setup old before after ledger tags digests it.1)
@@ -106,16 +101,7 @@ module _ (setup : Setup) (old new : ChipState) (before after : Device) (ledger :
 
   flush_answer : (answer : Result (Option ℕ) Cut) → HasWrittenOldest old new before after answer
       → AnswersFlush setup.shape start finish (of_cut answer)
-  flush_answer (Ok None) it = (
-    record {
-      engine = it.0;
-      device = it.1;
-      ledger = refl;
-      tags = refl;
-      digests = refl;
-    },
-    λ bank x. ap (λ g. is_cached_dirty g old.cache bank x) (sym its_shape) ∙ it.2 bank x,
-  )
+  flush_answer (Ok None) it = search rules
   flush_answer (Ok (Some x)) it = (
     ap (λ g. is_cached_dirty g old.cache (level_of x) x) (sym its_shape) ∙ it.was_dirty,
     ap (λ g. is_cached_dirty g new.cache (level_of x) x) (sym its_shape)
@@ -127,10 +113,7 @@ module _ (setup : Setup) (old new : ChipState) (before after : Device) (ledger :
       sum = λ writes latches. omega (arith, (RisesBy-once it.cleaned.board.writes).exact writes, it.cleaned.board.latches);
     },
   )
-  flush_answer (Err cut) it = (
-    (it.2.0, it.2.1, ap (λ g. is_cached_dirty g old.cache it.2.0 it.2.1) (sym its_shape) ∙ it.2.2),
-    no_steps_of before after it.1.writes it.1.latches,
-  )
+  flush_answer (Err cut) it = search (rules, no_steps_of)
 
   flush_regs : (answer : Result (Option ℕ) Cut) → HasWrittenOldest old new before after answer → after.regs ≡ before.regs
   flush_regs (Ok None) it = ap (λ (d : Device). d.regs) it.1
@@ -140,15 +123,7 @@ module _ (setup : Setup) (old new : ChipState) (before after : Device) (ledger :
   flush_work : (answer : Result (Option ℕ) Cut) → HasWrittenOldest old new before after answer
       → IfOk (of_cut answer) (λ found. IsFlushWork setup.shape found start finish)
   flush_work (Ok None) it = ap (λ (e : ChipState). e.cache) it.0
-  flush_work (Ok (Some x)) it =
-      subst
-      (λ (g : Shape). IsCleaned g (level_of x) x (record { shape = g; banks = old.cache }) (record { shape = g; banks = new.cache })
-      before after)
-      its_shape
-      (subst
-      (λ (s : Shape). IsCleaned old.shape (level_of x) x (record { shape = old.shape; banks = old.cache })
-      (record { shape = s; banks = new.cache }) before after)
-      it.cleaned.cache.shape it.cleaned)
+  flush_work (Ok (Some x)) it = search rules
   flush_work (Err fault) it = tt
 
   pub flushed : (answer : Result (Option ℕ) Cut) → after.reads ≡ before.reads → new.mirror ≡ old.mirror

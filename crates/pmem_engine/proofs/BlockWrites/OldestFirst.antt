@@ -1,8 +1,8 @@
 -- The oldest dirty block of a bank is the first of the bank's order, and once it is clean the order goes on
 -- with the next one.
-use Rattle.std.proofs.Common.{ℕ, suc, ◌≡◌, ◌<◌, ◌≤◌, ◌+◌, ◌⊎◌, inl, inr, Bool, true, false, cond, List, [], ◌∷◌, ◌++◌, length, get_or, reverse, Option, Some, None, refl, sym, ap, ap₂, subst, subst₂, ◌∙◌, arith}
-use Rattle.std.specs.Prelude.{slice_get, option_map, find, ◌==◌, All}
-use Rattle.std.specs.List.{filter_map, cons_option}
+use Rattle.std.proofs.Common.{ℕ, suc, ◌≡◌, ◌<◌, ◌≤◌, ◌+◌, ◌⊎◌, inl, inr, Bool, true, false, cond, List, [], ◌∷◌, ◌++◌, length, get_or, Option, Some, None, refl, sym, ap, ap₂, subst, subst₂, ◌∙◌, arith, rules}
+use Rattle.std.specs.Prelude.{slice_get, option_map, ◌==◌, All}
+use Rattle.std.specs.List.{cons_option}
 use Rattle.std.specs.Option.{option_or}
 use Rattle.std.proofs.lemmas.Bool.{cases_eq, cond-true, cond-false, eq-eqb, ne_eqb}
 use Rattle.std.proofs.lemmas.Grind.{reverse_onto}
@@ -36,13 +36,7 @@ found_or None slot false = refl
 
 first_of_set : (slots : List Slot) → slice_get (dirty_positions slots) 0 ≡ oldest_dirty_in slots
 first_of_set [] = refl
-first_of_set (slot ∷ slots) =
-    first_of (dirty_positions slots) (own slot)
-    ∙ ap (λ found. option_or found (slice_get (own slot) 0)) (first_of_set slots)
-    ∙ sym
-    (ap (λ all. option_map (λ (s : Slot). s.position) (find (λ (s : Slot). s.dirty) all)) (reverse_onto slots slot [])
-    ∙ ap (option_map (λ (s : Slot). s.position)) (find-append (λ (s : Slot). s.dirty) (reverse slots) (slot ∷ []))
-    ∙ found_or (find (λ (s : Slot). s.dirty) (reverse slots)) slot slot.dirty)
+first_of_set (slot ∷ slots) = search (rules, first_of, reverse_onto, find-append, found_or, (first_of_set slots))
 
 answer_or : (answer : Option ℕ) (answers : List ℕ)
     → slice_get (cons_option answer answers) 0 ≡ option_or answer (slice_get answers 0)
@@ -51,10 +45,7 @@ answer_or (Some x) answers = refl
 
 pub first_of_bank : (sets : List (List Slot)) → slice_get (dirty_order sets) 0 ≡ oldest_dirty_of sets
 first_of_bank [] = refl
-first_of_bank (slots ∷ sets) =
-    first_of (dirty_positions slots) (dirty_order sets)
-    ∙ ap₂ option_or (first_of_set slots) (first_of_bank sets)
-    ∙ sym (answer_or (oldest_dirty_in slots) (filter_map oldest_dirty_in sets))
+first_of_bank (slots ∷ sets) = search (rules, first_of, first_of_set, answer_or, (first_of_bank sets))
 
 -- ---- a set whose first one is cleaned
 

@@ -1,5 +1,5 @@
 -- A dirty block is written to its place, and is clean afterwards: what it keeps, whatever the device holds.
-use Rattle.std.proofs.Common.{rules, ℕ, ◌≡◌, ◌≢◌, ◌<◌, ◌⊎◌, inl, inr, Bool, true, false, cond, List, [], ◌∷◌, length, Some, refl, sym, ap, ap₂, subst, subst₂, ◌∙◌}
+use Rattle.std.proofs.Common.{rules, ℕ, ◌≡◌, ◌≢◌, ◌<◌, ◌⊎◌, inl, inr, true, false, List, [], ◌∷◌, length, Some, refl, sym, ap, ap₂, subst, subst₂, ◌∙◌}
 use Rattle.std.specs.Prelude.{IfSome, option_map, is_some, ◌==◌, ◌&&◌, ◌||◌}
 use Rattle.std.specs.List.{Contains, list_any}
 use Rattle.std.proofs.lemmas.Bool.{cases_eq}
@@ -11,7 +11,7 @@ use Rattle.board.specs.Device.{Device, IsDevice}
 use Rattle.seal_ledger.specs.Ledger.{LedgerState}
 use Rattle.meta_cache.specs.declared.slot.Slot.{Slot}
 use Rattle.meta_cache.specs.Banks.{set_of, set_index, is_cached, is_cached_dirty}
-use Rattle.meta_cache.specs.Sets.{holds, slot_marked, with_mark}
+use Rattle.meta_cache.specs.Sets.{holds, with_mark}
 use Rattle.meta_cache.specs.KeptSlots.{IsFromBefore, IsStillDirty}
 use Rattle.meta_cache.proofs.SlotLemmas.{IsFromBefore-cleaned, IsStillDirty-cleaned}
 use Rattle.meta_path.specs.Blocks.{line_in}
@@ -39,13 +39,7 @@ use Rattle.board.proofs.StepLemmas.{is_some-with_line}
 marked_clean : (slots : List Slot) (x : ℕ) → list_any (λ s. s.position == x && s.dirty) (with_mark slots x false) ≡ false
 unfolding with_mark
 marked_clean [] x = refl
-marked_clean (slot ∷ slots) x =
-    ap₂ (λ a b. a || b) (by (slot.position == x) refl) (marked_clean slots x)
-  where
-    by : (b : Bool) → (slot.position == x) ≡ b
-        → ((cond (slot.position == x) (slot_marked slot false) slot).position == x
-        && (cond (slot.position == x) (slot_marked slot false) slot).dirty) ≡ false
-    by b e = search rules
+marked_clean (slot ∷ slots) x = search (rules, (marked_clean slots x))
 
 -- what the cache holds once a block was written back
 module _ (bank x : ℕ) (old new : ChipState) (before after : Device) (it : HasWrittenBack bank x old new before after) where
@@ -85,9 +79,7 @@ module _ (bank x : ℕ) (old new : ChipState) (before after : Device) (it : HasW
 
   -- the block is clean, and which blocks are cached stays
   pub clean_after : is_cached_dirty old.shape new.cache bank x ≡ false
-  clean_after =
-      ap (λ slots. list_any (λ (s : Slot). s.position == x && s.dirty) slots) marked_set
-      ∙ marked_clean (set_of old.cache bank (set_index old.shape x)) x
+  clean_after = search (rules, marked_clean)
 
   pub cached_after : (b y : ℕ) → is_cached old.shape new.cache b y ≡ is_cached old.shape old.cache b y
   cached_after b y = by (cases_eq b bank) (cases_eq (set_index old.shape y) (set_index old.shape x))

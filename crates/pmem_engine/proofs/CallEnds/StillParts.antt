@@ -18,12 +18,7 @@ left_alone parts = record { engine = refl; device = refl; ledger = refl; tags = 
 
 -- so no step was made
 pub no_steps_of : (before after : Device) → after.writes ≡ before.writes → after.latches ≡ before.latches → TakesSteps 0 before after
-no_steps_of before after writes latches =
-    record {
-      writes = omega (arith, writes);
-      latches = omega (arith, latches);
-      sum = λ one two. omega (arith, writes, latches);
-    }
+no_steps_of before after writes latches = search rules
 
 pub no_steps_most : (n : ℕ) (d : Device) → TakesAtMost n d d
 no_steps_most n d = record { writes = omega arith; latches = omega arith; sum = λ one two. omega arith }

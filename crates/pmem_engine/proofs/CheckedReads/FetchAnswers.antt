@@ -1,12 +1,12 @@
 -- What a fetch answers, by its end.
-use Rattle.std.proofs.Common.{rules, ℕ, ◌≡◌, ◌<◌, ◌≤◌, ◌+◌, true, false, Option, Some, None, Ok, Err, refl, sym, ap, subst, subst₂, ◌∙◌, arith}
+use Rattle.std.proofs.Common.{rules, ℕ, ◌≡◌, ◌<◌, ◌≤◌, ◌+◌, true, false, Option, Some, None, Ok, Err, refl, sym, ap, subst, ◌∙◌}
 use Rattle.std.proofs.lemmas.Bool.{true≢false}
 use Rattle.pmem_base.specs.declared.lines.Line.{Line}
 use Rattle.pmem_base.specs.declared.answers.Exhibit.{Exhibit}
 use Rattle.pmem_base.specs.declared.answers.Exhibit.TheVariants.{Clash}
 use Rattle.pmem_base.specs.Layout as layout
 use Rattle.pmem_base.specs.Lines.{line_at, zero_line}
-use Rattle.bonsai_tree.specs.Positions.{level_of, is_on_path}
+use Rattle.bonsai_tree.specs.Positions.{level_of}
 use Rattle.bonsai_tree.proofs.PathPositions.{path_of-at, path_position-on_path}
 use Rattle.board.specs.Device.{Device}
 use Rattle.board.specs.Steps.{Tells}
@@ -62,31 +62,7 @@ module _ (setup : Setup) (page : ℕ) (old new : ChipState) (ledger noted : Ledg
       (record { cache = record { shape = setup.shape; banks = old.cache }; device = before; digests = digests })
       (record { cache = record { shape = setup.shape; banks = new.cache }; device = after; digests = digests_now })
       → HasFetched setup page start finish (Ok tt)
-  fetched_ok cached same fetched =
-      record {
-        done =
-            done_going setup page old new ledger noted before after tags digests tags_now digests_now its_size shape mirror
-            same_tags over keeps same fetched.work.steady fetched.work.live fetched.work.cuts;
-        answered = λ trusted. tt;
-        unrefused = λ sound. tt;
-        path_cached = λ ok. cached;
-        path_fetched = λ past. cached;
-        work = λ ok. fetched;
-        mirror = mirror;
-        regs = over.regs;
-        tags = same_tags;
-        same_ledger = λ unshown. same;
-        latches = over.latches;
-        steps_of_path =
-            few_steps setup page old new ledger noted before after tags digests tags_now digests_now its_size shape mirror
-            same_tags over keeps;
-        steps_of_dirty = (
-          dirty_steps setup page old new ledger noted before after tags digests tags_now digests_now its_size shape mirror
-              same_tags over keeps,
-          λ live. dirty_steps setup page old new ledger noted before after tags digests tags_now digests_now its_size shape mirror
-              same_tags over keeps,
-        );
-      }
+  fetched_ok cached same fetched = search (rules, done_going, few_steps, dirty_steps)
 
   -- an error is no answer
   no_answer : {T : Type 0} → false ≡ true → T
@@ -101,9 +77,7 @@ module _ (setup : Setup) (page : ℕ) (old new : ChipState) (ledger noted : Ledg
       → HasFetched setup page start finish (Err Path.Cut)
   fetched_cut uncached same it left =
       record {
-        done =
-            done_cut setup page old new ledger noted before after tags digests tags_now digests_now its_size shape mirror
-            same_tags over keeps same it.unsteady it.off it.rose;
+        done = search (rules, done_cut);
         answered = λ trusted. tt;
         unrefused = λ sound. tt;
         path_cached = λ ok. no_answer ok;
@@ -114,14 +88,7 @@ module _ (setup : Setup) (page : ℕ) (old new : ChipState) (ledger noted : Ledg
         tags = same_tags;
         same_ledger = λ unshown. same;
         latches = over.latches;
-        steps_of_path =
-            record {
-              writes = it.writes.never_falls;
-              latches = omega (arith, over.latches);
-              sum =
-                  λ writes latches.
-                  omega (arith, it.writes.exact writes, over.latches, length_spilled setup.shape old.cache page it.n, it.on_path);
-            };
+        steps_of_path = search (rules, length_spilled);
         steps_of_dirty = (
           dirty_steps setup page old new ledger noted before after tags digests tags_now digests_now its_size shape mirror
               same_tags over keeps,
@@ -143,13 +110,9 @@ module _ (setup : Setup) (page : ℕ) (old new : ChipState) (ledger noted : Ledg
       → IsFetchedLine setup page (path_at setup.shape page n) line start finish
   fetched_line trusted n line within absent tells =
       record {
-        on_path =
-            ap (is_on_path setup.shape page) (path_of-at setup.shape page n within)
-            ∙ path_position-on_path setup.shape page n within;
+        on_path = search (rules, path_of-at, path_position-on_path);
         uncached = absent_before n within absent;
-        before =
-            read_was_there setup page old new ledger noted before after tags digests tags_now digests_now its_size shape mirror
-            same_tags over keeps trusted (path_at setup.shape page n) line (absent_before n within absent) tells;
+        before = search (rules, read_was_there, absent_before);
         read = tells;
       }
 
@@ -169,9 +132,7 @@ module _ (setup : Setup) (page : ℕ) (old new : ChipState) (ledger noted : Ledg
       → HasFetched setup page start finish (Err (Path.Meta x))
   fetched_meta uncached same x it cause =
       record {
-        done =
-            done_going setup page old new ledger noted before after tags digests tags_now digests_now its_size shape mirror
-            same_tags over keeps same it.read.work.steady it.read.work.live it.read.work.cuts;
+        done = search (rules, done_going);
         answered =
             λ trusted.
             let false_digest = cause (true_tree trusted) (cached_true trusted) in
@@ -196,9 +157,7 @@ module _ (setup : Setup) (page : ℕ) (old new : ChipState) (ledger noted : Ledg
         tags = same_tags;
         same_ledger = λ unshown. same;
         latches = over.latches;
-        steps_of_path =
-            few_steps setup page old new ledger noted before after tags digests tags_now digests_now its_size shape mirror
-            same_tags over keeps;
+        steps_of_path = search (rules, few_steps);
         steps_of_dirty = (
           dirty_steps setup page old new ledger noted before after tags digests tags_now digests_now its_size shape mirror
               same_tags over keeps,
@@ -242,9 +201,7 @@ module _ (setup : Setup) (page : ℕ) (old new : ChipState) (ledger noted : Ledg
         tags = same_tags;
         same_ledger = λ unshown. absurd (unshown refl);
         latches = over.latches;
-        steps_of_path =
-            few_steps setup page old new ledger noted before after tags digests tags_now digests_now its_size shape mirror
-            same_tags over keeps;
+        steps_of_path = search (rules, few_steps);
         steps_of_dirty = (
           dirty_steps setup page old new ledger noted before after tags digests tags_now digests_now its_size shape mirror
               same_tags over keeps,
@@ -281,9 +238,7 @@ module _ (setup : Setup) (page : ℕ) (old new : ChipState) (ledger noted : Ledg
             fetched = read_here trusted;
             exhibit =
                 it.shown.exhibit ∙ ap (λ kept. first_exhibit kept (Clash x it.line (line_at ledger.truth x))) (none_kept trusted);
-            same_digest =
-                subst₂ (λ y line. setup.formulas.digest_of y line ≡ setup.formulas.digest_of y (line_at ledger.truth y))
-                (sym (ap shown_position here)) (sym (ap shown_line here)) known.same_digest;
+            same_digest = search rules;
             other_line = it.differs;
           }
 

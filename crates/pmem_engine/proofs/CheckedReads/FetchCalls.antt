@@ -1,5 +1,5 @@
 -- A fetch of the engine, from what the fetch of its path ensures.
-use Rattle.std.proofs.Common.{rules, ℕ, ◌≡◌, ◌<◌, ◌≤◌, ◌+◌, true, Ok, Err, refl, sym, ap, subst, subst₂, ◌∙◌}
+use Rattle.std.proofs.Common.{rules, ℕ, ◌≡◌, ◌<◌, ◌≤◌, ◌+◌, true, Ok, Err, sym, ap, subst, subst₂, ◌∙◌}
 use Rattle.std.specs.Prelude.{is_some}
 use Rattle.pmem_base.specs.Layout as layout
 use Rattle.board.specs.Device.{Device, IsDevice}
@@ -11,7 +11,7 @@ use Rattle.meta_path.specs.declared.faults.PathFault.{PathFault}
 use Rattle.meta_path.specs.declared.faults.PathFault.TheVariants as Path
 use Rattle.meta_path.specs.Blocks.{IsPathCached, AreInTheirBanks, AreCachedTrue, dirty_count}
 use Rattle.meta_path.specs.Work.{FetchState}
-use Rattle.meta_path.specs.Fetching.{absent_count, IsFetchedTo, IsPathFault}
+use Rattle.meta_path.specs.Fetching.{IsFetchedTo, IsPathFault}
 use Rattle.meta_path.specs.Keeping.{KeepsBlocks, IsTrueTree, IsFaultCaused}
 use Rattle.suite.specs.Setup.{Setup}
 use Rattle.pmem_engine.specs.Engine.{ChipState}
@@ -71,30 +71,6 @@ module _ (setup : Setup) (page : ℕ) (old new : ChipState) (ledger noted : Ledg
       → (fault ≡ Path.Cut → before.live ≡ true → 1 ≤ dirty_count setup.shape new.cache)
       → HasFetched setup page (parts_with old before ledger tags digests) (parts_with new after noted tags_now digests_now)
       (Err fault)
-  fetch_err Path.Cut uncached it cause left =
-      fetched_cut setup page old new ledger noted before after tags digests tags_now digests_now its_page few_levels its_size
-      shape mirror same_tags
-      (over it.1 it.0.reads.never_falls (rising it.0.tries it.0.digests))
-      keeps uncached it.1 it.0 (left refl)
-  fetch_err (Path.Meta x) uncached it cause left =
-      fetched_meta setup page old new ledger noted before after tags digests tags_now digests_now its_page few_levels its_size
-      shape mirror same_tags
-      (over it.1 it.0.read.work.reads.never_falls
-      (rising (absent_count setup.shape old.cache page it.0.n + 1) it.0.read.digests))
-      keeps uncached it.1 x it.0 cause
-  fetch_err Path.Shown uncached it cause left =
-      fetched_shown setup page old new ledger noted before after tags digests tags_now digests_now its_page few_levels its_size
-      shape mirror same_tags
-      (record {
-        size = keeps.size;
-        regs = keeps.regs;
-        told = told;
-        whole = whole;
-        latches = keeps.latches;
-        reads = it.read.work.reads.never_falls;
-        digests_rise = rising (absent_count setup.shape old.cache page it.n + 1) it.read.digests;
-        marks = it.shown.marks;
-        truth = it.shown.truth;
-        data_lines = it.shown.data_lines;
-      })
-      keeps uncached it cause
+  fetch_err Path.Cut uncached it cause left = search (rules, fetched_cut, over, rising)
+  fetch_err (Path.Meta x) uncached it cause left = search (rules, fetched_meta, over, rising)
+  fetch_err Path.Shown uncached it cause left = search (rules, fetched_shown, told, rising)

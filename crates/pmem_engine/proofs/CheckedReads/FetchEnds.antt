@@ -15,7 +15,7 @@ use Rattle.board.specs.Device.{Device, IsDevice, AreLinesOf}
 use Rattle.board.specs.Steps.{Tells}
 use Rattle.seal_ledger.specs.Ledger.{LedgerState}
 use Rattle.meta_cache.specs.declared.slot.Slot.{Slot}
-use Rattle.meta_cache.specs.Banks.{is_cached, is_cached_dirty, set_index, set_of}
+use Rattle.meta_cache.specs.Banks.{is_cached, is_cached_dirty, set_of}
 use Rattle.meta_cache.proofs.SlotLemmas.{dirty_slot}
 use Rattle.meta_path.specs.Blocks.{dirty_count}
 use Rattle.meta_path.specs.Keeping.{KeepsBlocks, WasWrittenBack}
@@ -84,9 +84,7 @@ module _ (setup : Setup) (page : ℕ) (old new : ChipState) (ledger noted : Ledg
 
   pub keeps_counters : AreTrusted setup parts_old → (block : ℕ) → block < layout.pages setup.shape
       → HoldsCounters setup parts_old block → HoldsCounters setup parts_new block
-  keeps_counters trusted =
-      counters setup page old new ledger before after shape mirror trusted keeps tags digests tags_now digests_now noted
-      over.marks over.truth over.regs over.told
+  keeps_counters trusted = search (rules, counters)
 
   -- the engine goes on: the path was fetched, or refused
   pub done_going : noted ≡ ledger → (before.steady ≡ true → after.steady ≡ true) → (before.live ≡ true → after.live ≡ true)
@@ -175,12 +173,8 @@ module _ (setup : Setup) (page : ℕ) (old new : ChipState) (ledger noted : Ledg
       never bank set slot stands here =
           let own = own_slot setup page old new ledger before after shape mirror trusted keeps bank set slot stands in
           let one : slot.position ≡ x = omega (arith, here) in
-          let found : list_any (λ s. s.position == x) (set_of old.cache bank set) ≡ true =
-          list_any_at (λ s. s.position == x) (set_of old.cache bank set) stands.0 slot stands.1
-          (ap (λ s. s.position == x) stands.2 ∙ eq-eqb slot.position x one) in
-          let cached : is_cached setup.shape old.cache (level_of x) x ≡ true =
-          subst₂ (λ b i. list_any (λ s. s.position == x) (set_of old.cache b i) ≡ true) (sym own.its_bank ∙ ap level_of one)
-          (sym own.its_set ∙ ap (set_index setup.shape) one) found in
+          let found : list_any (λ s. s.position == x) (set_of old.cache bank set) ≡ true = search (rules, list_any_at, eq-eqb) in
+          let cached : is_cached setup.shape old.cache (level_of x) x ≡ true = search rules in
           true≢false (sym cached ∙ absent)
 
       go : (o o' : Option (List Line)) → is_some o' ≡ is_some o
@@ -206,8 +200,7 @@ module _ (setup : Setup) (page : ℕ) (old new : ChipState) (ledger noted : Ledg
       go None o' told told_now same it = absurd it
       go (Some lines) None told told_now same it = absurd (true≢false (sym same))
       go (Some lines) (Some now) told told_now same it =
-          let reads : line ≡ stored_meta setup.shape now x =
-          subst (λ z. Tells z (layout.meta_line setup.shape x) line) told_now tells in
+          let reads : line ≡ stored_meta setup.shape now x = search rules in
           elim (meta_same_or_true setup page old new ledger before after shape mirror it.trusted keeps lines now told told_now x) [
             | inl as_was ↦ reads ∙ as_was ∙ it.true_unless_dirty x within (not_dirty x absent)
             | inr true_now ↦ reads ∙ true_now

@@ -1,5 +1,5 @@
 -- A fetch of a page's path, whatever the device holds: what it keeps of the chip and of the device.
-use Rattle.std.proofs.Common.{rules, ℕ, ◌≡◌, ◌≢◌, ◌<◌, ◌⊎◌, inl, inr, true, List, [], length, Option, Some, None, refl, sym, ap, subst, subst₂, ◌∙◌, arith}
+use Rattle.std.proofs.Common.{rules, ℕ, ◌≡◌, ◌≢◌, ◌<◌, ◌⊎◌, inl, inr, true, List, [], length, Option, Some, None, refl, sym, ap, subst, ◌∙◌}
 use Rattle.std.specs.Prelude.{IfSome, option_map, is_some}
 use Rattle.std.specs.List.{Contains}
 use Rattle.std.proofs.lemmas.Bool.{true≢false, false≢true, cases_Bool}
@@ -145,17 +145,9 @@ module _ (setup : Setup) (page : ℕ) (old new : ChipState) (ledger : LedgerStat
                   IsDurable-no_group setup lines_now before.regs ledger trusted.no_group whole
                   (IsMendable-mending setup lines lines_now before.regs ledger is_mending
                   (IsMendable-no_group setup lines before.regs ledger trusted.no_group sound.durable));
-              true_unless_dirty =
-                  λ x within clean.
-                  elim (meta_same_or_true x) [
-                    | inl as_was ↦ as_was ∙ sound.true_unless_dirty x within clean
-                    | inr true_now ↦ true_now
-                  ];
+              true_unless_dirty = search (rules, meta_same_or_true);
               dirty_named = sound.dirty_named;
-              mirror_true =
-                  sound.mirror_true
-                  ∙ sym (shadow_of-same setup.shape lines lines_now (whole.count ∙ sym sound.durable.device_whole.count)
-                  (λ n past. same_unless_meta n (λ x here e. omega (arith, past, e, here))));
+              mirror_true = search (rules, shadow_of-same, same_unless_meta);
             }
 
   -- ---- place by place
@@ -198,12 +190,7 @@ module _ (setup : Setup) (page : ℕ) (old new : ChipState) (ledger : LedgerStat
     pub metadata : KeepsMeta setup [] parts_before parts_after
     metadata =
         record {
-          true_or_dirty =
-              λ x within it.
-              subst (λ truth. IfSome (lines_redone parts_after) (λ lines. IsTrueOrDirty setup.shape new.cache lines truth x)) (sym truth)
-              (from_lines (λ lines. IsTrueOrDirty setup.shape old.cache lines ledger.truth x)
-              (λ lines. IsTrueOrDirty setup.shape new.cache lines ledger.truth x)
-              (λ lines lines_now told told_now was. true_or_dirty lines lines_now told told_now x within was) it);
+          true_or_dirty = search (rules, from_lines, true_or_dirty);
           changed = λ x within. changed x before.lines after.lines refl refl same_told;
           dirty =
               λ bank x now.
@@ -222,13 +209,8 @@ module _ (setup : Setup) (page : ℕ) (old new : ChipState) (ledger : LedgerStat
         changed x (Some lines) None told told_now same = absurd (false≢true same)
         changed x (Some lines) (Some now) told told_now same =
             elim (meta_same_or_true lines now told told_now x) [
-              | inl as_was ↦
-                  inl (ap (option_map (λ lines. stored_meta setup.shape lines x)) (redone_after ∙ told_now)
-                  ∙ ap (λ line. Some line) as_was
-                  ∙ sym (ap (option_map (λ lines. stored_meta setup.shape lines x)) (redone_before ∙ told)))
-              | inr true_now ↦
-                  inr (subst₂ (λ told truth. IfSome told (λ lines. IsTrueOrDirty setup.shape new.cache lines truth x))
-                  (sym (redone_after ∙ told_now)) (sym truth) (inl true_now))
+              | inl as_was ↦ search (rules, redone_after, redone_before)
+              | inr true_now ↦ search (rules, redone_after)
             ]
 
         dirty_before : (bank x : ℕ) (slot : Slot) → slot.position ≡ x → slot.dirty ≡ true

@@ -57,21 +57,7 @@ pub record HasReadBoth (setup : Setup) (a : ℕ) (cipher tag_line : Line) (old n
 pub read_both : (setup : Setup) (a : ℕ) (cipher tag_line : Line) (old mid new : Device)
     → HasRead old a cipher mid → HasRead mid (layout.tag_line setup.shape a) tag_line new
     → HasReadBoth setup a cipher tag_line old new
-read_both setup a cipher tag_line old mid new first second =
-    record {
-      size = second.size ∙ first.size;
-      lines = second.lines ∙ first.lines;
-      regs = second.regs ∙ first.regs;
-      writes = second.writes ∙ first.writes;
-      latches = second.latches ∙ first.latches;
-      cuts = second.cuts ∙ first.cuts;
-      steady = λ was. second.steady ∙ first.steady ∙ was;
-      live = λ was. second.live ∙ first.live ∙ was;
-      reads = RisesBy-then 1 1 old.reads mid.reads new.reads (RisesBy-once first.reads) (RisesBy-once second.reads);
-      tells_cipher = subst (λ told. Tells told a cipher) (sym (second.lines ∙ first.lines)) first.tells;
-      tells_tag_line =
-          subst (λ told. Tells told (layout.tag_line setup.shape a) tag_line) (sym second.lines) second.tells;
-    }
+read_both setup a cipher tag_line old mid new first second = search (rules, RisesBy-then, RisesBy-once)
 
 -- what a told device with a stored seal gives: that seal's cipher, and its tag
 record IsReadSeal (marks : List Mark) (a : ℕ) (cipher : Line) (tag : List ℕ) : Type 0 where

@@ -6,7 +6,7 @@ use Rattle.std.proofs.lemmas.Bool.{cases_eq, cases_Bool, false≢true}
 use Rattle.pmem_base.specs.declared.lines.Line.{Line}
 use Rattle.pmem_base.specs.declared.registers.Regs.{Regs}
 use Rattle.pmem_base.specs.Shape.{Shape}
-use Rattle.pmem_base.specs.Layout.{device_lines, meta_lines, meta_line}
+use Rattle.pmem_base.specs.Layout.{device_lines, meta_lines}
 use Rattle.pmem_base.specs.Lines.{line_at, IsLine}
 use Rattle.pmem_base.proofs.Regions.{meta_before_shadow}
 use Rattle.pmem_base.proofs.LineLemmas.{IsLine-line_at}
@@ -47,10 +47,7 @@ pub IsMendable-true_line_written : (setup : Setup) (lines : List Line) (regs : R
 IsMendable-true_line_written setup lines regs ledger x size h before =
     record {
       anchored = before.anchored;
-      seals_stored =
-          λ a ha.
-          IsSealStored-set_meta setup.shape lines x (line_at ledger.truth x) ledger.marks a ha
-          (before.seals_stored a ha);
+      seals_stored = search (rules, IsSealStored-set_meta);
       true_or_named = λ y hy. at y (before.true_or_named y hy);
       counters_stored =
           λ page hp.
@@ -86,10 +83,7 @@ IsSound-written_back setup engine lines regs ledger x sound h =
       true_unless_dirty =
           search rules;
       dirty_named = sound.dirty_named;
-      mirror_true =
-          sound.mirror_true
-          ∙ sym (shadow_of-set_before setup.shape lines (meta_line setup.shape x) (line_at ledger.truth x)
-          (meta_before_shadow setup.shape x h));
+      mirror_true = search (rules, shadow_of-set_before, meta_before_shadow);
     }
 
 -- ---- the cache changes

@@ -1,7 +1,7 @@
 -- What the parts of the device show after a write to one of its regions: metadata lines, names, data
 -- lines and tags, each by itself and over any lines.
 use Rattle.std.proofs.lemmas.Grind.{common_steps}
-use Rattle.std.proofs.Common.{rules, ◌≡◌, ◌≢◌, ℕ, ◌<◌, List, length, Some, refl, ap, ◌∙◌, arith}
+use Rattle.std.proofs.Common.{rules, ◌≡◌, ◌≢◌, ℕ, ◌<◌, List, length, Some, refl, ◌∙◌, arith}
 use Rattle.std.specs.Prelude.{slice_set}
 use Rattle.std.proofs.lemmas.Bool.{cases_eq}
 use Rattle.pmem_base.specs.declared.lines.Line.{Line}
@@ -17,8 +17,7 @@ use Rattle.line_seal.specs.Seals.{with_tag}
 use Rattle.line_seal.proofs.TagSlots.{tag_slot-with_other}
 use Rattle.board.specs.Device.{AreLinesOf}
 use Rattle.board.proofs.LineLemmas.{line_at-long}
-use Rattle.bonsai_tree.specs.Positions.{level_of}
-use Rattle.shadow_tables.specs.Entries.{is_named_in, shadow_of}
+use Rattle.shadow_tables.specs.Entries.{shadow_of}
 use Rattle.shadow_tables.proofs.ShadowLines.{shadow_of-set_before}
 use Rattle.pmem_engine.specs.Invariants.{IsSealStored, stored_meta, is_named}
 use Rattle.pmem_engine.specs.Steps.{IsPlaceKept, sealed_lines}
@@ -46,13 +45,11 @@ stored_meta-set_shadow g lines n line x h = search rules
 -- a write before the shadow lines changes no name
 pub is_named-set_before : (g : Shape) (lines : List Line) (at : ℕ) (line : Line) (x : ℕ)
     → at < shadow_line g 0 → is_named g (slice_set lines at line) x ≡ is_named g lines x
-is_named-set_before g lines at line x h =
-    ap (λ shadow. is_named_in g shadow (level_of x) x) (shadow_of-set_before g lines at line h)
+is_named-set_before g lines at line x h = search (rules, shadow_of-set_before)
 
 pub is_named-set_meta : (g : Shape) (lines : List Line) (y : ℕ) (line : Line) (x : ℕ) → y < meta_lines g
     → is_named g (slice_set lines (meta_line g y) line) x ≡ is_named g lines x
-is_named-set_meta g lines y line x h =
-    is_named-set_before g lines (meta_line g y) line x (meta_before_shadow g y h)
+is_named-set_meta g lines y line x h = search (rules, is_named-set_before, meta_before_shadow)
 
 -- ---- data lines and tags
 
@@ -127,6 +124,4 @@ stored_meta-sealed_lines g lines a seal x h = search rules
 
 pub shadow_of-sealed_lines : (g : Shape) (lines : List Line) (a : ℕ) (seal : SealOf) → a < data_lines g
     → shadow_of g (sealed_lines g lines a seal) ≡ shadow_of g lines
-shadow_of-sealed_lines g lines a seal h =
-    shadow_of-set_before g (slice_set lines a seal.cipher) (tag_line g a) _ (tag_before_shadow g a h)
-    ∙ shadow_of-set_before g lines a seal.cipher (data_before_shadow g a h)
+shadow_of-sealed_lines g lines a seal h = search (rules, shadow_of-set_before, tag_before_shadow, data_before_shadow)

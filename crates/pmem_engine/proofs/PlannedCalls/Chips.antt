@@ -1,5 +1,5 @@
 -- A chip is its parts, and a part's end has the registers that it leaves.
-use Rattle.std.proofs.Common.{◌≡◌, ℕ, Result, Err, sym, ap, ap₂, subst, ◌∙◌}
+use Rattle.std.proofs.Common.{◌≡◌, ℕ, Result, Err, ◌∙◌, rules}
 use Rattle.std.specs.Prelude.{IsErrAnd}
 use Rattle.pmem_base.specs.declared.registers.Regs.{Regs}
 use Rattle.board.specs.Device.{Device}
@@ -13,12 +13,10 @@ use Rattle.call_effects.proofs.ResultLaws.{is_err_of}
 
 pub same_chip : (engine : ChipState) {ledger other : LedgerState} {tags other_tags digests other_digests : ℕ} → ledger ≡ other → tags ≡ other_tags
     → digests ≡ other_digests → chip_with engine ledger tags digests ≡ chip_with engine other other_tags other_digests
-same_chip engine {other = other} {tags = tags} {digests = digests} e f h =
-    ap (λ l. chip_with engine l tags digests) e ∙ ap₂ (λ t d. chip_with engine other t d) f h
+same_chip engine {other = other} {tags = tags} {digests = digests} e f h = search rules
 
 -- a part that stopped, as a `?` answers it
 pub ended_with_err : {S F : Type 0} {plan : Plan (S × F) (S × Regs)} {old new : Device} {state : S} {fault : F} (regs : Regs)
     (answer : Result (Unit {0}) F) → IsErrAnd answer (λ (x : F). x ≡ fault) → Follows plan old new (Err (state, fault))
     → Follows plan old new (ended_with answer state regs)
-ended_with_err {F = F} {plan = plan} {old = old} {new = new} {state = state} {fault = fault} regs answer is it =
-    subst (λ (r : Result (Unit {0}) F). Follows plan old new (ended_with r state regs)) (sym (is_err_of answer fault is)) it
+ended_with_err {F = F} {plan = plan} {old = old} {new = new} {state = state} {fault = fault} regs answer is it = search (rules, is_err_of)

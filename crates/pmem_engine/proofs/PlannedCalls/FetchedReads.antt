@@ -1,39 +1,36 @@
 -- What a read comes to, wherever its plan ends: so many levels of its path are fetched, and a cached path takes no step.
-use Rattle.std.proofs.Common.{ℕ, ◌≡◌, ◌≢◌, ◌<◌, ◌≤◌, ◌+◌, true, false, List, [], get_or, length, Option, Some, None, Result, Ok, Err, refl, sym, ap, subst, ◌∙◌, inl, inr, arith}
+use Rattle.std.proofs.Common.{ℕ, ◌≡◌, ◌≢◌, ◌<◌, ◌≤◌, ◌+◌, true, false, List, [], get_or, Option, Some, None, Result, Ok, Err, refl, ◌∙◌, inr, arith, rules}
 use Rattle.std.proofs.lemmas.Bool.{false≢true}
 use Rattle.std.proofs.lemmas.List.{get_or-set_other}
 use Rattle.pmem_base.specs.declared.lines.Line.{Line}
 use Rattle.pmem_base.specs.declared.lines.Ctr.{Ctr}
 use Rattle.pmem_base.specs.declared.answers.Exhibit.{Exhibit}
-use Rattle.pmem_base.specs.declared.answers.Exhibit.TheVariants.{Forged}
 use Rattle.pmem_base.specs.declared.registers.Regs.{Regs}
 use Rattle.pmem_base.specs.Counts.{risen}
 use Rattle.pmem_base.specs.Layout as layout
 use Rattle.pmem_base.specs.Layout.{page_of}
 use Rattle.pmem_base.specs.Lines.{tag_slot}
-use Rattle.pmem_base.specs.Marks.{last_seal}
 use Rattle.pmem_base.specs.Shape.{Shape}
-use Rattle.board.specs.Counts.{RisesBy}
 use Rattle.board.specs.Device.{Device}
 use Rattle.board.specs.Steps.{HasRead, WasCut}
-use Rattle.call_plan.specs.Plans.{Plan, done, stop, bind}
+use Rattle.call_plan.specs.Plans.{Plan}
 use Rattle.call_plan.specs.Bounds.{Leaves, AtEnd}
 use Rattle.call_plan.proofs.Keeping.{on_and_off}
 use Rattle.call_plan.proofs.Leaves.{leaves, leaves_bind, leaves_mapped, leaves_more, leaves_if, leaves_repeated}
 use Rattle.line_seal.specs.Seals.{unsealed}
-use Rattle.seal_ledger.specs.Notes.{shown, is_cipher_of}
+use Rattle.seal_ledger.specs.Notes.{shown}
 use Rattle.suite.specs.Formulas.{Formulas}
 use Rattle.suite.specs.Setup.{Setup}
 use Rattle.meta_cache.specs.declared.slot.Slot.{Slot}
-use Rattle.meta_cache.specs.Banks.{set_of, set_index, is_cached}
-use Rattle.meta_cache.specs.Sets.{holds, touched}
-use Rattle.meta_cache.specs.State.{CacheState, slots_of, with_slots}
+use Rattle.meta_cache.specs.Banks.{set_of}
+use Rattle.meta_cache.specs.Sets.{holds}
+use Rattle.meta_cache.specs.State.{CacheState, with_slots}
 use Rattle.meta_cache.proofs.CacheLemmas.{set_of-get_or}
 use Rattle.meta_path.specs.declared.faults.PathFault.{PathFault}
 use Rattle.meta_path.specs.declared.faults.PathFault.TheVariants as Path
 use Rattle.meta_path.specs.Blocks.{path_at, IsPathCached}
-use Rattle.meta_path.specs.Fetching.{spilled, HasFetchedSets}
-use Rattle.meta_path.specs.FetchPlans.{FetchParts, fetch_parts, check_plan, place_plan, touched_in, level_plan, fetch_turn, fetch_plan}
+use Rattle.meta_path.specs.Fetching.{HasFetchedSets}
+use Rattle.meta_path.specs.FetchPlans.{FetchParts, level_plan, fetch_turn, fetch_plan}
 use Rattle.pmem_engine.specs.declared.fault.Fault.{Fault}
 use Rattle.pmem_engine.specs.declared.fault.LineFault.{LineFault}
 use Rattle.pmem_engine.specs.declared.fault.LineFault.TheVariants as AtLine
@@ -56,10 +53,7 @@ module _ (setup : Setup) (holds : Chip → Device → Type 0) (err : Chip × Lin
       → Leaves (opened_plan at ctr cipher tags chip plain) (λ end d. holds end.0 d) err now
   unfolding Leaves
   opened_leaves at ctr cipher tags chip None now so = refused chip at now so
-  opened_leaves at ctr cipher tags chip (Some plain) now so =
-      leaves_if (λ end d. holds end.0 d) err (is_cipher_of (last_seal chip.ledger.marks at) cipher) (done (chip, record { plain = plain; tag_line = tags }))
-      (stop (with_ledger chip (shown chip.ledger (Forged at ctr cipher (tag_slot tags at))), AtLine.Shown)) now (λ last. so)
-      (λ other. forged chip (Forged at ctr cipher (tag_slot tags at)) now so)
+  opened_leaves at ctr cipher tags chip (Some plain) now so = search (rules, leaves_if)
 
   pub unseal_leaves : (at : ℕ) (ctr : Ctr) (chip : Chip) (now : Device) → holds chip now
       → Leaves (unseal_plan setup at ctr chip) (λ end d. holds end.0 d) err now
@@ -87,16 +81,7 @@ module _ (f : Formulas) (page : ℕ) (first : Chip) (start : Device) (whole : Ha
       Stopped first.engine.shape f page (state (cache_of first.engine) start first.digests) first.ledger left now
 
   pub fetch_start : IsBegun first.engine.shape page (cache_of first.engine)
-  fetch_start =
-      record {
-        its_page = inside;
-        few = whole.geometry.at_most_six_levels;
-        some_set = whole.geometry.at_least_one_set;
-        some_way = whole.geometry.at_least_one_way;
-        shape = refl;
-        form = whole.form;
-        its_banks = whole.its_banks;
-      }
+  fetch_start = search rules
 
   abbrev all : ℕ
   all = first.engine.shape.levels + 1
@@ -111,64 +96,13 @@ module _ (f : Formulas) (page : ℕ) (first : Chip) (start : Device) (whole : Ha
     pub live : start.live ≡ true → now.live ≡ true
 
   pub is_fetched : (parts : FetchParts) (now : Device) → Comes all parts now → IsFetched (with_fetched first parts) now
-  is_fetched parts now come =
-      record {
-        levels =
-            record {
-              on_path = omega arith;
-              cache = of_engine all parts come.fetched.cache;
-              lines = come.fetched.work.lines;
-              writes = come.fetched.work.writes;
-              latches = come.fetched.work.latches;
-              regs = come.fetched.work.regs;
-            };
-        live = come.fetched.work.live;
-      }
+  is_fetched parts now come = search (rules, of_engine)
 
   pub isnt_fetched : {A : Type 0} (parts : FetchParts) (fault : PathFault) (now : Device) → Ends (parts, fault) now
       → FetchesFirst {A = A} page first start now (Err (with_fetched first parts, fault_of_path fault))
-  isnt_fetched parts Path.Cut now it =
-      record {
-        levels = it.0.n;
-        fetched =
-            record {
-              on_path = let low = it.0.on_path in omega arith;
-              cache = of_engine it.0.n parts it.0.cache;
-              lines = it.0.lines;
-              writes = it.0.writes;
-              latches = it.0.latches;
-              regs = it.0.regs;
-            };
-        as_far = λ on. record { next = record { on_path = it.0.on_path; absent = it.0.absent }; victim = it.0.victim on };
-      }
-  isnt_fetched parts (Path.Meta x) now it =
-      record {
-        levels = it.0.n;
-        fetched =
-            record {
-              on_path = let low = it.0.read.on_path in omega arith;
-              cache = of_engine it.0.n parts it.0.read.cache;
-              lines = it.0.read.work.lines;
-              writes = it.0.read.work.writes;
-              latches = it.0.read.work.latches;
-              regs = it.0.read.work.regs;
-            };
-        as_far = (record { on_path = it.0.read.on_path; absent = it.0.read.absent }, it.0.position);
-      }
-  isnt_fetched parts Path.Shown now it =
-      record {
-        levels = it.n;
-        fetched =
-            record {
-              on_path = let low = it.read.on_path in omega arith;
-              cache = of_engine it.n parts it.read.cache;
-              lines = it.read.work.lines;
-              writes = it.read.work.writes;
-              latches = it.read.work.latches;
-              regs = it.read.work.regs;
-            };
-        as_far = inl (record { on_path = it.read.on_path; absent = it.read.absent });
-      }
+  isnt_fetched parts Path.Cut now it = search (rules, of_engine)
+  isnt_fetched parts (Path.Meta x) now it = search (rules, of_engine)
+  isnt_fetched parts Path.Shown now it = search (rules, of_engine)
 
   -- ---- a line unsealed after that
 
@@ -177,15 +111,7 @@ module _ (f : Formulas) (page : ℕ) (first : Chip) (start : Device) (whole : Ha
 
   still : (chip : Chip) (now new : Device) → new.lines ≡ now.lines → new.writes ≡ now.writes → new.latches ≡ now.latches → new.regs ≡ now.regs
       → HasFetchedLevels page all first chip.engine start now → HasFetchedLevels page all first chip.engine start new
-  still chip now new lines writes latches regs so =
-      record {
-        on_path = so.on_path;
-        cache = so.cache;
-        lines = lines ∙ so.lines;
-        writes = subst (λ n. RisesBy (length (spilled first.engine.shape first.engine.cache page all)) start.writes n) (sym writes) so.writes;
-        latches = latches ∙ so.latches;
-        regs = regs ∙ so.regs;
-      }
+  still chip now new lines writes latches regs so = search rules
 
   -- none is left to fetch
   left_so : (chip : Chip) (fault : LineFault) (now : Device) → HasFetchedLevels page all first chip.engine start now
@@ -251,9 +177,7 @@ read_fetches setup a chip old new end whole inside it =
 -- a set of another bank
 other_bank : (cache : CacheState) (i n : ℕ) (slots : List Slot) (bank set : ℕ) → bank ≢ i
     → set_of (with_slots cache i n slots).banks bank set ≡ set_of cache.banks bank set
-other_bank cache i n slots bank set apart =
-    set_of-get_or (with_slots cache i n slots).banks bank set
-    ∙ ap (λ (sets : List (List Slot)). get_or sets set []) (get_or-set_other cache.banks i bank _ [] apart) ∙ sym (set_of-get_or cache.banks bank set)
+other_bank cache i n slots bank set apart = search (rules, set_of-get_or, get_or, get_or-set_other)
 
 module _ (setup : Setup) (regs : Regs) (a : ℕ) (first : Chip) (start : Device)
     (cached : IsPathCached first.engine.shape first.engine.cache (page_of a)) where
@@ -273,20 +197,7 @@ module _ (setup : Setup) (regs : Regs) (a : ℕ) (first : Chip) (start : Device)
   use_so : (i : ℕ) (at : FetchParts) (now : Device) → i < g.levels + 1 → IsUsedTo i at now
       → Used (i + 1) (level_plan setup.formulas regs.root i (path_at g (page_of a) i) at) now
   unfolding Leaves level_plan
-  use_so i at now low so =
-      let x : ℕ = path_at g (page_of a) i in
-      leaves_if (λ end d. IsUsedTo (i + 1) end.0 d) (λ left d. ⊥) (is_cached at.cache.shape at.cache.banks i x)
-      (done (fetch_parts (touched_in at.cache i x) at.ledger at.digests, tt)) (bind (check_plan setup.formulas regs.root i x at) (place_plan i x)) now
-      (λ is. record {
-        shape = so.shape;
-        below = λ bank set more.
-            other_bank at.cache i (set_index at.cache.shape x) (touched (slots_of at.cache i x) x) bank set (λ same. omega (arith, more, same))
-            ∙ so.below bank set (omega (arith, more));
-        digests = so.digests;
-        still = so.still;
-      })
-      (λ absent. absurd (false≢true (sym absent ∙ ap (λ (s : Shape). is_cached s at.cache.banks i x) so.shape
-      ∙ ap (λ (slots : List Slot). holds slots x) (so.below i (set_index g x) (omega arith)) ∙ cached.each i (omega (arith, low)))))
+  use_so i at now low so = search (rules, leaves_if, other_bank, still, false≢true)
 
   fetch_used : Used (g.levels + 1) (fetch_plan setup.formulas regs.root (page_of a) (fetch_parts_of first)) start
   fetch_used =
@@ -298,15 +209,7 @@ module _ (setup : Setup) (regs : Regs) (a : ℕ) (first : Chip) (start : Device)
   Idle chip now = TakesNoStep first chip start now
 
   idle_so : (parts : FetchParts) (now : Device) → IsUsedTo (g.levels + 1) parts now → Idle (with_fetched first parts) now
-  idle_so parts now so =
-      record {
-        lines = ap (λ (d : Device). d.lines) so.still;
-        regs = ap (λ (d : Device). d.regs) so.still;
-        writes = ap (λ (d : Device). d.writes) so.still;
-        latches = ap (λ (d : Device). d.latches) so.still;
-        digests = so.digests;
-        uncut = λ on. ap (λ (d : Device). d.live) so.still ∙ on;
-      }
+  idle_so parts now so = search rules
 
   unsealed_idle : (at : ℕ) (ctr : Ctr) (chip : Chip) (now : Device) → Idle chip now
       → Leaves (unseal_plan setup at ctr chip) (λ end d. Idle end.0 d) (λ left d. Idle left.0 d) now

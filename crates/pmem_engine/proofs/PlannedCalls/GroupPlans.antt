@@ -1,5 +1,5 @@
 -- What a commit with a page's new path arms.
-use Rattle.std.proofs.Common.{ℕ, ◌≡◌, ◌++◌, ◌∷◌, [], Bool, List, ap, ap₂, ◌∙◌}
+use Rattle.std.proofs.Common.{ℕ, ◌≡◌, ◌++◌, ◌∷◌, [], Bool, List, ◌∙◌, rules}
 use Rattle.pmem_base.specs.declared.lines.Line.{Line}
 use Rattle.pmem_base.specs.declared.registers.Progress.{Progress}
 use Rattle.pmem_base.specs.declared.registers.Regs.{Regs}
@@ -19,28 +19,21 @@ use Rattle.pmem_engine.specs.SealPlans.{with_path, with_true_path, with_marked_p
 
 -- registers are their parts
 pub same_regs : (a b : Regs) → a.root ≡ b.root → a.group.items ≡ b.group.items → a.progress.items ≡ b.progress.items → a.loss ≡ b.loss → a ≡ b
-same_regs a b root group progress loss =
-    ap₂ (λ (root : List ℕ) (loss : ℕ). record a { root = root; loss = loss }) root loss
-    ∙ ap₂ (λ (items : List (ℕ × Line)) (registers : List Progress).
-    record b { group = record { items = items }; progress = record { items = registers } }) group progress
+same_regs a b root group progress loss = search rules
 
 pub seal_armed_is : (g : Shape) (next : NextSeal) (persisted : Bool) (block : Line) (root : List ℕ) (old now new : Regs) → now ≡ old
     → new.root ≡ root → new.progress.items ≡ registers_with_done now.progress.items next.at → new.loss ≡ now.loss
     → new.group.items ≡ seal_group g next persisted block → new ≡ seal_armed g next persisted block root old
-seal_armed_is g next persisted block root old now new same its_root progress loss group =
-    same_regs new (seal_armed g next persisted block root now) its_root group progress loss ∙ ap (seal_armed g next persisted block root) same
+seal_armed_is g next persisted block root old now new same its_root progress loss group = search (rules, same_regs)
 
 pub begin_armed_is : (g : Shape) (page : ℕ) (register : Progress) (block : Line) (root : List ℕ) (old now new : Regs) → now ≡ old
     → new.root ≡ root → new.progress.items ≡ now.progress.items ++ register ∷ [] → new.loss ≡ now.loss
     → new.group.items ≡ begin_group g page block → new ≡ begin_armed g page register block root old
-begin_armed_is g page register block root old now new same its_root progress loss group =
-    same_regs new (begin_armed g page register block root now) its_root group progress loss ∙ ap (begin_armed g page register block root) same
+begin_armed_is g page register block root old now new same its_root progress loss group = search (rules, same_regs)
 
 -- the mark is made, and then the path is stored and told
 pub marked_path_is : (g : Shape) (mark : Mark) (page : ℕ) (persisted : Bool) (lines : List (ℕ × Line)) (old new : ChipState)
     (before marked after : LedgerState) (tags digests : ℕ) → HasMark before marked mark → after ≡ with_true_path lines marked
     → new ≡ with_path g page persisted lines old
     → chip_with new after tags digests ≡ with_marked_path g mark page persisted lines (chip_with old before tags digests)
-marked_path_is g mark page persisted lines old new before marked after tags digests mark_made told stored =
-    ap₂ (λ (engine : ChipState) (ledger : LedgerState). chip_with engine ledger tags digests) stored
-    (told ∙ ap (with_true_path lines) (noted_is before marked mark mark_made))
+marked_path_is g mark page persisted lines old new before marked after tags digests mark_made told stored = search (rules, noted_is)

@@ -1,16 +1,16 @@
 -- A page's path is named from the top down: wherever that ends, its first blocks are named, and on the device one fewer at most.
-use Rattle.std.proofs.Common.{ℕ, suc, ◌≡◌, ◌<◌, ◌≤◌, ◌+◌, ◌++◌, ◌∷◌, [], Bool, true, false, List, Result, Ok, Err, length, refl, sym, ap, subst, ◌∙◌, arith}
+use Rattle.std.proofs.Common.{ℕ, suc, ◌≡◌, ◌<◌, ◌≤◌, ◌+◌, ◌++◌, ◌∷◌, [], Bool, true, false, List, Result, Ok, Err, length, refl, sym, ap, subst, ◌∙◌, arith, rules}
 use Rattle.std.proofs.lemmas.Bool.{cond-true, cond-false}
 use Rattle.std.proofs.lemmas.List.{append-nil, length-append}
 use Rattle.pmem_base.specs.declared.faults.Cut.{Cut}
 use Rattle.pmem_base.specs.declared.lines.Line.{Line}
-use Rattle.pmem_base.specs.Counts.{risen, risen_times}
+use Rattle.pmem_base.specs.Counts.{risen_times}
 use Rattle.pmem_base.specs.Layout.{shadow_line}
 use Rattle.pmem_base.specs.Shape.{Shape}
 use Rattle.pmem_base.proofs.CountLemmas.{risen_times-add}
 use Rattle.board.specs.Device.{Device}
-use Rattle.board.specs.Steps.{HasWritten, WasCut, with_line}
-use Rattle.call_plan.specs.Plans.{done, write, the_cut}
+use Rattle.board.specs.Steps.{HasWritten, WasCut}
+use Rattle.call_plan.specs.Plans.{the_cut}
 use Rattle.call_plan.specs.Bounds.{Leaves, AtEnd}
 use Rattle.call_plan.proofs.Leaves.{leaves, leaves_mapped, leaves_more, leaves_if, leaves_repeated}
 use Rattle.commit_regs.specs.Groups.{redone_told}
@@ -65,8 +65,7 @@ module _ (page : ℕ) (first : ChipState) (old : Device) where
 
     already : is_named ≡ true → AreTold (j + 1) (j + 1) (named j) now
     already is =
-        let same : written (suc j) ≡ written j =
-        ap (λ (entries : List (ℕ × Line)). written j ++ entries) (cond-true is_named [] (entry ∷ []) is) ∙ append-nil (written j) in
+        let same : written (suc j) ≡ written j = search (rules, cond-true, append-nil) in
         subst (λ k. AreTold k k (named j) now) up
         (record {
           copy = sym (cond-true is_named (named j) (with_named g (named j) j n x) is);
@@ -100,28 +99,11 @@ module _ (page : ℕ) (first : ChipState) (old : Device) where
       )
 
       write_so : (new : Device) → HasWritten now entry.0 entry.1 new → AreTold (j + 1) (j + 1) (with_named g (named j) j n x) new
-      write_so new was =
-          subst (λ k. AreTold k k (with_named g (named j) j n x) new) up
-          (record {
-            copy = copied;
-            lines =
-                was.lines ∙ ap (λ told. with_line told entry.0 entry.1) so.lines ∙ sym (redone-more (written j) entry old.lines)
-                ∙ ap (λ entries. redone_told entries old.lines) (sym one_more);
-            writes =
-                was.writes.is_risen ∙ ap risen so.writes ∙ sym (risen_times-add (length (written j)) 1 old.writes)
-                ∙ ap (λ k. risen_times k old.writes) (sym (length-append (written j) (entry ∷ [])))
-                ∙ ap (λ entries. risen_times (length entries) old.writes) (sym one_more);
-            regs = was.regs ∙ so.regs;
-            reads = was.reads ∙ so.reads;
-            latches = was.latches ∙ so.latches;
-          })
+      write_so new was = search (rules, copied, redone-more, risen_times-add, length-append)
 
     slot_so : Leaves (slot_plan g j n x (named j)) (λ end d. AreTold (j + 1) (j + 1) end.0 d) IsCut now
     unfolding Leaves slot_plan
-    slot_so =
-        leaves_if (λ end d. AreTold (j + 1) (j + 1) end.0 d) IsCut is_named (done (named j, tt))
-        (write (with_named g (named j) j n x, the_cut) entry.0 entry.1 (done (with_named g (named j) j n x, tt))) now (λ is. already is)
-        (λ isnt. (λ new was. cut_so isnt new was, λ new was. write_so isnt new was))
+    slot_so = search (rules, leaves_if, already, cut_so, write_so)
 
   turn_so : (j : ℕ) (before : List Line × Unit {0}) (now : Device) → j < g.levels + 1 → AreTold j j before.0 now
       → Leaves (naming_turn g first.cache page j before) (λ end d. AreTold (j + 1) (j + 1) end.0 d) IsCut now
@@ -135,15 +117,7 @@ module _ (page : ℕ) (first : ChipState) (old : Device) where
 
   as_named : (n written_to : ℕ) (mirror : List Line) (now : Device) → AreTold n written_to mirror now
       → AreNamed page n written_to first (with_mirror first mirror) old now
-  as_named n written_to mirror now so =
-      record {
-        engine_left = ap (with_mirror first) so.copy;
-        lines = so.lines;
-        writes = so.writes;
-        regs = so.regs;
-        reads = so.reads;
-        latches = so.latches;
-      }
+  as_named n written_to mirror now so = search rules
 
   name_so : Leaves (name_plan page first) (λ end d. AreNamed page (g.levels + 1) (g.levels + 1) first end.0 old d)
       (λ left d. IsNamedInOrder page first old d (Err left)) old

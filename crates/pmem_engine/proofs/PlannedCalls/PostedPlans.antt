@@ -1,5 +1,5 @@
 -- How far a posted write has come along its plan: one lemma a part, and one for the part's end.
-use Rattle.std.proofs.Common.{◌≡◌, ℕ, Bool, Result, Ok, Err, subst, subst₂, sym}
+use Rattle.std.proofs.Common.{◌≡◌, ℕ, Bool, Result, Ok, Err, subst, subst₂, sym, rules}
 use Rattle.pmem_base.specs.declared.faults.Cut.{Cut}
 use Rattle.pmem_base.specs.declared.lines.Line.{Line}
 use Rattle.pmem_base.specs.declared.lines.Ctr.{Ctr}
@@ -111,8 +111,7 @@ module _ (setup : Setup) (regs : Regs) (write : Posted) where
         (its : Setup) (its_regs : Regs) (same : its ≡ setup) (same_regs : its_regs ≡ regs) where
       as_finished : {new : Device} {end : Result (Chip × Regs) (Chip × LineFault)} → Follows (finish_for_plan its page overflows its_regs made) now new end
           → Follows (finish_for_plan setup page overflows regs made) now new end
-      as_finished {new = new} {end = end} it =
-          subst₂ (λ (s : Setup) (r : Regs). Follows (finish_for_plan s page overflows r made) now new end) same same_regs it
+      as_finished {new = new} {end = end} it = search rules
 
       pub is_finished : {new : Device} (finished : Chip × Regs) → Follows (finish_for_plan its page overflows its_regs made) now new (Ok finished)
           → HasCome (to_name overflows plain finished) new
@@ -143,8 +142,7 @@ module _ (setup : Setup) (regs : Regs) (write : Posted) where
         (its : Setup) (its_regs : Regs) (same : its ≡ setup) (same_regs : its_regs ≡ left) where
       as_begun : {new : Device} {end : Result (Chip × Regs) (Chip × Fault)} → Follows (begin_for_plan its page overflows its_regs named) now new end
           → Follows (begin_for_plan setup page overflows left named) now new end
-      as_begun {new = new} {end = end} it =
-          subst₂ (λ (s : Setup) (r : Regs). Follows (begin_for_plan s page overflows r named) now new end) same same_regs it
+      as_begun {new = new} {end = end} it = search rules
 
       pub is_begun : {new : Device} (begun : Chip × Regs) → Follows (begin_for_plan its page overflows its_regs named) now new (Ok begun)
           → HasCome (to_seal plain begun) new

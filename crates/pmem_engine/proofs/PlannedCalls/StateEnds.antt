@@ -1,23 +1,17 @@
 -- What holds of the state and of the device at every end of a plan: done, stopped or cut.
-use Rattle.std.proofs.Common.{ℕ, ◌≡◌, ◌<◌, Bool, true, false, Option, Some, None, Result, Ok, Err, arith}
+use Rattle.std.proofs.Common.{ℕ, ◌≡◌, ◌<◌, Bool, true, false, Option, Some, None, Result, Ok, Err, arith, rules}
 use Rattle.std.specs.Prelude.{if◌then◌else◌}
 use Rattle.pmem_base.specs.declared.lines.Line.{Line}
 use Rattle.pmem_base.specs.declared.lines.Ctr.{Ctr}
-use Rattle.pmem_base.specs.declared.answers.Exhibit.TheVariants.{Forged}
-use Rattle.pmem_base.specs.Counts.{risen}
-use Rattle.pmem_base.specs.Lines.{tag_slot}
-use Rattle.pmem_base.specs.Marks.{last_seal}
 use Rattle.board.specs.Device.{Device}
-use Rattle.line_seal.specs.Seals.{unsealed}
-use Rattle.seal_ledger.specs.Notes.{shown, is_cipher_of}
 use Rattle.suite.specs.Setup.{Setup}
 use Rattle.pmem_engine.specs.declared.fault.LineFault.TheVariants as AtLine
-use Rattle.call_plan.specs.Plans.{done, stop, Plan, bind, mapped, repeated}
+use Rattle.call_plan.specs.Plans.{Plan, bind, mapped, repeated}
 use Rattle.call_plan.specs.Following.{Follows}
 use Rattle.call_plan.specs.Bounds.{Leaves, AtEnd}
 use Rattle.call_plan.proofs.Leaves.{leaves, leaves_bind, leaves_mapped, leaves_more, leaves_repeated}
 use Rattle.pmem_engine.specs.Engine.{ChipState}
-use Rattle.pmem_engine.specs.Plans.{Chip, with_tags, with_ledger, opened_plan, unseal_plan}
+use Rattle.pmem_engine.specs.Plans.{Chip, opened_plan, unseal_plan}
 use Rattle.pmem_engine.specs.KeptLaws.{left_at}
 
 module _ {S : Type 0} (holds : S → Device → Type 0) where
@@ -31,10 +25,7 @@ module _ {S : Type 0} (holds : S → Device → Type 0) where
 
   pub ends_bind : {A B F : Type 0} (plan : Plan (S × F) (S × A)) (next : S × A → Plan (S × F) (S × B)) (now : Device) → Ends plan now
       → ((t : S × A) (d : Device) → holds t.0 d → Ends (next t) d) → Ends (bind plan next) now
-  ends_bind plan next now it rest =
-      leaves_bind (λ end d. holds end.0 d) (λ left d. holds left.0 d) plan next now
-      (leaves_more (λ end d. holds end.0 d) (λ end d. Ends (next end) d) (λ left d. holds left.0 d) (λ left d. holds left.0 d) plan now rest
-      (λ left d its. its) it)
+  ends_bind plan next now it rest = search (rules, leaves_bind, leaves_more)
 
   pub ends_repeated : {A F : Type 0} (turn : ℕ → S × A → Plan (S × F) (S × A)) (n : ℕ) (t : S × A) (now : Device) → holds t.0 now
       → ((i : ℕ) (t : S × A) (d : Device) → i < n → holds t.0 d → Ends (turn i t) d) → Ends (repeated turn 0 n t) now
@@ -53,9 +44,7 @@ module _ {S : Type 0} (holds : S → Device → Type 0) where
 pub ends_mapped : {S P A B F G : Type 0} (holds : S → Device → Type 0) (more : P → Device → Type 0) (f : S × F → P × G) (h : S × A → P × B)
     (plan : Plan (S × F) (S × A)) (now : Device) → ((t : S × A) (d : Device) → holds t.0 d → more (h t).0 d)
     → ((left : S × F) (d : Device) → holds left.0 d → more (f left).0 d) → Ends holds plan now → Ends more (mapped f h plan) now
-ends_mapped holds more f h plan now ok left it =
-    leaves_mapped f h (λ end d. more end.0 d) (λ left d. more left.0 d) plan now
-    (leaves_more (λ end d. holds end.0 d) (λ end d. more (h end).0 d) (λ left d. holds left.0 d) (λ left d. more (f left).0 d) plan now ok left it)
+ends_mapped holds more f h plan now ok left it = search (rules, leaves_mapped, leaves_more)
 
 -- ---- a line unsealed
 
@@ -70,19 +59,8 @@ module _ (setup : Setup) (holds : ChipState → Device → Type 0)
       → Ends OfChip (opened_plan at ctr cipher tags chip plain) now
   unfolding Leaves
   opened_ends at ctr cipher tags chip None now so = so
-  opened_ends at ctr cipher tags chip (Some plain) now so =
-      ends_if OfChip (is_cipher_of (last_seal chip.ledger.marks at) cipher) (done (chip, record { plain = plain; tag_line = tags }))
-      (stop (with_ledger chip (shown chip.ledger (Forged at ctr cipher (tag_slot tags at))), AtLine.Shown)) now so so
+  opened_ends at ctr cipher tags chip (Some plain) now so = search (rules, ends_if)
 
   pub unseal_ends : (at : ℕ) (ctr : Ctr) (chip : Chip) (now : Device) → OfChip chip now → Ends OfChip (unseal_plan setup at ctr chip) now
   unfolding Leaves unseal_plan
-  unseal_ends at ctr chip now so = (
-    λ new was off. later chip.engine now new was.lines was.regs was.latches so,
-    λ cipher mid was whole.
-        let half : holds chip.engine mid = later chip.engine now mid was.lines was.regs was.latches so in (
-          λ new cut off. later chip.engine mid new cut.lines cut.regs cut.latches half,
-          λ tags new second its.
-              opened_ends at ctr cipher tags (with_tags chip (risen chip.tags)) (unsealed setup.formulas at ctr cipher (tag_slot tags at)) new
-              (later chip.engine mid new second.lines second.regs second.latches half),
-        ),
-  )
+  unseal_ends at ctr chip now so = search (rules, opened_ends)

@@ -1,6 +1,6 @@
 -- What a write's fetch comes to, wherever it ends: no mark is made, and neither shadow lines nor the page's counter block
 -- are written.
-use Rattle.std.proofs.Common.{ℕ, ◌≡◌, ◌<◌, ◌≤◌, ◌+◌, [], refl, sym, ap, ◌∙◌, inl, inr, arith}
+use Rattle.std.proofs.Common.{ℕ, ◌≡◌, ◌<◌, ◌≤◌, ◌+◌, [], refl, sym, ap, ◌∙◌, inl, arith, rules}
 use Rattle.std.specs.List.{Contains}
 use Rattle.std.proofs.lemmas.Bool.{false≢true}
 use Rattle.std.proofs.lemmas.List.{append-nil}
@@ -29,7 +29,6 @@ use Rattle.meta_path.specs.Fetching.{spilled}
 use Rattle.meta_path.specs.FetchPlans.{FetchParts}
 use Rattle.meta_path.specs.Work.{told_line}
 use Rattle.pmem_engine.specs.declared.fault.Fault.{Fault}
-use Rattle.pmem_engine.specs.Flushed.{cache_of}
 use Rattle.pmem_engine.specs.Outcomes.{fault_of_path}
 use Rattle.pmem_engine.specs.Plans.{Chip, with_fetched}
 use Rattle.pmem_engine.specs.FetchLaws.{HasWholeCache, HasFetchedLevels, IsStoppedInFetch, IsStoppedBy, setup_of_chip, IsBlockWrittenWhereDue}
@@ -63,9 +62,7 @@ module _ (f : Formulas) (w : Posted) (first : Chip) (start : Device) (whole : Ha
 
   module _ (n at : ℕ) (spilled : IsSpilledAt g first.engine.cache page n at) where
     stands : Contains (slots_at g first.engine.cache spilled.level (path_at g page spilled.level)) spilled.victim
-    stands =
-        victim_contained g.ways (slots_at g first.engine.cache spilled.level (path_at g page spilled.level)) spilled.victim
-        (whole.form.each_set spilled.level (set_index g (path_at g page spilled.level))).room spilled.is_victim
+    stands = search (rules, victim_contained)
 
     its : IsOfItsBank g spilled.level spilled.victim
     its = its_bank_of g first.engine.cache spilled.level (set_index g (path_at g page spilled.level)) spilled.victim whole.its_banks stands
@@ -86,9 +83,7 @@ module _ (f : Formulas) (w : Posted) (first : Chip) (start : Device) (whole : Ha
 
   beside_fetch : (n : ℕ) (now : Device) (at : ℕ) → now.lines ≡ redone_told (spilled g first.engine.cache page n) start.lines
       → (IsSpilledAt g first.engine.cache page n at → ⊥) → told_line now.lines at ≡ told_line start.lines at
-  beside_fetch n now at is apart =
-      ap (λ lines. told_line lines at) is
-      ∙ elim (spilled_or_kept_told g first.engine.cache page start.lines at n) [ inl kept ↦ kept | inr gone ↦ absurd (apart gone) ]
+  beside_fetch n now at is apart = search (rules, spilled_or_kept_told)
 
   pub shadow_stays : (n : ℕ) (now : Device) (at : ℕ) → now.lines ≡ redone_told (spilled g first.engine.cache page n) start.lines
       → layout.shadow_line g 0 ≤ at → told_line now.lines at ≡ told_line start.lines at
@@ -139,11 +134,4 @@ module _ (f : Formulas) (w : Posted) (first : Chip) (start : Device) (whole : Ha
     pub marks : chip.ledger.marks ≡ first.ledger.marks
 
   pub is_ready : (parts : FetchParts) (now : Device) → Comes f page first start whole inside all parts now → IsReady (with_fetched first parts) now
-  is_ready parts now come =
-      record {
-        levels = (is_fetched f page first start whole inside parts now come).levels;
-        cached = IsPathCached-fetched g first.ledger.truth page (cache_of first.engine) parts.cache come.fetched.cache;
-        shape = refl;
-        mirror = refl;
-        marks = ap (λ (l : LedgerState). l.marks) come.same;
-      }
+  is_ready parts now come = search (rules, is_fetched, IsPathCached-fetched)

@@ -1,14 +1,11 @@
 -- A turn writes the line that it seals and its tag line, and no other line, wherever it ends.
-use Rattle.std.proofs.Common.{ℕ, ◌≡◌, ◌∷◌, ◌⊎◌, [], Bool, true, false, List, Option, Some, None, length, inl, inr, refl, ap}
+use Rattle.std.proofs.Common.{ℕ, ◌≡◌, ◌∷◌, ◌⊎◌, [], Bool, true, false, List, Option, Some, None, length, inl, inr, refl, ap, rules}
 use Rattle.std.specs.Prelude.{if◌then◌else◌}
 use Rattle.pmem_base.specs.declared.lines.Line.{Line}
 use Rattle.pmem_base.specs.declared.lines.Ctr.{Ctr}
 use Rattle.pmem_base.specs.declared.registers.Progress.{Progress}
 use Rattle.pmem_base.specs.declared.registers.Regs.{Regs}
-use Rattle.pmem_base.specs.Counts.{risen}
 use Rattle.pmem_base.specs.Layout as layout
-use Rattle.pmem_base.specs.Lines.{tag_slot}
-use Rattle.pmem_base.specs.Marks.{last_seal}
 use Rattle.pmem_base.specs.Registers.{not_done}
 use Rattle.call_plan.specs.Plans.{Plan, done, stop, read, write, latch, bind, mapped, for_each}
 use Rattle.board.specs.Device.{Device}
@@ -16,18 +13,14 @@ use Rattle.call_plan.specs.Bounds.{MakesOnly, writes_within, Leaves}
 use Rattle.call_plan.proofs.Leaves.{leaves_mapped}
 use Rattle.pmem_engine.proofs.PlannedCalls.StateEnds.{Ends, ends_bind, ends_mapped, holds_at, unseal_ends}
 use Rattle.call_plan.proofs.Keeping.{makes_bind, makes_mapped, writes_within_keep}
-use Rattle.line_seal.specs.Seals.{unsealed}
 use Rattle.seal_ledger.specs.Ledger.{LedgerState}
-use Rattle.seal_ledger.specs.Notes.{shown, is_cipher_of}
 use Rattle.suite.specs.Setup.{Setup}
 use Rattle.pmem_engine.specs.declared.fault.LineFault.TheVariants as AtLine
-use Rattle.pmem_base.specs.declared.answers.Exhibit.TheVariants.{Forged}
 use Rattle.pmem_engine.specs.declared.reading.Unsealed.{Unsealed}
 use Rattle.pmem_engine.specs.declared.resealing.HeldLine.{HeldLine}
 use Rattle.pmem_engine.specs.declared.resealing.NextSeal.{NextSeal}
-use Rattle.pmem_engine.specs.Committing.{next_seal_of}
 use Rattle.commit_regs.specs.Plans.{group_plan}
-use Rattle.pmem_engine.specs.Plans.{Chip, with_tags, with_ledger, opened_plan, unseal_plan, commit_plan, register_at, held_of, seal_anew_plan, reseal_plan, oldest_page_plan, turn_plan}
+use Rattle.pmem_engine.specs.Plans.{Chip, opened_plan, unseal_plan, commit_plan, register_at, held_of, seal_anew_plan, reseal_plan, oldest_page_plan, turn_plan}
 use Rattle.pmem_engine.specs.KeptLaws.{KeepsMirror, TurnsWriteTheirLine, TurnsKeepMirror}
 
 module _ (setup : Setup) (held : HeldLine) where
@@ -45,14 +38,11 @@ module _ (setup : Setup) (held : HeldLine) where
   opened_only : (at : ℕ) (ctr : Ctr) (cipher tags : Line) (chip : Chip) (plain : Option Line) → Only (opened_plan at ctr cipher tags chip plain)
   unfolding MakesOnly
   opened_only at ctr cipher tags chip None = tt
-  opened_only at ctr cipher tags chip (Some plain) =
-      only_if (is_cipher_of (last_seal chip.ledger.marks at) cipher) (done (chip, record { plain = plain; tag_line = tags }))
-      (stop (with_ledger chip (shown chip.ledger (Forged at ctr cipher (tag_slot tags at))), AtLine.Shown)) tt tt
+  opened_only at ctr cipher tags chip (Some plain) = search (rules, only_if)
 
   unseal_only : (at : ℕ) (ctr : Ctr) (chip : Chip) → Only (unseal_plan setup at ctr chip)
   unfolding MakesOnly unseal_plan
-  unseal_only at ctr chip =
-      (tt, λ cipher whole. (tt, λ tags its. opened_only at ctr cipher tags (with_tags chip (risen chip.tags)) (unsealed setup.formulas at ctr cipher (tag_slot tags at))))
+  unseal_only at ctr chip = search (rules, opened_only)
 
   -- the group has these two
   commit_only : (next : NextSeal) (regs : Regs) (ledger : LedgerState) → next.at ≡ held.at → Only (commit_plan setup.shape next regs ledger)
@@ -60,9 +50,7 @@ module _ (setup : Setup) (held : HeldLine) where
   commit_only next regs ledger its = (tt, (inl its, (inr (ap (layout.tag_line setup.shape) its), (tt, tt))))
 
   seal_only : (left : ℕ) (regs : Regs) (before : Chip × Unsealed) → Only (seal_anew_plan setup held left regs before)
-  seal_only left regs before =
-      makes_mapped (writes_within Its) _ _ _
-      (commit_only (next_seal_of setup.formulas held.at held.next before.1.plain before.1.tag_line) regs before.0.ledger refl)
+  seal_only left regs before = search (rules, makes_mapped, commit_only)
 
 -- the lowest line not done of the oldest page
 module _ (setup : Setup) (regs : Regs) (chip : Chip) where
@@ -71,10 +59,7 @@ module _ (setup : Setup) (regs : Regs) (chip : Chip) where
 
   reseal_only : Only setup held (reseal_plan setup 0 regs chip)
   unfolding reseal_plan
-  reseal_only =
-      makes_bind (writes_within (Its setup held)) (unseal_plan setup held.at held.now chip)
-      (seal_anew_plan setup held (length (not_done (register_at regs 0))) regs) (unseal_only setup held held.at held.now chip)
-      (λ before. seal_only setup held (length (not_done (register_at regs 0))) regs before)
+  reseal_only = search (rules, makes_bind, unseal_only, seal_only)
 
   page_only : (registers : List Progress) → Only setup held (oldest_page_plan setup regs chip registers)
   unfolding oldest_page_plan MakesOnly

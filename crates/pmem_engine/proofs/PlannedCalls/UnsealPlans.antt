@@ -1,5 +1,5 @@
 -- The ends of a line's unsealing, as its plan has them.
-use Rattle.std.proofs.Common.{◌≡◌, ℕ, Bool, true, false, Option, Some, None, Result, Ok, Err, sym, subst}
+use Rattle.std.proofs.Common.{◌≡◌, ℕ, Bool, true, false, Option, Some, None, Result, Ok, Err, sym, subst, rules}
 use Rattle.std.specs.Prelude.{if◌then◌else◌}
 use Rattle.pmem_base.specs.declared.lines.Line.{Line}
 use Rattle.pmem_base.specs.declared.lines.Ctr.{Ctr}
@@ -36,10 +36,7 @@ module _ (setup : Setup) (at : ℕ) (ctr : Ctr) (chip : Chip) where
     -- only the first was
     pub half_read : {new : Device} → WasCut mid new → mid.live ≡ false → Follows (unseal_plan setup at ctr chip) old new (Err (chip, AtLine.Cut))
     unfolding unseal_plan
-    half_read was off =
-        read_then (chip, AtLine.Cut) first whole
-        (read_cut (chip, AtLine.Cut) (layout.tag_line setup.shape at) (λ tags.
-        opened_plan at ctr cipher tags (with_tags chip (risen chip.tags)) (unsealed setup.formulas at ctr cipher (tag_slot tags at))) was off)
+    half_read was off = search (rules, read_then, read_cut)
 
     module _ {new : Device} {tags : Line} (second : HasRead mid (layout.tag_line setup.shape at) tags new) (tags_whole : IsLine tags) where
       abbrev after : Chip

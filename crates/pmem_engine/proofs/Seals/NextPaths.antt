@@ -1,5 +1,5 @@
 -- What a page's next block and its path come to.
-use Rattle.std.proofs.Common.{rules, ℕ, zero, suc, ◌≡◌, ◌-◌, ◌^◌, ◌==◌, Bool, Some, refl, arith}
+use Rattle.std.proofs.Common.{rules, ℕ, zero, suc, ◌≡◌, ◌-◌, ◌^◌, ◌==◌, Some, arith}
 use Rattle.split_counters.specs.declared.Block.{Block}
 use Rattle.split_counters.specs.Blocks.{rolled, next_block}
 use Rattle.pmem_base.specs.Counts.{risen_times}
@@ -7,10 +7,7 @@ use Rattle.pmem_engine.specs.Outcomes.{NeverFalls}
 
 -- a block that rolls over comes to the next one
 pub rolled-next : (old new : Block) → rolled old ≡ Some new → new ≡ next_block old
-rolled-next old new it = at (old.major == 2 ^ 64 - 1) refl
-  where
-    at : (b : Bool) → (old.major == 2 ^ 64 - 1) ≡ b → new ≡ next_block old
-    at v0 end = search rules
+rolled-next old new it = search rules
 
 -- a count that rises some times doesn't fall
 pub times_never_fall : (n count : ℕ) → NeverFalls count (risen_times n count)

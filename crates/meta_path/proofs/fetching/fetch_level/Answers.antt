@@ -34,8 +34,7 @@ place-requires-clause-clean g c =
     room_clean shape c.args.bank c.args.x cache c.make_room.new.cache (g.B.Board.device c.read_checked.new.board)
     (g.B.Board.device c.make_room.new.board) c.requires.shape
     (subst (λ (k : Shape). IsSetOf k (set_index shape c.args.x) (slots_at shape cache.banks c.args.bank c.args.x)) c.requires.shape
-    (c.are_banks.ensures.cache.each_set c.args.bank (set_index shape c.args.x)))
-    c.in_ok-make_room.ensures.ok
+    (c.are_banks.ensures.cache.each_set c.args.bank _)) c.in_ok-make_room.ensures.ok
 
 pub make_room-requires-clause-size : goal.make_room-requires-clause-size
 make_room-requires-clause-size g c = follows_size c.in_ok-line.ensures.plan ∙ c.requires.size
@@ -51,29 +50,26 @@ formulas g suite = g.S.Suite.formulas_of (g.S.Suite.keys suite)
 
 pub returns-then-is_some-clause-plan : goal.returns-then-is_some-clause-plan
 returns-then-is_some-clause-plan g c =
-    let at : FetchParts = parts g c.args.cache.now c.args.audit.now c.args.suite.now in
-    let before : Device = g.B.Board.device c.args.board.now in
+    let at : FetchParts = parts g _ _ _ in
+    let before : Device = g.B.Board.device _ in
     subst (λ (now : CacheState). Follows (level_plan (formulas g c.args.suite.now) before.regs.root c.args.bank c.args.x at)
     before before (Ok (fetch_parts now at.ledger at.digests, tt))) (sym c.touch.ensures.exact)
-    (level_cached (formulas g c.args.suite.now) before.regs.root c.args.bank c.args.x at before
-    (sym c.look.ensures.cached ∙ sym c.is_some.ensures ∙ c.if-is_some.true))
+    (level_cached (formulas g _) before.regs.root _ _ at before (sym c.look.ensures.cached ∙ sym c.is_some.ensures ∙ c.if-is_some.true))
 
 pub returns-in_err-line-clause-plan : goal.returns-in_err-line-clause-plan
 returns-in_err-line-clause-plan g c =
-    let before : Device = g.B.Board.device c.args.board.now in
-    ended_err c.from_residual.result c.from_residual.ensures.1
-    (level_unread (formulas g c.args.suite.now) before.regs.root c.args.bank c.args.x
-    (parts g c.args.cache.now c.args.audit.now c.args.suite.now) before (g.B.Board.device c.read_checked.new.board)
+    let before : Device = g.B.Board.device _ in
+    ended_err c.from_residual.result c.from_residual.ensures.1 (level_unread (formulas g _) before.regs.root _ _
+    (parts g _ _ _) before (g.B.Board.device c.read_checked.new.board)
     (sym c.look.ensures.cached ∙ sym c.is_some.ensures ∙ c.if-is_some.false) _ _ c.in_err-line.ensures.plan)
 
 pub returns-in_err-make_room-clause-plan : goal.returns-in_err-make_room-clause-plan
 returns-in_err-make_room-clause-plan g c =
-    let before : Device = g.B.Board.device c.args.board.now in
-    ended_err c.from_residual-in_err-make_room.result c.from_residual-in_err-make_room.ensures.1
-    (level_placed (formulas g c.args.suite.now) before.regs.root c.args.bank c.args.x
-    (parts g c.args.cache.now c.args.audit.now c.args.suite.now) before (g.B.Board.device c.make_room.new.board)
+    let before : Device = g.B.Board.device _ in
+    ended_err c.from_residual-in_err-make_room.result c.from_residual-in_err-make_room.ensures.1 (level_placed (formulas g _) before.regs.root _ _
+    (parts g _ _ _) before (g.B.Board.device c.make_room.new.board)
     (sym c.look.ensures.cached ∙ sym c.is_some.ensures ∙ c.if-is_some.false) (g.B.Board.device c.read_checked.new.board)
-    (parts g c.args.cache.now c.read_checked.new.audit c.read_checked.new.suite) c.in_ok-line.line
+    (parts g _ c.read_checked.new.audit c.read_checked.new.suite) c.in_ok-line.line
     (Err (c.make_room.new.cache, the_cut)) c.in_ok-line.ensures.plan c.in_err-make_room.ensures.plan)
 
 pub returns-clause-plan : goal.returns-clause-plan

@@ -38,8 +38,7 @@ returns-in_ok-write_back-clause-ok g c =
 
 pub returns-in_err-write_back-clause-plan : goal.returns-in_err-write_back-clause-plan
 returns-in_err-write_back-clause-plan g c =
-    ended_err c.from_residual.result c.from_residual.ensures.1
-    (room_err c.args.cache.now c.write_back.new.cache c.args.bank c.args.x c.in-Some.position (g.B.Board.device c.args.board.now)
+    ended_err c.from_residual.result c.from_residual.ensures.1 (room_err _ c.write_back.new.cache _ _ c.in-Some.position (g.B.Board.device _)
     (g.B.Board.device c.write_back.new.board) (sym c.dirty_victim.ensures ∙ c.in-Some.is) c.in_err-write_back.ensures.plan)
 
 pub returns-in_ok-write_back-clause-plan : goal.returns-in_ok-write_back-clause-plan

@@ -1,5 +1,5 @@
 -- A cut at the read; a line that is refused, shown, or the true one.
-use Rattle.std.proofs.Common.{◌≡◌, true, Ok, Err, refl, sym, ap, subst, ◌∙◌}
+use Rattle.std.proofs.Common.{rules, ◌≡◌, true, Ok, Err, refl, sym, ap, subst, ◌∙◌}
 use Rattle.std.proofs.lemmas.Bool.{false≢true}
 use Rattle.pmem_base.specs.Layout.{meta_line}
 use Rattle.pmem_base.specs.Lines.{same_bytes}
@@ -45,16 +45,13 @@ module _ (g : Over) (c : After-has_expected g) where
       ≡ expected_digest at.cache.shape after.regs.root at.cache.banks c.args.bank c.args.x
       → same_bytes (formulas.digest_of c.args.x c.in_ok-line.line)
       (expected_digest at.cache.shape before.regs.root at.cache.banks c.args.bank c.args.x) ≡ true
-  fits e =
-      same_bytes-from (formulas.digest_of c.args.x c.in_ok-line.line)
-      (expected_digest at.cache.shape before.regs.root at.cache.banks c.args.bank c.args.x) (e ∙ root)
+  fits e = search (rules, same_bytes-from, root)
 
 pub returns-in_err-line-clause-plan : goal.returns-in_err-line-clause-plan
 returns-in_err-line-clause-plan g c =
     ended_err c.from_residual.result c.from_residual.ensures.1
-    (check_cut (g.S.Suite.formulas_of (g.S.Suite.keys c.args.suite.now)) (g.B.Board.device c.args.board.now).regs.root c.args.bank c.args.x
-    (fetch_parts c.args.cache.now (g.A.Audit.ledger c.args.audit.now) (g.S.Suite.digests c.args.suite.now))
-    (g.B.Board.device c.args.board.now) (g.B.Board.device c.read_line.new.self) c.in_err-line.ensures.cut c.in_err-line.ensures.only_off)
+    (check_cut (g.S.Suite.formulas_of (g.S.Suite.keys _)) (g.B.Board.device _).regs.root _ _ _
+    (g.B.Board.device _) (g.B.Board.device c.read_line.new.self) c.in_err-line.ensures.cut c.in_err-line.ensures.only_off)
 
 pub returns-then-not-has_expected-clause-plan : goal.returns-then-not-has_expected-clause-plan
 returns-then-not-has_expected-clause-plan g c =
@@ -69,9 +66,8 @@ pub returns-in-On-clause-plan : goal.returns-in-On-clause-plan
 returns-in-On-clause-plan g c =
     let here = (goal.at.returns-in-On-clause-plan g c).After-has_expected in
     subst (λ (end : FetchParts). Follows (check_plan (formulas g here) (before g here).regs.root c.args.bank c.args.x (at g here))
-    (before g here) (after g here) (Ok (end, c.in_ok-line.line)))
-    (sym (same_parts c.args.cache.now c.in-On.ensures.line.1 c.has_expected.ensures.digests))
-    (check_known (formulas g here) (before g here).regs.root c.args.bank c.args.x (at g here) (before g here) (after g here)
+    (before g here) (after g here) (Ok (end, c.in_ok-line.line))) (sym (same_parts _ c.in-On.ensures.line.1 c.has_expected.ensures.digests))
+    (check_known (formulas g here) (before g here).regs.root _ _ (at g here) (before g here) (after g here)
     c.in_ok-line.line (was_read g here) c.is_whole.ensures
     (fits g here (c.has_expected.ensures.answer.0 c.if-not-has_expected.false)) c.in-On.ensures.line.0)
 

@@ -13,7 +13,7 @@ use Rattle.call_plan.proofs.Loops.{turns_start, turn_ok, turn_err, turns_end}
 use Rattle.shadow_tables.specs.Naming.{Names}
 use Rattle.meta_path.specs.Blocks.{path_at, number_in}
 use Rattle.meta_path.specs.Naming.{path_number, IsNamedTo}
-use Rattle.meta_path.specs.Plans.{slot_plan, naming_turn}
+use Rattle.meta_path.specs.Plans.{slot_plan}
 use Rattle.meta_path.proofs.PathFacts.{position_is, all_levels}
 use Rattle.meta_path.proofs.NameLemmas.{IsNamedTo-more, IsNamingCut-at, on_err, path_number_low, length-naming_writes}
 use Rattle.meta_path.proofs.naming.make_dirty.Given.{Over}
@@ -48,9 +48,7 @@ pub levels-init : goal.levels-init
 levels-init g c =
     record {
       named = search rules;
-      reached =
-          turns_start (naming_turn (shape_of c.args.geo.now) c.args.cache.now.banks c.args.page) ((shape_of c.args.geo.now).levels + 1)
-          (c.args.mirror.now, tt) (g.B.Board.device c.args.board.now);
+      reached = search (rules, turns_start);
       long = c.requires.mirror;
     }
 
@@ -78,9 +76,7 @@ returns-in_err-name_level-clause-cut g c =
 
 pub returns-in_err-name_level-clause-one_a_level :
     goal.returns-in_err-name_level-clause-one_a_level
-returns-in_err-name_level-clause-one_a_level g c =
-    length-naming_writes (shape_of c.args.geo.now) c.args.cache.now.banks c.args.page c.args.mirror.now
-    ((shape_of c.args.geo.now).levels + 1)
+returns-in_err-name_level-clause-one_a_level g c = search (rules, length-naming_writes)
 
 pub levels-preserved : goal.levels-preserved
 levels-preserved g c =
@@ -111,6 +107,4 @@ returns-clause-others g c bank n h apart =
     (λ e. apart (omega (arith, e.0, c.levels.auto.bank-end, c.levels-bank-end.ensures), e.1))
 
 pub returns-clause-one_a_level : goal.returns-clause-one_a_level
-returns-clause-one_a_level g c =
-    length-naming_writes (shape_of c.args.geo.now) c.args.cache.now.banks c.args.page c.args.mirror.now
-    ((shape_of c.args.geo.now).levels + 1)
+returns-clause-one_a_level g c = search (rules, length-naming_writes)

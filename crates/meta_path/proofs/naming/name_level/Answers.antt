@@ -17,8 +17,7 @@ module _ (g : Over) (c : After-name_slot g) where
   -- the slot's number
   number : c.slot_of-slot.result ≡ number_in (shape_of c.args.geo.now) c.args.cache.now.banks c.args.bank c.args.x
   number =
-      sym (number_is (shape_of c.args.geo.now) c.args.cache.now c.args.bank c.args.x c.slot_of-slot.result c.requires.shape
-      c.slot_of-slot.ensures.value)
+      sym (number_is _ c.args.cache.now c.args.bank c.args.x c.slot_of-slot.result c.requires.shape c.slot_of-slot.ensures.value)
 
 pub returns-in_err-write_line-clause-names : goal.returns-in_err-write_line-clause-names
 returns-in_err-write_line-clause-names g c =

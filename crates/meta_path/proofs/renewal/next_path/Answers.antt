@@ -55,8 +55,7 @@ node_above-line-requires-clause-cached g c =
     let made : c.levels.made + suc level ≡ (shape_of c.args.geo.now).levels = more g place in
     let bank : level ≡ c.levels-in-levels.result - 1 - c.levels.made = omega (arith, c.levels-in-levels.ensures, made) in
     subst₂ (λ (k : Shape) b. IsTrue (is_cached k c.args.cache.now.banks b (parent c.levels.x))) (sym c.requires.shape) bank
-    (parent_cached (shape_of c.args.geo.now) c.args.cache.now.banks c.args.page level c.levels.x (omega (arith, made))
-    (c.levels.invariant.renewed (suc level) made).position c.requires.cached)
+    (parent_cached _ _ _ level c.levels.x (omega (arith, made)) (c.levels.invariant.renewed (suc level) made).position c.requires.cached)
 
 pub parent-x-requires : goal.parent-x-requires
 parent-x-requires g c = below g (goal.at.parent-x-requires g c).In-levels
@@ -104,9 +103,8 @@ returns-clause-path g c =
 pub returns-clause-on_truth : goal.returns-clause-on_truth
 returns-clause-on_truth g c truth is_true =
     let done = c.levels.invariant.renewed 0 (all g (goal.at.returns-clause-on_truth g c).After-levels) in
-    IsRenewed-true (shape_of c.args.geo.now) _ c.args.cache.now.banks truth c.args.page c.args.block.now
-    _ c.digest-root.result c.requires.page c.args.geo.now.has_levels.1 c.requires.cached is_true
-    (entries g c ∙ done.rest)
+    IsRenewed-true _ _ c.args.cache.now.banks truth c.args.page c.args.block.now
+    _ c.digest-root.result c.requires.page c.args.geo.now.has_levels.1 c.requires.cached is_true (entries g c ∙ done.rest)
     (c.digest-root.ensures.digest
     ∙ ap (λ (keys : List ℕ). (g.S.Suite.formulas_of keys).digest_of c.levels.x c.levels.line) c.levels.invariant.keys ∙ done.top)
 

@@ -1,5 +1,5 @@
 -- The line and the mark are one change of the set.
-use Rattle.std.proofs.Common.{true, false, sym, subst₂}
+use Rattle.std.proofs.Common.{rules, true, false, sym, subst₂}
 use Rattle.meta_cache.specs.Banks.{set_index}
 use Rattle.meta_cache.specs.State.{CacheState, ChangesSet}
 use Rattle.meta_path.specs.Blocks.{slots_at}
@@ -9,12 +9,10 @@ use Rattle.meta_path.proofs.renewal.store_level.Goals.{then-dirty, else-dirty}
 use Rattle.meta_path.proofs.renewal.store_level.Goals as goal
 
 pub set_dirty-requires-clause-cached : goal.set_dirty-requires-clause-cached
-set_dirty-requires-clause-cached g c =
-    lined_cached c.args.cache.now c.store.new.self c.args.bank c.args.x c.args.line.now c.store.ensures c.requires.cached
+set_dirty-requires-clause-cached g c = search (rules, lined_cached)
 
 pub set_clean-requires-clause-cached : goal.set_clean-requires-clause-cached
-set_clean-requires-clause-cached g c =
-    lined_cached c.args.cache.now c.store.new.self c.args.bank c.args.x c.args.line.now c.store.ensures c.requires.cached
+set_clean-requires-clause-cached g c = search (rules, lined_cached)
 
 pub returns-clause-cache : goal.returns-clause-cache
 returns-clause-cache g c =
@@ -22,12 +20,10 @@ returns-clause-cache g c =
     elim c.if-dirty.branch [
       | then-dirty w ↦
           subst₂ (λ (cache : CacheState) mark. ChangesSet old cache c.args.bank (set_index old.shape c.args.x)
-          (stored_set (slots_at old.shape old.banks c.args.bank c.args.x) c.args.x c.args.line.now mark)) (sym w.cache-is)
-          (sym w.if-dirty.true)
-          (stored_twice old c.store.new.self _ c.args.bank c.args.x c.args.line.now true c.store.ensures w.set_dirty.ensures)
+          (stored_set (slots_at old.shape old.banks c.args.bank c.args.x) c.args.x c.args.line.now mark)) (sym w.cache-is) (sym w.if-dirty.true)
+          (stored_twice old c.store.new.self _ _ _ _ true c.store.ensures w.set_dirty.ensures)
       | else-dirty w ↦
           subst₂ (λ (cache : CacheState) mark. ChangesSet old cache c.args.bank (set_index old.shape c.args.x)
-          (stored_set (slots_at old.shape old.banks c.args.bank c.args.x) c.args.x c.args.line.now mark)) (sym w.cache-is)
-          (sym w.if-dirty.false)
-          (stored_twice old c.store.new.self _ c.args.bank c.args.x c.args.line.now false c.store.ensures w.set_clean.ensures)
+          (stored_set (slots_at old.shape old.banks c.args.bank c.args.x) c.args.x c.args.line.now mark)) (sym w.cache-is) (sym w.if-dirty.false)
+          (stored_twice old c.store.new.self _ _ _ _ false c.store.ensures w.set_clean.ensures)
     ]

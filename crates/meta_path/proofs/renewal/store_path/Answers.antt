@@ -1,5 +1,5 @@
 -- The levels so far and the next one.
-use Rattle.std.proofs.Common.{◌≡◌, ℕ, ◌+◌, ◌-◌, ◌<◌, List, [], take, length, get_or, refl, sym, ap, subst, ◌∙◌, arith}
+use Rattle.std.proofs.Common.{rules, ◌≡◌, ℕ, ◌+◌, ◌-◌, ◌<◌, List, [], take, length, get_or, refl, sym, ap, subst, ◌∙◌, arith}
 use Rattle.std.proofs.Math.Seq.{take-length}
 use Rattle.pmem_base.specs.declared.lines.Line.{Line}
 use Rattle.meta_path.specs.Storing.{IsStoredTo, HasMetaLines}
@@ -11,12 +11,7 @@ abbrev past : ℕ × Line
 past = (0, record { 0 = [] })
 
 pub levels-init : goal.levels-init
-levels-init g c =
-    record {
-      stored = λ page path. IsStoredTo-none c.args.cache.now.shape page c.args.persisted c.args.path.now.lines.items c.args.cache.now;
-      told = HasMetaLines-none (g.A.Audit.ledger c.args.audit.now);
-      capacity = refl;
-    }
+levels-init g c = search (rules, IsStoredTo-none, HasMetaLines-none)
 
 pub store_level-requires-clause-bank : goal.store_level-requires-clause-bank
 store_level-requires-clause-bank g c =
@@ -34,8 +29,7 @@ pub store_level-requires-clause-cached : goal.store_level-requires-clause-cached
 store_level-requires-clause-cached g c =
     let path = c.requires.path in
     let lines = c.args.path.now.lines.items in
-    next_cached c.args.cache.now.shape path.page c.args.persisted lines c.levels.bank
-    (get_or c.as_slice-x-items.result.now c.levels.bank past) past c.args.cache.now c.levels.cache path.path
+    next_cached _ path.page _ lines c.levels.bank (get_or c.as_slice-x-items.result.now c.levels.bank past) past _ c.levels.cache path.path
     (omega (arith, c.levels-test.true, ap (λ (xs : List (ℕ × Line)). length xs) c.as_slice-x-items.ensures.value)) refl
     (ap (λ (xs : List (ℕ × Line)). get_or xs c.levels.bank past) c.as_slice-x-items.ensures.value)
     (c.levels.invariant.stored path.page path.path) path.cached
@@ -63,15 +57,13 @@ levels-preserved g c =
     let entry = ap (λ (xs : List (ℕ × Line)). get_or xs c.levels.bank past) c.as_slice-x-items.ensures.value in
     record {
       stored = λ page path.
-          IsStoredTo-more (c.levels.invariant.stored page path)
-          (level_stored shape page c.args.persisted lines c.levels.bank
+          IsStoredTo-more (c.levels.invariant.stored page path) (level_stored shape page _ lines c.levels.bank
           (get_or c.as_slice-x-items.result.now c.levels.bank past) past c.is_left_dirty-dirty.result c.levels.cache c.store_level.new.cache
           path within (c.levels.invariant.stored page path).shape entry
-          (mark_is shape.levels c.levels.bank (c.len-last.result - 1) c.args.persisted c.is_left_dirty-dirty.result
+          (mark_is shape.levels c.levels.bank (c.len-last.result - 1) _ c.is_left_dirty-dirty.result
           (omega (arith, c.len-last.ensures.value, length-path_lines shape page lines path)) c.is_left_dirty-dirty.ensures)
           c.store_level.ensures.cache);
-      told =
-          HasMetaLines-more lines c.levels.bank _ _ past _ _ _ within (sym entry) c.levels.invariant.told c.store_level.ensures.ledger;
+      told = HasMetaLines-more lines c.levels.bank _ _ past _ _ _ within (sym entry) c.levels.invariant.told c.store_level.ensures.ledger;
       capacity = c.store_level.ensures.capacity ∙ c.levels.invariant.capacity;
     }
 

@@ -1,5 +1,5 @@
 -- The oldest dirty block is cached on the tree; once it is clean, one block less is dirty.
-use Rattle.std.proofs.Common.{◌≤◌, false, sym, subst, ◌∙◌}
+use Rattle.std.proofs.Common.{rules, ◌≤◌, false, sym, subst, ◌∙◌}
 use Rattle.std.specs.Prelude.{IsTrue}
 use Rattle.pmem_base.specs.Shape.{Shape}
 use Rattle.pmem_base.specs.Geo.{shape_of}
@@ -19,9 +19,7 @@ use Rattle.meta_path.proofs.writing.write_back_one.Goals as goal
 module _ (g : Over) (c : In-Some g) where
   dirty : (c.in-Some.bank ≤ (shape_of c.args.geo.now).levels)
       × IsTrue (is_cached_dirty (shape_of c.args.geo.now) c.args.cache.now.banks c.in-Some.bank c.in-Some.x)
-  dirty =
-      subst (λ (k : Shape). (c.in-Some.bank ≤ k.levels) × IsTrue (is_cached_dirty k c.args.cache.now.banks c.in-Some.bank c.in-Some.x))
-      c.requires.shape c.in-Some.ensures.dirty
+  dirty = search rules
 
 -- its set is marked
 module _ (g : Over) (c : In_ok-write_back g) where
@@ -31,8 +29,7 @@ module _ (g : Over) (c : In_ok-write_back g) where
 
 pub write_back-requires-clause-position : goal.write_back-requires-clause-position
 write_back-requires-clause-position g c =
-    dirty_on_tree (shape_of c.args.geo.now) c.args.cache.now.banks c.in-Some.bank c.in-Some.x c.requires.banks
-    (dirty g (goal.at.write_back-requires-clause-position g c).In-Some).1
+    dirty_on_tree _ _ c.in-Some.bank c.in-Some.x c.requires.banks (dirty g (goal.at.write_back-requires-clause-position g c).In-Some).1
 
 pub write_back-requires-clause-cached : goal.write_back-requires-clause-cached
 write_back-requires-clause-cached g c =
@@ -63,8 +60,7 @@ returns-clause-lines g c truth is_true =
 
 pub returns-in_err-write_back-clause-plan : goal.returns-in_err-write_back-clause-plan
 returns-in_err-write_back-clause-plan g c =
-    ended_err c.from_residual.result c.from_residual.ensures.1
-    (oldest_err c.args.cache.now c.write_back.new.cache c.in-Some.bank c.in-Some.x (g.B.Board.device c.args.board.now)
+    ended_err c.from_residual.result c.from_residual.ensures.1 (oldest_err _ c.write_back.new.cache c.in-Some.bank c.in-Some.x (g.B.Board.device _)
     (g.B.Board.device c.write_back.new.board) (sym c.oldest_dirty.ensures.value ∙ c.in-Some.is) c.in_err-write_back.ensures.plan)
 
 pub returns-clause-plan : goal.returns-clause-plan

@@ -1,4 +1,4 @@
-use Rattle.std.proofs.Common.{◌≡◌, ◌*◌, length, refl, ap, sym, subst, ◌∙◌, arith, take, drop}
+use Rattle.std.proofs.Common.{rules, ◌≡◌, ◌*◌, refl, sym, subst, arith, take, drop}
 use Rattle.split_counters.specs.Blocks.{IsBlock}
 use Rattle.split_counters.proofs.Packing.{unpacked-IsBlock}
 use Rattle.split_counters.proofs.Groups.{unpacked_front, unpacked_front-none, unpack_step, minors_long, unpack_end}
@@ -8,11 +8,7 @@ pub loop-group-init : goal.loop-group-init
 loop-group-init c = (sym (unpacked_front-none _), refl)
 
 pub loop-group-preserved : goal.loop-group-preserved
-loop-group-preserved c =
-    let read = c.copy_from_slice-in-loop-group.ensures.after ∙ c.unpacked_group-unpacked.ensures in (
-      unpack_step c.args.line.now.0 c.loop-group.minors c.copy_from_slice-in-loop-group.new.self c.loop-group.group c.is_whole.ensures.bytes c.is_whole.ensures.long c.loop-group.invariant.1 (omega arith) c.loop-group.invariant.0 read,
-      minors_long c.loop-group.minors c.copy_from_slice-in-loop-group.new.self c.loop-group.group (ap length read) c.loop-group.invariant.1 (omega arith),
-    )
+loop-group-preserved c = search (rules, unpack_step, minors_long)
 
 pub returns-clause-value : goal.returns-clause-value
 returns-clause-value c =

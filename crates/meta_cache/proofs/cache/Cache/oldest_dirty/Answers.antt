@@ -1,4 +1,5 @@
 -- What is found is dirty, and where nothing is found nothing is.
+use Rattle.std.proofs.Common.{rules}
 use Rattle.meta_cache.proofs.DirtyLemmas.{oldest_if, cache_clean_if}
 use Rattle.meta_cache.proofs.cache.Cache.oldest_dirty.Goals as goal
 
@@ -8,5 +9,4 @@ returns-clause-dirty c =
     c.first_dirty.ensures
 
 pub returns-clause-clean : goal.returns-clause-clean
-returns-clause-clean c =
-    cache_clean_if c.args.self.now.shape c.args.self.now.banks c.first_dirty.result c.first_dirty.ensures
+returns-clause-clean c = search (rules, cache_clean_if)

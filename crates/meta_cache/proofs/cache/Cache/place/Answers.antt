@@ -1,5 +1,5 @@
 -- The set of the position is changed in its bank.
-use Rattle.std.proofs.Common.{◌≡◌, List, set, sym, ap, subst, ◌∙◌}
+use Rattle.std.proofs.Common.{◌≡◌, List, set, sym, subst, rules}
 use Rattle.pmem_base.specs.Geo.{shape_of}
 use Rattle.meta_cache.specs.Banks.{Slot, set_of, set_index}
 use Rattle.meta_cache.specs.Sets.{placed, IsSetOf}
@@ -27,8 +27,7 @@ invariant_of-self c =
       read = c.index_mut-bank.ensures.value;
       written = c.place.ensures;
     } in
-    let its : set_index g c.args.x ≡ n =
-    ap (λ (state : CacheState). set_index state.shape c.args.x) c.self.view_is ∙ sym c.set_of-n.ensures.value in
+    let its : set_index g c.args.x ≡ n = search rules in
     keeps_form change g banks c.args.self.now c.args.bank c.args.x n c.from.result
     c.index_mut-bank.result.now c.place.new.self step
     (subst (λ ways. IsSetOf g n (placed ways (set_of banks c.args.bank n) c.args.x c.args.line.now))
@@ -44,8 +43,7 @@ returns c =
     let change : List Slot → List Slot = λ slots. placed c.ways-ways.result slots c.args.x c.args.line.now in
     let g = shape_of c.self.inside.geo in
     let banks = c.self.inside.banks.items in
-    let ways : c.ways-ways.result ≡ c.args.self.now.shape.ways =
-    c.ways-ways.ensures ∙ ap (λ (state : CacheState). state.shape.ways) c.self.view_is in
+    let ways : c.ways-ways.result ≡ c.args.self.now.shape.ways = search rules in
     let new : CacheState = record { shape = g; banks = set banks c.from.result c.place.new.self } in
     subst
     (λ ways.

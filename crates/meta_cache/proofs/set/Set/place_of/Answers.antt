@@ -1,6 +1,6 @@
 -- The first slot of the position, or none.
-use Rattle.std.proofs.Common.{◌≡◌, List, false, length, get_or, sym, ap, subst, ◌∙◌, arith}
-use Rattle.std.specs.Prelude.{◌==◌, slice_get}
+use Rattle.std.proofs.Common.{◌≡◌, List, false, length, get_or, ap, subst, ◌∙◌, arith, rules}
+use Rattle.std.specs.Prelude.{◌==◌}
 use Rattle.std.proofs.lemmas.List.Folds.{find_at}
 use Rattle.std.specs.List.{position_or_len}
 use Rattle.std.proofs.lemmas.Bool.{ne_eqb}
@@ -34,11 +34,7 @@ returns-clause-value c =
     (first_place slots c.slots.i c.args.x blank (omega arith) c.slots.invariant (λ l. absurd (omega arith)))
 
 pub returns-then-slot-x-clause-found : goal.returns-then-slot-x-clause-found
-returns-then-slot-x-clause-found c =
-    find_at (λ (slot : Slot). slot.position == c.args.x) c.args.self.now
-    ∙ ap (slice_get c.args.self.now) (sym (returns-then-slot-x-clause-value c))
+returns-then-slot-x-clause-found c = search (rules, find_at, returns-then-slot-x-clause-value)
 
 pub returns-clause-found : goal.returns-clause-found
-returns-clause-found c =
-    find_at (λ (slot : Slot). slot.position == c.args.x) c.args.self.now
-    ∙ ap (slice_get c.args.self.now) (sym (returns-clause-value c))
+returns-clause-found c = search (rules, find_at, returns-clause-value)

@@ -1,18 +1,9 @@
 -- The slot at the position's place is written.
-use Rattle.std.proofs.Common.{List, length, get_or, set, sym, ap, ◌∙◌}
+use Rattle.std.proofs.Common.{get_or, rules}
 use Rattle.std.proofs.lemmas.List.{length-set}
-use Rattle.meta_cache.specs.Banks.{Slot}
-use Rattle.meta_cache.specs.Sets.{lined}
 use Rattle.meta_cache.proofs.ListLemmas.{refill_same}
-use Rattle.meta_cache.proofs.SetLemmas.{blank, with_line_is}
+use Rattle.meta_cache.proofs.SetLemmas.{with_line_is}
 use Rattle.meta_cache.proofs.set.Set.store.Goals as goal
 
 pub returns : goal.returns
-returns c =
-    let i = c.own_place-i.result in
-    let slots : List Slot = c.as_mut_slice.result.now in
-    let written : List Slot = set slots i (lined (get_or slots i blank) c.args.line.now) in
-    refill_same c.self.inside.slots.items written
-    (length-set slots i (lined (get_or slots i blank) c.args.line.now) ∙ ap (λ (ys : List Slot). length ys) c.as_mut_slice.ensures.value)
-    ∙ ap (λ (ys : List Slot). set ys i (lined (get_or ys i blank) c.args.line.now)) (c.as_mut_slice.ensures.value ∙ c.self.view_is)
-    ∙ sym (with_line_is c.args.self.now c.args.x i c.args.line.now blank (c.own_place-i.ensures.alone blank))
+returns c = search (rules, get_or, refill_same, length-set, with_line_is)

@@ -1,14 +1,13 @@
 -- A line that no register holds has the counter of its page's block; over the true counter block, the counter is that of the
 -- line's last seal.
-use Rattle.std.proofs.Common.{◌≡◌, ◌<◌, ◌∙◌, Option, Some, None, false, is_some, ℕ, refl, sym, ap, subst}
+use Rattle.std.proofs.Common.{◌≡◌, ◌<◌, ◌∙◌, Option, Some, None, false, is_some, ℕ, refl, sym, ap, subst, rules}
 use Rattle.pmem_base.specs.declared.registers.Regs.{Regs}
 use Rattle.pmem_base.specs.declared.registers.Progress.{Progress}
 use Rattle.pmem_base.specs.Shape.{Shape}
-use Rattle.pmem_base.specs.Layout.{data_lines, page_of, index_in_page}
+use Rattle.pmem_base.specs.Layout.{data_lines, index_in_page}
 use Rattle.split_counters.specs.declared.Block.{Block}
 use Rattle.split_counters.specs.Blocks.{block_counter}
-use Rattle.page_reencrypt.specs.Registers.{counter_of, counter_under, register_held}
-use Rattle.pmem_engine.specs.Inner.{cached_block}
+use Rattle.page_reencrypt.specs.Registers.{counter_under}
 use Rattle.pmem_engine.proofs.CheckedReads.LineCounters.{counter-last}
 use Rattle.pmem_engine.proofs.engine.OnChip.counter.Goals as goal
 
@@ -17,11 +16,7 @@ not_held None block a none = refl
 not_held (Some register) block a none = cc none
 
 pub returns-clause-cached : goal.returns-clause-cached
-returns-clause-cached g c =
-    let block : Block = cached_block c.args.self.now.shape c.args.self.now (page_of c.args.at) in
-    c.block_counter.ensures.cached
-    ∙ sym (not_held (register_held c.regs.result.now.progress.items c.args.at) block c.args.at (sym c.is_left.ensures ∙ c.if-is_left.false))
-    ∙ ap (λ (r : Regs). counter_of r.progress.items block c.args.at) c.regs.ensures
+returns-clause-cached g c = search (rules, not_held)
 
 pub returns-clause-last : goal.returns-clause-last
 returns-clause-last g c = λ setup ledger trusted cached.

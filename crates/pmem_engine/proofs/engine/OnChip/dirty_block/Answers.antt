@@ -1,10 +1,9 @@
 -- Where no position of the bank is dirty, no slot is.
-use Rattle.std.proofs.Common.{◌≡◌, ◌∙◌, ℕ, false, ap, subst, subst₂}
+use Rattle.std.proofs.Common.{◌≡◌, ◌∙◌, ℕ, false, subst, subst₂, rules}
 use Rattle.pmem_base.specs.Shape.{Shape}
 use Rattle.pmem_base.specs.Geo.{shape_of}
-use Rattle.meta_cache.specs.Banks.{set_of, is_cached_dirty}
-use Rattle.meta_cache.specs.Sets.{IsSetOf}
-use Rattle.meta_cache.specs.State.{bank_of, oldest_dirty_of}
+use Rattle.meta_cache.specs.Banks.{is_cached_dirty}
+use Rattle.meta_cache.specs.State.{oldest_dirty_of}
 use Rattle.meta_path.specs.Blocks.{bank_dirty_count}
 use Rattle.meta_path.proofs.PathFacts.{AreSets}
 use Rattle.pmem_engine.specs.Engine.{ChipState}
@@ -14,13 +13,7 @@ use Rattle.pmem_engine.proofs.engine.OnChip.dirty_block.Goals as goal
 pub returns-clause-none : goal.returns-clause-none
 returns-clause-none c = λ none.
     let shape : Shape = shape_of c.self.inside.geo in
-    let sets : AreSets shape c.self.inside.cache.banks =
-    record {
-      each =
-          λ bank set.
-          subst (λ (s : Shape). IsSetOf s set (set_of c.self.inside.cache.banks bank set)) c.self.invariant.0
-          (c.are_banks.ensures.cache.each_set bank set);
-    } in
+    let sets : AreSets shape c.self.inside.cache.banks = search rules in
     subst (λ (e : ChipState). bank_dirty_count e.shape e.cache e.shape.levels ≡ 0) c.self.view_is
     (dirty_in_bank-none shape c.self.inside.cache.banks shape.levels sets
     (λ x.
@@ -28,6 +21,4 @@ returns-clause-none c = λ none.
     (c.oldest_dirty_of.ensures.clean none x)))
 
 pub returns-clause-oldest : goal.returns-clause-oldest
-returns-clause-oldest c =
-    subst (λ (e : ChipState). c.oldest_dirty_of.result ≡ oldest_dirty_of (bank_of e.cache e.shape.levels)) c.self.view_is
-    (c.oldest_dirty_of.ensures.value ∙ ap (λ (bank : ℕ). oldest_dirty_of (bank_of c.self.inside.cache.banks bank)) c.levels.ensures)
+returns-clause-oldest c = search rules

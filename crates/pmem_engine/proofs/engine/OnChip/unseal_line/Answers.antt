@@ -1,5 +1,5 @@
 -- Both lines were read; the tag is another one, or the audit stops, or the line is unsealed.
-use Rattle.std.proofs.Common.{◌≡◌, ◌≢◌, Ok, Err, refl, sym, ap, subst, ◌∙◌}
+use Rattle.std.proofs.Common.{◌≡◌, ◌≢◌, Ok, Err, refl, sym, ap, subst, ◌∙◌, rules}
 use Rattle.pmem_base.specs.declared.answers.Exhibit.TheVariants.{Forged}
 use Rattle.pmem_base.specs.Lines.{tag_slot}
 use Rattle.pmem_base.specs.Layout as layout
@@ -51,10 +51,7 @@ module _ (g : Over) (c : After-tag_at-tag g) where
 -- ---- the plan
 
 pub returns-in_err-cipher-clause-plan : goal.returns-in_err-cipher-clause-plan
-returns-in_err-cipher-clause-plan g c =
-    ended_err c.from_residual.result c.from_residual.ensures.1
-    (unread (setup_with_at g.S.Suite c.args.self.now c.args.suite.now) c.args.at c.args.ctr
-    (chip_with_at g.S.Suite g.A.Audit c.args.self.now c.args.suite.now c.args.audit.now) c.in_err-cipher.ensures.cut c.in_err-cipher.ensures.only_off)
+returns-in_err-cipher-clause-plan g c = search (rules, ended_err, unread)
 
 pub returns-in_err-tag_line-clause-plan : goal.returns-in_err-tag_line-clause-plan
 returns-in_err-tag_line-clause-plan g c =

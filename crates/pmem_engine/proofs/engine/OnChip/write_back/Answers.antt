@@ -1,5 +1,5 @@
 -- The oldest dirty block was written back, or a cut came before its write.
-use Rattle.std.proofs.Common.{◌≡◌, ◌∙◌, Option, Result, Ok, Err, ℕ, refl, sym, subst, subst₂}
+use Rattle.std.proofs.Common.{◌≡◌, ◌∙◌, Option, Result, Ok, ℕ, refl, sym, subst, subst₂, rules}
 use Rattle.std.proofs.lemmas.Result.{err_from_is_err_and}
 use Rattle.pmem_base.specs.declared.faults.Cut.{Cut}
 use Rattle.pmem_base.specs.Shape.{Shape}
@@ -58,11 +58,4 @@ returns-clause-plan g c =
     c.in_ok-x.ensures.plan)
 
 pub returns-in_err-x-clause-plan : goal.returns-in_err-x-clause-plan
-returns-in_err-x-clause-plan g c =
-    let shape : Shape = shape_of c.self.inside.geo in
-    let new : ChipState = record { shape = shape; cache = c.write_back_one.new.cache.banks; mirror = c.self.inside.mirror } in
-    ended_err c.from_residual.result c.from_residual.ensures.1
-    (subst (λ (e : ChipState). Follows (oldest_block_plan e) (g.B.Board.device c.args.board.now) (g.B.Board.device c.write_back_one.new.board)
-    (Err (new, c.in_err-x.field-0.0))) c.self.view_is
-    (oldest_block shape c.self.inside.mirror c.self.inside.cache c.self.invariant.0 c.write_back_one.new.cache (Err c.in_err-x.field-0.0)
-    c.in_err-x.ensures.plan))
+returns-in_err-x-clause-plan g c = search (rules, ended_err, oldest_block)
