@@ -1,25 +1,50 @@
 //! The program `pmem`: its words, standard input and standard output, and nothing else.
 #![tactic(auto)]
 
-use pmem_cli::{StdSink, StdSource, run};
-use std::process::ExitCode;
-use std::{env, io};
+ghost use Rattle.std.specs.Prelude.{◌≡◌, ◌⊎◌, drop, map, string_bytes, IfOk};
+ghost use Rattle.std.specs.Vec.Iter.{into_iter_items};
+ghost use Rattle.pmem_cli.specs.Determined.{call_over, IsCallWith, IsByMachine};
 
-/// The words of the command line, without the program's name.
-fn command_words(rt: &HostRuntime) -> io::Result<Vec<String>> {
-    let mut words = Vec::new(rt.alloc());
-    for word in env::args(rt)?.skip(1) {
+use pmem_cli::{Sink, Source, StdSink, StdSource, run};
+use std::alloc::{AllocError, Global};
+use std::env;
+use std::env::Args;
+use std::process::ExitCode;
+
+/// The words of the command line in their order, without the program's name. Fails where there is no memory for them.
+fn command_words(alloc: Global, args: Args) -> Result<Vec<String>, AllocError>
+    ensures { IfOk result (λ words. words.items ≡ drop 1 (into_iter_items args)) }
+{
+    let mut words = Vec::new(alloc);
+    let mut left = args;
+    let _name = left.next();
+    for word in left {
         words.push(word)?;
     }
     Ok(words)
 }
 
+/// Runs the program of these words, the first of which is its name, over the two streams, and hands its status on. Where
+/// there is no memory for the words the status is 1, and nothing is pulled or put.
+fn program<S: Source, K: Sink>(alloc: Global, args: Args, trace: &mut S, out: &mut K) -> u8
+    ensures { ((result ≡ 1) × (trace.new ≡ trace.old) × (out.new ≡ out.old))
+        ⊎ (IsCallWith (map string_bytes (drop 1 (into_iter_items args)))
+        (call_over result S.left S.faults trace.old trace.new K.put K.faults out.old out.new)
+        × IsByMachine (map string_bytes (drop 1 (into_iter_items args)))
+        (call_over result S.left S.faults trace.old trace.new K.put K.faults out.old out.new)) }
+{
+    match command_words(alloc, args) {
+        Ok(words) => run(alloc, words.as_slice(), trace, out),
+        Err(_) => 1,
+    }
+}
+
 /// Ends with the status of the run, or with 1 where the words can't be made.
 fn main(rt: HostRuntime) -> ExitCode {
-    let Ok(words) = command_words(&rt) else {
+    let Ok(args) = env::args(&rt) else {
         return ExitCode::from(1);
     };
     let mut trace = StdSource::new(rt.stdin());
     let mut out = StdSink::new(rt.stdout());
-    ExitCode::from(run(rt.alloc(), words.as_slice(), &mut trace, &mut out))
+    ExitCode::from(program(rt.alloc(), args, &mut trace, &mut out))
 }

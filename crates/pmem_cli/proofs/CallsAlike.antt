@@ -13,11 +13,11 @@ use Rattle.pmem_cli.specs.declared.options.Task.{Task}
 use Rattle.pmem_cli.specs.declared.ending.Ending.{Ending}
 use Rattle.pmem_cli.specs.Causes.{Rose}
 use Rattle.pmem_cli.specs.Checked.{IsChecked}
-use Rattle.pmem_cli.specs.Determined.{Call, IsCallWith, IsSettled, IsUndisturbed, AreAnsweredAlike}
+use Rattle.pmem_cli.specs.Determined.{Call, IsCallWith, IsByMachine, IsSettled, IsUndisturbed, AreAnsweredAlike}
 use Rattle.pmem_cli.specs.Endings.{ending_text, ending_status}
-use Rattle.pmem_cli.specs.HasRun.{HasRun, HasTextPut, HasSampled, HasCheckedTrace, TaskOutcome, AreRefusedWords}
+use Rattle.pmem_cli.specs.HasRun.{HasRun, IsWorldRun, HasTextPut, IsWorldSample, HasCheckedTrace, TaskMachine, AreRefusedWords}
 use Rattle.pmem_cli.specs.Keys.{formulas_of, setup_chosen}
-use Rattle.pmem_cli.specs.Logged.{HasLoggedRun, LoggedStep, LoggedEnds, steps_logged, logged_texts}
+use Rattle.pmem_cli.specs.Logged.{HasLoggedRun, IsWorldLoggedRun, LoggedStep, LoggedEnds, steps_logged, logged_texts}
 use Rattle.pmem_cli.specs.Words.{task_of}
 use Rattle.pmem_cli.proofs.ChecksAlike.{checks_alike}
 use Rattle.pmem_cli.proofs.LogsAlike.{logs_alike}
@@ -37,7 +37,7 @@ module _ (trace put : List ℕ) where
   -- what is said of a call that asks for this, without what its words are
   abbrev Said : Task → Call → Type 0
   Said task call =
-      TaskOutcome task call.status (Rose call.pulls_before call.pulls_after) call.trace call.left call.put_before call.put_after
+      TaskMachine task call.status (Rose call.pulls_before call.pulls_after) call.trace call.left call.put_before call.put_after
 
   -- one text and one status for both
   put_alike : (a b : Call) (status : ℕ) (text : List ℕ) → a.status ≡ status → b.status ≡ status → a.put_after ≡ Some (put ++ text)
@@ -60,9 +60,11 @@ module _ (trace put : List ℕ) where
     -- ---- two calls for one task
 
     runs_alike : (choices : Choices) → Said (Task.Run choices) a → Said (Task.Run choices) b → AreAnsweredAlike put a b
-    runs_alike choices it its =
-        let run : HasRun (setup_chosen choices) a.status (Rose a.pulls_before a.pulls_after) a.trace a.left a.put_before a.put_after = it in
-        let other : HasRun (setup_chosen choices) b.status (Rose b.pulls_before b.pulls_after) b.trace b.left b.put_before b.put_after = its in
+    runs_alike choices one two =
+        let it : IsWorldRun (setup_chosen choices) a.status (Rose a.pulls_before a.pulls_after) a.trace a.left a.put_before a.put_after = one in
+        let its : IsWorldRun (setup_chosen choices) b.status (Rose b.pulls_before b.pulls_after) b.trace b.left b.put_before b.put_after = two in
+        let run : HasRun (setup_chosen choices) a.status (Rose a.pulls_before a.pulls_after) a.trace a.left a.put_before a.put_after = it.told in
+        let other : HasRun (setup_chosen choices) b.status (Rose b.pulls_before b.pulls_after) b.trace b.left b.put_before b.put_after = its.told in
         let status : a.status ≡ status_of run.stop = run.its_status pushed in
         let its_status : b.status ≡ status_of other.stop = other.its_status pushed_too in
         let same =
@@ -70,7 +72,7 @@ module _ (trace put : List ℕ) where
         (calm_stop b other.stop quiet its_status pushed_too pulled_too)
         (subst (λ (o : Option (List ℕ)). IfSome o (λ bytes. Ends (setup_chosen choices) run.stop bytes a.left run.steps)) calm.trace_told run.ends)
         (subst (λ (o : Option (List ℕ)). IfSome o (λ bytes. Ends (setup_chosen choices) other.stop bytes b.left other.steps)) quiet.trace_told other.ends)
-        run.replayed other.replayed in
+        it.replayed its.replayed in
         put_alike a b (status_of run.stop) (output_of run.steps run.stop) status (its_status ∙ ap status_of (sym same.0))
         (appended a.put_before a.put_after (output_of run.steps run.stop) calm.put_told (run.whole pushed))
         (appended b.put_before b.put_after (output_of other.steps other.stop) quiet.put_told (other.whole pushed_too)
@@ -82,15 +84,17 @@ module _ (trace put : List ℕ) where
         put_alike a b 0 text (it.its_status pushed) (its.its_status pushed_too) (appended a.put_before a.put_after text calm.put_told (it.whole pushed))
         (appended b.put_before b.put_after text quiet.put_told (its.whole pushed_too))
 
-    sampled_alike : (seed count : ℕ) → HasSampled default_setup (sample_trace seed count) a.status a.put_before a.put_after
-        → HasSampled default_setup (sample_trace seed count) b.status b.put_before b.put_after → AreAnsweredAlike put a b
-    sampled_alike seed count it its =
+    sampled_alike : (seed count : ℕ) → IsWorldSample default_setup (sample_trace seed count) a.status a.put_before a.put_after
+        → IsWorldSample default_setup (sample_trace seed count) b.status b.put_before b.put_after → AreAnsweredAlike put a b
+    sampled_alike seed count one two =
+        let it = one.told in
+        let its = two.told in
         let status : a.status ≡ status_of it.stop = it.its_status pushed in
         let its_status : b.status ≡ status_of its.stop = its.its_status pushed_too in
         let same =
         samples_alike default_setup (sample_trace seed count) it.stop its.stop it.steps its.steps it.text its.text
-        (calm_stop a it.stop calm status pushed pulled) (calm_stop b its.stop quiet its_status pushed_too pulled_too) it.ends its.ends it.replayed
-        its.replayed in
+        (calm_stop a it.stop calm status pushed pulled) (calm_stop b its.stop quiet its_status pushed_too pulled_too) it.ends its.ends one.replayed
+        two.replayed in
         put_alike a b (status_of it.stop) (it.text ++ stop_text it.stop) status (its_status ∙ ap status_of (sym same.0))
         (appended a.put_before a.put_after (it.text ++ stop_text it.stop) calm.put_told (it.whole pushed))
         (appended b.put_before b.put_after (its.text ++ stop_text its.stop) quiet.put_told (its.whole pushed_too)
@@ -113,10 +117,12 @@ module _ (trace put : List ℕ) where
         ∙ ap (λ (e : Ending). Some (put ++ ending_text e)) (sym same))
 
     logged_alike : (choices : Choices) → Said (Task.Log choices) a → Said (Task.Log choices) b → AreAnsweredAlike put a b
-    logged_alike choices it its =
+    logged_alike choices one two =
         let setup = setup_chosen choices in
-        let run : HasLoggedRun setup a.status (Rose a.pulls_before a.pulls_after) a.trace a.left a.put_before a.put_after = it in
-        let other : HasLoggedRun setup b.status (Rose b.pulls_before b.pulls_after) b.trace b.left b.put_before b.put_after = its in
+        let it : IsWorldLoggedRun setup a.status (Rose a.pulls_before a.pulls_after) a.trace a.left a.put_before a.put_after = one in
+        let its : IsWorldLoggedRun setup b.status (Rose b.pulls_before b.pulls_after) b.trace b.left b.put_before b.put_after = two in
+        let run : HasLoggedRun setup a.status (Rose a.pulls_before a.pulls_after) a.trace a.left a.put_before a.put_after = it.told in
+        let other : HasLoggedRun setup b.status (Rose b.pulls_before b.pulls_after) b.trace b.left b.put_before b.put_after = its.told in
         let status : a.status ≡ status_of run.stop = run.its_status pushed in
         let its_status : b.status ≡ status_of other.stop = other.its_status pushed_too in
         let same =
@@ -125,7 +131,7 @@ module _ (trace put : List ℕ) where
         (subst (λ (o : Option (List ℕ)). IfSome o (λ bytes. LoggedEnds setup run.stop bytes a.left (steps_logged run.all))) calm.trace_told run.ends)
         (subst (λ (o : Option (List ℕ)). IfSome o (λ bytes. LoggedEnds setup other.stop bytes b.left (steps_logged other.all))) quiet.trace_told
         other.ends)
-        run.replayed other.replayed in
+        it.replayed its.replayed in
         put_alike a b (status_of run.stop) (logged_texts run.all ++ stop_text run.stop) status (its_status ∙ ap status_of (sym same.0))
         (appended a.put_before a.put_after (logged_texts run.all ++ stop_text run.stop) calm.put_told (run.whole pushed))
         (appended b.put_before b.put_after (logged_texts other.all ++ stop_text other.stop) quiet.put_told (other.whole pushed_too)
@@ -152,10 +158,10 @@ module _ (trace put : List ℕ) where
   refused call calm (inr failed) = absurd (calm.pushed failed.1)
 
 pub calls_alike : (words : List Word) (trace put : List ℕ) (a b : Call) → IsSettled (task_of words) → IsCallWith words a → IsCallWith words b
-    → IsUndisturbed trace put a → IsUndisturbed trace put b → AreAnsweredAlike put a b
-calls_alike words trace put a b settled it its calm quiet =
+    → IsByMachine words a → IsByMachine words b → IsUndisturbed trace put a → IsUndisturbed trace put b → AreAnsweredAlike put a b
+calls_alike words trace put a b settled it its by_one by_other calm quiet =
     tasks_alike trace put a b calm quiet (λ is. calm.pushed (it.write is)) (λ is. quiet.pushed (its.write is)) (λ is. calm.pulled (it.read is))
-    (λ is. quiet.pulled (its.read is)) (task_of words) settled it.told its.told
+    (λ is. quiet.pulled (its.read is)) (task_of words) settled by_one by_other
     (λ none.
     let first : a.status ≡ 2 = it.faulty.1 none in
     let second : b.status ≡ 2 = its.faulty.1 none in

@@ -15,11 +15,11 @@ use Rattle.trace_text.specs.Conversations.{Protocol, line_sort, TalkEnds}
 use Rattle.pmem_cli.specs.declared.options.Task.{Task}
 use Rattle.pmem_cli.specs.HasRun.{HasRun, TaskOutcome, IsInGrammar, IsComplete}
 use Rattle.pmem_cli.specs.Logged.{LoggedEnds, HasLoggedRun, steps_logged}
-use Rattle.pmem_cli.specs.Sessions.{Session, telling, HasSession}
+use Rattle.pmem_cli.specs.Sessions.{Language, spoken, HasSession}
 use Rattle.pmem_cli.specs.Talked.{HasTalked, IsNoFault, IsInLanguage, IsRunThrough, IsTalkComplete}
-use Rattle.pmem_cli.specs.Tree.{tree_chosen}
-use Rattle.pmem_cli.specs.Txn.{txn_chosen}
-use Rattle.pmem_cli.specs.Wear.{wear_chosen}
+use Rattle.pmem_cli.specs.Tree.{tree_language}
+use Rattle.pmem_cli.specs.Txn.{txn_language}
+use Rattle.pmem_cli.specs.Wear.{wear_language}
 
 through_by : (stop : Stop) (setup : Setup) (status : ℕ) (trace : List ℕ) (left : Option (List ℕ)) (steps : List Step) → Ends setup stop trace left steps
     → status ≡ status_of stop → status ≢ 3 → status ≢ 4 → IsInGrammar trace → IsRunThrough status
@@ -95,16 +95,16 @@ talk_complete p first status (Some bytes) left before after reads writes talked 
     (λ three. no_fault (inl (read three))) (λ four. no_fault (inr (write four))) within
 
 -- the same of a session of a command, also where memory was wanted for it
-session_complete : {S R : Type 0} (session : Session S R) (logged : Bool) (status : ℕ) (trace left before after : Option (List ℕ)) (reads writes : Type 0)
-    → HasSession session logged status reads trace left before after → (status ≡ 3 → reads) → (status ≡ 4 → writes)
-    → IsTalkComplete (telling session logged).protocol status trace (reads ⊎ writes)
-session_complete session logged status None left before after reads writes done read write = tt
-session_complete session logged status (Some bytes) left before after reads writes done read write = λ within no_fault.
+session_complete : {R : Type 0} (language : Language R) (logged : Bool) (status : ℕ) (trace left before after : Option (List ℕ)) (reads writes : Type 0)
+    → HasSession language logged status reads trace left before after → (status ≡ 3 → reads) → (status ≡ 4 → writes)
+    → IsTalkComplete (spoken language logged) status trace (reads ⊎ writes)
+session_complete language logged status None left before after reads writes done read write = tt
+session_complete language logged status (Some bytes) left before after reads writes done read write = λ within no_fault.
     let its = done.its_status (λ four. no_fault (inr (write four))) in
     elim done.talked [
       | inl none ↦ inr (inr (its ∙ ap status_of none.0))
       | inr talked ↦
-          talk_through (telling session logged).protocol talked.first done.stop status bytes left done.replies talked.ends its
+          talk_through (spoken language logged) tt done.stop status bytes left done.replies talked.ends its
           (λ three. no_fault (inl (read three))) (λ four. no_fault (inr (write four))) within
     ]
 
@@ -115,9 +115,9 @@ pub complete : (task : Task) (status : ℕ) (trace left before after : Option (L
 complete (Task.Run c) status trace left before after reads writes done read write = run_complete _ status trace left before after reads writes done read write
 complete (Task.Log c) status trace left before after reads writes done read write = logged_complete _ status trace left before after reads writes done read write
 complete (Task.Wear c) status trace left before after reads writes done read write =
-    session_complete (wear_chosen c) c.log status trace left before after reads writes done read write
+    session_complete (wear_language c) c.log status trace left before after reads writes done read write
 complete (Task.Tree c) status trace left before after reads writes done read write =
-    session_complete (tree_chosen c) c.log status trace left before after reads writes done read write
+    session_complete (tree_language c) c.log status trace left before after reads writes done read write
 complete (Task.Txn c) status trace left before after reads writes done read write =
-    session_complete (txn_chosen c) c.log status trace left before after reads writes done read write
+    session_complete (txn_language c) c.log status trace left before after reads writes done read write
 complete task status trace left before after reads writes done read write = tt

@@ -10,7 +10,7 @@ use Rattle.trace_text.specs.Conversations.{Protocol, line_sort, texts_of, Answer
 use Rattle.pmem_cli.specs.Printed.{Output, PutsAtLeast}
 use Rattle.pmem_cli.specs.Logged.{log_text}
 use Rattle.pmem_cli.specs.Talked.{HasToldFirst}
-use Rattle.pmem_cli.specs.Telling.{Told, told_protocol, voice}
+use Rattle.pmem_cli.specs.Telling.{Told, ReplyAs, said_by, told_protocol, voice}
 use Rattle.pmem_cli.proofs.TalkLemmas.{AreRepliesGiven-all, AreRepliesGiven-after, AreRepliesGiven-shown}
 
 -- each reply by the first is one by the second with the same text, where an invariant of the states holds and stays
@@ -224,7 +224,7 @@ module _ {S X Y : Type 0} (p : Protocol S X) (q : Protocol S Y) (I : S → Type 
 
 -- so it is where replies are told by themselves or with what their commands took
 pub follows_voiced : {S X Y : Type 0} (p : Protocol S X) (q : Protocol S Y) (I : S → Type 0) (logs : S → List ℕ → Option (List Access) → Option (List Access) → S → Type 0)
-    (work : S → ℕ × ℕ) (logged : Bool) → Follows p q I → Follows (voice p logs work logged).protocol (voice q logs work logged).protocol I
+    (work : S → ℕ × ℕ) (logged : Bool) → Follows p q I → Follows (voice p logs work logged) (voice q logs work logged) I
 follows_voiced p q I logs work false f = f
 follows_voiced p q I logs work true f =
     record {
@@ -254,7 +254,6 @@ untold {S} {X} p logs work first (told ∷ all) (line, its_sort, inr (shown, non
     (line, its_sort, inr (shown.0, ap (map (λ (told : Told X). told.said)) none))
 
 pub said_given : {S X : Type 0} (p : Protocol S X) (logs : S → List ℕ → Option (List Access) → Option (List Access) → S → Type 0) (work : S → ℕ × ℕ) (logged : Bool)
-    (first : S) (all : List (voice p logs work logged).Reply) → AreRepliesGiven (voice p logs work logged).protocol first all
-    → AreRepliesGiven p first ((voice p logs work logged).said_by all)
+    (first : S) (all : List (ReplyAs X logged)) → AreRepliesGiven (voice p logs work logged) first all → AreRepliesGiven p first (said_by X logged all)
 said_given p logs work false first all given = given
 said_given p logs work true first all given = untold p logs work first all given

@@ -31,6 +31,7 @@ pub mod PullLemmas
 pub mod ReplyLemmas
 pub mod CompleteRuns
 pub mod FollowedTalks
+pub mod SpokenTalks
 pub mod SessionLemmas
 pub mod WearLemmas
 pub mod TreeLemmas

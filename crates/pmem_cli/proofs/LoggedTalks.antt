@@ -1,5 +1,5 @@
 -- What a world's replies say that are told with their logs: as without them, and of each log.
-use Rattle.std.proofs.Common.{◌≡◌, ◌∙◌, ◌+◌, ◌-◌, ◌≤◌, ℕ, List, [], ◌∷◌, ◌++◌, length, refl, sym, ap, subst, Bool, true, false, inl, inr, arith}
+use Rattle.std.proofs.Common.{◌≡◌, ◌∙◌, ◌-◌, ◌≤◌, ℕ, List, [], ◌∷◌, length, refl, sym, ap, subst, Bool, true, false, inl, inr, arith}
 use Rattle.std.specs.Prelude.{◌⊎◌, Option, None, Some, Ok, IfSome}
 use Rattle.std.proofs.lemmas.List.{map-append}
 use Rattle.pmem_base.specs.declared.commands.Command.{Command}

@@ -1,5 +1,5 @@
 -- Two runs of one trace have one log.
-use Rattle.std.proofs.Common.{◌≡◌, ◌≢◌, ◌∙◌, ◌-◌, ℕ, false, List, [], ◌∷◌, ◌++◌, refl, sym, ap, ap₂, subst, inl, inr}
+use Rattle.std.proofs.Common.{◌≡◌, ◌≢◌, ◌∙◌, ◌-◌, ℕ, false, List, [], ◌∷◌, ◌++◌, refl, sym, ap₂, subst, inl, inr}
 use Rattle.std.specs.Prelude.{⊤, All, Option, Some}
 use Rattle.std.proofs.lemmas.List.Elements.{All-head, All-tail}
 use Rattle.board.specs.Memory.{BoardMemory}

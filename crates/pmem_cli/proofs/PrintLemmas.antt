@@ -1,7 +1,6 @@
 -- Texts that were printed one after the other.
 use Rattle.std.proofs.Common.{arith, ◌∙◌, List, ℕ, [], ◌++◌, sym, ap, append_assoc, append-nil}
 use Rattle.std.proofs.lemmas.Grind.{common_steps}
-use Rattle.std.specs.Prelude.{Option}
 use Rattle.std.proofs.KnownBytes.{Appends-nil, Appends-trans}
 use Rattle.pmem_cli.specs.Printed.{Output, Prints, PrintsFront}
 

@@ -21,11 +21,11 @@ use Rattle.pmem_cli.specs.Endings.{ending_text}
 use Rattle.pmem_cli.specs.Keys.{setup_chosen}
 use Rattle.pmem_cli.specs.Printed.{Output, Prints, PrintsFront, PutsAtLeast, with_waiting}
 use Rattle.pmem_cli.specs.Pulling.{PullsUndecided}
-use Rattle.pmem_cli.specs.RepliesFirst.{HasRepliedFirst, TaskRepliesFirst}
+use Rattle.pmem_cli.specs.RepliesFirst.{HasRepliedFirst, TaskRepliesFirst, MachineRepliesFirst}
 use Rattle.pmem_cli.specs.Logged.{logged_protocol, logged_texts, HasRepliedLoggedFirst}
 use Rattle.pmem_cli.specs.Standing.{standing_of}
 use Rattle.pmem_cli.specs.Replies.{world_protocol}
-use Rattle.pmem_cli.specs.Sessions.{Session, telling, HasSaidFirst}
+use Rattle.pmem_cli.specs.Sessions.{Session, telling, HasSpokenFirst, HasSaidFirst}
 use Rattle.pmem_cli.specs.Talked.{HasToldFirst}
 use Rattle.pmem_cli.specs.Turns.{HasServed, Turns}
 use Rattle.pmem_cli.specs.Tree.{tree_chosen}
@@ -34,6 +34,7 @@ use Rattle.pmem_cli.specs.Wear.{wear_chosen}
 use Rattle.pmem_cli.proofs.StandingLemmas.{new_setup, new_machine}
 use Rattle.pmem_cli.proofs.WorldTalks.{replied_of_told}
 use Rattle.pmem_cli.proofs.LoggedTalks.{replied_of_logged}
+use Rattle.pmem_cli.proofs.SpokenTalks.{spoken_first}
 
 -- ---- what is put
 
@@ -125,7 +126,7 @@ told_more w s (Some bytes) (Some behind) p put later more (given, cut, are) grow
 pub said_more : {S R : Type 0} (session : Session S R) (logged : Bool) (trace told : Option (List ℕ)) (o : Output) (put later : Option (List ℕ)) (more : List ℕ)
     → HasSaidFirst session logged trace told o put → Appends put later more → HasSaidFirst session logged trace told o later
 said_more session logged trace told o put later more (first, begins, are) grown =
-    (first, begins, told_more (telling session logged).protocol first trace told o put later more are grown)
+    (first, begins, told_more (telling session logged) first trace told o put later more are grown)
 
 pub told_more_since : {S X T : Type 0} (w : Protocol S X) (first last : T) (s : S) (a told : Option (List ℕ)) (p : Output) (put later : Option (List ℕ)) (more : List ℕ)
     → (last ≡ first) ⊎ HasToldFirst w s a told p put → Appends put later more → (last ≡ first) ⊎ HasToldFirst w s a told p later
@@ -210,7 +211,7 @@ replied_logged_new first last f shape keys world a told p put is same (inr befor
 
 -- and after the last line
 pub task_replied_more : (task : Task) (a left told : Option (List ℕ)) (p : Output) (put later : Option (List ℕ)) (more : List ℕ)
-    → TaskRepliesFirst task a left told p put → Appends put later more → TaskRepliesFirst task a left told p later
+    → MachineRepliesFirst task a left told p put → Appends put later more → MachineRepliesFirst task a left told p later
 task_replied_more (Task.Run c) a left told p put later more replies grown =
     λ given. replied_more (setup_chosen c) (start (setup_chosen c)) a told p put later more (replies given) grown
 task_replied_more (Task.Log c) a left told p put later more replies grown =
@@ -220,3 +221,18 @@ task_replied_more (Task.Wear c) a left told p put later more replies grown = λ 
 task_replied_more (Task.Tree c) a left told p put later more replies grown = λ given. said_more (tree_chosen c) c.log a told p put later more (replies given) grown
 task_replied_more (Task.Txn c) a left told p put later more replies grown = λ given. said_more (txn_chosen c) c.log a told p put later more (replies given) grown
 task_replied_more task a left told p put later more replies grown = tt
+
+-- so its user sees it
+spoken_so : {S R : Type 0} (session : Session S R) (logged : Bool) (trace told : Option (List ℕ)) (o : Output) (put : Option (List ℕ))
+    → HasSaidFirst session logged trace told o put → HasSpokenFirst session.language logged trace told o put
+spoken_so session logged trace told o put (first, begins, are) = spoken_first session logged first trace told o put are
+
+pub task_replied : (task : Task) (a left told : Option (List ℕ)) (p : Output) (put : Option (List ℕ))
+    → MachineRepliesFirst task a left told p put → TaskRepliesFirst task a left told p put
+task_replied (Task.Run c) a left told p put replies = replies
+task_replied (Task.Log c) a left told p put replies = replies
+task_replied (Task.Check c) a left told p put replies = replies
+task_replied (Task.Wear c) a left told p put replies = λ given. spoken_so (wear_chosen c) c.log a told p put (replies given)
+task_replied (Task.Tree c) a left told p put replies = λ given. spoken_so (tree_chosen c) c.log a told p put (replies given)
+task_replied (Task.Txn c) a left told p put replies = λ given. spoken_so (txn_chosen c) c.log a told p put (replies given)
+task_replied task a left told p put replies = tt

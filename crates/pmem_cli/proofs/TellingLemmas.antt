@@ -1,5 +1,5 @@
 -- A line that was told with its log before it, as the answer to a command.
-use Rattle.std.proofs.Common.{◌≡◌, ℕ, List, [], ◌++◌, Option, None, Some, refl, subst, inl, inr}
+use Rattle.std.proofs.Common.{◌≡◌, ℕ, List, [], Option, None, Some, refl, subst, inl, inr}
 use Rattle.std.specs.Prelude.{◌-◌}
 use Rattle.pmem_base.specs.declared.answers.Exhibit.{Exhibit}
 use Rattle.pmem_base.specs.declared.answers.Answer.TheVariants as Say

@@ -113,15 +113,17 @@ pub keeps_tree : (setup : Setup) → IsTreeKept setup → IsTreeShown setup → 
 keeps_tree setup kept shown untouched first said begins given =
     let chain = chain_of_given setup first said given in
     let replies = replies_among said in
-    let session : IsTreeSession setup replies chain.last = record { first = first; is_new = begins; answered = chain.answered } in
-    record {
-      allowed = kept replies chain.last session;
-      shown =
-          All-weaker (IsShownBefore setup chain.last) (IsShownAfter setup (history_after setup.shape (first_history setup.shape) replies))
-          (λ its at.
-          let held = shown replies chain.last at.1.0 at.0 its session (inl at.1.1) in (held.0, (at.0, held.1)))
-          (exhibits_among said) chain.shown;
-      untouched = λ none.
-          let quiet = untouched replies chain.last session none in
-          (quiet.0, none_of (IsShownBefore setup chain.last) (exhibits_among said) chain.shown (λ its at. quiet.1 at.0 its at.1.0 (inl at.1.1)));
-    }
+    let session : IsTreeSession setup replies chain.last = record { first = first; is_new = begins; answered = chain.answered } in (
+      record {
+        allowed = kept replies chain.last session;
+        shown =
+            All-weaker (IsShownBefore setup chain.last) (IsShownAfter setup (history_after setup.shape (first_history setup.shape) replies))
+            (λ its at.
+            let held = shown replies chain.last at.1.0 at.0 its session (inl at.1.1) in (held.0, (at.0, held.1)))
+            (exhibits_among said) chain.shown;
+        untouched = λ none.
+            let quiet = untouched replies chain.last session none in
+            (quiet.0, none_of (IsShownBefore setup chain.last) (exhibits_among said) chain.shown (λ its at. quiet.1 at.0 its at.1.0 (inl at.1.1)));
+      },
+      tt,
+    )

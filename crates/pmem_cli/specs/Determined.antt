@@ -4,7 +4,7 @@ use Rattle.std.specs.Prelude.{◌≡◌, ◌≢◌, ◌↔◌, ◌++◌, ⊤, �
 use Rattle.collision_witness.specs.Words.{Word}
 use Rattle.pmem_cli.specs.declared.options.Task.{Task}
 use Rattle.pmem_cli.specs.Causes.{Rose}
-use Rattle.pmem_cli.specs.HasRun.{TaskOutcome, AreRefusedWords}
+use Rattle.pmem_cli.specs.HasRun.{TaskOutcome, TaskMachine, AreRefusedWords}
 use Rattle.pmem_cli.specs.Words.{task_of}
 
 -- What is seen of a call of `run`: its status, how many pulls and pushes had failed before and after it, the bytes that
@@ -20,7 +20,23 @@ pub record Call : Type 0 where
   pub put_before : Option (List ℕ)
   pub put_after : Option (List ℕ)
 
--- what the clauses words, words_told, told, read and write of `run` say of a call with these words
+-- a call over this source and this sink, as they were before it and after it
+abbrev pub call_over : {S K : Type 0} → ℕ → (S → Option (List ℕ)) → (S → ℕ) → S → S → (K → Option (List ℕ)) → (K → ℕ) → K → K → Call
+call_over status left pulls_failed trace_old trace_new put pushes_failed out_old out_new =
+    record {
+      status = status;
+      pulls_before = pulls_failed trace_old;
+      pulls_after = pulls_failed trace_new;
+      pushes_before = pushes_failed out_old;
+      pushes_after = pushes_failed out_new;
+      trace = left trace_old;
+      left = left trace_new;
+      put_before = put out_old;
+      put_after = put out_new;
+    }
+
+-- What a call with these words is to its user: faulty words alone give status 2, and then their line was put; else what
+-- was put is what the words ask for, as the status says. The statuses for faults come only where one came.
 pub record IsCallWith (words : List Word) (call : Call) : Type 0 where
   pub faulty : (call.status ≡ 2) ↔ IsNone (task_of words)
   pub refused : call.status ≡ 2 → AreRefusedWords call.put_before call.put_after call.pushes_before call.pushes_after
@@ -30,6 +46,12 @@ pub record IsCallWith (words : List Word) (call : Call) : Type 0 where
       call.put_after)
   pub read : call.status ≡ 3 → Rose call.pulls_before call.pulls_after
   pub write : call.status ≡ 4 → Rose call.pushes_before call.pushes_after
+
+-- which machine it was by: what was put is what the world or the session puts that the words choose
+abbrev pub IsByMachine : List Word → Call → Type 0
+IsByMachine words call =
+    IfSome (task_of words) (λ task.
+    TaskMachine task call.status (Rose call.pulls_before call.pulls_after) call.trace call.left call.put_before call.put_after)
 
 -- What the words ask for is of those of which one text is said: a run, with its log or without, a sample trace, a check,
 -- and faulty words.
@@ -60,4 +82,4 @@ pub record AreAnsweredAlike (put : List ℕ) (a b : Call) : Type 0 where
 abbrev pub RunIsDetermined : Type 0
 RunIsDetermined =
     (words : List Word) (trace put : List ℕ) (a b : Call) → IsSettled (task_of words) → IsCallWith words a → IsCallWith words b
-    → IsUndisturbed trace put a → IsUndisturbed trace put b → AreAnsweredAlike put a b
+    → IsByMachine words a → IsByMachine words b → IsUndisturbed trace put a → IsUndisturbed trace put b → AreAnsweredAlike put a b

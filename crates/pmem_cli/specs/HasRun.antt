@@ -18,18 +18,18 @@ use Rattle.pmem_cli.specs.Causes.{Rose, AnyRose}
 use Rattle.pmem_cli.specs.Checked.{IsChecked}
 use Rattle.pmem_cli.specs.Endings.{ending_text, ending_status}
 use Rattle.pmem_cli.specs.Keys.{formulas_of, setup_chosen}
-use Rattle.pmem_cli.specs.Logged.{HasLoggedRun, LoggedRunEnds}
+use Rattle.pmem_cli.specs.Logged.{HasLoggedRun, IsWorldLoggedRun, LoggedRunEnds}
 use Rattle.pmem_cli.specs.Printed.{Output, AppendsFront}
 use Rattle.pmem_cli.specs.Sampled.{HasSaidText, SampleEnds}
-use Rattle.pmem_cli.specs.Sessions.{telling, HasSession, SessionEnds}
+use Rattle.pmem_cli.specs.Sessions.{spoken, HasSession, IsSaidBySession, SessionEnds}
 use Rattle.pmem_cli.specs.Standing.{IsReplayed}
 use Rattle.pmem_cli.specs.Sums.{AreStepSums}
 use Rattle.pmem_cli.specs.Talked.{IsRunThrough, IsTalkComplete}
-use Rattle.pmem_cli.specs.Tree.{tree_chosen}
-use Rattle.pmem_cli.specs.Txn.{txn_chosen}
+use Rattle.pmem_cli.specs.Tree.{tree_language, tree_chosen}
+use Rattle.pmem_cli.specs.Txn.{txn_language, txn_chosen}
 use Rattle.pmem_cli.specs.Untampered.{IsUntampered}
 use Rattle.pmem_cli.specs.Wanting.{IsStarvedIn}
-use Rattle.pmem_cli.specs.Wear.{wear_chosen}
+use Rattle.pmem_cli.specs.Wear.{wear_language, wear_chosen}
 
 -- ---- at the end of the program
 
@@ -42,13 +42,17 @@ pub record HasRun (setup : Setup) (status : ℕ) (pull_failed : Type 0) (trace l
   pub steps : List Step
   pub ends : IfSome trace (λ bytes. Ends setup stop bytes left steps)
   pub wanted : stop ≡ Memory → IfSome trace (λ bytes. IsStarvedIn setup (start setup) 0 bytes left steps)
-  pub replayed : IsReplayed setup stop steps
   pub untampered : IfSome trace (λ bytes. IsUntampered setup steps)
   pub summed : IfSome trace (λ bytes. AreStepSums setup (start setup) steps)
   pub read : stop ≡ ReadFault → pull_failed
   pub its_status : status ≢ 4 → status ≡ status_of stop
   pub whole : status ≢ 4 → Appends put_before put_after (output_of steps stop)
   pub front : AppendsFront put_before put_after (output_of steps stop)
+
+-- The replies of such a run are those of a world that formatting made.
+pub record IsWorldRun (setup : Setup) (status : ℕ) (pull_failed : Type 0) (trace left put_before put_after : Option (List ℕ)) : Type 0 where
+  pub told : HasRun setup status pull_failed trace left put_before put_after
+  pub replayed : IsReplayed setup told.stop told.steps
 
 -- A text was put: the whole of it, with status 0, or a front of it, with status 4.
 pub record HasTextPut (text : List ℕ) (status : ℕ) (put_before put_after : Option (List ℕ)) : Type 0 where
@@ -63,12 +67,16 @@ pub record HasSampled (setup : Setup) (commands : List Command) (status : ℕ) (
   pub steps : List Step
   pub text : List ℕ
   pub ends : SampleEnds setup (start setup) commands stop steps text
-  pub replayed : IsReplayed setup stop steps
   pub untampered : IsUntampered setup steps
   pub summed : AreStepSums setup (start setup) steps
   pub its_status : status ≢ 4 → status ≡ status_of stop
   pub whole : status ≢ 4 → Appends put_before put_after (text ++ stop_text stop)
   pub front : AppendsFront put_before put_after (text ++ stop_text stop)
+
+-- The answers of such a run are those of a world that formatting made.
+pub record IsWorldSample (setup : Setup) (commands : List Command) (status : ℕ) (put_before put_after : Option (List ℕ)) : Type 0 where
+  pub told : HasSampled setup commands status put_before put_after
+  pub replayed : IsReplayed setup told.stop told.steps
 
 -- The source was checked to an ending, and its line was put: the whole of it, with the ending's own
 -- status, or a front of it, with status 4. Whatever the status, the ending is a failed pull only where one failed.
@@ -80,7 +88,7 @@ pub record HasCheckedTrace (choices : Choices) (status : ℕ) (pull_failed : Typ
   pub whole : status ≢ 4 → Appends put_before put_after (ending_text ending)
   pub front : AppendsFront put_before put_after (ending_text ending)
 
--- what the status says, by what was asked for
+-- What the status says, by what was asked for. Nothing in it knows an engine.
 abbrev pub TaskOutcome : Task → ℕ → Type 0 → Option (List ℕ) → Option (List ℕ) → Option (List ℕ) → Option (List ℕ) → Type 0
 TaskOutcome (Task.Run c) status pull_failed trace left before after = HasRun (setup_chosen c) status pull_failed trace left before after
 TaskOutcome (Task.Log c) status pull_failed trace left before after = HasLoggedRun (setup_chosen c) status pull_failed trace left before after
@@ -88,14 +96,21 @@ TaskOutcome (Task.Make seed count) status pull_failed trace left before after = 
 TaskOutcome (Task.Sample seed count) status pull_failed trace left before after =
     HasSampled default_setup (sample_trace seed count) status before after
 TaskOutcome (Task.Check c) status pull_failed trace left before after = HasCheckedTrace c status pull_failed trace left before after
-TaskOutcome (Task.Wear c) status pull_failed trace left before after = HasSession (wear_chosen c) c.log status pull_failed trace left before after
-TaskOutcome (Task.Tree c) status pull_failed trace left before after = HasSession (tree_chosen c) c.log status pull_failed trace left before after
-TaskOutcome (Task.Txn c) status pull_failed trace left before after = HasSession (txn_chosen c) c.log status pull_failed trace left before after
+TaskOutcome (Task.Wear c) status pull_failed trace left before after = HasSession (wear_language c) c.log status pull_failed trace left before after
+TaskOutcome (Task.Tree c) status pull_failed trace left before after = HasSession (tree_language c) c.log status pull_failed trace left before after
+TaskOutcome (Task.Txn c) status pull_failed trace left before after = HasSession (txn_language c) c.log status pull_failed trace left before after
 
--- the same of a source and a sink before and after a call
-abbrev pub HasDone : {S K : Type 0} → Task → ℕ → (S → Option (List ℕ)) → (S → ℕ) → S → S → (K → Option (List ℕ)) → K → K → Type 0
-HasDone task status left pulls_failed trace_old trace_new put out_old out_new =
-    TaskOutcome task status (Rose (pulls_failed trace_old) (pulls_failed trace_new)) (left trace_old) (left trace_new) (put out_old) (put out_new)
+-- the same, and which machine it was: the replies are those of the world or of the session that the words choose
+abbrev pub TaskMachine : Task → ℕ → Type 0 → Option (List ℕ) → Option (List ℕ) → Option (List ℕ) → Option (List ℕ) → Type 0
+TaskMachine (Task.Run c) status pull_failed trace left before after = IsWorldRun (setup_chosen c) status pull_failed trace left before after
+TaskMachine (Task.Log c) status pull_failed trace left before after = IsWorldLoggedRun (setup_chosen c) status pull_failed trace left before after
+TaskMachine (Task.Make seed count) status pull_failed trace left before after = HasTextPut (commands_text (sample_trace seed count)) status before after
+TaskMachine (Task.Sample seed count) status pull_failed trace left before after =
+    IsWorldSample default_setup (sample_trace seed count) status before after
+TaskMachine (Task.Check c) status pull_failed trace left before after = HasCheckedTrace c status pull_failed trace left before after
+TaskMachine (Task.Wear c) status pull_failed trace left before after = IsSaidBySession (wear_chosen c) c.log status pull_failed trace left before after
+TaskMachine (Task.Tree c) status pull_failed trace left before after = IsSaidBySession (tree_chosen c) c.log status pull_failed trace left before after
+TaskMachine (Task.Txn c) status pull_failed trace left before after = IsSaidBySession (txn_chosen c) c.log status pull_failed trace left before after
 
 -- all lines of these bytes are in the grammar, and there are no more of them than a trace may have
 abbrev pub IsInGrammar : List ℕ → Type 0
@@ -105,9 +120,9 @@ IsInGrammar bytes = All (λ line. IsOk (reading_of line)) (lines_of bytes) × (l
 abbrev pub IsComplete : Task → ℕ → Option (List ℕ) → Type 0 → Type 0
 IsComplete (Task.Run c) status trace fault = IfSome trace (λ bytes. IsInGrammar bytes → ¬ fault → IsRunThrough status)
 IsComplete (Task.Log c) status trace fault = IfSome trace (λ bytes. IsInGrammar bytes → ¬ fault → IsRunThrough status)
-IsComplete (Task.Wear c) status trace fault = IsTalkComplete (telling (wear_chosen c) c.log).protocol status trace fault
-IsComplete (Task.Tree c) status trace fault = IsTalkComplete (telling (tree_chosen c) c.log).protocol status trace fault
-IsComplete (Task.Txn c) status trace fault = IsTalkComplete (telling (txn_chosen c) c.log).protocol status trace fault
+IsComplete (Task.Wear c) status trace fault = IsTalkComplete (spoken (wear_language c) c.log) status trace fault
+IsComplete (Task.Tree c) status trace fault = IsTalkComplete (spoken (tree_language c) c.log) status trace fault
+IsComplete (Task.Txn c) status trace fault = IsTalkComplete (spoken (txn_language c) c.log) status trace fault
 IsComplete task status trace fault = ⊤
 
 -- the same of a source and a sink before and after a call

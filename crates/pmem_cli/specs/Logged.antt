@@ -161,13 +161,17 @@ pub record HasLoggedRun (setup : Setup) (status : ℕ) (pull_failed : Type 0) (t
   pub stop : Stop
   pub all : List LoggedStep
   pub ends : IfSome trace (λ bytes. LoggedEnds setup stop bytes left (steps_logged all))
-  pub replayed : IsReplayedTold setup stop all
   pub untampered : IfSome trace (λ bytes. IsUntampered setup (steps_logged all))
   pub summed : IfSome trace (λ bytes. AreStepSums setup (start setup) (steps_logged all))
   pub read : stop ≡ ReadFault → pull_failed
   pub its_status : status ≢ 4 → status ≡ status_of stop
   pub whole : status ≢ 4 → Appends put_before put_after (logged_texts all ++ stop_text stop)
   pub front : AppendsFront put_before put_after (logged_texts all ++ stop_text stop)
+
+-- The replies of such a run are those of a world that formatting made, and their logs are what each command took of it.
+pub record IsWorldLoggedRun (setup : Setup) (status : ℕ) (pull_failed : Type 0) (trace left put_before put_after : Option (List ℕ)) : Type 0 where
+  pub told : HasLoggedRun setup status pull_failed trace left put_before put_after
+  pub replayed : IsReplayedTold setup told.stop told.all
 
 -- ---- before the last line
 

@@ -1,11 +1,11 @@
 -- What the world's replies to the lines of a trace mean.
-use Rattle.std.specs.Prelude.{◌≡◌, ◌⊎◌, ℕ, true, false, List, [], ◌∷◌, Option, Some, None, Ok, Err}
+use Rattle.std.specs.Prelude.{◌≡◌, ◌⊎◌, ℕ, true, false, List, [], ◌∷◌, Option, Some, None, Ok}
 use Rattle.pmem_base.specs.declared.commands.Command.{Command}
 use Rattle.pmem_base.specs.declared.answers.Answer.{Answer}
 use Rattle.suite.specs.Formulas.{Formulas}
 use Rattle.plain_model.specs.declared.Stop.{Stop}
 use Rattle.plain_model.specs.declared.Stop.TheVariants.{Finished, Memory, Words, ReadFault, WriteFault, Refused, Shown, TooManyLines}
-use Rattle.plain_model.specs.Grammar.{Reading, reading_of}
+use Rattle.plain_model.specs.Grammar.{reading_of}
 use Rattle.plain_model.specs.Answers.{is_shown}
 use Rattle.plain_model.specs.Run.{Step, step_text, IsAnswered}
 use Rattle.pmem_replay.specs.World.{WorldState}

@@ -10,10 +10,10 @@ use Rattle.pmem_cli.specs.Keys.{setup_chosen}
 use Rattle.pmem_cli.specs.Logged.{HasRepliedLoggedFromStart}
 use Rattle.pmem_cli.specs.Printed.{Output, PutsAtLeast, with_waiting}
 use Rattle.pmem_cli.specs.Pulling.{IsUndecided}
-use Rattle.pmem_cli.specs.Sessions.{HasSaidFirst}
-use Rattle.pmem_cli.specs.Tree.{tree_chosen}
-use Rattle.pmem_cli.specs.Txn.{txn_chosen}
-use Rattle.pmem_cli.specs.Wear.{wear_chosen}
+use Rattle.pmem_cli.specs.Sessions.{HasSpokenFirst, HasSaidFirst}
+use Rattle.pmem_cli.specs.Tree.{tree_language, tree_chosen}
+use Rattle.pmem_cli.specs.Txn.{txn_language, txn_chosen}
+use Rattle.pmem_cli.specs.Wear.{wear_language, wear_chosen}
 
 -- The whole lines of these bytes were answered, and all their replies were put; what was given of the next line decides
 -- no stop.
@@ -41,12 +41,28 @@ abbrev pub TaskRepliesFirst : Task → Option (List ℕ) → Option (List ℕ) �
 TaskRepliesFirst (Task.Run c) trace left left_before from put = left ≢ trace → HasRepliedFromStart (setup_chosen c) trace left_before from put
 TaskRepliesFirst (Task.Log c) trace left left_before from put = left ≢ trace → HasRepliedLoggedFromStart (setup_chosen c) trace left_before from put
 TaskRepliesFirst (Task.Check c) trace left left_before from put = left ≢ trace → HasLookedFirst None 0 trace left_before
-TaskRepliesFirst (Task.Wear c) trace left left_before from put = left ≢ trace → HasSaidFirst (wear_chosen c) c.log trace left_before from put
-TaskRepliesFirst (Task.Tree c) trace left left_before from put = left ≢ trace → HasSaidFirst (tree_chosen c) c.log trace left_before from put
-TaskRepliesFirst (Task.Txn c) trace left left_before from put = left ≢ trace → HasSaidFirst (txn_chosen c) c.log trace left_before from put
+TaskRepliesFirst (Task.Wear c) trace left left_before from put = left ≢ trace → HasSpokenFirst (wear_language c) c.log trace left_before from put
+TaskRepliesFirst (Task.Tree c) trace left left_before from put = left ≢ trace → HasSpokenFirst (tree_language c) c.log trace left_before from put
+TaskRepliesFirst (Task.Txn c) trace left left_before from put = left ≢ trace → HasSpokenFirst (txn_language c) c.log trace left_before from put
 TaskRepliesFirst task trace left left_before from put = ⊤
 
+-- the same, of a session by its states
+abbrev pub MachineRepliesFirst : Task → Option (List ℕ) → Option (List ℕ) → Option (List ℕ) → Output → Option (List ℕ) → Type 0
+MachineRepliesFirst (Task.Run c) trace left left_before from put = left ≢ trace → HasRepliedFromStart (setup_chosen c) trace left_before from put
+MachineRepliesFirst (Task.Log c) trace left left_before from put = left ≢ trace → HasRepliedLoggedFromStart (setup_chosen c) trace left_before from put
+MachineRepliesFirst (Task.Check c) trace left left_before from put = left ≢ trace → HasLookedFirst None 0 trace left_before
+MachineRepliesFirst (Task.Wear c) trace left left_before from put = left ≢ trace → HasSaidFirst (wear_chosen c) c.log trace left_before from put
+MachineRepliesFirst (Task.Tree c) trace left left_before from put = left ≢ trace → HasSaidFirst (tree_chosen c) c.log trace left_before from put
+MachineRepliesFirst (Task.Txn c) trace left left_before from put = left ≢ trace → HasSaidFirst (txn_chosen c) c.log trace left_before from put
+MachineRepliesFirst task trace left left_before from put = ⊤
+
 -- the same of a source and a sink before and after a call, of which so much waited to be put before
+abbrev pub MachineRepliesBeforePull : {S K : Type 0} → Task → (S → Option (List ℕ)) → (S → Option (List ℕ)) → S → S → (K → Option (List ℕ)) → K → K
+    → List ℕ → Type 0
+MachineRepliesBeforePull task left left_before trace_old trace_new put out_old out_new waited =
+    MachineRepliesFirst task (left trace_old) (left trace_new) (left_before trace_new) (with_waiting (put out_old) waited) (put out_new)
+
+-- and without a machine
 abbrev pub RepliesBeforePull : {S K : Type 0} → Task → (S → Option (List ℕ)) → (S → Option (List ℕ)) → S → S → (K → Option (List ℕ)) → K → K
     → List ℕ → Type 0
 RepliesBeforePull task left left_before trace_old trace_new put out_old out_new waited =

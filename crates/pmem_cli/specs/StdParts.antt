@@ -1,5 +1,5 @@
 -- What a clause reads of a source over a reader, and of a sink over a writer.
-use Rattle.std.specs.Prelude.{ℕ}
+use Rattle.std.specs.Prelude.{ℕ, List, Option, Some, None}
 use Rattle.pmem_cli.specs.declared.pulls.Pulls.{Pulls}
 use Rattle.pmem_cli.specs.declared.source.StdSource.{StdSource}
 use Rattle.pmem_cli.specs.declared.sink.StdSink.{StdSink}
@@ -21,6 +21,19 @@ pulls_made source = source.pulls
 
 abbrev pub writer_of : {W : Type 0} → StdSink W → W
 writer_of sink = sink.inner
+
+-- as it was when the sink was made
+abbrev pub writer_first : {W : Type 0} → StdSink W → W
+writer_first sink = sink.first.value
+
+-- the bytes that it accepted since, in their order
+abbrev pub bytes_accepted : {W : Type 0} → StdSink W → List ℕ
+bytes_accepted sink = sink.accepted
+
+-- What was put: what the writer tells of its bytes, if it told them at first; else the bytes that it accepted.
+abbrev pub put_by : Option (List ℕ) → Option (List ℕ) → List ℕ → Option (List ℕ)
+put_by None contents accepted = Some accepted
+put_by (Some first) contents accepted = contents
 
 -- how often a push failed
 abbrev pub push_faults : {W : Type 0} → StdSink W → ℕ

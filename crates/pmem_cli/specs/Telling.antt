@@ -38,24 +38,33 @@ told_protocol {S} {X} protocol logs work =
       runs = protocol.runs;
     }
 
--- how replies are told, and what is said by them
-pub record Voice (S X : Type 0) : Type 1 where
-  pub Reply : Type 0
-  pub protocol : Protocol S Reply
-  pub said_by : List Reply → List X
+-- a reply by itself; or, if the log is printed too, with what its command took
+abbrev pub ReplyAs : Type 0 → Bool → Type 0
+ReplyAs X false = X
+ReplyAs X true = Told X
 
--- each by itself; or, where the log is told, with what its command took before it
-abbrev pub voice : {S X : Type 0} → Protocol S X → (S → List ℕ → Option (List Access) → Option (List Access) → S → Type 0) → (S → ℕ × ℕ) → Bool → Voice S X
-voice {S} {X} protocol logs work false = record { Reply = X; protocol = protocol; said_by = λ said. said }
-voice {S} {X} protocol logs work true =
-    record {
-      Reply = Told X;
-      protocol = told_protocol protocol logs work;
-      said_by = map (λ (told : Told X). told.said);
-    }
+-- what was said by a reply, and what stands before it: its log, if that is printed
+abbrev pub said_in : (X : Type 0) → (logged : Bool) → ReplyAs X logged → X
+said_in X false said = said
+said_in X true told = told.said
 
--- of a session by itself, as its replies are told
-abbrev pub voice_of : {T : Type 0} → Ghosts T → Bool → Voice T (List ℕ)
+abbrev pub log_before : (X : Type 0) → (logged : Bool) → ReplyAs X logged → List ℕ
+log_before X false said = []
+log_before X true told = log_text told.accesses told.tags told.digests
+
+-- what was said by all of them
+abbrev pub said_by : (X : Type 0) → (logged : Bool) → List (ReplyAs X logged) → List X
+said_by X false said = said
+said_by X true told = map (λ (its : Told X). its.said) told
+
+-- what answers lines, each reply by itself or with what its command took before it
+abbrev pub voice : {S X : Type 0} → Protocol S X → (S → List ℕ → Option (List Access) → Option (List Access) → S → Type 0) → (S → ℕ × ℕ)
+    → (logged : Bool) → Protocol S (ReplyAs X logged)
+voice protocol logs work false = protocol
+voice protocol logs work true = told_protocol protocol logs work
+
+-- of a session by itself
+abbrev pub voice_of : {T : Type 0} → Ghosts T → (logged : Bool) → Protocol T (ReplyAs (List ℕ) logged)
 voice_of session logged = voice (talk_of session) session.logs session.work logged
 
 -- A line was told with its log before it, or the sink failed at that; where the log was lost, nothing was.

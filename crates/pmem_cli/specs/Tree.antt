@@ -1,5 +1,5 @@
 -- A memory over a counter tree, as the session of a command.
-use Rattle.std.specs.Prelude.{◌≡◌, ℕ, List, [], Some, Ok, All}
+use Rattle.std.specs.Prelude.{◌≡◌, ⊤, ℕ, List, [], Some, Ok, All}
 use Rattle.pmem_base.specs.declared.answers.Exhibit.{Exhibit}
 use Rattle.pmem_base.specs.declared.geometry.Geo.{Geo}
 use Rattle.suite.specs.Formulas.{Formulas}
@@ -14,7 +14,7 @@ use Rattle.tree_session.specs.Logged.{IsTreeLogOf}
 use Rattle.tree_session.specs.State.{SessionState, IsNewTree}
 use Rattle.pmem_cli.specs.declared.options.Choices.{Choices}
 use Rattle.pmem_cli.specs.Keys.{setup_made, setup_chosen}
-use Rattle.pmem_cli.specs.Sessions.{Session, Said, replies_among, exhibits_among}
+use Rattle.pmem_cli.specs.Sessions.{Language, Session, Said, replies_among, exhibits_among}
 
 -- an exhibit that ends the session in place of an answer to the line's command
 pub record IsExhibitOf (setup : Setup) (old : SessionState) (line : List ℕ) (exhibit : Exhibit) : Type 0 where
@@ -43,21 +43,27 @@ pub record IsAsPromised (setup : Setup) (said : List (Said TreeReply)) : Type 0 
   pub untouched :
       All (λ (reply : TreeReply). IsNoTampering reply.command reply.answer) (replies_among said) → IsAllServed said
 
--- of this setup
+-- what it says to its user, of this setup
+abbrev pub counter_tree_language : Setup → Language TreeReply
+counter_tree_language setup =
+    record {
+      sort_of = sort_of_tree;
+      replies = λ line reply. reading_of_tree line ≡ Ok (Some reply.command);
+      text_of = λ reply. tree_text reply.answer;
+      promises = IsAsPromised setup;
+    }
+
 abbrev pub counter_tree_session : Setup → Session SessionState TreeReply
 counter_tree_session setup =
     record {
+      language = counter_tree_language setup;
       begins = IsNewTree setup;
-      sort_of = sort_of_tree;
-      answers =
-          λ old line reply new. (reading_of_tree line ≡ Ok (Some reply.command))
-          × IsTreeAnswered setup old reply.command reply.answer new;
+      answers = λ old reply new. IsTreeAnswered setup old reply.command reply.answer new;
       shows = IsExhibitOf setup;
       wants_memory = IsTreeStarvedOf;
-      text_of = λ reply. tree_text reply.answer;
       logs = λ old line log_old log_new new. IsTreeLogOf (reading_of_tree line) log_old old log_new new;
       work = λ state. (state.tags, state.digests);
-      promises = λ first said. IsAsPromised setup said;
+      keeps = λ first said. ⊤;
     }
 
 -- of a geometry and a suite
@@ -65,5 +71,8 @@ abbrev pub tree_made : {U : Type 0} → Geo → (List ℕ → Formulas) → (U �
 tree_made geo formulas_of keys suite = counter_tree_session (setup_made geo formulas_of keys suite)
 
 -- as it is chosen
+abbrev pub tree_language : Choices → Language TreeReply
+tree_language c = counter_tree_language (setup_chosen c)
+
 abbrev pub tree_chosen : Choices → Session SessionState TreeReply
 tree_chosen c = counter_tree_session (setup_chosen c)

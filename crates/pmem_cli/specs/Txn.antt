@@ -12,25 +12,29 @@ use Rattle.txn_session.specs.Logged.{IsTxnLogOf}
 use Rattle.txn_session.specs.State.{TxnState, IsNewTxn}
 use Rattle.pmem_cli.specs.declared.options.Choices.{Choices}
 use Rattle.pmem_cli.specs.Keys.{setup_made, setup_chosen}
-use Rattle.pmem_cli.specs.Sessions.{Session, replies_among}
+use Rattle.pmem_cli.specs.Sessions.{Language, Session, replies_among}
 
--- of this setup
+-- what it says to its user, of this setup
+abbrev pub transactions_language : Setup → Language TxnReply
+transactions_language setup =
+    record {
+      sort_of = sort_of_txn;
+      replies = λ line reply. reading_of_txn line ≡ Ok (Some reply.command);
+      text_of = λ reply. txn_text reply.answer;
+      promises = λ said. AreTxnReplies (logged_lines setup.shape) (replies_among said);
+    }
+
 abbrev pub transactions_session : Setup → Session TxnState TxnReply
 transactions_session setup =
     record {
+      language = transactions_language setup;
       begins = IsNewTxn setup;
-      sort_of = sort_of_txn;
-      answers =
-          λ old line reply new. (reading_of_txn line ≡ Ok (Some reply.command))
-          × IsTxnAnswered setup old reply.command reply.answer new;
+      answers = λ old reply new. IsTxnAnswered setup old reply.command reply.answer new;
       shows = IsTxnShownOf setup;
       wants_memory = IsTxnStarvedOf;
-      text_of = λ reply. txn_text reply.answer;
       logs = λ old line log_old log_new new. IsTxnLogOf (reading_of_txn line) log_old old log_new new;
       work = λ state. (state.session.tags, state.session.digests);
-      promises =
-          λ first said. AreTxnReplies (logged_lines setup.shape) (replies_among said)
-          × AreTxnSpentAsUsedUp setup first (replies_among said);
+      keeps = λ first said. AreTxnSpentAsUsedUp setup first (replies_among said);
     }
 
 -- of a geometry and a suite
@@ -38,5 +42,8 @@ abbrev pub txn_made : {U : Type 0} → Geo → (List ℕ → Formulas) → (U �
 txn_made geo formulas_of keys suite = transactions_session (setup_made geo formulas_of keys suite)
 
 -- as it is chosen
+abbrev pub txn_language : Choices → Language TxnReply
+txn_language c = transactions_language (setup_chosen c)
+
 abbrev pub txn_chosen : Choices → Session TxnState TxnReply
 txn_chosen c = transactions_session (setup_chosen c)

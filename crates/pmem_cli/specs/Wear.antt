@@ -12,25 +12,29 @@ use Rattle.wear_session.specs.Logged.{IsWearLogOf}
 use Rattle.wear_session.specs.State.{WearState, IsNewWear}
 use Rattle.pmem_cli.specs.declared.options.Choices.{Choices}
 use Rattle.pmem_cli.specs.Keys.{setup_made, setup_chosen, every_chosen}
-use Rattle.pmem_cli.specs.Sessions.{Session, replies_among}
+use Rattle.pmem_cli.specs.Sessions.{Language, Session, replies_among}
 
--- of this setup, whose gap moves at each so many writes
+-- what it says to its user: of this setup, whose gap moves at each so many writes
+abbrev pub levelled_language : Setup → ℕ → Language WearReply
+levelled_language setup every =
+    record {
+      sort_of = sort_of_wear;
+      replies = λ line reply. reading_of_wear line ≡ Ok (Some reply.command);
+      text_of = λ reply. wear_text reply.answer;
+      promises = λ said. AreWearReplies (logical_lines setup.shape) every (replies_among said);
+    }
+
 abbrev pub levelled_session : Setup → ℕ → Session WearState WearReply
 levelled_session setup every =
     record {
+      language = levelled_language setup every;
       begins = IsNewWear setup every;
-      sort_of = sort_of_wear;
-      answers =
-          λ old line reply new. (reading_of_wear line ≡ Ok (Some reply.command))
-          × IsWearAnswered setup old reply.command reply.answer new;
+      answers = λ old reply new. IsWearAnswered setup old reply.command reply.answer new;
       shows = IsWearShownOf setup;
       wants_memory = IsWearStarvedOf;
-      text_of = λ reply. wear_text reply.answer;
       logs = λ old line log_old log_new new. IsWearLogOf (reading_of_wear line) log_old old log_new new;
       work = λ state. (state.session.tags, state.session.digests);
-      promises =
-          λ first said. AreWearReplies (logical_lines setup.shape) every (replies_among said)
-          × AreWearSpentAsUsedUp setup first (replies_among said);
+      keeps = λ first said. AreWearSpentAsUsedUp setup first (replies_among said);
     }
 
 -- of a geometry and a suite
@@ -38,5 +42,8 @@ abbrev pub wear_made : {U : Type 0} → Geo → (List ℕ → Formulas) → (U �
 wear_made geo formulas_of keys suite every = levelled_session (setup_made geo formulas_of keys suite) every
 
 -- as it is chosen
+abbrev pub wear_language : Choices → Language WearReply
+wear_language c = levelled_language (setup_chosen c) (every_chosen c)
+
 abbrev pub wear_chosen : Choices → Session WearState WearReply
 wear_chosen c = levelled_session (setup_chosen c) (every_chosen c)

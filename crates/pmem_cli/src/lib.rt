@@ -2,6 +2,7 @@
 //! by any session.
 #![tactic(auto)]
 
+mod bytes;
 mod checking;
 mod determined;
 mod ending;
@@ -23,7 +24,10 @@ mod tree;
 mod txn;
 mod wear;
 
+pub use bytes::GhostBytes;
 pub use determined::run_is_determined;
+pub use options::{Choices, SuiteName, Task, read_task};
+pub use printer::{push_access, push_work};
 pub use program::run;
 pub use pulls::Pulls;
 pub use sink::{MemSink, Sink, StdSink};

@@ -25,7 +25,7 @@ const DEFAULT_TAG_KEY: [u8; 64] = [
 
 /// Which suite is used.
 #[derive(Clone, Copy)]
-pub(crate) enum SuiteName {
+pub enum SuiteName {
     Aes,
     Weak,
     Blur,
@@ -33,7 +33,7 @@ pub(crate) enum SuiteName {
 
 /// What was chosen by options. A tag key is a number of bytes at the front of a line.
 #[derive(Clone, Copy)]
-pub(crate) struct Choices {
+pub struct Choices {
     pub levels: Option<u8>,
     pub sets: Option<u8>,
     pub ways: Option<u8>,
@@ -61,7 +61,7 @@ pub(crate) enum Allowed {
 
 /// What the program is to do.
 #[derive(Clone, Copy)]
-pub(crate) enum Task {
+pub enum Task {
     /// Run a trace.
     Run(Choices),
     /// Run a trace, and tell its log.
@@ -492,7 +492,7 @@ fn read_session(name: &str, words: &[String]) -> Option<Task>
 
 /// What the words ask for, or nothing where they break the rules.
 #[tactic(auto, unfolding(crate::specs::Words::task_of))]
-pub(crate) fn read_task(words: &[String]) -> Option<Task>
+pub fn read_task(words: &[String]) -> Option<Task>
     ensures task { result ≡ task_of (map string_bytes words.now) }
     ensures chosen { IfSome result HasChosen }
 {

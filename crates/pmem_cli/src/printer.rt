@@ -206,7 +206,7 @@ pub(crate) fn print_marks<K: Sink>(
 
 /// Puts the text of an access into an empty text, without its LF.
 #[tactic(auto, unfolding(crate::specs::Logged::access_text))]
-fn push_access(text: &mut ArrayVec<u8, 512>, access: &Access)
+pub fn push_access(text: &mut ArrayVec<u8, 512>, access: &Access)
     requires { text.old.items ≡ [] }
     ensures text { text.new.items ≡ access_text access.now }
     ensures room { length text.new.items < 512 }
@@ -220,7 +220,7 @@ fn push_access(text: &mut ArrayVec<u8, 512>, access: &Access)
 
 /// Puts the text of so many tags and digests into an empty text, without its LF.
 #[tactic(auto, unfolding(crate::specs::Logged::work_text))]
-fn push_work(text: &mut ArrayVec<u8, 512>, tags: u64, digests: u64)
+pub fn push_work(text: &mut ArrayVec<u8, 512>, tags: u64, digests: u64)
     requires { text.old.items ≡ [] }
     ensures text { text.new.items ≡ work_text tags digests }
     ensures room { length text.new.items < 512 }

@@ -1,15 +1,16 @@
 //! The whole program: words and bytes in, bytes and a status out.
 ghost use Rattle.std.specs.Prelude.{◌≡◌, ◌≢◌, ◌≤◌, ◌+◌, ◌⊎◌, ◌↔◌, [], IfSome, IsNone, Some, map, string_bytes};
 ghost use Rattle.plain_model.specs.declared.Stop.TheVariants as Stop;
-ghost use Rattle.pmem_cli.specs.Causes.{CountsFault, Rose};
+ghost use Rattle.pmem_cli.specs.Causes.{CountsFault};
+ghost use Rattle.pmem_cli.specs.Determined.{call_over, IsCallWith, IsByMachine};
 ghost use Rattle.pmem_cli.specs.Pulling.{IsInTime};
 ghost use Rattle.pmem_cli.specs.declared.ending.Ending.TheVariants.{Stopped};
 ghost use Rattle.pmem_cli.specs.Keys.{setup_chosen, setup_made};
 ghost use Rattle.pmem_cli.specs.Words.{task_of, AreChosen, HasChosen, PullsNothing};
 ghost use Rattle.pmem_cli.specs.Printed.{Across, IfPulled};
-ghost use Rattle.pmem_cli.specs.RepliesFirst.{HasRepliedFromStart, RepliesBeforePull};
+ghost use Rattle.pmem_cli.specs.RepliesFirst.{HasRepliedFromStart, MachineRepliesBeforePull, RepliesBeforePull};
 ghost use Rattle.pmem_cli.specs.Turns.{StopsByCause};
-ghost use Rattle.pmem_cli.specs.HasRun.{HasEnded, HasReplayed, AreRefusedWords, HasDone, GoesThrough};
+ghost use Rattle.pmem_cli.specs.HasRun.{HasEnded, HasReplayed, GoesThrough};
 
 use crate::checking::check;
 use crate::ending::{Ending, finish};
@@ -91,7 +92,7 @@ fn do_task<S: Source, K: Sink>(
     ensures reads { CountsFault (result ≡ Stopped Stop.ReadFault) (S.faults trace.old) (S.faults trace.new) }
     ensures writes { CountsFault (result ≡ Stopped Stop.WriteFault) (K.faults out.old) (K.faults out.new) }
     ensures in_time { IsInTime (S.pulls trace.old) (S.pulls trace.new) }
-    ensures replies_first { RepliesBeforePull task S.left S.left_before trace.old trace.new K.put out.old out.new printer.old }
+    ensures replies_first { MachineRepliesBeforePull task S.left S.left_before trace.old trace.new K.put out.old out.new printer.old }
     ensures unread { PullsNothing task → trace.new ≡ trace.old }
 {
     match task {
@@ -126,7 +127,7 @@ fn do_words<S: Source, K: Sink>(
     ensures writes { CountsFault (result ≡ Stopped Stop.WriteFault) (K.faults out.old) (K.faults out.new) }
     ensures in_time { IsInTime (S.pulls trace.old) (S.pulls trace.new) }
     ensures replies_first { IfSome (task_of (map string_bytes words.now)) (λ task.
-        RepliesBeforePull task S.left S.left_before trace.old trace.new K.put out.old out.new printer.old) }
+        MachineRepliesBeforePull task S.left S.left_before trace.old trace.new K.put out.old out.new printer.old) }
     ensures unread { IfSome (task_of (map string_bytes words.now)) (λ task. PullsNothing task → trace.new ≡ trace.old) }
 {
     match read_task(words) {
@@ -138,24 +139,25 @@ fn do_words<S: Source, K: Sink>(
 /// The whole program: does what the words ask for, and gives the status. The words are those of the
 /// command line without the program's own name.
 pub fn run<S: Source, K: Sink>(alloc: Global, words: &[String], trace: &mut S, out: &mut K) -> u8
-    // Faulty words decide before all else, and then the trace isn't read.
-    ensures words { (result ≡ 2) ↔ IsNone (task_of (map string_bytes words.now)) }
-    ensures words_told { result ≡ 2 → AreRefusedWords (K.put out.old) (K.put out.new) (K.faults out.old) (K.faults out.new) }
-    ensures untouched { result ≡ 2 → trace.new ≡ trace.old }
+    // Faulty words decide before all else. What was put is what the task asks for, as the status says: the replies to
+    // the trace's commands and the last line, a sample trace, or whether the exhibit holds. The statuses for faults come
+    // only if source or sink failed.
+    ensures call { IsCallWith (map string_bytes words.now)
+        (call_over result S.left S.faults trace.old trace.new K.put K.faults out.old out.new) }
 
-    // What was put is what the task asks for, as the status says: the replies to the trace's commands
-    // and the last line, a sample trace, or whether the exhibit holds.
-    ensures told { IfSome (task_of (map string_bytes words.now)) (λ task.
-        HasDone task result S.left S.faults trace.old trace.new K.put out.old out.new) }
+    // Which machine the replies are from: a world, or a session, that formatting made.
+    ensures machine { IsByMachine (map string_bytes words.now)
+        (call_over result S.left S.faults trace.old trace.new K.put K.faults out.old out.new) }
+
+    // At faulty words the trace isn't read.
+    ensures untouched { result ≡ 2 → trace.new ≡ trace.old }
 
     // A run of a trace in the grammar and within the limits goes through, unless source or sink fails.
     ensures complete { IfSome (task_of (map string_bytes words.now)) (λ task.
         GoesThrough task result S.left S.faults trace.old trace.new K.faults out.old out.new) }
 
-    // The statuses for faults come only where source or sink failed. A push that fails gives 4 in place of
-    // every status but 2, a pull that fails gives 3 or 4, and neither is made again.
-    ensures read { result ≡ 3 → Rose (S.faults trace.old) (S.faults trace.new) }
-    ensures write { result ≡ 4 → Rose (K.faults out.old) (K.faults out.new) }
+    // A push that fails gives 4 in place of every status but 2, a pull that fails gives 3 or 4, and neither is made
+    // again.
     ensures failed_pull { S.faults trace.new ≢ S.faults trace.old → (result ≡ 3) ⊎ (result ≡ 4) }
     ensures failed_push { K.faults out.new ≢ K.faults out.old → (result ≡ 4) ⊎ (result ≡ 2) }
     ensures one_failed_pull { S.faults trace.new ≤ S.faults trace.old + 1 }
@@ -169,6 +171,8 @@ pub fn run<S: Source, K: Sink>(alloc: Global, words: &[String], trace: &mut S, o
     // last pull were put, also where a push failed since. A sink may fail at any push.
     ensures replies_first { IfSome (task_of (map string_bytes words.now)) (λ task.
         RepliesBeforePull task S.left S.left_before trace.old trace.new K.put out.old out.new []) }
+    ensures machine_first { IfSome (task_of (map string_bytes words.now)) (λ task.
+        MachineRepliesBeforePull task S.left S.left_before trace.old trace.new K.put out.old out.new []) }
 {
     let mut printer = Printer::new();
     let ending = do_words(alloc, words, trace, &mut printer, out);

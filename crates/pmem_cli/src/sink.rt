@@ -6,9 +6,11 @@ ghost use Rattle.pmem_base.specs.Counts.{risen};
 ghost use Rattle.pmem_cli.specs.Causes.{HasCause};
 ghost use Rattle.pmem_cli.specs.Printed.{AppendsFront};
 
+use crate::bytes::GhostBytes;
 use crate::source::{Failed, copy_front, is_listed};
 use std::io::Write;
 use std::marker::Model;
+use std::snapshot::Snapshot;
 
 /// Takes bytes in order. The count of faults rises by one at each push that fails, up to 2^64 - 1, and stays
 /// at each other.
@@ -139,30 +141,41 @@ impl Sink for MemSink {
     }
 }
 
-/// Any writer. It tells what the writer tells. A write of 0 bytes of a piece that isn't empty is a
-/// push that failed.
+/// Any writer. What was put are the bytes that the writer accepted, in their order; or what the writer tells of its bytes,
+/// if it told them when the sink was made. Clauses alone read them: they take no memory. A write of 0 bytes of a piece that
+/// isn't empty is a push that failed.
 #[derive(Drop)]
 pub struct StdSink<W> {
     inner: W,
+    first: Snapshot<W>,
+    accepted: GhostBytes,
     faults: u64,
 }
 
 impl<W: Write> StdSink<W> {
-    ghost use Rattle.pmem_cli.specs.StdParts.{writer_of, push_faults};
+    ghost use Rattle.pmem_cli.specs.StdParts.{writer_of, writer_first, bytes_accepted, push_faults};
 
-    /// A sink over the writer. No push has failed yet.
+    /// A sink over the writer. Nothing was put yet, and no push has failed.
     pub fn new(inner: W) -> Self
         ensures writer { writer_of result ≡ inner }
+        ensures first { writer_first result ≡ inner }
+        ensures accepted { bytes_accepted result ≡ [] }
         ensures faults { push_faults result ≡ 0 }
     {
-        StdSink { inner, faults: 0 }
+        let first = Snapshot::of(&inner);
+        StdSink {
+            inner,
+            first,
+            accepted: GhostBytes::none(),
+            faults: 0,
+        }
     }
 }
 
 impl<W: Write> Sink for StdSink<W> {
-    ghost use Rattle.pmem_cli.specs.StdParts.{writer_of, push_faults};
+    ghost use Rattle.pmem_cli.specs.StdParts.{writer_of, writer_first, bytes_accepted, push_faults, put_by};
 
-    ghost put = { λ sink. W.contents (writer_of sink) };
+    ghost put = { λ sink. put_by (W.contents (writer_first sink)) (W.contents (writer_of sink)) (bytes_accepted sink) };
 
     ghost faults = { push_faults };
 
@@ -172,7 +185,10 @@ impl<W: Write> Sink for StdSink<W> {
                 self.faults = self.faults.saturating_add(1);
                 Err(Failed)
             }
-            Ok(count) => Ok(count),
+            Ok(count) => {
+                self.accepted.note(buf.split_at(count).0);
+                Ok(count)
+            }
             Err(_) => {
                 self.faults = self.faults.saturating_add(1);
                 Err(Failed)

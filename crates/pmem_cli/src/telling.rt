@@ -130,11 +130,11 @@ pub(crate) fn converse<T: Talk + Drop, S: Source, K: Sink>(
     printer: &mut Printer,
     out: &mut K,
 ) -> Stop
-    ensures stopped { Across (HasAnswered (voice_of T.Talk logged).protocol result session)
+    ensures stopped { Across (HasAnswered (voice_of T.Talk logged) result session)
         S.left trace.old trace.new K.put out.old out.new printer.old printer.new }
     ensures cause { StopsByCause (Some result) (S.faults trace.old) (S.faults trace.new) (K.faults out.old) (K.faults out.new) }
     ensures in_time { IsInTime (S.pulls trace.old) (S.pulls trace.new) }
-    ensures replies_first { IfPulled (HasToldFirst (voice_of T.Talk logged).protocol session)
+    ensures replies_first { IfPulled (HasToldFirst (voice_of T.Talk logged) session)
         S.left S.left_before trace.old trace.new K.put out.old out.new printer.old }
 {
     if logged {

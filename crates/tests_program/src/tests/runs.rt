@@ -717,7 +717,9 @@ fn runs_over_readers_and_writers(rt: HostRuntime) -> Result<(), Fail> {
     let mut bytes = Vec::new(alloc);
     let mut trace = StdSource::new(b"read 0 1024\n".as_slice());
     let mut out = StdSink::new(&mut bytes);
-    equal(&rt, run(alloc, words.as_slice(), &mut trace, &mut out), 0);
+    let status = run(alloc, words.as_slice(), &mut trace, &mut out);
+    drop(out);
+    equal(&rt, status, 0);
     equal(&rt, bytes.as_slice(), b"range\n".as_slice());
     Ok(())
 }

@@ -6,11 +6,9 @@ pub returns-in-Ok : goal.returns-in-Ok
 returns-in-Ok c = inl (record {
   left = Some c.run.new.trace.rest.now;
   faults = c.run.new.out.faults;
-  words_told = rw (c.as_slice.ensures.value, c.in-Ok.ensures.words) at c.run.ensures.words;
-  told = rw (c.as_slice.ensures.value, c.in-Ok.ensures.words, c.new-source.ensures.rest, c.requires.empty) at c.run.ensures.told;
+  call = rw (c.as_slice.ensures.value, c.in-Ok.ensures.words, c.new-source.ensures.rest, c.requires.empty, c.requires.sound) at c.run.ensures.call;
+  machine = rw (c.as_slice.ensures.value, c.in-Ok.ensures.words, c.new-source.ensures.rest, c.requires.empty) at c.run.ensures.machine;
   complete = rw (c.as_slice.ensures.value, c.in-Ok.ensures.words, c.new-source.ensures.rest, c.requires.sound) at c.run.ensures.complete;
-  refused = rw (c.requires.empty, c.requires.sound) at c.run.ensures.words_told;
   failed = rw c.requires.sound at c.run.ensures.failed_push;
-  write = rw c.requires.sound at c.run.ensures.write;
-  read = λ three. grind (arith, c.run.ensures.read three);
+  read = λ three. grind (arith, c.run.ensures.call.read three);
 })

@@ -1,10 +1,7 @@
-use Rattle.std.proofs.Common.{◌≡◌, ◌∙◌, refl, sym, ap, inl, inr}
+use Rattle.std.proofs.Common.{◌∙◌, refl, sym, inl, inr}
 use Rattle.plain_model.specs.Answers.{is_shown}
 use Rattle.pmem_replay.specs.Stepped.{reply_in}
-use Rattle.pmem_cli.specs.Logged.{IsTold}
-use Rattle.pmem_cli.proofs.FaultLemmas.{stops_unfailed, stops_unwritten}
 use Rattle.pmem_cli.proofs.LoggedTalks.{logged_of, told_of, told_goes, told_ends, told_either, lost_accesses}
-use Rattle.pmem_cli.proofs.logging.answer_told.Given.{Over}
 use Rattle.pmem_cli.proofs.logging.answer_told.Goals as goal
 
 pub returns-in_default-clause-answered : goal.returns-in_default-clause-answered

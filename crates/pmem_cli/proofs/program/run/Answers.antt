@@ -1,20 +1,24 @@
-use Rattle.std.proofs.Common.{rules, ◌≡◌, [], ap}
+use Rattle.std.proofs.Common.{rules, ◌≡◌, ℕ, List, [], ap}
 use Rattle.std.proofs.lemmas.Bool.{true≢false}
-use Rattle.std.specs.Prelude.{◌⊎◌, map, string_bytes, Some}
+use Rattle.std.specs.Prelude.{◌⊎◌, ◌↔◌, IsNone, map, string_bytes, Some}
+use Rattle.collision_witness.specs.Words.{Word}
+use Rattle.plain_model.specs.declared.Stop.TheVariants.{Words}
 use Rattle.pmem_cli.specs.declared.options.Task.{Task}
+use Rattle.pmem_cli.specs.declared.ending.Ending.{Ending}
+use Rattle.pmem_cli.specs.declared.ending.Ending.TheVariants.{Stopped}
 use Rattle.pmem_cli.specs.Words.{task_of}
 use Rattle.pmem_cli.specs.Printed.{with_waiting}
 use Rattle.pmem_cli.specs.Causes.{Rose}
-use Rattle.pmem_cli.specs.HasRun.{TaskOutcome, HasEnded, IsComplete}
-use Rattle.pmem_cli.specs.RepliesFirst.{TaskRepliesFirst}
+use Rattle.pmem_cli.specs.HasRun.{TaskOutcome, TaskMachine, HasEnded, IsComplete}
+use Rattle.pmem_cli.specs.RepliesFirst.{TaskRepliesFirst, MachineRepliesFirst}
 use Rattle.pmem_cli.proofs.CompleteRuns.{complete}
-use Rattle.pmem_cli.proofs.ReplyLemmas.{ending_appends, task_replied_more}
-use Rattle.pmem_cli.proofs.StatusLemmas.{TaskOutcome-finished, pull_told, push_told, push_once}
+use Rattle.pmem_cli.proofs.ReplyLemmas.{ending_appends, task_replied_more, task_replied}
+use Rattle.pmem_cli.proofs.StatusLemmas.{TaskMachine-finished, TaskMachine-outcome, pull_told, push_told, push_once}
 use Rattle.pmem_cli.proofs.TurnLemmas.{IfSome-map}
 use Rattle.pmem_cli.proofs.program.run.Goals as goal
 
-pub returns-clause-told : goal.returns-clause-told
-returns-clause-told g c =
+pub returns-clause-machine : goal.returns-clause-machine
+returns-clause-machine g c =
     let words = map string_bytes c.args.words.now in
     let trace = g.S.Source.left c.args.trace.now in
     let left = g.S.Source.left c.do_words-ending.new.trace in
@@ -25,9 +29,9 @@ returns-clause-told g c =
     let between = with_waiting (g.K.Sink.put c.do_words-ending.new.out) c.do_words-ending.new.printer in
     let reads = Rose (g.S.Source.faults c.args.trace.now) (g.S.Source.faults c.do_words-ending.new.trace) in
     IfSome-map (task_of words) (λ (task : Task). HasEnded task ending trace left (with_waiting before []) between)
-    (λ (task : Task). TaskOutcome task status reads trace left before after)
+    (λ (task : Task). TaskMachine task status reads trace left before after)
     (λ (task : Task) (some : task_of words ≡ Some task) (ended : HasEnded task ending trace left (with_waiting before []) between).
-    TaskOutcome-finished task ending status reads trace left before after between ended c.do_words-ending.ensures.reads.failed
+    TaskMachine-finished task ending status reads trace left before after between ended c.do_words-ending.ensures.reads.failed
     (record {
       good = λ faulty. true≢false (rw some at (c.do_words-ending.ensures.words.0 (c.finish.ensures.words.0 faulty)));
       its_status = c.finish.ensures.status;
@@ -38,11 +42,31 @@ returns-clause-told g c =
     }))
     (rw c.new-printer.ensures at c.do_words-ending.ensures.ended)
 
-pub returns-clause-read : goal.returns-clause-read
-returns-clause-read g c = search rules
+-- the words, and the line that faulty ones are answered with
+told_words : (ending : Ending) (status : ℕ) (words : List Word) → (ending ≡ Stopped Words) ↔ IsNone (task_of words)
+    → (status ≡ 2) ↔ (ending ≡ Stopped Words) → (status ≡ 2) ↔ IsNone (task_of words)
+told_words ending status words of_words of_status = (λ is. of_words.0 (of_status.0 is), λ none. of_status.1 (of_words.1 none))
 
-pub returns-clause-write : goal.returns-clause-write
-returns-clause-write g c = search rules
+pub returns-clause-call : goal.returns-clause-call
+returns-clause-call g c =
+    let words = map string_bytes c.args.words.now in
+    let trace = g.S.Source.left c.args.trace.now in
+    let left = g.S.Source.left c.do_words-ending.new.trace in
+    let before = g.K.Sink.put c.args.out.now in
+    let after = g.K.Sink.put c.finish.new.out in
+    let status = c.finish.result in
+    let reads = Rose (g.S.Source.faults c.args.trace.now) (g.S.Source.faults c.do_words-ending.new.trace) in
+    record {
+      faulty = told_words c.do_words-ending.result status words c.do_words-ending.ensures.words c.finish.ensures.words;
+      refused = search rules;
+      told =
+          IfSome-map (task_of words) (λ (task : Task). TaskMachine task status reads trace left before after)
+          (λ (task : Task). TaskOutcome task status reads trace left before after)
+          (λ (task : Task) (some : task_of words ≡ Some task) (done : TaskMachine task status reads trace left before after).
+          TaskMachine-outcome task status reads trace left before after done) (returns-clause-machine g c);
+      read = search rules;
+      write = search rules;
+    }
 
 pub returns-clause-failed_pull : goal.returns-clause-failed_pull
 returns-clause-failed_pull g c = pull_told _ _ _ _ c.do_words-ending.ensures.reads c.finish.ensures.status
@@ -64,13 +88,13 @@ returns-clause-complete g c =
     let status = c.finish.result in
     let reads = Rose (g.S.Source.faults c.args.trace.now) (g.S.Source.faults c.do_words-ending.new.trace) in
     let writes = Rose (g.K.Sink.faults c.args.out.now) (g.K.Sink.faults c.finish.new.out) in
+    let call = returns-clause-call g c in
     IfSome-map (task_of words) (λ (task : Task). TaskOutcome task status reads trace left before after) (λ (task : Task). IsComplete task status trace (reads ⊎ writes))
     (λ (task : Task) (some : task_of words ≡ Some task) (done : TaskOutcome task status reads trace left before after).
-    complete task status trace left before after reads writes done (returns-clause-read g c) (returns-clause-write g c))
-    (returns-clause-told g c)
+    complete task status trace left before after reads writes done call.read call.write) call.told
 
-pub returns-clause-replies_first : goal.returns-clause-replies_first
-returns-clause-replies_first g c =
+pub returns-clause-machine_first : goal.returns-clause-machine_first
+returns-clause-machine_first g c =
     let words = map string_bytes c.args.words.now in
     let trace = g.S.Source.left c.args.trace.now in
     let left = g.S.Source.left c.do_words-ending.new.trace in
@@ -80,7 +104,19 @@ returns-clause-replies_first g c =
     let after = g.K.Sink.put c.finish.new.out in
     let grown = ending_appends c.do_words-ending.result (with_waiting put c.do_words-ending.new.printer) after
     (λ same. ap (g.K.Sink.put) (c.finish.ensures.kept same)) c.finish.ensures.front in
-    IfSome-map (task_of words) (λ (task : Task). TaskRepliesFirst task trace left told from put) (λ (task : Task). TaskRepliesFirst task trace left told from after)
-    (λ (task : Task) (some : task_of words ≡ Some task) (replies : TaskRepliesFirst task trace left told from put).
+    IfSome-map (task_of words) (λ (task : Task). MachineRepliesFirst task trace left told from put) (λ (task : Task). MachineRepliesFirst task trace left told from after)
+    (λ (task : Task) (some : task_of words ≡ Some task) (replies : MachineRepliesFirst task trace left told from put).
     task_replied_more task trace left told from put after grown.0 replies grown.1)
     (rw c.new-printer.ensures at c.do_words-ending.ensures.replies_first)
+
+pub returns-clause-replies_first : goal.returns-clause-replies_first
+returns-clause-replies_first g c =
+    let words = map string_bytes c.args.words.now in
+    let trace = g.S.Source.left c.args.trace.now in
+    let left = g.S.Source.left c.do_words-ending.new.trace in
+    let told = g.S.Source.left_before c.do_words-ending.new.trace in
+    let from = with_waiting (g.K.Sink.put c.args.out.now) [] in
+    let after = g.K.Sink.put c.finish.new.out in
+    IfSome-map (task_of words) (λ (task : Task). MachineRepliesFirst task trace left told from after) (λ (task : Task). TaskRepliesFirst task trace left told from after)
+    (λ (task : Task) (some : task_of words ≡ Some task) (replies : MachineRepliesFirst task trace left told from after).
+    task_replied task trace left told from after replies) (returns-clause-machine_first g c)
