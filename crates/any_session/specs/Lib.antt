@@ -1,3 +1,4 @@
 pub mod Told
 pub mod Worlds
 pub mod Kinds
+pub mod Opened

@@ -1,12 +1,12 @@
-//! The kinds of sessions, each under either type of suite.
+//! The kinds of sessions.
 ghost use Rattle.std.specs.Prelude.{◌≡◌, []};
 ghost use Rattle.any_session.specs.Kinds.{IsTold};
 
 use crate::Told;
 use crate::talks::TalkSession;
 use crate::world::WorldSession;
+use any_suite::AnySuite;
 use std::alloc::Global;
-use suite::{AesSuite, WeakSuite};
 use tree_session::TreeWorld;
 use txn_session::TxnWorld;
 use wear_session::WearWorld;
@@ -14,14 +14,10 @@ use wear_session::WearWorld;
 /// A session of any kind.
 #[derive(Drop)]
 pub enum AnySession {
-    RunAes(WorldSession<AesSuite>),
-    RunWeak(WorldSession<WeakSuite>),
-    WearAes(TalkSession<WearWorld<AesSuite>>),
-    WearWeak(TalkSession<WearWorld<WeakSuite>>),
-    TxnAes(TalkSession<TxnWorld<AesSuite>>),
-    TxnWeak(TalkSession<TxnWorld<WeakSuite>>),
-    TreeAes(TalkSession<TreeWorld<AesSuite>>),
-    TreeWeak(TalkSession<TreeWorld<WeakSuite>>),
+    Run(WorldSession),
+    Wear(TalkSession<WearWorld<AnySuite>>),
+    Txn(TalkSession<TxnWorld<AnySuite>>),
+    Tree(TalkSession<TreeWorld<AnySuite>>),
 }
 
 impl AnySession {
@@ -31,14 +27,10 @@ impl AnySession {
         ensures { IsTold self.old line.now result reply.new.items self.new }
     {
         match self {
-            AnySession::RunAes(session) => session.tell(alloc, line, reply),
-            AnySession::RunWeak(session) => session.tell(alloc, line, reply),
-            AnySession::WearAes(session) => session.tell(alloc, line, reply),
-            AnySession::WearWeak(session) => session.tell(alloc, line, reply),
-            AnySession::TxnAes(session) => session.tell(alloc, line, reply),
-            AnySession::TxnWeak(session) => session.tell(alloc, line, reply),
-            AnySession::TreeAes(session) => session.tell(alloc, line, reply),
-            AnySession::TreeWeak(session) => session.tell(alloc, line, reply),
+            AnySession::Run(session) => session.tell(alloc, line, reply),
+            AnySession::Wear(session) => session.tell(alloc, line, reply),
+            AnySession::Txn(session) => session.tell(alloc, line, reply),
+            AnySession::Tree(session) => session.tell(alloc, line, reply),
         }
     }
 }

@@ -1,13 +1,12 @@
 -- What calls from C do to the session that a handle holds.
-use Rattle.std.specs.Prelude.{ℕ, ◌≡◌, ◌+◌, Bool, true, false, List, [], drop, Option, Some, None, is_some, if◌then◌else◌}
-use Rattle.pmem_base.specs.Shape.{Shape}
+use Rattle.std.specs.Prelude.{ℕ, ◌≡◌, ◌+◌, true, false, List, [], Option, Some, None, is_some, if◌then◌else◌}
 use Rattle.plain_model.specs.Run.{kind_number}
 use Rattle.any_session.specs.declared.Told.{Told}
 use Rattle.any_session.specs.declared.Told.TheVariants.{Skipped, Replied, NoMemory, Faulty, Over}
 use Rattle.any_session.specs.Kinds.{IsTold}
 use Rattle.pmem_c.specs.declared.Pmem.{Pmem}
 use Rattle.pmem_c.specs.declared.session.Session.{Session}
-use Rattle.pmem_c.specs.Opened.{IsOpened, IsUnopened}
+use Rattle.pmem_c.specs.Opened.{IsOpenedBy, IsUnopened}
 
 -- a handle that these calls wrote: it is open exactly where it holds a session
 abbrev pub IsHandle : Pmem → Type 0
@@ -43,13 +42,11 @@ reply_held (Some session) = session.reply.items
 
 -- ---- opened and closed
 
--- An open handle stays as it was. A closed one holds a new session of this kind, suite, geometry and keys, or is closed still: for want
--- of memory, or where a number or the tag key's length is out of its range.
-abbrev pub HasOpened : Option Session → ℕ → ℕ → Shape → ℕ → List ℕ → List ℕ → ℕ → Option Session → Type 0
-HasOpened (Some old) kind suite shape every key tag_key status new = (status ≡ 65) × (new ≡ Some old)
-HasOpened None kind suite shape every key tag_key status (Some new) =
-    (status ≡ 0) × IsOpened kind suite shape every key tag_key new.any × (new.reply.items ≡ [])
-HasOpened None kind suite shape every key tag_key status None = IsUnopened kind suite shape every tag_key status
+-- An open handle stays as it was. A closed one holds the session of these words, or is closed still.
+abbrev pub HasOpened : Option Session → List ℕ → ℕ → Option Session → Type 0
+HasOpened (Some old) words status new = (status ≡ 65) × (new ≡ Some old)
+HasOpened None words status (Some new) = (status ≡ 0) × IsOpenedBy words new.any × (new.reply.items ≡ [])
+HasOpened None words status None = IsUnopened words status
 
 abbrev pub HasClosed : Option Session → ℕ → Option Session → Type 0
 HasClosed old status new = (status ≡ (if is_some old then 0 else 64)) × (new ≡ None)

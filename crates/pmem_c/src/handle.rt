@@ -14,7 +14,6 @@ use std::ptr;
 
 /// A boxed session as C has it, or nothing.
 #[repr(C)]
-#[derive(Drop)]
 pub struct Handle {
     at: *mut (),
     ghost alloc: { Global },
@@ -51,5 +50,14 @@ impl Handle {
             at: at as *mut Session,
             alloc,
         }
+    }
+}
+
+/// A handle may be let go only if it owns nothing: a session that it holds is taken out first.
+impl Drop for Handle {
+    fn drop(self)
+        requires { self.held ≡ None }
+    {
+        let Handle { at: _ } = self;
     }
 }

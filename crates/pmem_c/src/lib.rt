@@ -8,25 +8,36 @@ mod opening;
 mod session;
 mod words;
 
-ghost use Rattle.std.specs.Prelude.{◌≡◌, ℕ, List, drop, length};
+ghost use Rattle.std.specs.Prelude.{◌≡◌, ℕ, List, None, Some, IsSome, drop, length};
 ghost use Rattle.pmem_c.specs.Answered.{IsAnswer, IsCopied};
-ghost use Rattle.pmem_c.specs.Opened.{shape_with};
 ghost use Rattle.pmem_c.specs.Sessions.{IsHandle, HasOpened, HasToldHeld, HasClosed, reply_held};
 
 use crate::answering::{answer, copy_out};
 use crate::ends::HeapSink;
 use crate::handle::Handle;
 use crate::opening::boxed_session;
+use crate::session::Session;
 use loose::Loose;
 use std::alloc::Global;
+use std::boxed::Box;
 use std::mem;
 
-/// A handle as C has it: open exactly where it holds a session.
+/// A handle as C has it: open exactly if it holds a session.
 #[repr(C)]
-#[derive(Drop)]
 pub struct Pmem {
     is_open: bool,
     handle: Handle,
+}
+
+/// Takes the session out of an open handle, which is closed then.
+fn take_session(handle: &mut Handle, alloc: Global) -> Box<Session, Global>
+    requires { IsSome handle.old.held }
+    ensures session { Some result.value ≡ handle.old.held }
+    ensures closed { handle.new.held ≡ None }
+{
+    mem::replace(handle, Handle::closed(alloc))
+        .into_loose(alloc)
+        .into_box()
 }
 
 /// Runs the whole program over the words and the trace. Puts as much of what it says as there is room for, and how
@@ -48,40 +59,22 @@ pub extern "C" fn pmem_answer(
     status
 }
 
-/// Opens a closed handle on a new session: its kind is 0 `run`, 1 `wear`, 2 `txn` or 3 `tree`, its suite 0 `aes`,
-/// 1 `weak` or 2 `blur`, and the other numbers are those of the options. Gives a status: 0 where it is open now, 1
-/// where there was no memory, 2 where a number or the tag key's length is out of its range, and 65 where it was open.
+/// Opens a closed handle on the session that the program begins with for these words: those of `run`, `wear`, `txn` or
+/// `tree`, each ended by a byte 0 or by the end. Gives a status: 0 if it is open now, 1 if there was no memory, 2 if the
+/// words are not those of a session, and 65 if it was open.
 #[unsafe(no_mangle)]
-pub extern "C" fn pmem_session_open(
-    alloc: Global,
-    pmem: &mut Pmem,
-    kind: u8,
-    suite: u8,
-    levels: u8,
-    sets: u8,
-    ways: u8,
-    loss: u8,
-    major: u64,
-    every: u32,
-    key: &[u8; 16],
-    tag_key: &[u8],
-) -> u8
+pub extern "C" fn pmem_session_open(alloc: Global, pmem: &mut Pmem, words: &[u8]) -> u8
     requires handle { IsHandle pmem.old }
     ensures handle { IsHandle pmem.new }
-    ensures opened { HasOpened pmem.old.handle.held kind suite (shape_with levels sets ways loss major)
-        every key.now tag_key.now result pmem.new.handle.held }
+    ensures opened { HasOpened pmem.old.handle.held words.now result pmem.new.handle.held }
 {
     if pmem.is_open {
         return 65;
     }
-    match boxed_session(
-        alloc, kind, suite, levels, sets, ways, loss, major, every, key, tag_key,
-    ) {
+    match boxed_session(alloc, words) {
         Ok(kept) => {
-            *pmem = Pmem {
-                is_open: true,
-                handle: Handle::of(Loose::of(kept)),
-            };
+            pmem.handle = Handle::of(Loose::of(kept));
+            pmem.is_open = true;
             0
         }
         Err(status) => status,
@@ -108,9 +101,7 @@ pub extern "C" fn pmem_session_tell(
     if !pmem.is_open {
         return 64;
     }
-    let mut kept = mem::replace(&mut pmem.handle, Handle::closed(alloc))
-        .into_loose(alloc)
-        .into_box();
+    let mut kept = take_session(&mut pmem.handle, alloc);
     let status = kept.tell(alloc, line);
     copy_out(kept.reply(), out);
     *whole = kept.reply().len();
@@ -135,9 +126,7 @@ pub extern "C" fn pmem_session_reply(
     if !pmem.is_open {
         return 0;
     }
-    let kept = mem::replace(&mut pmem.handle, Handle::closed(alloc))
-        .into_loose(alloc)
-        .into_box();
+    let kept = take_session(&mut pmem.handle, alloc);
     let reply = kept.reply();
     let whole = reply.len();
     copy_out(reply.split_at(from.min(whole)).1, out);
@@ -145,7 +134,8 @@ pub extern "C" fn pmem_session_reply(
     whole
 }
 
-/// Closes a handle, and gives a status: 0 where it was open, and 64 where it was closed.
+/// Closes a handle, and gives a status: 0 if it was open, and 64 if it was closed. What the handle owned is given back:
+/// a handle that holds a session can't be let go.
 #[unsafe(no_mangle)]
 pub extern "C" fn pmem_session_close(alloc: Global, pmem: &mut Pmem) -> u8
     requires handle { IsHandle pmem.old }
@@ -155,9 +145,7 @@ pub extern "C" fn pmem_session_close(alloc: Global, pmem: &mut Pmem) -> u8
     if !pmem.is_open {
         return 64;
     }
-    mem::replace(&mut pmem.handle, Handle::closed(alloc))
-        .into_loose(alloc)
-        .into_box();
+    take_session(&mut pmem.handle, alloc);
     pmem.is_open = false;
     0
 }
