@@ -1,4 +1,4 @@
-"""Finding the program that is built already."""
+"""Finding the program: ./pmem says which one would run, and builds the portable one if none is built."""
 import os
 from pathlib import Path
 
@@ -11,22 +11,21 @@ BUNDLED = REPOSITORY / "program" / "pmem"
 
 
 def built_program() -> str:
-    """The program of this repository, or of this bundle. The script `pmem` says where that is, and builds nothing for it."""
+    """The program of this repository, or of this bundle. The script `pmem` prints where that is, and says on standard error what it builds
+    for it, or why that fails."""
     if os.access(BUNDLED, os.X_OK):
         return str(BUNDLED)
     try:
-        said, status = talk(start([str(SCRIPT), "--where"], with_errors=True))
+        said, status = talk(start([str(SCRIPT), "--where"]))
     except OSError as error:
         raise ExploreError(f"cannot run {SCRIPT}: {reason_of(error)}") from error
-    text = os.fsdecode(said).rstrip("\n")
     if status != 0:
-        why = text.strip().rsplit("\n", 1)[-1]
-        raise ExploreError(why[len("pmem: "):] if why.startswith("pmem: ") else why or f"{SCRIPT} doesn't say where it is")
-    return text
+        raise ExploreError(f"no program to ask: {SCRIPT} --where ended with status {status}")
+    return os.fsdecode(said).rstrip("\n")
 
 
 def default_program() -> str:
-    """The program that is asked where no option names one: what PMEM_PROGRAM names, else that of this repository."""
+    """The program that is asked if no option names one: what PMEM_PROGRAM names, else that of this repository."""
     return os.environ.get("PMEM_PROGRAM") or str(SCRIPT)
 
 

@@ -3,7 +3,7 @@
    Nothing of the program changes but what its reads of standard input give, and when its output is handed on. That input
    holds frames, each a letter, a number, a line end and so many bytes:
      L  the program gets the bytes;
-     F  the program gets the bytes, and when it has answered them it stands where it stood before them.
+     F  the program gets the bytes, and when it has answered them it stands where it stood before them; the first has some.
    The program answers what it got before it reads again, so its output stands in order, and a program that reads on behind
    the bytes of F has answered all. To the output are added, each on a line that begins with the byte 1: H before the first
    read, F before such an answer, E and the wait status after it (0 where it read on).
@@ -35,6 +35,8 @@
 #endif
 #if defined __linux__ && defined __GLIBC__
 #include <malloc.h>
+#include <stdarg.h>
+#include <sys/syscall.h>
 #include <sys/resource.h>
 #include <ucontext.h>
 #define CAN_RESTORE 1
@@ -44,8 +46,8 @@
 
 /* Statuses with which the program is ended. */
 enum { MAPPED = 98, BROKEN = 99 };
-/* MOST_COPIED: pages that are copied before all are protected anew. LATENCY: nanoseconds after which an answer is written. */
-enum { OWN = 3, MOST_AREAS = 256, MOST_PAGES = 1 << 15, MOST_OF_THREAD = 64, MOST_COPIED = 1 << 14, STACK_PAGES = 256,
+/* OF_THREAD: pages before and behind those of the thread's own variables. MOST_COPIED: pages that are copied before all are protected anew. LATENCY: nanoseconds after which an answer is written. */
+enum { OWN = 3, MOST_AREAS = 256, MOST_PAGES = 1 << 15, OF_THREAD = 32, MOST_COPIED = 1 << 14, STACK_PAGES = 256,
     LATENCY = 10000000 };
 /* How it answers. */
 enum { BY_FORKS, IN_PLACE, UNKNOWN };
@@ -61,7 +63,7 @@ static struct server {
     char output[1 << 16];
     size_t telling;        /* bytes of the output that aren't written yet */
     size_t length, taken;  /* while F is answered: its bytes, and how many were taken */
-    int is_asked, is_fork, has_snapshot, way, status;
+    int is_asked, is_fork, has_snapshot, is_changed, way, status;
     char *to;              /* what the program asked for */
     size_t room;
     ssize_t count;
@@ -86,6 +88,9 @@ static struct server {
 
 static ssize_t (*read_from)(int, void *, size_t);
 static ssize_t (*write_to)(int, const void *, size_t);
+static void *(*next_mmap)(void *, size_t, int, int, int, off_t);
+static int (*next_munmap)(void *, size_t);
+static int (*next_mprotect)(void *, size_t, int);
 
 static void end(int status)
 {
@@ -145,7 +150,7 @@ static size_t number(void)
 {
     size_t value = 0;
     int c;
-    while ((c = letter()) >= '0' && c <= '9')
+    while ((c = letter()) >= '0' && c <= '9' && value < SIZE_MAX / 16)
         value = value * 10 + (size_t)(c - '0');
     if (c != '\n')
         end(BROKEN);
@@ -155,7 +160,7 @@ static size_t number(void)
 /* Memory of its own: `own` says which. */
 static char *map(int own, size_t size)
 {
-    void *at = mmap(NULL, size, PROT_READ | PROT_WRITE, MAP_PRIVATE | MAP_ANONYMOUS | MAP_NORESERVE, -1, 0);
+    void *at = next_mmap(NULL, size, PROT_READ | PROT_WRITE, MAP_PRIVATE | MAP_ANONYMOUS | MAP_NORESERVE, -1, 0);
     if (at == MAP_FAILED)
         end(BROKEN);
     if (own) {
@@ -170,7 +175,7 @@ static void read_script(size_t size)
     struct area *script = &s->own[2];
     if (!script->from || (size_t)(script->to - script->from) < size) {
         if (script->from)
-            munmap(script->from, (size_t)(script->to - script->from));
+            next_munmap(script->from, (size_t)(script->to - script->from));
         map(2, (size / s->page + 16) * s->page);
         s->has_snapshot = 0;
     }
@@ -195,7 +200,7 @@ static void faulted(int signal_number, siginfo_t *info, void *context)
         if (info->si_code == SEGV_ACCERR && s->areas[i].from <= page && page < s->areas[i].to) {
             memcpy(s->own[1].from + s->page_count * s->page, page, s->page);
             s->pages[s->page_count++] = page;
-            if (mprotect(page, s->page, PROT_READ | PROT_WRITE) == 0)
+            if (next_mprotect(page, s->page, PROT_READ | PROT_WRITE) == 0)
                 return;
         }
     signal(signal_number, SIG_DFL);
@@ -233,7 +238,7 @@ static int find_areas(void)
     if (file < 0)
         return 0;
     for (size_t i = 0; i < s->area_count; i++)
-        if (mprotect(s->areas[i].from, (size_t)(s->areas[i].to - s->areas[i].from), PROT_READ | PROT_WRITE))
+        if (next_mprotect(s->areas[i].from, (size_t)(s->areas[i].to - s->areas[i].from), PROT_READ | PROT_WRITE))
             return 0;
     while ((count = read_from(file, s->maps + have, sizeof s->maps - 1 - have)) > 0)
         have += (size_t)count;
@@ -253,21 +258,29 @@ static int find_areas(void)
     return 1;
 }
 
-/* Protects all pages but for those in which the system writes of the thread; 0 where that can't be had. */
+/* Protects a stretch of memory; 0 if that can't be done. */
+static int close_area(char *from, char *to)
+{
+    return from >= to || next_mprotect(from, (size_t)(to - from), PROT_READ) == 0;
+}
+
+/* Protects all pages except those around the thread's own variables, in which the system writes; 0 if that can't be done. */
 static int protect(void)
 {
-    char *thread = (char *)&errno;
+    char *thread = (char *)((uintptr_t)&errno & ~(uintptr_t)(s->page - 1)), *first = thread - OF_THREAD * s->page;
+    char *last = thread + OF_THREAD * s->page;
     s->copied = 0;
     s->page_count = 0;
     s->end = sbrk(0);
     for (size_t i = 0; i < s->area_count; i++) {
         struct area each = s->areas[i];
+        char *from = each.from > first ? each.from : first, *to = each.to < last ? each.to : last;
         if (each.from <= thread && thread < each.to) {
-            if ((size_t)(each.to - each.from) / s->page > MOST_OF_THREAD)
-                return 0;
-            for (char *page = each.from; page < each.to; page += s->page)
+            for (char *page = from; page < to; page += s->page)
                 s->pages[s->page_count++] = page;
-        } else if (mprotect(each.from, (size_t)(each.to - each.from), PROT_READ))
+            if (!close_area(each.from, from) || !close_area(to, each.to))
+                return 0;
+        } else if (!close_area(each.from, each.to))
             return 0;
     }
     s->size = memory();
@@ -305,9 +318,10 @@ static void take_snapshot(void)
 {
     if (s->has_snapshot)
         return;
-    if (s->copied > MOST_COPIED || s->end != (char *)sbrk(0) || s->size != memory())
+    if (s->copied > MOST_COPIED || s->is_changed || s->end != (char *)sbrk(0) || s->size != memory())
         if (!find_areas() || !protect())
             end(MAPPED);
+    s->is_changed = 0;
     for (size_t i = 0; i < s->page_count; i++)
         memcpy(s->own[1].from + i * s->page, s->pages[i], s->page);
     s->copied += s->page_count;
@@ -325,7 +339,7 @@ static void restore(void)
     for (size_t i = 0; i < s->page_count; i++)
         memcpy(s->pages[i], s->own[1].from + i * s->page, s->page);
     s->copied += s->page_count;
-    if (memory() != s->size)
+    if (s->is_changed || memory() != s->size)
         end(MAPPED);
     s->program = s->snapshot_program;
     s->to = s->snapshot_to;
@@ -431,7 +445,7 @@ static ssize_t next(void)
             size_t size = number();
             if (kind == 'L')
                 s->left = size;
-            else if (kind == 'F')
+            else if (kind == 'F' && (size || s->way != UNKNOWN))
                 answer(size);
             else
                 end(BROKEN);
@@ -489,6 +503,9 @@ static void find_calls(void)
 {
     read_from = (ssize_t (*)(int, void *, size_t))dlsym(RTLD_NEXT, "read");
     write_to = (ssize_t (*)(int, const void *, size_t))dlsym(RTLD_NEXT, "write");
+    next_mmap = (void *(*)(void *, size_t, int, int, int, off_t))dlsym(RTLD_NEXT, "mmap");
+    next_munmap = (int (*)(void *, size_t))dlsym(RTLD_NEXT, "munmap");
+    next_mprotect = (int (*)(void *, size_t, int))dlsym(RTLD_NEXT, "mprotect");
 }
 
 static void begin(void)
@@ -544,3 +561,54 @@ ssize_t write(int file, const void *from, size_t size)
         put(from, size);
     return (ssize_t)size;
 }
+
+#if CAN_RESTORE
+/* The program's own calls that map memory, or change what may be done with it. What such memory held isn't known to a snapshot. */
+static void change_memory(void)
+{
+    if (!next_mmap)
+        find_calls();
+    if (s)
+        s->is_changed = 1;
+}
+
+void *mmap(void *at, size_t size, int access, int flags, int file, off_t from)
+{
+    change_memory();
+    return next_mmap(at, size, access, flags, file, from);
+}
+
+void *mmap64(void *at, size_t size, int access, int flags, int file, off64_t from)
+{
+    change_memory();
+    return next_mmap(at, size, access, flags, file, (off_t)from);
+}
+
+int munmap(void *at, size_t size)
+{
+    change_memory();
+    return next_munmap(at, size);
+}
+
+int mprotect(void *at, size_t size, int access)
+{
+    change_memory();
+    return next_mprotect(at, size, access);
+}
+
+int madvise(void *at, size_t size, int advice)
+{
+    change_memory();
+    return (int)syscall(SYS_madvise, at, size, advice);
+}
+
+void *mremap(void *at, size_t size, size_t room, int flags, ...)
+{
+    va_list more;
+    va_start(more, flags);
+    void *to = flags & MREMAP_FIXED ? va_arg(more, void *) : NULL;
+    va_end(more);
+    change_memory();
+    return (void *)syscall(SYS_mremap, at, size, room, flags, to);
+}
+#endif

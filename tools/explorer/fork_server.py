@@ -3,6 +3,7 @@ import hashlib
 import os
 import platform
 import shutil
+import stat
 import sys
 import tempfile
 from pathlib import Path
@@ -45,12 +46,18 @@ def library() -> Tuple[Optional[str], str]:
         return None, f"fork_server.c can't be compiled: {error}"
 
 
+def is_private(folder: Path) -> bool:
+    """Whether a folder belongs to this user, and nobody else may write to it: what lies there is loaded into programs."""
+    found = folder.stat()
+    return stat.S_ISDIR(found.st_mode) and found.st_uid == os.geteuid() and not found.st_mode & 0o022
+
+
 def writable_folder() -> Path:
-    """The cache folder, or where that can't be written one that is removed at the end."""
+    """The cache folder; or one that is removed at the end, if that can't be written to or isn't this user's alone."""
     try:
         folder = cache_folder()
         folder.mkdir(mode=0o700, parents=True, exist_ok=True)
-        if os.access(folder, os.W_OK):
+        if os.access(folder, os.W_OK) and is_private(folder):
             return folder
     except (OSError, RuntimeError):
         pass

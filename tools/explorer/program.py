@@ -21,7 +21,7 @@ REFUSED = (2, b"stop words\n")
 
 @dataclass(frozen=True)
 class Output:
-    """What a run printed, and its status: 0, or 6 where it ended in an exhibit."""
+    """What a run printed, and its status: 0, or 6 if it ended in an exhibit."""
 
     data: bytes
     status: int
@@ -180,7 +180,7 @@ class Program:
         return output
 
     def logged(self, script: bytes, settings: Settings) -> Optional[bytes]:
-        """What the program prints on this trace with the log of each command; None where it refuses that option of this
+        """What the program prints on this trace with the log of each command; None if it refuses that option of this
         machine, as older programs do."""
         name = settings.machine_name
         if self.has_log.get(name, True):
@@ -192,7 +192,7 @@ class Program:
         return None
 
     def check(self, output: Output, settings: Settings) -> None:
-        """Tells what is wrong where a run didn't answer to its end."""
+        """Tells what is wrong if a run didn't answer to its end."""
         status, data = output.status, output.data
         if status in (0, STATUS_EXHIBIT):
             return
@@ -215,7 +215,7 @@ class Program:
 
 
 def check_length(trace: Trace) -> None:
-    """That the program takes so many lines."""
+    """That the program takes that many lines."""
     if trace.line_count > MOST_LINES:
         raise ExploreError(f"{trace.name} has {trace.line_count} lines, and a trace at most {MOST_LINES:,}")
 
@@ -249,7 +249,7 @@ class Recording:
             raise ExploreError(f"{self.trace.name}, line {stop.number}: {told}") from stop
 
     def check_replies(self, output: Output) -> None:
-        """That there is a reply to each command, up to the exhibit where there is one."""
+        """That there is a reply to each command, up to the exhibit if there is one."""
         shown = output.status == STATUS_EXHIBIT
         whole = len(self.replies) == len(self.commands) or shown and len(self.replies) <= len(self.commands)
         if not whole or shown != bool(self.replies and self.replies[-1].is_exhibit):
@@ -269,7 +269,7 @@ class Recording:
         return self.program.begin(self.run_of(question))
 
     def answer(self, question: Question, output: Output, is_whole: bool = True) -> bytes:
-        """What is printed to a question, of an output that `is_whole` where it begins with the replies to the trace."""
+        """What is printed to a question, of an output that `is_whole` if it begins with the replies to the trace."""
         try:
             self.program.check(output, self.settings)
         except StopLine as stop:

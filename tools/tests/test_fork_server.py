@@ -28,7 +28,7 @@ SOURCE = r"""
 #include <unistd.h>
 
 static long sum;
-static char *last;
+static char *last, *shut;
 
 static void say(const char *word, long value)
 {
@@ -68,6 +68,10 @@ static void answer(char *line)
         say("zeros", found);
         break; }
     case 'm': say("map", mmap(NULL, 4096, PROT_READ, MAP_PRIVATE | MAP_ANONYMOUS, -1, 0) != MAP_FAILED); break;
+    case 'w': /* `write`: memory that was mapped before, and can be written from here on */
+        mprotect(shut, 4096, PROT_READ | PROT_WRITE);
+        say("written", ++*shut);
+        break;
     case 't': say("thread", pthread_create(&thread, NULL, nothing, NULL) || pthread_join(thread, NULL)); break;
     case 'd': say("deep", deep((int)value)); break;
     case 'o': errno = (int)value; say("error", errno); break;
@@ -80,6 +84,9 @@ int main(void)
 {
     static char text[1 << 16];
     size_t have = 0;
+    shut = mmap(NULL, 4096, PROT_NONE, MAP_PRIVATE | MAP_ANONYMOUS, -1, 0);
+    if (getenv("LARGE")) /* may stand beside the thread's own variables */
+        memset(calloc(1, (size_t)1 << 32), 1, 4096);
     for (;;) {
         ssize_t count = read(0, text + have, sizeof text - have);
         if (count <= 0)
@@ -201,12 +208,38 @@ class ForkServerTest(ExploreTest):
     def test_what_cannot_be_put_back(self) -> None:
         if not self.is_in_place():
             self.skipTest("memory isn't put back here")
-        for text, said in (("map\n", "map 1"), ("thread\n", "thread 0")):
+        for text, said in (("map\n", "map 1"), ("write\n", "written 1"), ("thread\n", "thread 0")):
             status, lines = self.asked([("L", "add 1\n"), ("F", text), ("F", "add 1\n")], IN_PLACE)
             self.assertEqual(status, 98, lines)
             frames = [("L", "add 1\n"), ("L", text), ("F", "add 1\n"), ("L", "add 1\n")]
             for by_forks in (IN_PLACE, BY_FORKS):
                 self.assertEqual(self.asked(frames, by_forks), (0, ["\1H", "sum 1", said, "\1F", "sum 2", "\1E0", "sum 2"]))
+
+    def test_memory_that_was_changed_before_is_put_back(self) -> None:
+        frames = [("L", "write\n"), ("F", "add 2\n"), ("L", "add 1\n"), ("F", "add 5\n")]
+        for by_forks in (IN_PLACE, BY_FORKS):
+            status, lines = self.asked(frames, by_forks)
+            self.assertEqual((status, lines), (0, ["\1H", "written 1", "\1F", "sum 2", "\1E0", "sum 1", "\1F", "sum 6", "\1E0"]))
+
+    def test_a_program_that_reserved_much_memory(self) -> None:
+        if not self.is_in_place():
+            self.skipTest("memory isn't put back here")
+        with mock.patch.dict(os.environ, {"LARGE": "1"}):
+            status, lines = self.asked([("L", "p\n"), ("F", "p\ndeep 30\n"), ("F", "p\n")], IN_PLACE)
+        self.assertEqual((status, len(set(self.process(lines)))), (0, 1))
+
+    def test_a_first_question_without_text_is_refused(self) -> None:
+        self.assertEqual(self.asked([("F", ""), ("L", "add 1\n")], IN_PLACE)[0], 99)
+
+    def test_a_cache_folder_of_others_is_not_used(self) -> None:
+        for mode, is_used in ((0o700, True), (0o777, False)):
+            with mock.patch.dict(os.environ, {"XDG_CACHE_HOME": self.path(f"cache{mode}")}):
+                os.makedirs(self.path(f"cache{mode}/pmem-explore"))
+                os.chmod(self.path(f"cache{mode}/pmem-explore"), mode)
+                self.addCleanup(fork_server.remove_temporary)
+                library, why = fork_server.library()
+                assert library, why
+                self.assertEqual(library.startswith(self.path(f"cache{mode}")), is_used)
 
     def answers(self, questions: Sequence[str]) -> List[Output]:
         """What a worker gets to questions, each after one more of the trace's commands."""
@@ -228,8 +261,9 @@ class ForkServerTest(ExploreTest):
         return [done[number] for number in range(len(questions))]
 
     def test_what_cannot_be_put_back_is_asked_again_by_forks(self) -> None:
-        self.assertEqual(self.answers(["add 1", "map", "add 5", "thread", "exit 6"]), [
-            Output(b"sum 1\n", 0), Output(b"map 1\n", 0), Output(b"sum 6\n", 0), Output(b"thread 0\n", 0), Output(b"end 6\n", 6)])
+        self.assertEqual(self.answers(["add 1", "map", "write", "write", "thread", "exit 6"]), [
+            Output(b"sum 1\n", 0), Output(b"map 1\n", 0), Output(b"written 1\n", 0), Output(b"written 1\n", 0),
+            Output(b"thread 0\n", 0), Output(b"end 6\n", 6)])
         found = self.answers(["add 1", "stop", "add 5"])
         self.assertEqual(found, [Output(b"sum 1\n", 0), Output(b"stop 0\n", -6), Output(b"sum 6\n", 0)])
         with mock.patch.dict(os.environ, {FORKS: "1"}):
