@@ -1,29 +1,45 @@
-/* pmem.h: the controller of an untrusted persistent memory, as a library. C11 and C++17.
+/* pmem.h: the controller of an untrusted persistent memory, as a library for C11 and C++17.
  *
  *     pmem memory = PMEM_CLOSED;
  *     uint8_t bytes[PMEM_LINE_BYTES] = {0x11};
  *     if (pmem_open_text(&memory, "run") != PMEM_OK) return 1;
- *     pmem_post(&memory, 0, 7, bytes);                   data line 7 waits at port 0 to be written
+ *     pmem_post(&memory, 0, 7, bytes);                   a write of data line 7 waits at port 0
  *     pmem_cut(&memory, 3);                              power fails after three more persist steps
- *     pmem_result result = pmem_drain(&memory, 0);       PMEM_CUT_LOST: the write isn't in memory
- *     pmem_on(&memory);                                  power comes on, with recovery
+ *     pmem_result result = pmem_drain(&memory, 0);       PMEM_CUT_LOST: the write is not in memory
+ *     pmem_on(&memory);                                  power comes back, with recovery
  *     result = pmem_read(&memory, 0, 7);                 PMEM_LINE: zeros, as before the write
  *     pmem_close(&memory);
  *
- * Three layers. `pmem_answer` is the proved program as one call: for all bytes that it may be given it is safe, ends, and answers as the
- * program does. A session, from `pmem_open` to `pmem_close`, answers lines one by one. What opens it, answers a line, keeps the reply and
- * closes it is proved: the reply is the one that the program's own world or session gives, and the state after is the state before with
- * that line answered. A little C around it reads the words of a session, and keeps the lines, for copies. The typed calls are inline C over
- * `pmem_tell`: they spell a command as a line, and read its answer from the text. docs/LIBRARY.md tells what is proved, what a call costs,
- * and how to link; docs/FORMATS.md and docs/MACHINE.md what commands and answers mean.
+ * The library has three layers:
+ *   - `pmem_answer` is the proved program as one call. For all input bytes it is safe, ends, and answers as the program does.
+ *   - A session, from `pmem_open` to `pmem_close`, answers a trace line by line. Opening, answering, keeping the reply and closing are
+ *     proved. A little C around them checks the arguments and makes copies.
+ *   - The typed calls are inline C over `pmem_tell`. They spell a command as a line and read its answer from the text.
+ * docs/LIBRARY.md states what is proved, what a call costs and how to link. docs/MACHINE.md and docs/FORMATS.md explain commands and
+ * answers.
  *
- * Pointers and lengths. Each pointer is to as many bytes as the length behind it says; where that is 0, the pointer isn't used, and may
- * be NULL. Blocks given to one call must not overlap. No call keeps a pointer, but for what a handle owns.
+ * Two builds have this header. The native build links the machine code that the toolchain proved and compiled. The portable build is C,
+ * translated from the WebAssembly module of the same proved program. They answer alike, byte for byte, except where a call below names
+ * the build. `pmem_build` tells which one is linked.
  *
- * Threads. The library has no state of its own. A handle is for one thread at a time; different handles, and `pmem_answer`, may be used
- * by different threads at one time.
+ * Pointers and lengths. Each pointer is to as many bytes as the length behind it says. If that length is 0, the pointer is not used and
+ * may be NULL. Blocks given to one call must not overlap. No call keeps a pointer, except what a handle owns.
  *
- * Memory comes from `malloc`. Where it can't be had, that is an answer; no call ends the program. */
+ * Threads. The library has no state of its own. One thread at a time may use a handle. Different threads may use different handles, and
+ * `pmem_answer`, at the same time.
+ *
+ * Stack. A call needs at most PMEM_STACK_BYTES of stack. Some coroutines and threads have less (musl's threads have 128 kB): give them
+ * more, or use the portable build, compiled as tools/library compiles it: there 64 kB are enough.
+ *
+ * Signals and jumps. Do not call the library from a signal handler, and do not leave a call by `longjmp` or by a C++ exception thrown in
+ * a handler: the session would be left half changed.
+ *
+ * `fork`. A process with one thread may fork: both processes then have the session, and the two go on independently. In a process with
+ * several threads the child must not use the library before it calls `exec`, as for every function that allocates. `pmem_copy` has no
+ * such limit.
+ *
+ * Memory comes from `malloc`. The portable build reserves addresses for each session, 4 GiB or as much as the system gives; a page of them
+ * takes memory once it is used. Running out of memory is an answer: no call ends the program for it. */
 #ifndef PMEM_H
 #define PMEM_H
 
@@ -36,53 +52,75 @@
 extern "C" {
 #endif
 
+/* How a call is declared. Those who build a shared library define it, for example as __attribute__((visibility("default"))). */
+#ifndef PMEM_API
+#define PMEM_API
+#endif
+
+/* The version of this header. `pmem_version` gives the version of the library that is linked. */
+#define PMEM_VERSION "1.0.0"
+
 /* The bytes of a line of memory, and the most bytes of a line of text. */
 #define PMEM_LINE_BYTES 64
 #define PMEM_TEXT_BYTES 1024
 
-/* What a call came to. 0 to 8 are the statuses of the program (docs/FORMATS.md); 3, a source that fails, never comes. */
-typedef enum pmem_status {
-    PMEM_OK = 0,             /* done; of pmem_answer: the trace was read to its end, or the exhibit holds */
-    PMEM_NO_MEMORY = 1,      /* memory could not be had; nothing was done, and the handle is as it was */
-    PMEM_BAD_WORDS = 2,      /* the words break their rules, or aren't UTF-8, or name no session */
-    PMEM_REPLY_LOST = 4,     /* memory could not be had for the text of a reply, or of pmem_answer for all of it */
-    PMEM_BAD_LINE = 5,       /* pmem_answer: a line isn't in the grammar */
-    PMEM_SHOWN = 6,          /* the answer is an exhibit, the evidence of a break, and ends the session */
-    PMEM_TOO_MANY_LINES = 7, /* pmem_answer: there are more than 1,000,000 lines */
-    PMEM_HOLDS_NOT = 8,      /* pmem_answer: the exhibit to be checked doesn't hold */
+/* The most stack that a call needs, in bytes (measured; a test runs every call on a thread with this stack). */
+#define PMEM_STACK_BYTES (512 * 1024)
 
-    /* pmem_tell: the line isn't in the grammar; nothing was done, and the session goes on */
-    PMEM_LINE_WORD = 51,     /* its first word is no command */
+/* What a call came to. 0 to 8 are the statuses of the program (docs/FORMATS.md). 3, a source that fails, never comes. */
+typedef enum pmem_status {
+    PMEM_OK = 0,             /* done; pmem_answer: the trace was read to its end, or the exhibit holds */
+    PMEM_NO_MEMORY = 1,      /* out of memory; nothing was done, and the handle is unchanged */
+    PMEM_BAD_WORDS = 2,      /* the arguments are invalid, are not UTF-8, or name no session */
+    PMEM_REPLY_LOST = 4,     /* out of memory for the text of a reply; pmem_answer: for the text of all replies */
+    PMEM_BAD_LINE = 5,       /* pmem_answer: a line is not in the grammar */
+    PMEM_SHOWN = 6,          /* the answer is an exhibit (evidence that a cipher was broken) and ends the session */
+    PMEM_TOO_MANY_LINES = 7, /* pmem_answer: there are more than 1,000,000 lines */
+    PMEM_HOLDS_NOT = 8,      /* pmem_answer: the exhibit to be checked does not hold */
+
+    /* pmem_tell: the line is not in the grammar; nothing was done, and the session goes on */
+    PMEM_LINE_WORD = 51,     /* its first word is not a command */
     PMEM_LINE_COUNT = 52,    /* too few or too many words */
-    PMEM_LINE_NUMBER = 53,   /* a word is no number */
-    PMEM_LINE_PORT = 54,     /* a port above the greatest one */
-    PMEM_LINE_HEX = 55,      /* a word isn't the hex digits asked for */
+    PMEM_LINE_NUMBER = 53,   /* a word is not a number */
+    PMEM_LINE_PORT = 54,     /* a port above 7 */
+    PMEM_LINE_HEX = 55,      /* a word does not have the hex digits asked for */
     PMEM_LINE_LONG = 56,     /* more than PMEM_TEXT_BYTES bytes */
 
-    /* a handle used wrongly; nothing was done */
+    /* wrong use; nothing was done */
     PMEM_NOT_OPEN = 64,      /* the handle is closed */
     PMEM_IS_OPEN = 65,       /* the handle is open already */
     PMEM_OVER = 66,          /* an exhibit ended the session; it can only be copied or closed */
-    PMEM_FORGOTTEN = 67      /* pmem_copy: the session's lines were forgotten */
+    PMEM_FORGOTTEN = 67,     /* pmem_copy, native build: the session's lines were forgotten */
+    PMEM_NULL = 68           /* a pointer is NULL that must not be: a handle, or `whole` */
 } pmem_status;
+
+/* ---- which library this is */
+
+/* The version of the library that is linked, as PMEM_VERSION. The text is constant. */
+PMEM_API const char *pmem_version(void);
+
+/* Which build is linked: "native" or "portable". The text is constant. */
+PMEM_API const char *pmem_build(void);
 
 /* ---- the program as one call */
 
-/* Runs the whole program over a trace, as `pmem WORD ..` does over standard input, and returns its status, a pmem_status up to 8.
- *   words   each word is ended by a byte 0, the last one also by the end: "run\0--suite\0weak", 16. No bytes are no word: PMEM_BAD_WORDS.
+/* Runs the whole program on a trace, as `pmem WORD ..` does on standard input. Returns its status, a pmem_status up to 8.
+ *   words   the command-line arguments. A byte 0 ends each of them; the end of the block ends the last one too: "run\0--suite\0weak", 16.
+ *           A length of 0 means no arguments: PMEM_BAD_WORDS.
  *   trace   the bytes that the program would read.
- *   out     gets as many of the first bytes that the program writes as there is room for. Bytes after those stay.
- *   whole   how many bytes it writes in all. Where that is more than `room`, call again with more room.
- * PMEM_NO_MEMORY: the last line is `stop memory`, or nothing was written. PMEM_REPLY_LOST: what was written is a front of what was due.
- * PMEM_BAD_WORDS: `stop words` was written, or nothing where a word isn't UTF-8. No state is kept: each call makes a new memory. */
-uint8_t pmem_answer(const uint8_t *words, size_t words_len, const uint8_t *trace, size_t trace_len, uint8_t *out, size_t room,
+ *   out     receives the output, as far as there is room. Bytes behind it are unchanged.
+ *   whole   receives the length of the whole output. If that is more than `room`, call again with more room.
+ * PMEM_NO_MEMORY: the last line is `stop memory`, or there is no output. PMEM_REPLY_LOST: the output is a prefix of what it would have
+ * been. PMEM_BAD_WORDS: the output is `stop words`, or empty if an argument is not UTF-8. PMEM_NULL: `whole` is NULL.
+ * Each call makes a new memory and keeps no state. */
+PMEM_API uint8_t pmem_answer(const uint8_t *words, size_t words_len, const uint8_t *trace, size_t trace_len, uint8_t *out, size_t room,
                     size_t *whole);
 
 /* ---- sessions */
 
-/* A session: a memory with its controller. Closed, it is PMEM_CLOSED and owns nothing. Open, it owns memory, which pmem_close gives back.
- * Never write its fields. An open handle may be moved, as by memcpy, if the old place isn't used again: two copies of an open handle are
- * one session, and no call may be made on the second one. */
+/* A session: a memory with its controller. A closed handle equals PMEM_CLOSED and owns nothing. An open handle owns memory, which
+ * pmem_close frees. Never write its fields. An open handle may be moved, for example by memcpy, if the old place is not used again: two
+ * copies of an open handle are one session, and no call may be made on the second one. */
 typedef struct pmem {
     bool is_open;
     void *session;
@@ -90,41 +128,46 @@ typedef struct pmem {
 
 #define PMEM_CLOSED {false, NULL}
 
-/* Opens a closed handle on a new, formatted memory with power on. The words are those of the program, spelled as for pmem_answer: `run`,
- * `wear`, `txn` or `tree`, and its options.
- * PMEM_OK: it is open. PMEM_NO_MEMORY, PMEM_BAD_WORDS (`make`, `sample` and `check` name no session): it is closed still.
- * PMEM_IS_OPEN: it was open, and is as it was. */
-uint8_t pmem_open(pmem *handle, const uint8_t *words, size_t words_len);
+/* Opens a closed handle on a new, formatted memory with power on. `words` are the program's arguments, spelled as for pmem_answer:
+ * `run`, `wear`, `txn` or `tree`, and options. With `--log` each reply begins with its log (pmem_accesses).
+ * PMEM_OK: the handle is open. PMEM_NO_MEMORY, PMEM_BAD_WORDS (also for `make`, `sample` and `check`): it is still closed.
+ * PMEM_IS_OPEN: it was open and is unchanged. PMEM_NULL: `handle` is NULL. */
+PMEM_API uint8_t pmem_open(pmem *handle, const uint8_t *words, size_t words_len);
 
-/* Tells an open session one line of a trace, without its LF, and keeps the reply's text until the next line is told.
- *   line    one command, blank, or a comment. With an LF in it, it is PMEM_LINE_WORD.
- *   out     gets as many of the reply's first bytes as there is room for. Bytes after those stay. The reply is the marks of the command, each
- *           on a line, and then its answer, each line with its LF; exactly what the program writes for this line. A blank line or a
- *           comment has no reply.
- *   whole   how many bytes the reply has.
- * PMEM_OK: the line was answered, or skipped. PMEM_SHOWN: the reply ends with an exhibit, and the session is over. PMEM_REPLY_LOST: the
- * line was answered, but there was no memory for the text of the reply; the session goes on, or is over where the answer was an exhibit.
- * PMEM_NO_MEMORY, PMEM_LINE_WORD to PMEM_LINE_LONG, PMEM_NOT_OPEN, PMEM_OVER: nothing was done. At all but the first two `whole` is 0.
- * A session has no greatest number of lines, as a trace of the program has. It keeps the marks of its writes, and the lines that it
- * answered, as they were told. */
-uint8_t pmem_tell(pmem *handle, const uint8_t *line, size_t line_len, uint8_t *out, size_t room, size_t *whole);
+/* Answers one line of a trace, without its LF, and keeps the reply's text until the next line.
+ *   line    a command, a blank line or a comment. A line that contains an LF is PMEM_LINE_WORD.
+ *   out     receives the reply, as far as there is room. Bytes behind it are unchanged. The reply is exactly what the program prints for
+ *           this line: the log if the session has one, then the marks, then the answer, each line with its LF. A blank line or a comment
+ *           has no reply.
+ *   whole   receives the length of the whole reply.
+ * PMEM_OK: the line was answered or skipped. PMEM_SHOWN: the reply ends with an exhibit, and the session is over. PMEM_REPLY_LOST: the
+ * line was answered, but there was no memory for the reply's text; the session goes on, or is over if the answer was an exhibit.
+ * PMEM_NO_MEMORY, PMEM_LINE_WORD to PMEM_LINE_LONG, PMEM_NOT_OPEN, PMEM_OVER: nothing was done. Unless the status is PMEM_OK or
+ * PMEM_SHOWN, `whole` receives 0. PMEM_NULL: `handle` or `whole` is NULL; nothing was written either.
+ * A session has no limit on the number of lines. It keeps the marks of its writes; the native build also keeps the lines that it
+ * answered, for pmem_copy. */
+PMEM_API uint8_t pmem_tell(pmem *handle, const uint8_t *line, size_t line_len, uint8_t *out, size_t room, size_t *whole);
 
-/* Gives the kept reply again, from its byte `from` on: as many bytes as there is room for. Bytes after those stay. Returns how many bytes
- * all of it has; 0 where there is none, or the handle is closed. */
-size_t pmem_reply(pmem *handle, size_t from, uint8_t *out, size_t room);
+/* Copies the kept reply again, from byte `from` on, as far as there is room. Bytes behind it are unchanged. Returns the length of the
+ * whole reply; 0 if there is none, if the handle is closed, or if it is NULL. */
+PMEM_API size_t pmem_reply(pmem *handle, size_t from, uint8_t *out, size_t room);
 
-/* Copies an open session into a closed handle: a step back for whoever tries something on the copy. The two go on by themselves. The copy
- * is told all lines again, so it takes as long as the run so far.
- * PMEM_OK: the copy is open, and stands where the session stands. PMEM_NOT_OPEN: there is no session. PMEM_IS_OPEN: the copy's handle was open.
- * PMEM_FORGOTTEN: the session's lines were forgotten. PMEM_NO_MEMORY. In the last four the copy's handle is as it was. */
-uint8_t pmem_copy(const pmem *handle, pmem *copy);
+/* Copies an open session into a closed handle, for example to try something on the copy. The two go on independently.
+ * Cost: the portable build copies the session's memory: one or two milliseconds for the default memory, about 0.1 s with `--levels 6`.
+ * The native build answers all lines again, so a copy takes as long as the run so far.
+ * PMEM_OK: the copy is open, in the same state, with the same kept reply. PMEM_NOT_OPEN: there is no session. PMEM_IS_OPEN: the handle of
+ * the copy was open. PMEM_FORGOTTEN: native build, after pmem_forget. PMEM_NO_MEMORY. PMEM_NULL: a handle is NULL. Unless the status is
+ * PMEM_OK, the handle of the copy is unchanged. */
+PMEM_API uint8_t pmem_copy(const pmem *handle, pmem *copy);
 
-/* Forgets the lines that the session answered, and keeps none from here on: for a long run, of which no copy is wanted.
- * PMEM_OK: it can't be copied any more. PMEM_NOT_OPEN. */
-uint8_t pmem_forget(pmem *handle);
+/* Frees the lines that the native build keeps for pmem_copy, and keeps none from here on: for a long run of which no copy is wanted. The
+ * portable build keeps no lines: there this call does nothing, and the session can still be copied.
+ * PMEM_OK. PMEM_NOT_OPEN. PMEM_NULL: `handle` is NULL. */
+PMEM_API uint8_t pmem_forget(pmem *handle);
 
-/* Closes a handle, and gives its memory back. PMEM_OK: it was open. PMEM_NOT_OPEN: it was closed. It is closed after. */
-uint8_t pmem_close(pmem *handle);
+/* Closes a handle and frees its memory. PMEM_OK: it was open. PMEM_NOT_OPEN: it was closed. Either way it is closed now.
+ * PMEM_NULL: `handle` is NULL. */
+PMEM_API uint8_t pmem_close(pmem *handle);
 
 #ifdef __cplusplus
 }
@@ -134,7 +177,7 @@ uint8_t pmem_close(pmem *handle);
 
 /* What an answer is. */
 typedef enum pmem_kind {
-    PMEM_NONE,            /* there is none: the status isn't PMEM_OK or PMEM_SHOWN, or the line was skipped */
+    PMEM_NONE,            /* there is none: the status is not PMEM_OK or PMEM_SHOWN, or the line was skipped */
     PMEM_DONE,            /* ok */
     PMEM_LINE,            /* read: `line` */
     PMEM_RAW,             /* peek: `line` */
@@ -142,47 +185,66 @@ typedef enum pmem_kind {
     PMEM_COUNTS,          /* stat: `stat` */
     PMEM_CUT,             /* read, turn, flush, loss, on: power was cut */
     PMEM_CUT_KEPT,        /* drain, fence: power was cut, and the write had reached memory */
-    PMEM_CUT_LOST,        /* drain, fence: power was cut, and it hadn't */
-    PMEM_REFUSED_DATA,    /* data line `place` isn't as it was written */
-    PMEM_REFUSED_META,    /* metadata line `place` isn't as it was written */
+    PMEM_CUT_LOST,        /* drain, fence: power was cut, and the write had not reached memory */
+    PMEM_REFUSED_DATA,    /* data line `place` is not as it was written */
+    PMEM_REFUSED_META,    /* metadata line `place` is not as it was written */
     PMEM_REFUSED_COUNTER, /* on: no counter fits data line `place` */
-    PMEM_REFUSED_ROOT,    /* on: the root kept on the chip is `kept`, that of the device `found` */
-    PMEM_SPENT,           /* drain, fence: the counters of page `place` are used up */
+    PMEM_REFUSED_ROOT,    /* on: the chip keeps the root `kept`, the device has the root `found` */
+    PMEM_SPENT,           /* drain, fence: the counters of page `place` are exhausted */
     PMEM_FULL,            /* post, part: 16 writes wait at the port */
-    PMEM_EMPTY,           /* drain: none waits */
+    PMEM_EMPTY,           /* drain: no write waits */
     PMEM_IDLE,            /* turn: no page is under re-encryption */
     PMEM_CLEAN,           /* flush: no metadata is dirty */
     PMEM_OFF,             /* power is off */
     PMEM_ALREADY,         /* on: power is on */
     PMEM_RANGE,           /* there is no such place */
     PMEM_NO_SNAPSHOT,     /* back: no snapshot was taken */
-    PMEM_EXHIBIT,         /* the evidence of a break: pmem_reply has its text */
-    PMEM_OTHER            /* an answer of a session that isn't `run`: pmem_reply has its text */
+    PMEM_EXHIBIT,         /* evidence that a cipher was broken: pmem_reply has its text */
+    PMEM_OTHER            /* an answer that only `wear`, `txn` or `tree` has: pmem_reply has its text */
 } pmem_kind;
 
-/* The five counts of `stat`, since formatting. */
+/* The five counts of `stat` since formatting: device lines read and written, latches, tags and digests computed. */
 typedef struct pmem_stat {
     uint64_t reads, writes, latches, tags, digests;
 } pmem_stat;
 
-/* A command's answer. A field that the answer doesn't have is 0. */
+/* A command's answer. A field that the answer does not have is 0. */
 typedef struct pmem_result {
     pmem_status status;
     pmem_kind kind;
     uint64_t steps;                   /* persist steps: line writes and latches of the device */
     uint64_t count;                   /* fence: writes drained; turn: lines of the page left; flush: the metadata line's position */
-    uint64_t place;                   /* the data line, metadata line or page that is named */
-    uint64_t trials, digests;         /* on: counters tried, and digests computed, by recovery */
+    uint64_t place;                   /* the data line, metadata line or page that the answer names */
+    uint64_t trials, digests;         /* on: counters that recovery tried, and digests that it computed */
     pmem_stat stat;
     uint8_t line[PMEM_LINE_BYTES];    /* read: the memory's line; peek: the device's */
     uint8_t kept[16], found[16];      /* the two roots of PMEM_REFUSED_ROOT */
-    size_t reply_len;                 /* the bytes of the reply's text: its marks and its answer, each with its LF */
-    size_t marks_len;                 /* those of its marks */
+    size_t reply_len;                 /* the length of the reply's text: log, marks and answer, each line with its LF */
+    size_t log_len;                   /* the length of its log: 0 unless the session was opened with `--log` */
+    size_t marks_len;                 /* the length of its marks, which stand behind the log */
 } pmem_result;
+
+/* What an access of the device was. */
+typedef enum pmem_access_kind {
+    PMEM_ACCESS_READ,   /* device line `line` was read */
+    PMEM_ACCESS_WRITE,  /* device line `line` was written: a persist step */
+    PMEM_ACCESS_LATCH   /* all on-chip registers changed at once: a persist step. `line` lines are in the commit group now */
+} pmem_access_kind;
+
+/* An access that a command made, for simulators of timing. A device line is 64 bytes: its address is 64 * `line`. */
+typedef struct pmem_access {
+    pmem_access_kind kind;
+    uint64_t line;
+} pmem_access;
+
+/* The tags and digests that a command computed. */
+typedef struct pmem_work {
+    uint64_t tags, digests;
+} pmem_work;
 
 /* A mark: a data line was sealed, or the re-encryption of a page began. */
 typedef struct pmem_mark {
-    bool is_begin;       /* a begin: `at` is a page, and the other fields are 0. Else a seal: `at` is a data line */
+    bool is_begin;       /* true: a begin; `at` is a page, and the other fields are 0. false: a seal; `at` is a data line */
     uint32_t at;
     uint64_t major;      /* the counter of the seal */
     uint8_t minor;
@@ -260,7 +322,7 @@ static inline void pmem_take_bytes(pmem_words *words, uint8_t *bytes, size_t cou
         bytes[i] = (uint8_t)(pmem_hex_digit(word.at[0]) << 4 | pmem_hex_digit(word.at[1]));
 }
 
-/* The number before the last one, where there are two, and the last one. */
+/* Takes `steps`, the last number of a text, and `before` if another number stands before it. */
 static inline void pmem_take_steps(pmem_words *words, uint64_t *before, uint64_t *steps) {
     uint64_t first = pmem_take_number(words);
     if (words->at == words->end) {
@@ -362,7 +424,123 @@ static inline void pmem_read_answer(const uint8_t *text, size_t len, pmem_result
     }
 }
 
-/* Tells a session a line of bytes, and reads its answer as one of `run`. The answer is the reply's last line, of less than 1,024 bytes. */
+/* Reads a kept reply line by line, whatever its length. */
+typedef struct pmem_reader {
+    pmem *handle;
+    size_t from, held, at;   /* `held` bytes of the reply, from its byte `from` on; the next line begins at byte `at` of them */
+    uint8_t text[PMEM_TEXT_BYTES];
+} pmem_reader;
+
+/* Loads the reply's bytes from `from` on. */
+static inline void pmem_load(pmem_reader *reader, size_t from) {
+    size_t whole = pmem_reply(reader->handle, from, reader->text, sizeof reader->text);
+    reader->from = from;
+    reader->held = whole <= from ? 0 : whole - from < sizeof reader->text ? whole - from : sizeof reader->text;
+    reader->at = 0;
+}
+
+/* Takes the next line, without its LF. Answers whether there is one. Each line of a reply has less than PMEM_TEXT_BYTES bytes. */
+static inline bool pmem_next_line(pmem_reader *reader, pmem_words *line) {
+    for (int i = 0; i < 2; i++) {
+        size_t left = reader->held - reader->at;
+        const uint8_t *at = reader->text + reader->at, *lf = left == 0 ? NULL : (const uint8_t *)memchr(at, '\n', left);
+        if (lf != NULL) {
+            line->at = at;
+            line->end = lf;
+            reader->at += (size_t)(lf - at) + 1;
+            return true;
+        }
+        pmem_load(reader, reader->from + reader->at);
+    }
+    return false;
+}
+
+/* Reads a line of a log. Answers whether it is one: `look`, `line` or `latch` with a number, or `work`, the last line of a log, with two.
+ * The answer of a read begins with `line` too, but has three words. */
+static inline bool pmem_read_logged(pmem_words line, pmem_access *access, pmem_work *work, bool *is_work) {
+    pmem_words word = pmem_next_word(&line);
+    *is_work = pmem_is_word(word, "work");
+    if (*is_work) {
+        work->tags = pmem_take_number(&line);
+        work->digests = pmem_take_number(&line);
+        return true;
+    }
+    if (pmem_is_word(word, "look")) access->kind = PMEM_ACCESS_READ;
+    else if (pmem_is_word(word, "line")) access->kind = PMEM_ACCESS_WRITE;
+    else if (pmem_is_word(word, "latch")) access->kind = PMEM_ACCESS_LATCH;
+    else return false;
+    access->line = pmem_take_number(&line);
+    return line.at == line.end;
+}
+
+/* Reads the log at the beginning of a text, which may be any bytes: for example of the output of pmem_answer with `run --log`.
+ * Fills at most `room` accesses (`accesses` may be NULL if `room` is 0); `count` receives how many there are, `work` what was computed.
+ * Returns the length of the log, with the LF of its last line; 0 if no whole log stands there, and then `count` is 0. */
+static inline size_t pmem_read_log(const uint8_t *text, size_t len, pmem_access *accesses, size_t room, size_t *count, pmem_work *work) {
+    pmem_access access = {PMEM_ACCESS_READ, 0};
+    bool is_work = false;
+    *count = 0;
+    work->tags = work->digests = 0;
+    for (size_t from = 0; from < len;) {
+        const uint8_t *lf = (const uint8_t *)memchr(text + from, '\n', len - from);
+        pmem_words line;
+        line.at = text + from;
+        line.end = lf;
+        if (lf == NULL || !pmem_read_logged(line, &access, work, &is_work)) break;
+        from = (size_t)(lf - text) + 1;
+        if (is_work) return from;
+        if (*count < room) accesses[*count] = access;
+        *count += 1;
+    }
+    *count = 0;
+    return 0;
+}
+
+/* Reads the log of the kept reply. Answers its length in bytes; 0 if there is no log. */
+static inline size_t pmem_reply_log(pmem *handle, pmem_access *accesses, size_t room, size_t *count, pmem_work *work) {
+    pmem_reader reader;
+    pmem_words line;
+    pmem_access access = {PMEM_ACCESS_READ, 0};
+    bool is_work = false;
+    reader.handle = handle;
+    *count = 0;
+    pmem_load(&reader, 0);
+    while (pmem_next_line(&reader, &line) && pmem_read_logged(line, &access, work, &is_work)) {
+        if (is_work) return reader.from + reader.at;
+        if (*count < room) accesses[*count] = access;
+        *count += 1;
+    }
+    *count = 0;
+    return 0;
+}
+
+/* The accesses of the device that the last command made, in order, if the session was opened with `--log`: the controller's own reads,
+ * writes and latches, also those of recovery. What an attacker or `peek` does to the device is not an access.
+ * Fills at most `room` of them (`accesses` may be NULL if `room` is 0), and `work` unless it is NULL.
+ * Returns how many accesses there are; 0 for a session without a log, or if the last line was skipped or not answered. */
+static inline size_t pmem_accesses(pmem *handle, pmem_access *accesses, size_t room, pmem_work *work) {
+    pmem_work done = {0, 0};
+    size_t count = 0;
+    pmem_reply_log(handle, accesses, room, &count, &done);
+    if (work != NULL) *work = done;
+    return count;
+}
+
+/* The length of the log of the kept reply, whose first bytes these are: 0 unless the first line is one of a log. */
+static inline size_t pmem_log_len(pmem *handle, const uint8_t *text, size_t len) {
+    const uint8_t *lf = (const uint8_t *)memchr(text, '\n', len);
+    pmem_words line;
+    pmem_access access;
+    pmem_work work;
+    bool is_work;
+    size_t count;
+    line.at = text;
+    line.end = lf;
+    if (lf == NULL || !pmem_read_logged(line, &access, &work, &is_work)) return 0;
+    return pmem_reply_log(handle, NULL, 0, &count, &work);
+}
+
+/* Tells a session a line of bytes and reads its answer as an answer of `run`. The answer is the reply's last line. */
 static inline pmem_result pmem_ask(pmem *handle, const uint8_t *line, size_t len) {
     pmem_result result;
     uint8_t text[PMEM_TEXT_BYTES];
@@ -371,13 +549,14 @@ static inline pmem_result pmem_ask(pmem *handle, const uint8_t *line, size_t len
     result.status = (pmem_status)pmem_tell(handle, line, len, text, sizeof text, &whole);
     result.reply_len = whole;
     if (whole == 0) return result;
+    result.log_len = pmem_log_len(handle, text, whole < sizeof text ? whole : sizeof text);
     if (whole > sizeof text) {
         from = whole - sizeof text;
         pmem_reply(handle, from, text, sizeof text);
     }
     held = whole - from - 1;
     for (start = held; start != 0 && text[start - 1] != '\n';) start--;
-    result.marks_len = from + start;
+    result.marks_len = from + start - result.log_len;
     pmem_read_answer(text + start, held - start, &result);
     return result;
 }
@@ -387,7 +566,7 @@ static inline pmem_result pmem_ask_text(pmem *handle, const char *line) {
     return pmem_ask(handle, (const uint8_t *)line, strlen(line));
 }
 
-/* Opens a handle with words that stand apart by single spaces: pmem_open_text(&memory, "run --levels 1 --suite weak"). */
+/* Opens a handle with arguments that are separated by single spaces: pmem_open_text(&memory, "run --levels 1 --suite weak"). */
 static inline pmem_status pmem_open_text(pmem *handle, const char *words) {
     uint8_t bytes[PMEM_TEXT_BYTES];
     size_t len = strlen(words);
@@ -396,7 +575,39 @@ static inline pmem_status pmem_open_text(pmem *handle, const char *words) {
     return (pmem_status)pmem_open(handle, bytes, len);
 }
 
-/* Reads the mark at the front of the text of a reply, and gives how many bytes it takes with its LF; 0 where no mark stands there. */
+/* Whether a word is this many bytes in hex digits. */
+static inline bool pmem_is_hex(pmem_words word, size_t count) {
+    static const char digits[] = "0123456789abcdefABCDEF";
+    if ((size_t)(word.end - word.at) != 2 * count) return false;
+    for (; word.at != word.end; word.at++)
+        if (memchr(digits, *word.at, sizeof digits - 1) == NULL) return false;
+    return true;
+}
+
+static inline bool pmem_is_digits(pmem_words word) {
+    if (word.at == word.end) return false;
+    for (; word.at != word.end; word.at++)
+        if (*word.at < '0' || *word.at > '9') return false;
+    return true;
+}
+
+/* Reads the words of a seal behind its first one. Answers whether they are a seal's: a line, MAJOR.MINOR and a tag. */
+static inline bool pmem_read_seal(pmem_words words, pmem_mark *mark) {
+    pmem_words line = pmem_next_word(&words), major = pmem_next_word(&words), minor = major, tag = pmem_next_word(&words);
+    while (minor.at != minor.end && *minor.at != '.') minor.at++;
+    if (minor.at == minor.end) return false;
+    major.end = minor.at++;
+    if (!pmem_is_digits(line) || !pmem_is_digits(major) || !pmem_is_digits(minor)) return false;
+    if (!pmem_is_hex(tag, sizeof mark->tag) || words.at != words.end) return false;
+    mark->at = (uint32_t)pmem_take_number(&line);
+    mark->major = pmem_take_number(&major);
+    mark->minor = (uint8_t)pmem_take_number(&minor);
+    pmem_take_bytes(&tag, mark->tag, sizeof mark->tag);
+    return true;
+}
+
+/* Reads the mark at the beginning of a text, which may be any bytes. Returns its length with its LF; 0 if no mark stands there: then all
+ * of `mark` is 0. The marks of a reply begin at its byte `log_len`. */
 static inline size_t pmem_read_mark(const uint8_t *text, size_t len, pmem_mark *mark) {
     const uint8_t *lf = len == 0 ? NULL : (const uint8_t *)memchr(text, '\n', len);
     pmem_words words, word;
@@ -405,21 +616,16 @@ static inline size_t pmem_read_mark(const uint8_t *text, size_t len, pmem_mark *
     words.at = text;
     words.end = lf;
     word = pmem_next_word(&words);
-    mark->is_begin = pmem_is_word(word, "begin");
-    if (!mark->is_begin && !pmem_is_word(word, "seal")) return 0;
-    mark->at = (uint32_t)pmem_take_number(&words);
-    if (!mark->is_begin) {
-        pmem_words counter = pmem_next_word(&words), major = counter, minor = counter;
-        while (major.end != counter.at && *major.end != '.') major.end--;
-        minor.at = major.end + 1;
-        mark->major = pmem_take_number(&major);
-        mark->minor = (uint8_t)pmem_take_number(&minor);
-        pmem_take_bytes(&words, mark->tag, sizeof mark->tag);
+    if (pmem_is_word(word, "begin") && pmem_is_digits(words)) {
+        mark->is_begin = true;
+        mark->at = (uint32_t)pmem_take_number(&words);
+    } else if (!pmem_is_word(word, "seal") || !pmem_read_seal(words, mark)) {
+        return 0;
     }
     return (size_t)(lf - text) + 1;
 }
 
-/* ---- the commands of `run`. `port` is 0 to 7, `at` a data line, `device` a device line */
+/* ---- the commands of `run`. `port` is 0 to 7, `at` a data line, `device` a device line. A NULL line is PMEM_LINE_COUNT */
 
 static inline pmem_result pmem_command(pmem *handle, const char *name, const uint64_t *numbers, size_t count, const uint8_t *bytes,
                                        size_t bytes_len) {
@@ -438,7 +644,7 @@ static inline pmem_result pmem_numbers(pmem *handle, const char *name, size_t co
     return pmem_command(handle, name, numbers, count, NULL, 0);
 }
 
-/* A write of a whole data line waits at a port. */
+/* Puts a write of a whole data line into a port's queue. */
 static inline pmem_result pmem_post(pmem *handle, unsigned port, uint64_t at, const uint8_t line[PMEM_LINE_BYTES]) {
     uint64_t numbers[2];
     numbers[0] = port;
@@ -446,7 +652,7 @@ static inline pmem_result pmem_post(pmem *handle, unsigned port, uint64_t at, co
     return pmem_command(handle, "post", numbers, 2, line, PMEM_LINE_BYTES);
 }
 
-/* The same for `len` bytes, 1 to 64, from place `from` of the line on. Another length is PMEM_LINE_HEX. */
+/* The same for `len` bytes, 1 to 64, from byte `from` of the line on. Length 0 is PMEM_LINE_COUNT, a length above 64 PMEM_LINE_HEX. */
 static inline pmem_result pmem_part(pmem *handle, unsigned port, uint64_t at, unsigned from, const uint8_t *bytes, size_t len) {
     uint64_t numbers[3];
     numbers[0] = port;
@@ -455,32 +661,32 @@ static inline pmem_result pmem_part(pmem *handle, unsigned port, uint64_t at, un
     return pmem_command(handle, "part", numbers, 3, bytes, len <= PMEM_LINE_BYTES ? len : PMEM_LINE_BYTES + 1);
 }
 
-/* The port's oldest waiting write is done. */
+/* Does the port's oldest waiting write. */
 static inline pmem_result pmem_drain(pmem *handle, unsigned port) { return pmem_numbers(handle, "drain", 1, port, 0); }
 
-/* All writes that wait at the port are done, the oldest first, until one isn't put. */
+/* Does all writes that wait at the port, the oldest first, until the queue is empty or a write fails. */
 static inline pmem_result pmem_fence(pmem *handle, unsigned port) { return pmem_numbers(handle, "fence", 1, port, 0); }
 
-/* A data line as the port sees it: memory's, with the port's waiting bytes over it. */
+/* Reads a data line as the port sees it: the memory's line, with the port's waiting bytes over it. */
 static inline pmem_result pmem_read(pmem *handle, unsigned port, uint64_t at) { return pmem_numbers(handle, "read", 2, port, at); }
 
-/* One more line of the oldest page under re-encryption is sealed anew. */
+/* Re-encrypts one more line of the oldest page that is under re-encryption. */
 static inline pmem_result pmem_turn(pmem *handle) { return pmem_numbers(handle, "turn", 0, 0, 0); }
 
-/* The oldest dirty metadata line is written to its place. */
+/* Writes the oldest dirty metadata line to its place. */
 static inline pmem_result pmem_flush(pmem *handle) { return pmem_numbers(handle, "flush", 0, 0, 0); }
 
-/* The stop-loss number becomes 1, 2, 4, 8 or 16. */
+/* Sets the stop-loss number: 1, 2, 4, 8 or 16. */
 static inline pmem_result pmem_loss(pmem *handle, uint64_t number) { return pmem_numbers(handle, "loss", 1, number, 0); }
 
-/* Power fails after so many more persist steps. */
+/* Lets power fail after `steps` more persist steps: 0 stops the next one. */
 static inline pmem_result pmem_cut(pmem *handle, uint64_t steps) { return pmem_numbers(handle, "cut", 1, steps, 0); }
 
-/* Power goes off; comes on, with recovery. */
+/* Turns power off; turns it on, with recovery. */
 static inline pmem_result pmem_off(pmem *handle) { return pmem_numbers(handle, "off", 0, 0, 0); }
 static inline pmem_result pmem_on(pmem *handle) { return pmem_numbers(handle, "on", 0, 0, 0); }
 
-/* The attacker's: a device line is overwritten behind the controller's back; one of its bits, 0 to 511, is turned; it is copied. */
+/* The attacker: overwrites a device line behind the controller's back; flips one of its bits, 0 to 511; copies it to another line. */
 static inline pmem_result pmem_poke(pmem *handle, uint64_t device, const uint8_t line[PMEM_LINE_BYTES]) {
     return pmem_command(handle, "poke", &device, 1, line, PMEM_LINE_BYTES);
 }
@@ -489,11 +695,11 @@ static inline pmem_result pmem_flip(pmem *handle, uint64_t device, unsigned bit)
 }
 static inline pmem_result pmem_move(pmem *handle, uint64_t from, uint64_t to) { return pmem_numbers(handle, "move", 2, from, to); }
 
-/* A copy of all device lines is kept; a device line is put back as it was then. */
+/* The attacker: keeps a copy of all device lines; puts a device line back as it was then. */
 static inline pmem_result pmem_snap(pmem *handle) { return pmem_numbers(handle, "snap", 0, 0, 0); }
 static inline pmem_result pmem_back(pmem *handle, uint64_t device) { return pmem_numbers(handle, "back", 1, device, 0); }
 
-/* A device line is shown; the counts since formatting are. */
+/* Shows a device line; shows the counts since formatting. */
 static inline pmem_result pmem_peek(pmem *handle, uint64_t device) { return pmem_numbers(handle, "peek", 1, device, 0); }
 static inline pmem_result pmem_stats(pmem *handle) { return pmem_numbers(handle, "stat", 0, 0, 0); }
 

@@ -12,14 +12,15 @@
         controller.on()                        # power comes on, with recovery
         controller.read(0, 7).data             # 64 zeros, as before the write
 
-What answers is the program `pmem`, as a child process, or the library `libpmem.so` in this process (`way_of`). This package spells
-commands and reads answers; nothing of it is proved.
+The library in this process or the program `pmem` as a child process answers (`way_of`). This package spells commands and reads answers;
+it is tested, not proved.
 """
 from .answers import (
-    LINE_BYTES, Answer, Begin, Clash, Counter, Cut, Done, Exhibit, Fenced, Flushed, Forged, Held, Line, LogOpened, Mark, Ok, Place, Raw,
-    Recovered, Refusal, RefusedCounter, RefusedData, RefusedMetadata, RefusedNode, RefusedRoot, RefusedShadow, Seal, Spent, Stat, Stepped,
-    Stuck, TreeRecovered, Turned, Twin, Unfit, WearOpened, read_answer, read_mark,
+    LINE_BYTES, Access, AccessKind, Answer, Begin, Clash, Counter, Cut, Done, Exhibit, Fenced, Flushed, Forged, Held, Line, Log, LogOpened,
+    Mark, Ok, Place, Raw, Recovered, Refusal, RefusedCounter, RefusedData, RefusedMetadata, RefusedNode, RefusedRoot, RefusedShadow, Seal,
+    Spent, Stat, Stepped, Stuck, TreeRecovered, Turned, Twin, Unfit, WearOpened, read_answer, read_log, read_mark,
 )
+from .cuts import Trial, each_cut, persist_steps
 from .device import Device, Layout
 from .errors import (
     BadWords, BreakShown, CounterSpent, LineFault, LogStuck, NoMemory, NoSnapshot, NotDone, NotFound, NothingDirty, NothingToTurn,
@@ -30,13 +31,16 @@ from .sessions import Controller, LevelledMemory, Session, TransactionMemory, Tr
 from .traces import Command, Output, Status, Trace, answer, check
 from .ways import Library, Program, Way, way_of
 
+__version__ = "1.0.0"
+
 __all__ = [
-    "LINE_BYTES", "Answer", "BadWords", "Begin", "BreakShown", "Clash", "Command", "Controller", "Counter", "CounterSpent", "Cut",
+    "LINE_BYTES", "Access", "AccessKind", "Answer", "BadWords", "Begin", "BreakShown", "Clash", "Command", "Controller", "Counter",
+    "CounterSpent", "Cut",
     "Device", "Done", "Exhibit", "Fenced", "Flushed", "Forged", "Held", "Layout", "LevelledMemory", "Library", "Line", "LineFault",
-    "LogOpened", "LogStuck", "Mark", "NoMemory", "NoSnapshot", "NoTransaction", "NotDone", "NotFound", "NothingDirty", "NothingToTurn",
+    "Log", "LogOpened", "LogStuck", "Mark", "NoMemory", "NoSnapshot", "NoTransaction", "NotDone", "NotFound", "NothingDirty", "NothingToTurn",
     "Ok", "OutOfRange", "Output", "Place", "PmemError", "PowerCut", "PowerIsOff", "PowerIsOn", "Program", "ProgramFailed", "QueueEmpty",
     "QueueFull", "Raw", "Recovered", "Refusal", "Refused", "RefusedCounter", "RefusedData", "RefusedMetadata", "RefusedNode",
     "RefusedRoot", "RefusedShadow", "Seal", "Session", "SessionClosed", "SessionOver", "Spent", "Stat", "Status", "Stepped", "Stuck",
-    "TooManyLines", "Trace", "TransactionMemory", "TransactionOpen", "TreeController", "TreeRecovered", "Turned", "Twin", "Unfit",
-    "Unsuited", "WearOpened", "Way", "answer", "check", "read_answer", "read_mark", "way_of",
+    "TooManyLines", "Trace", "TransactionMemory", "TransactionOpen", "TreeController", "TreeRecovered", "Trial", "Turned", "Twin", "Unfit",
+    "Unsuited", "WearOpened", "Way", "answer", "check", "each_cut", "persist_steps", "read_answer", "read_log", "read_mark", "way_of",
 ]

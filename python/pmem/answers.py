@@ -1,10 +1,11 @@
 """Answers: what a command came to, each a frozen dataclass with the marks of its command.
 
-`str` of an answer is its very line as the program prints it, and `reply` that line with those of the marks before it.
+`str` of an answer is exactly its line as the program prints it. `reply` is that line with the lines of the log and the marks before it.
 """
 from dataclasses import dataclass
+from enum import Enum
 from html import escape
-from typing import Callable, Dict, Optional, Tuple, Type, Union
+from typing import Callable, Dict, List, Optional, Sequence, Tuple, Type, Union
 
 from .errors import ProgramFailed
 
@@ -75,17 +76,60 @@ Mark = Union[Begin, Seal]
 Marks = Tuple[Mark, ...]
 
 
+# ---- logs
+
+class AccessKind(Enum):
+    """What an access of the device was. The value is the word of the log."""
+
+    READ = "look"
+    WRITE = "line"
+    LATCH = "latch"
+
+
+@dataclass(frozen=True)
+class Access(Shown):
+    """An access of the device by the controller: a line read, a line written, or a latch.
+
+    `line` is the device line, whose address is 64 * line. A latch changes all on-chip registers at once: its `line` is how many lines the
+    commit group has then. Writes and latches are persist steps.
+    """
+
+    kind: AccessKind
+    line: int
+
+    def __str__(self) -> str:
+        return spelled(self.kind.value, self.line)
+
+
+@dataclass(frozen=True)
+class Log(Shown):
+    """What a command did: its accesses of the device in order, and how many tags and digests it computed."""
+
+    accesses: Tuple[Access, ...]
+    tags: int
+    digests: int
+
+    def __str__(self) -> str:
+        return "\n".join([*map(str, self.accesses), spelled("work", self.tags, self.digests)])
+
+
 # ---- answers
 
 class Answer(Shown):
-    """Any answer. `marks` are those of its command, in the order made."""
+    """Any answer. `marks` are the marks of its command, in the order made."""
 
     marks: Marks
 
     @property
+    def log(self) -> Optional[Log]:
+        """What the command did, if its session was opened with `log=True` (`--log`). Answers are compared without their logs."""
+        found: Optional[Log] = self.__dict__.get("_log")
+        return found
+
+    @property
     def reply(self) -> str:
-        """The marks and the answer, each a line with its LF, as the program prints them."""
-        return "".join(f"{line}\n" for line in (*self.marks, self))
+        """The log, the marks and the answer, each line with its LF, as the program prints them."""
+        return "".join(f"{line}\n" for line in (*([self.log] if self.log else []), *self.marks, self))
 
 
 class Done(Answer):
@@ -613,3 +657,75 @@ def read_answer(session: str, command: str, text: str, marks: Marks = ()) -> Ans
 def is_mark(text: str) -> bool:
     """Whether a line of a reply is a mark."""
     return text.startswith(("seal ", "begin "))
+
+
+def is_log_end(text: str) -> bool:
+    """Whether a line is the last one of a log."""
+    return text.startswith("work ")
+
+
+def read_access(text: str) -> Access:
+    """Reads a line of a log, without its LF.
+
+    Raises:
+        ProgramFailed: the text is not an access.
+    """
+    for kind in AccessKind:
+        fields = _fields_of(f"{kind.value} N:line", text)
+        if fields is not None and isinstance(fields["line"], int) and text == spelled(kind.value, fields["line"]):
+            return Access(kind, fields["line"])
+    raise ProgramFailed(f"an access that isn't one of pmem: {text[:80]!r}")
+
+
+def read_log(lines: Sequence[str]) -> Log:
+    """Reads the lines of a log, the last of which is its `work`.
+
+    Raises:
+        ProgramFailed: they are not a log.
+    """
+    work = _fields_of("work N:tags N:digests", lines[-1]) if lines else None
+    if work is None:
+        raise ProgramFailed(f"a log that isn't one of pmem: {lines[-1:]!r}")
+    log = Log(tuple(map(read_access, lines[:-1])), **work)  # type: ignore[arg-type]
+    if str(log) != "\n".join(lines):
+        raise ProgramFailed(f"a log that isn't one of pmem: {lines[-1]!r}")
+    return log
+
+
+def read_reply(session: str, command: str, lines: Sequence[str], has_log: bool = False) -> Answer:
+    """Reads the lines of a reply, without their LFs: the log if the session has one, the marks, and the answer.
+
+    Raises:
+        ProgramFailed: the lines are not a reply that this command of this session can have.
+    """
+    log, rest = None, list(lines)
+    if has_log:
+        end = next((place for place, line in enumerate(rest) if is_log_end(line)), None)
+        if end is None:
+            raise ProgramFailed(f"a reply without its log: {rest[:1]!r}")
+        log, rest = read_log(rest[:end + 1]), rest[end + 1:]
+    if not rest or any(not is_mark(line) for line in rest[:-1]):
+        raise ProgramFailed(f"a reply that isn't one of pmem: {' / '.join(rest)[:80]!r}")
+    answer = read_answer(session, command, rest[-1], tuple(map(read_mark, rest[:-1])))
+    if log is not None:
+        answer.__dict__["_log"] = log
+    return answer
+
+
+class ReplyLines:
+    """Puts the lines of replies together, one at a time: the log if the session has one, the marks, and the answer."""
+
+    def __init__(self, has_log: bool) -> None:
+        self.has_log = self._is_in_log = has_log
+        self.lines: List[str] = []
+
+    def add(self, line: str) -> Optional[List[str]]:
+        """Takes a line without its LF. Gives all lines of the reply if this is the last one, and begins the next reply."""
+        self.lines.append(line)
+        if self._is_in_log:
+            self._is_in_log = not is_log_end(line)
+            return None
+        if is_mark(line):
+            return None
+        whole, self.lines, self._is_in_log = self.lines, [], self.has_log
+        return whole

@@ -8,8 +8,8 @@ from types import TracebackType
 from typing import ClassVar, Deque, Dict, Iterator, List, NoReturn, Optional, Sequence, Tuple, Type, TypeVar, Union
 
 from .answers import (
-    LINE_BYTES, Answer, Cut, Done, Exhibit, Fenced, Flushed, Held, Line, LogOpened, Mark, Ok, Place, Raw, Recovered, Refusal, Spent, Stat,
-    Stepped, Stuck, TreeRecovered, Turned, Unfit, WearOpened, is_mark, read_answer, read_mark,
+    LINE_BYTES, Access, Answer, Cut, Done, Exhibit, Fenced, Flushed, Held, Line, LogOpened, Mark, Ok, Place, Raw, Recovered, Refusal, Spent,
+    Stat, Stepped, Stuck, TreeRecovered, Turned, Unfit, WearOpened, read_reply,
 )
 from .device import Device, Layout
 from .errors import (
@@ -37,32 +37,44 @@ def raise_not_done(answer: Answer) -> NoReturn:
 
 
 def _number(name: str, value: int, most: int = MOST_NUMBER, least: int = 0) -> str:
-    number = operator.index(value)
+    try:
+        number = operator.index(value)
+    except TypeError:
+        raise TypeError(f"{name} must be an integer, not {type(value).__name__}") from None
     if not least <= number <= most:
         raise ValueError(f"{name} must be {least} to {most}, not {number}")
     return str(number)
 
 
-def _hex(data: Bytes, least: int = LINE_BYTES) -> str:
-    found = memoryview(data).tobytes()
-    if not least <= len(found) <= LINE_BYTES:
-        raise ValueError(f"{LINE_BYTES if least == LINE_BYTES else '1 to 64'} bytes are wanted, not {len(found)}")
-    return found.hex()
+def _bytes(name: str, value: Bytes, least: int, most: int) -> bytes:
+    try:
+        found = memoryview(value).tobytes()
+    except TypeError:
+        raise TypeError(f"{name} must be bytes, not {type(value).__name__}") from None
+    if not least <= len(found) <= most:
+        raise ValueError(f"{name} must have {least if least == most else f'{least} to {most}'} bytes, not {len(found)}")
+    return found
+
+
+def _hex(name: str, value: Bytes, least: int = LINE_BYTES) -> str:
+    return _bytes(name, value, least, LINE_BYTES).hex()
 
 
 class Session:
     """A new, formatted memory with power on, and its controller. What all kinds of sessions have.
 
-    A call that is done answers a frozen dataclass; one that isn't raises a kind of `NotDone`, whose `answer` is that of the controller.
-    `tell` takes any line of a trace, and answers without raising. It is a context manager; the end closes it. Threads may share it: their
-    calls come one after the other. `through` is `program` or `library`, or what `way_of` gave; where it isn't said, the program is taken
-    where it is found.
+    A call that is done answers a frozen dataclass; any other raises a kind of `NotDone`, whose `answer` is the controller's. `tell` takes
+    any line of a trace and raises nothing for what the controller answers. A session is a context manager; its end closes it. Threads may
+    share it: their calls come one after the other. `through` is `program`, `library` or what `way_of` gave; `way_of` says what None takes.
+    `log` keeps the log of each command: `accesses`, and the `log` of each answer.
     """
 
     WORD: ClassVar[str] = ""
 
-    def __init__(self, options: Sequence[str], suite: Sequence[str], through: Through) -> None:
-        self._suite, self._words = tuple(suite), (self.WORD, *options, *suite)
+    def __init__(self, options: Sequence[str], suite: Sequence[str], log: bool, through: Through) -> None:
+        self._suite, self._words = tuple(suite), (self.WORD, *options, *suite, *(["--log"] if log else []))
+        self._has_log = log
+        self._cut: Optional[Cut] = None
         self._way = way_of(through)
         self._lock = threading.RLock()
         self._lines: List[bytes] = []
@@ -74,7 +86,7 @@ class Session:
 
     @property
     def words(self) -> Tuple[str, ...]:
-        """The words of the program that this session has."""
+        """The arguments of the program that this session has."""
         return self._words
 
     @property
@@ -97,6 +109,18 @@ class Session:
         """The marks of the last command."""
         return self._last[-1][1].marks if self._last else ()
 
+    @property
+    def accesses(self) -> Tuple[Access, ...]:
+        """The accesses of the device that the last command made, in order, if the session has a log: for simulators of timing.
+
+        Raises:
+            ValueError: the session has no log.
+        """
+        if not self._has_log:
+            raise ValueError("the session has no log: open it with log=True")
+        log = self._last[-1][1].log if self._last else None
+        return log.accesses if log else ()
+
     def close(self) -> None:
         """Ends the session. A closed one may be closed again; all other calls raise `SessionClosed`."""
         with self._lock:
@@ -112,10 +136,10 @@ class Session:
         self.close()
 
     def copy(self: S) -> S:
-        """A second session that stands where this one stands, and goes on by itself: a step back, or a cut tried at each step.
+        """A second session in the same state, which goes on independently: for example to try a cut at each step (`each_cut`).
 
-        By the program it is a new child that is told all commands so far, so it takes as long as the run so far; by the library it is a
-        copy of the commands.
+        Cost: the portable library copies the session's memory, in about a millisecond. The program and the native library answer all
+        commands again, so a copy takes as long as the run so far.
         """
         with self._lock:
             channel = self._open_channel()
@@ -142,10 +166,10 @@ class Session:
                      tag_key=None if tag_key is None else bytes.fromhex(tag_key), through=self._way)
 
     def tell(self, line: Union[str, bytes]) -> Optional[Answer]:
-        """Tells one line of a trace, without its LF, and gives its answer; None where the line is blank or a comment.
+        """Tells one line of a trace, without its LF, and gives its answer; None if the line is blank or a comment.
 
         Raises:
-            LineFault: the line isn't in the grammar; nothing was done.
+            LineFault: the line is not in the grammar; nothing was done.
             NoMemory, TooManyLines: nothing was done.
             SessionClosed, SessionOver: the session has ended.
         """
@@ -163,8 +187,10 @@ class Session:
             status, reply = channel.tell(text)
             if status not in (OK, SHOWN):
                 raise self._error_of(status)
-            answer = self._read(words[0].decode(), reply)
+            answer = read_reply(self.WORD, words[0].decode(), reply.decode("latin-1").split("\n")[:-1], self._has_log)
             self._is_over = status == SHOWN
+            if isinstance(answer, Cut):
+                self._cut = answer
             self._lines.append(text)
             self._last.append((" ".join(word.decode() for word in words), answer))
             return answer
@@ -186,13 +212,6 @@ class Session:
         if status == BAD_WORDS:
             return BadWords(f"{self._way.name} refuses the words {' '.join(self._words)}")
         return ProgramFailed(f"the {self._way.name} answered with status {status}")
-
-    def _read(self, command: str, reply: bytes) -> Answer:
-        """Reads a reply: its marks, and its last line."""
-        lines = reply.decode("latin-1").split("\n")[:-1]
-        if not lines or any(not is_mark(line) for line in lines[:-1]):
-            raise ProgramFailed(f"a reply that isn't one of pmem: {reply[:80]!r}")
-        return read_answer(self.WORD, command, lines[-1], tuple(read_mark(line) for line in lines[:-1]))
 
     def _done(self, kind: Type[A], *words: str) -> A:
         """Tells a command; its answer is of this kind, or raised."""
@@ -228,20 +247,18 @@ def _options(numbers: Dict[str, Tuple[Optional[int], int, int]], loss: Optional[
         if value is not None:
             words += [f"--{name}", _number(name, value, most, least)]
     if loss is not None:
-        if loss not in (1, 2, 4, 8, 16):
-            raise ValueError(f"loss must be 1, 2, 4, 8 or 16, not {loss}")
-        words += ["--loss", str(loss)]
+        word = _number("loss", loss)
+        if word not in ("1", "2", "4", "8", "16"):
+            raise ValueError(f"loss must be 1, 2, 4, 8 or 16, not {word}")
+        words += ["--loss", word]
     return words
 
 
 def _suite(suite: Optional[str], key: Optional[Bytes], tag_key: Optional[Bytes]) -> List[str]:
     if suite is not None and suite not in SUITES:
         raise ValueError(f"suite must be aes, weak or blur, not {suite!r}")
-    keys = [None if value is None else memoryview(value).tobytes() for value in (key, tag_key)]
-    for name, value, least, most in (("key", keys[0], 16, 16), ("tag_key", keys[1], 1, 64)):
-        if value is not None and not least <= len(value) <= most:
-            raise ValueError(f"{name} must have {least if least == most else f'{least} to {most}'} bytes, not {len(value)}")
-    return suite_words(suite, keys[0], keys[1])
+    return suite_words(suite, None if key is None else _bytes("key", key, 16, 16),
+                       None if tag_key is None else _bytes("tag_key", tag_key, 1, 64))
 
 
 class Controller(Session):
@@ -264,10 +281,10 @@ class Controller(Session):
 
     def __init__(self, *, levels: Optional[int] = None, sets: Optional[int] = None, ways: Optional[int] = None, loss: Optional[int] = None,
                  major: Optional[int] = None, suite: Optional[str] = None, key: Optional[Bytes] = None, tag_key: Optional[Bytes] = None,
-                 through: Through = None) -> None:
+                 log: bool = False, through: Through = None) -> None:
         options = _options({"levels": (levels, 1, 6), "sets": (sets, 1, 64), "ways": (ways, 1, 8), "major": (major, 0, MOST_NUMBER)}, loss)
         self._layout = Layout(*(given if given is not None else default for given, default in ((levels, 2), (sets, 4), (ways, 2))))
-        super().__init__(options, _suite(suite, key, tag_key), through)
+        super().__init__(options, _suite(suite, key, tag_key), log, through)
 
     @property
     def layout(self) -> Layout:
@@ -280,11 +297,11 @@ class Controller(Session):
 
     def post(self, port: int, line: int, data: Bytes) -> Ok:
         """A write of a data line, 64 bytes, waits at a port, 0 to 7. It isn't in memory before it is drained."""
-        return self._done(Ok, "post", self._port(port), _number("line", line), _hex(data))
+        return self._done(Ok, "post", self._port(port), _number("line", line), _hex("data", data))
 
     def part(self, port: int, line: int, start: int, data: Bytes) -> Ok:
         """A write of 1 to 64 bytes of a data line, from place `start` on, waits at a port."""
-        return self._done(Ok, "part", self._port(port), _number("line", line), _number("start", start), _hex(data, 1))
+        return self._done(Ok, "part", self._port(port), _number("line", line), _number("start", start), _hex("data", data, 1))
 
     def drain(self, port: int) -> Stepped:
         """The port's oldest waiting write is done."""
@@ -316,7 +333,7 @@ class Controller(Session):
 
     def poke(self, place: int, data: Bytes) -> Ok:
         """The attacker's: a device line is overwritten behind the controller's back."""
-        return self._done(Ok, "poke", _number("place", place), _hex(data))
+        return self._done(Ok, "poke", _number("place", place), _hex("data", data))
 
     def flip(self, place: int, bit: int) -> Ok:
         """The attacker's: one of a device line's 512 bits is turned."""
@@ -343,7 +360,7 @@ class Controller(Session):
         return self._done(Stat, "stat")
 
     def device(self) -> Device:
-        """All lines of the device as it is now, by a run of the commands so far: the session itself isn't asked.
+        """All lines of the device as it is now, by a new run of the commands so far: the session itself is not told anything.
 
         Raises:
             TooManyLines: the commands so far and the device's lines are together more than 1,000,000.
@@ -353,7 +370,7 @@ class Controller(Session):
             asked = self.trace.data + b"".join(b"peek %d\n" % place for place in range(self._layout.lines))
         if self._is_over:
             raise SessionOver("an exhibit ended the session")
-        status, output = self._way.run(self._words, asked)
+        status, output = self._way.run([word for word in self._words if word != "--log"], asked)
         if status != OK:
             raise self._error_of(status)
         shown = output.split(b"\n")[-self._layout.lines - 1:-1]
@@ -373,14 +390,14 @@ class LevelledMemory(Session):
 
     def __init__(self, *, levels: Optional[int] = None, sets: Optional[int] = None, ways: Optional[int] = None, loss: Optional[int] = None,
                  major: Optional[int] = None, suite: Optional[str] = None, key: Optional[Bytes] = None, tag_key: Optional[Bytes] = None,
-                 every: Optional[int] = None, through: Through = None) -> None:
+                 every: Optional[int] = None, log: bool = False, through: Through = None) -> None:
         options = _options({"levels": (levels, 1, 6), "sets": (sets, 1, 64), "ways": (ways, 1, 8), "major": (major, 0, MOST_NUMBER),
                             "every": (every, 1, 1_000_000)}, loss)
-        super().__init__(options, _suite(suite, key, tag_key), through)
+        super().__init__(options, _suite(suite, key, tag_key), log, through)
 
     def write(self, line: int, data: Bytes) -> Union[Stepped, Held]:
         """A line of 64 bytes is written. `Held`: it is, and the move after it couldn't be."""
-        answer = self._done(Done, "write", _number("line", line), _hex(data))
+        answer = self._done(Done, "write", _number("line", line), _hex("data", data))
         assert isinstance(answer, (Stepped, Held))
         return answer
 
@@ -416,9 +433,9 @@ class TransactionMemory(Session):
 
     def __init__(self, *, levels: Optional[int] = None, sets: Optional[int] = None, ways: Optional[int] = None, loss: Optional[int] = None,
                  major: Optional[int] = None, suite: Optional[str] = None, key: Optional[Bytes] = None, tag_key: Optional[Bytes] = None,
-                 through: Through = None) -> None:
+                 log: bool = False, through: Through = None) -> None:
         options = _options({"levels": (levels, 1, 6), "sets": (sets, 1, 64), "ways": (ways, 1, 8), "major": (major, 0, MOST_NUMBER)}, loss)
-        super().__init__(options, _suite(suite, key, tag_key), through)
+        super().__init__(options, _suite(suite, key, tag_key), log, through)
 
     def begin(self) -> Ok:
         """A transaction is opened."""
@@ -426,7 +443,7 @@ class TransactionMemory(Session):
 
     def put(self, line: int, data: Bytes) -> Ok:
         """The open transaction will write a line of 64 bytes."""
-        return self._done(Ok, "put", _number("line", line), _hex(data))
+        return self._done(Ok, "put", _number("line", line), _hex("data", data))
 
     def commit(self) -> Stepped:
         """The open transaction is written. `LogStuck` says that it is, and that no other one can be before power was off and on."""
@@ -463,12 +480,12 @@ class TreeController(Session):
     WORD = "tree"
 
     def __init__(self, *, levels: Optional[int] = None, sets: Optional[int] = None, suite: Optional[str] = None, key: Optional[Bytes] = None,
-                 tag_key: Optional[Bytes] = None, through: Through = None) -> None:
-        super().__init__(_options({"levels": (levels, 1, 6), "sets": (sets, 1, 64)}), _suite(suite, key, tag_key), through)
+                 tag_key: Optional[Bytes] = None, log: bool = False, through: Through = None) -> None:
+        super().__init__(_options({"levels": (levels, 1, 6), "sets": (sets, 1, 64)}), _suite(suite, key, tag_key), log, through)
 
     def write(self, line: int, data: Bytes) -> Stepped:
         """A data line of 64 bytes is written."""
-        return self._done(Stepped, "write", _number("line", line), _hex(data))
+        return self._done(Stepped, "write", _number("line", line), _hex("data", data))
 
     def read(self, line: int) -> Line:
         """A data line."""
@@ -480,7 +497,7 @@ class TreeController(Session):
 
     def poke(self, place: int, data: Bytes) -> Ok:
         """The attacker's: a device line is overwritten behind the controller's back."""
-        return self._done(Ok, "poke", _number("place", place), _hex(data))
+        return self._done(Ok, "poke", _number("place", place), _hex("data", data))
 
     def snap(self) -> Ok:
         """The attacker's: a copy of all device lines is kept."""

@@ -5,7 +5,7 @@ from enum import IntEnum
 from html import escape
 from typing import Iterable, List, Optional, Sequence, Tuple, Union
 
-from .answers import FORMS, Answer, Exhibit, Mark, is_mark, read_answer, read_mark, short_text
+from .answers import FORMS, Answer, Exhibit, ReplyLines, read_reply, short_text
 from .errors import BadWords, NoMemory, ProgramFailed
 from .grammar import is_skipped, words_of
 from .ways import Through, way_of
@@ -130,22 +130,27 @@ class Output:
 
     @property
     def replies(self) -> List[Tuple[Command, Answer]]:
-        """Each command that was answered, with its answer. Empty for words that name no session."""
+        """Each command that was answered, with its answer. Empty for words that name no session.
+
+        Raises:
+            ProgramFailed: the output is not one of pmem.
+        """
         session = self.words[0] if self.words else ""
         if session not in FORMS:
             return []
         found: List[Tuple[Command, Answer]] = []
-        marks: List[Mark] = []
         asked = self.trace.commands
+        reply = ReplyLines("--log" in self.words)
         for line in self.text.splitlines():
-            if session == "run" and is_mark(line):
-                marks.append(read_mark(line))
-            elif not line.startswith("stop "):
-                if len(found) == len(asked):
-                    raise ProgramFailed(f"more answers than commands: {line[:80]!r}")
-                command = asked[len(found)]
-                found.append((command, read_answer(session, command.name, line, tuple(marks))))
-                marks = []
+            whole = None if line.startswith("stop ") else reply.add(line)
+            if whole is None:
+                continue
+            if len(found) == len(asked):
+                raise ProgramFailed(f"more answers than commands: {line[:80]!r}")
+            command = asked[len(found)]
+            found.append((command, read_reply(session, command.name, whole, reply.has_log)))
+        if reply.lines and self.status not in (Status.NO_MEMORY, Status.REPLY_LOST):
+            raise ProgramFailed(f"the last reply has no answer: {reply.lines[0][:80]!r}")
         return found
 
     @property

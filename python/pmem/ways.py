@@ -9,14 +9,15 @@ from functools import lru_cache
 from pathlib import Path
 from typing import List, Optional, Sequence, Tuple, Union
 
+from .answers import ReplyLines
 from .errors import BadWords, NoMemory, NotFound, ProgramFailed
 
 # Statuses: 0 to 8 are the program's; from 51 on those of a line that a session doesn't take, as include/pmem.h has them.
 OK, NO_MEMORY, BAD_WORDS, REPLY_LOST, SHOWN, TOO_MANY_LINES, FAULT = 0, 1, 2, 4, 6, 7, 50
 MOST_LINES = 1_000_000
-CHECKOUT = Path(__file__).resolve().parents[2]
+PACKAGE = Path(__file__).resolve().parent
+CHECKOUT = PACKAGE.parents[1]
 EXHIBITS = (b"clash ", b"forged ", b"twin ")
-MARKS = (b"seal ", b"begin ")
 
 
 class Channel(ABC):
@@ -24,8 +25,8 @@ class Channel(ABC):
 
     @abstractmethod
     def tell(self, line: bytes) -> Tuple[int, bytes]:
-        """Tells a command, a line without its LF, and gives a status and the reply, each of its lines with its LF. At a status that is
-        neither OK nor SHOWN nothing was done, and there is no reply."""
+        """Tells a command, a line without its LF, and gives a status and the reply, each line with its LF. Unless the status is OK or
+        SHOWN, there is no reply; nothing was done then, except at REPLY_LOST."""
 
     @abstractmethod
     def copy(self) -> "Channel":
@@ -33,7 +34,7 @@ class Channel(ABC):
 
     @abstractmethod
     def close(self) -> None:
-        """Ends the session. It is no error where it has ended."""
+        """Ends the session. An ended session may be closed again."""
 
 
 class Way(ABC):
@@ -72,9 +73,8 @@ def _end(process: "subprocess.Popen[bytes]", owner: int) -> None:
 
 
 class ProgramChannel(Channel):
-    """A session of a child process. Each line's reply comes before the child asks for more. Where the child ends, as it does at a line
-    that isn't in the grammar, where it is interrupted, and in a process forked from this one, another one is started and told all lines
-    so far."""
+    """A session of a child process. Each line's reply comes before the child asks for more. If the child ends, as it does at a line that
+    is not in the grammar, when it is interrupted, and in a process forked from this one, a new child is told all lines so far."""
 
     BATCH = 4096
 
@@ -123,16 +123,16 @@ class ProgramChannel(Channel):
 
     def _read_reply(self, process: "subprocess.Popen[bytes]") -> Tuple[int, bytes]:
         assert process.stdout
-        lines: List[bytes] = []
+        reply = ReplyLines("--log" in self._words)
         while True:
             line = process.stdout.readline()
             if not line.endswith(b"\n"):
-                raise ProgramFailed(f"{self._program.path} ended with status {process.wait()} in the midst of a session")
+                raise ProgramFailed(f"{self._program.path} ended with status {process.wait()} in the middle of a session")
             if line.startswith(b"stop "):
                 return self._stop(line)
-            lines.append(line)
-            if not line.startswith(MARKS):
-                return SHOWN if line.startswith(EXHIBITS) else OK, b"".join(lines)
+            whole = reply.add(line.decode("latin-1"))
+            if whole is not None:
+                return SHOWN if line.startswith(EXHIBITS) else OK, "".join(whole).encode("latin-1")
 
     def _stop(self, line: bytes) -> Tuple[int, bytes]:
         """The status of the last line of a child that stopped."""
@@ -208,7 +208,7 @@ class Program(Way):
 
 
 def _is_built(path: Path, top: Path) -> bool:
-    """Whether a checkout's program or library is built from its sources as they stand, by the rule of its ./pmem: nothing of them is newer."""
+    """Whether a checkout's program or library is built from its sources as they stand: none of them is newer (the rule of ./pmem)."""
     if not os.access(path, os.X_OK):
         return False
     built = path.stat().st_mtime
@@ -218,14 +218,34 @@ def _is_built(path: Path, top: Path) -> bool:
 
 @lru_cache(maxsize=None)
 def _checkout_file(top: Path, *names: str) -> Optional[str]:
-    """A file of a checkout, where it is built. A call from Python begins no proof of twenty minutes: ./pmem and tools/library do."""
+    """A file of a checkout, if it is built from the sources as they stand. Calls from Python build nothing."""
     path = top.joinpath(*names)
     return str(path) if (top / "crates.txt").exists() and _is_built(path, top) else None
 
 
+@lru_cache(maxsize=None)
+def _checkout_program(top: Path) -> Optional[str]:
+    """The program that the script ./pmem of a checkout or a bundle would run; None if there is no such script. The script may compile it
+    first, which takes half a minute and is told on standard error. It begins no proof.
+
+    Raises:
+        NotFound: there is no program and none can be made; the message says why.
+    """
+    script = top / "pmem"
+    if not script.is_file() or not (top / "VERSION").is_file():
+        return None
+    try:
+        asked = subprocess.run([str(script), "--where"], stdin=subprocess.DEVNULL, stdout=subprocess.PIPE, check=False)
+    except OSError as error:
+        raise NotFound(f"{script} cannot be run: {error.strerror or error}") from error
+    if asked.returncode:
+        raise NotFound(f"{script} --where ended with status {asked.returncode}, and says above why there is no program")
+    return os.fsdecode(asked.stdout).rstrip("\n")
+
+
 def find_program() -> Optional[str]:
-    """The program: PMEM_PROGRAM, else `pmem` on the PATH, else the checkout's, where it is built from the sources as they stand."""
-    return os.environ.get("PMEM_PROGRAM") or shutil.which("pmem") or _checkout_file(CHECKOUT, "crates", "pmem", "out", "pmem")
+    """The program: PMEM_PROGRAM, else `pmem` on the PATH, else what the script ./pmem of the checkout would run."""
+    return os.environ.get("PMEM_PROGRAM") or shutil.which("pmem") or _checkout_program(CHECKOUT)
 
 
 # ---- the library
@@ -327,37 +347,41 @@ class Library(Way):
 
 
 def find_library() -> Optional[str]:
-    """The library: the file PMEM_LIBRARY, or `libpmem.so` in that folder; else out/libpmem.so of the checkout, where it is built from the
-    sources as they stand. No place of the system is searched: the library of another project has the same name."""
+    """The library: the file PMEM_LIBRARY, or `libpmem.so` in that folder; else the one that `pip install` compiled into this package; else
+    out/libpmem.so of the checkout, if it is built from the sources as they stand. No place of the system is searched: the library of
+    another project has the same name."""
     given = os.environ.get("PMEM_LIBRARY")
     if given:
         path = Path(given)
         return str(path / "libpmem.so" if path.is_dir() else path)
-    return _checkout_file(CHECKOUT, "out", "libpmem.so")
+    places = [PACKAGE / "libpmem.so"]
+    if not (CHECKOUT / "crates.txt").exists() and (CHECKOUT / "VERSION").exists():
+        places.append(CHECKOUT / "lib" / "libpmem.so")  # of a bundle
+    return next((str(place) for place in places if place.exists()), None) or _checkout_file(CHECKOUT, "out", "libpmem.so")
 
 
 Through = Union[None, str, Way]
 
 
 def way_of(through: Through = None) -> Way:
-    """The way that is asked for: `program`, `library`, or one that is there already. Where none is asked for it is the library, whose calls stay in
-    this process; but the program where PMEM_PROGRAM names one and PMEM_LIBRARY names none, or where the library isn't there.
+    """The way that `through` names: `program`, `library`, or a way itself. None is the library, whose calls stay in this process; but it is
+    the program if PMEM_PROGRAM names one and PMEM_LIBRARY names none, or if there is no library.
 
     Raises:
-        NotFound: what is asked for isn't there.
-        ValueError: no such way.
+        NotFound: there is no such program or library here.
+        ValueError: `through` names no way.
     """
     if isinstance(through, Way):
         return through
     if through not in (None, "program", "library"):
-        raise ValueError(f"through is program or library, not {through!r}")
+        raise ValueError(f"through must be 'program' or 'library', not {through!r}")
     library = find_library() if through != "program" else None
-    program = find_program() if through != "library" else None
-    if library and not (program and os.environ.get("PMEM_PROGRAM") and not os.environ.get("PMEM_LIBRARY")):
+    if library and not (through is None and os.environ.get("PMEM_PROGRAM") and not os.environ.get("PMEM_LIBRARY")):
         return Library(library)
+    program = find_program() if through != "library" else None
     if program:
         return Program(program)
-    what = {"program": "the program isn't there", "library": "the library isn't there"}.get(
-        through or "", "neither the program nor the library is there")
-    raise NotFound(f"{what}: set PMEM_PROGRAM to the program pmem, put it on the PATH, or set PMEM_LIBRARY to the folder of libpmem.so; in a "
-                   "checkout ./pmem proves and builds the one, and tools/library the other")
+    what = {"program": "the program was not found", "library": "the library was not found"}.get(
+        through or "", "neither the program nor the library was found")
+    raise NotFound(f"{what}: in a checkout run tools/library, which takes half a minute, or pip install ./python; elsewhere set PMEM_LIBRARY "
+                   "to the folder of libpmem.so, or PMEM_PROGRAM to the program pmem, or put that on the PATH")

@@ -12,13 +12,14 @@ import re
 import shutil
 import subprocess
 import sys
+import textwrap
 import threading
 import unittest
 from pathlib import Path
 from typing import Any, Callable, Dict, Iterator, List, Optional, Tuple
 from unittest import mock
 
-from .helpers import EXAMPLES, FORGED, TOOLS, ExploreTest, lesson_words, library_folder, program_path
+from .helpers import EXAMPLES, FORGED, TOOLS, ExploreTest, any_library, lesson_words, program_path
 from .test_outputs import SESSIONS, WORDS, read_session
 
 TOP = TOOLS.parent
@@ -145,6 +146,87 @@ class WayTest:
                 self.assertEqual(trial.read(0, 0).data, ONES if steps > 3 else ZEROS)
         self.assertEqual(len(controller.trace.commands), 1)
         self.assertEqual(controller.drain(0).steps, 7)
+
+    def test_each_cut(self: Any) -> None:
+        """A write of seven steps, cut at each of them: lost before its fourth step, kept from then on (docs/MACHINE.md, A cut)."""
+        controller = self.controller()
+        controller.post(0, 0, ONES)
+        trials = []
+        for trial in pmem.each_cut(controller):
+            with trial as memory:
+                memory.drain(0)
+                self.assertEqual(memory.read(0, 0).data, ONES)  # reached without a cut only
+            self.assertEqual(memory.read(0, 0).data, ZEROS if trial.kept is False else ONES)
+            trials.append((trial.steps, trial.is_cut, trial.kept))
+            memory.post(1, 9, TWOS)
+            self.assertEqual(memory.fence(1).drained, 1)  # nothing is cut behind the block
+        self.assertEqual(trials, [*((steps, True, steps > 3) for steps in range(7)), (7, False, None)])
+        self.assertTrue(memory.is_closed)
+        self.assertEqual((pmem.persist_steps(controller, lambda memory: memory.drain(0)), len(controller.trace.commands)), (7, 1))
+        self.assertEqual(pmem.persist_steps(controller, lambda memory: None), 0)
+
+    def test_cuts_within(self: Any) -> None:
+        """Recovery can be cut too; a cut that the block itself catches counts; other errors leave the loop."""
+        controller = self.controller(suite="weak")
+        controller.post(0, 0, ONES)
+        for trial in pmem.each_cut(controller, recover=False):
+            with trial as memory:
+                memory.drain(0)
+            if trial.is_cut:
+                with self.assertRaises(pmem.PowerIsOff):
+                    memory.read(0, 0)
+                for second in pmem.each_cut(memory):
+                    with second as again:
+                        again.on()
+                    self.assertEqual(again.read(0, 0).data, ONES if trial.kept else ZEROS)
+        caught = 0
+        for trial in pmem.each_cut(controller):
+            with trial as memory:
+                try:
+                    memory.drain(0)
+                except pmem.PowerCut:
+                    caught += 1
+                    memory.on()
+            self.assertEqual(trial.is_cut, trial.steps < 7)
+        self.assertEqual(caught, 7)
+        with self.assertRaises(pmem.QueueEmpty):
+            for trial in pmem.each_cut(controller):
+                with trial as memory:
+                    memory.drain(5)
+        with self.assertRaises(RuntimeError):
+            for trial in pmem.each_cut(controller):
+                pass
+        loop = pmem.each_cut(controller)
+        trial = next(loop)
+        with trial as memory:
+            memory.drain(0)
+        with self.assertRaises(RuntimeError), trial:
+            pass
+        self.assertEqual(repr(trial), "<power fails after 0 persist steps, cut: cut lost 0>")
+
+    def test_logs(self: Any) -> None:
+        """The log of each command is that of the program, and no part of how answers compare. docs/FORMATS.md has these three."""
+        controller = self.controller(suite="weak", log=True)
+        self.assertEqual(controller.accesses, ())
+        answer = controller.read(0, 0)
+        read, write, latch = pmem.AccessKind.READ, pmem.AccessKind.WRITE, pmem.AccessKind.LATCH
+        self.assertEqual((answer, answer.log.tags, answer.log.digests), (pmem.Line(ZEROS, 0), 1, 3))
+        self.assertEqual(controller.accesses, tuple(pmem.Access(read, line) for line in (1280, 1281, 1285, 0, 1024)))
+        self.assertEqual((controller.post(0, 0, ONES).log, controller.accesses), (pmem.Log((), 0, 0), ()))
+        controller.drain(0)
+        self.assertEqual([(access.kind, access.line) for access in controller.accesses], [
+            (write, 1302), (write, 1302), (write, 1301), (read, 1024), (latch, 2), (write, 0), (write, 1024), (latch, 0)])
+        with controller.copy() as second:
+            self.assertEqual((second.accesses, second.stat().log), (controller.accesses, pmem.Log((), 0, 0)))
+        self.assertEqual(len(controller.device()), controller.layout.lines)
+        for words, trace in ((["run", "--log"], (EXAMPLES / "power_cut.trace").read_bytes()),
+                             (["tree", "--log"], (EXAMPLES / "tree.trace").read_bytes()), (["run", "--suite", "weak", "--log"], FORGED.encode()),
+                             (["wear", "--log", "--levels=1"], b"write 0 " + b"11" * 64)):
+            whole = pmem.answer(words, trace, self.by)
+            self.assertEqual((whole.status, whole.data), due(words, trace))
+            self.assertEqual("".join(answer.reply for answer in whole.answers), whole.text)
+        with self.assertRaises(ValueError):
+            self.controller(suite="weak").accesses
 
     def test_refusals(self: Any) -> None:
         controller = self.controller()
@@ -378,7 +460,7 @@ class ProgramTest(WayTest, unittest.TestCase):
 class LibraryTest(WayTest, unittest.TestCase):
     @classmethod
     def setUpClass(cls) -> None:
-        cls.by = ways.Library(library_folder() / "libpmem.so")
+        cls.by = ways.Library(any_library())
 
     def test_faults_of_lines(self) -> None:
         """What the library answers to lines that the package itself refuses before they are told."""
@@ -426,24 +508,29 @@ class ChildTest(ExploreTest):
         environment.update(PATH=str(self.directory), PYTHONPATH=str(self.directory / "lone" / "deep"))
         ended = subprocess.run([sys.executable, "-c", "import pmem; pmem.Controller()"], env=environment, stdout=subprocess.PIPE,
                                stderr=subprocess.PIPE, universal_newlines=True, check=False)
-        self.assertIn("NotFound: neither the program nor the library is there: set PMEM_PROGRAM", ended.stderr)
+        self.assertIn("NotFound: neither the program nor the library was found: in a checkout run tools/library", ended.stderr)
 
     def test_places(self) -> None:
-        """The program and the library of a checkout are taken where they are built from the sources as they stand."""
-        program, library = ("crates", "pmem", "out", "pmem"), ("out", "libpmem.so")
-        source = self.directory / "crates" / "pmem" / "src" / "main.rt"
+        """The library of a checkout is taken if it is built from the sources as they stand; its program is what ./pmem says."""
+        source, library = self.directory / "crates" / "pmem" / "src" / "main.rt", self.directory / "out" / "libpmem.so"
         self.file("crates.txt", "")
-        for path in (source, *(self.directory.joinpath(*names) for names in (program, library))):
+        for path in (source, library):
             path.parent.mkdir(parents=True, exist_ok=True)
             path.write_text("")
             path.chmod(0o755)
-        for names in (program, library):
-            path = self.directory.joinpath(*names)
-            os.utime(path, (2e9, 2e9))
-            os.utime(source, (1.9e9, 1.9e9))
-            self.assertEqual(ways._checkout_file.__wrapped__(self.directory, *names), str(path))
-            os.utime(source, (2.1e9, 2.1e9))
-            self.assertIsNone(ways._checkout_file.__wrapped__(self.directory, *names))
+        os.utime(library, (2e9, 2e9))
+        os.utime(source, (1.9e9, 1.9e9))
+        self.assertEqual(ways._checkout_file.__wrapped__(self.directory, "out", "libpmem.so"), str(library))
+        os.utime(source, (2.1e9, 2.1e9))
+        self.assertIsNone(ways._checkout_file.__wrapped__(self.directory, "out", "libpmem.so"))
+        self.assertIsNone(ways._checkout_program.__wrapped__(self.directory))
+        self.file("VERSION", "1.2.3\n")
+        self.script("pmem", "import sys\nprint(' '.join(sys.argv[1:]), '/a place')")
+        self.assertEqual(ways._checkout_program.__wrapped__(self.directory), "--where /a place")
+        self.script("pmem", "import sys\nsys.exit(126)")
+        with self.assertRaises(pmem.NotFound) as raised:
+            ways._checkout_program.__wrapped__(self.directory)
+        self.assertIn("status 126", str(raised.exception))
         with mock.patch.dict(os.environ, {"PMEM_PROGRAM": "here", "PMEM_LIBRARY": str(self.directory)}):
             self.assertEqual((ways.find_program(), ways.find_library()), ("here", str(self.directory / "libpmem.so")))
 
@@ -522,6 +609,17 @@ class TextTest(unittest.TestCase):
                 self.assertRaises(ValueError, call)
             for wrong in (lambda: controller.post(0, 0, 64), lambda: controller.drain("0"), lambda: controller.cut(1.0)):  # type: ignore
                 self.assertRaises(TypeError, wrong)
+            for name, at_fault in (
+                ("port", lambda: controller.post(8, 0, ONES)), ("line", lambda: controller.read(0, -1)), ("data", lambda: controller.post(0, 0, b"")),
+                ("start", lambda: controller.part(0, 0, 2**64, b"a")), ("bit", lambda: controller.flip(0, "1")),
+                ("place", lambda: controller.peek(None)), ("to", lambda: controller.move(0, 1.5)), ("steps", lambda: controller.cut(-1)),
+                ("levels", lambda: pmem.Controller(levels="2")), ("loss", lambda: pmem.Controller(loss=3)),
+                ("key", lambda: pmem.Controller(key="00")),
+                ("tag_key", lambda: pmem.Controller(tag_key=bytes(65))), ("suite", lambda: pmem.Controller(suite="AES")),
+                ("every", lambda: pmem.LevelledMemory(every=0)), ("through", lambda: pmem.Controller(through="both")),
+            ):
+                with self.assertRaisesRegex((ValueError, TypeError), rf"^{name} must "):
+                    at_fault()
             self.assertEqual(len(controller.trace.commands), 0)
             controller.post(0, 0, bytearray(64))
             controller.part(0, 0, 0, memoryview(b"ab"))
@@ -588,7 +686,7 @@ class Balanced(html.parser.HTMLParser):
 
 class SourcesTest(unittest.TestCase):
     def paths(self) -> List[Path]:
-        found = [*PACKAGE.glob("pmem/*.py"), *EXAMPLES.glob("python/*.py")]
+        found = [*PACKAGE.glob("pmem/*.py"), *PACKAGE.glob("build_backend/*.py"), *EXAMPLES.glob("python/*.py")]
         self.assertGreater(len(found), 8)
         return found
 
@@ -615,6 +713,21 @@ class SourcesTest(unittest.TestCase):
                                stdout=subprocess.PIPE, stderr=subprocess.STDOUT, universal_newlines=True, check=False)
         self.assertEqual(ended.returncode, 0, ended.stdout)
         return ended.stdout.splitlines()
+
+    def test_pages(self) -> None:
+        """The first example of the package's page, and that of its docstring, print what their comments say."""
+        of_page = re.findall(r"```python\n(.*?)```", (PACKAGE / "README.md").read_text(), re.S)[0]
+        of_package = textwrap.dedent("".join(line for line in (pmem.__doc__ or "").splitlines(True) if line.startswith("    ") or line == "\n"))
+        for code, printed in ((of_page, ["cut lost 2 False", "on 256 5 2", r"b'\x00'"]), (of_package, ["cut lost 3 False"])):
+            ended = subprocess.run([sys.executable, "-c", code], env={**os.environ, "PYTHONPATH": str(PACKAGE)}, stdout=subprocess.PIPE,
+                                   universal_newlines=True, check=True)
+            self.assertEqual(ended.stdout.splitlines(), printed)
+            for line in printed:
+                self.assertIn(line, code)
+
+    def test_cuts(self) -> None:
+        """The example for pytest passes, by itself."""
+        self.assertEqual(self.example("test_each_cut.py"), ["an update of two lines takes 8 steps"])
 
     def test_store(self) -> None:
         said = self.example("store.py")

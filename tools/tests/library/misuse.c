@@ -1,4 +1,4 @@
-/* Handles used wrongly, NULL where the header allows it, short buffers, and two sessions side by side. */
+/* Handles used wrongly, NULL where the header allows it and where it does not, short buffers, and two sessions side by side. */
 #include "pmem.h"
 #include <stdio.h>
 
@@ -109,14 +109,54 @@ static void copies(void) {
     IS(pmem_read(&second, 0, 0).line[0] == 0 && pmem_close(&second) == PMEM_OK);
 }
 
-/* Where the lines are forgotten, the session goes on, and can't be copied. */
+/* After pmem_forget the session goes on. The native build cannot copy it any more; the portable one can. */
 static void forgotten(void) {
     pmem first = PMEM_CLOSED, second = PMEM_CLOSED;
     uint8_t line[PMEM_LINE_BYTES] = {3};
+    bool is_native = strcmp(pmem_build(), "native") == 0;
+    IS(is_native || strcmp(pmem_build(), "portable") == 0);
     IS(pmem_forget(&first) == PMEM_NOT_OPEN && pmem_open_text(&first, "run --suite weak") == PMEM_OK);
     IS(pmem_post(&first, 0, 9, line).kind == PMEM_DONE && pmem_forget(&first) == PMEM_OK && pmem_forget(&first) == PMEM_OK);
-    IS(pmem_copy(&first, &second) == PMEM_FORGOTTEN && !second.is_open && second.session == NULL);
+    IS(pmem_copy(&first, &second) == (is_native ? PMEM_FORGOTTEN : PMEM_OK) && second.is_open == !is_native);
+    IS(second.is_open || second.session == NULL);
+    IS(is_native || (pmem_drain(&second, 0).kind == PMEM_DONE && pmem_read(&second, 1, 9).line[0] == 3 && pmem_close(&second) == PMEM_OK));
     IS(pmem_drain(&first, 0).kind == PMEM_DONE && pmem_read(&first, 1, 9).line[0] == 3 && pmem_close(&first) == PMEM_OK);
+}
+
+/* NULL for a handle or for `whole`. */
+static void null(void) {
+    pmem handle = PMEM_CLOSED;
+    uint8_t line[PMEM_LINE_BYTES] = {4}, out[2] = {7, 7};
+    size_t whole = 77;
+    IS(pmem_open(NULL, bytes("run"), 3) == PMEM_NULL && pmem_open_text(NULL, "run") == PMEM_NULL);
+    IS(pmem_tell(NULL, bytes("stat"), 4, out, sizeof out, &whole) == PMEM_NULL && whole == 77 && out[0] == 7);
+    IS(pmem_reply(NULL, 0, out, sizeof out) == 0 && out[0] == 7);
+    IS(pmem_forget(NULL) == PMEM_NULL && pmem_close(NULL) == PMEM_NULL);
+    IS(pmem_copy(NULL, &handle) == PMEM_NULL && pmem_copy(&handle, NULL) == PMEM_NULL && pmem_copy(NULL, NULL) == PMEM_NULL);
+    IS(pmem_stats(NULL).status == PMEM_NULL && pmem_stats(NULL).kind == PMEM_NONE && pmem_accesses(NULL, NULL, 0, NULL) == 0);
+    IS(pmem_answer(bytes("run"), 3, NULL, 0, out, sizeof out, NULL) == PMEM_NULL && out[0] == 7);
+    IS(pmem_open_text(&handle, "run --suite weak") == PMEM_OK && pmem_tell(&handle, bytes("snap"), 4, out, sizeof out, NULL) == PMEM_NULL);
+    IS(out[0] == 7 && pmem_back(&handle, 0).kind == PMEM_NO_SNAPSHOT);
+    IS(pmem_post(&handle, 0, 0, NULL).status == PMEM_LINE_COUNT && pmem_part(&handle, 0, 0, 0, NULL, 0).status == PMEM_LINE_COUNT);
+    IS(pmem_part(&handle, 0, 0, 0, line, 0).status == PMEM_LINE_COUNT && pmem_close(&handle) == PMEM_OK);
+}
+
+/* A log is there if it is asked for, and only then. */
+static void logs(void) {
+    pmem handle = PMEM_CLOSED, copy = PMEM_CLOSED;
+    pmem_access accesses[4];
+    pmem_work work = {7, 7};
+    IS(pmem_accesses(&handle, accesses, 4, &work) == 0 && work.tags == 0 && work.digests == 0);
+    IS(pmem_open_text(&handle, "run --suite weak") == PMEM_OK && pmem_accesses(&handle, accesses, 4, NULL) == 0);
+    IS(pmem_read(&handle, 0, 0).log_len == 0 && pmem_accesses(&handle, accesses, 4, &work) == 0 && work.tags == 0);
+    IS(pmem_close(&handle) == PMEM_OK && pmem_open_text(&handle, "run --suite weak --log") == PMEM_OK);
+    IS(pmem_read(&handle, 0, 0).kind == PMEM_LINE && pmem_copy(&handle, &copy) == PMEM_OK);
+    /* docs/FORMATS.md has the log of this read: it looks at 1280, 1281, 1285, 0 and 1024, and makes one tag and three digests. */
+    IS(pmem_accesses(&handle, accesses, 4, &work) == 5 && work.tags == 1 && work.digests == 3);
+    IS(accesses[0].kind == PMEM_ACCESS_READ && accesses[0].line == 1280 && accesses[3].line == 0);
+    IS(pmem_accesses(&copy, NULL, 0, &work) == 5 && work.digests == 3 && pmem_close(&copy) == PMEM_OK);
+    IS(pmem_ask_text(&handle, "# nothing").kind == PMEM_NONE && pmem_accesses(&handle, accesses, 4, NULL) == 0);
+    IS(pmem_close(&handle) == PMEM_OK);
 }
 
 /* An exhibit ends a session. It can be copied: the copy is over too, and has the same reply. */
@@ -155,6 +195,8 @@ int main(void) {
     two();
     copies();
     forgotten();
+    null();
+    logs();
     over();
     answers();
     return failures != 0;
