@@ -1,11 +1,4 @@
-// The proved program as a module of 64-bit memory: words and bytes in, bytes and a status out.
-
-// The smallest module with a 64-bit memory.
-const SMALLEST = Uint8Array.of(0, 0x61, 0x73, 0x6d, 1, 0, 0, 0, 5, 3, 1, 4, 0);
-
-export function hasLongMemory() {
-  return typeof WebAssembly === 'object' && WebAssembly.validate(SMALLEST);
-}
+// The proved program as a WebAssembly module: arguments and bytes in, bytes and a status out.
 
 // Base64 of gzip, as bytes.
 export async function unpacked(text) {
@@ -31,7 +24,7 @@ export class Engine {
     return new Uint8Array(this.instance.exports.memory.buffer);
   }
 
-  // What the program asks of its C library: standard input, standard output, and its words.
+  // What the program asks of its C library: standard input, standard output, and its arguments. Addresses come as 64-bit numbers.
   host() {
     return {
       read: (file, to, room) => {

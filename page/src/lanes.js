@@ -1,84 +1,91 @@
 // The persist steps of a trace as lanes: the chip and each part of the device, a mark for each step.
 
-import {drawn} from './dom.js';
-import {short} from './trace.js';
+import {drawn, element} from './dom.js';
+import {isCut, short} from './trace.js';
 
-const LEFT = 112, STEP = 20, NARROW = 17, TOP = 104, ROW = 27;
-const MOST_STEPS = 60, STEPS_BEFORE = 22;
+const LEFT = 8, STEP = 18, NARROW = 16, TOP = 84, ROW = 21, NAMES = 108;
+const MOST_IN_PICTURE = 40, MOST_STEPS = 60, STEPS_BEFORE = 16;
 const COLORS = {'chip': 'chip', 'data': 'data', 'tag lines': 'tags', 'counter blocks': 'counters', 'tree nodes': 'nodes',
   'shadow': 'shadow'};
 
 export const colorOf = part => `var(--${COLORS[part] ?? 'chip'})`;
 
 // The commands around a moment whose steps there is room for.
-export function around(model, at) {
+function around(model, at) {
   const size = index => Math.max(1, Math.min(MOST_STEPS, model.total(index)));
   let first = Math.min(at.command, model.replies.length), last = first, room = 0;
-  while (first > 0 && room + size(first - 1) <= STEPS_BEFORE && at.command - first < 12) room += size(--first);
+  while (first > 0 && room + size(first - 1) <= STEPS_BEFORE && at.command - first < 10) room += size(--first);
   while (last < model.replies.length && (last === at.command || room + size(last) <= MOST_STEPS)
     && last - first < 26) room += size(last++);
   return [first, last];
 }
 
+// The shape of a part's marks, around a point.
+const SHAPES = {
+  'data': 'm-6 0a6 6 0 1 0 12 0a6 6 0 1 0 -12 0', 'tag lines': 'm-5 -5h10v10h-10z', 'counter blocks': 'm0 -6l6.5 11h-13z',
+  'tree nodes': 'm0 6l6.5 -11h-13z', 'shadow': 'm-2 -6h4v4h4v4h-4v4h-4v-4h-4v-4h4z',
+};
+
 function mark(step, x, y) {
   const color = colorOf(step.part);
-  if (step.kind === 'latch') {
-    const isFull = step.name.includes('is armed');
-    return drawn('path', {d: `M${x} ${y - 8}l8 8l-8 8l-8 -8z`, fill: isFull ? color : 'none', stroke: color, 'stroke-width': 2});
-  }
-  if (step.kind === 'unseen' || step.part === null) return drawn('text', {x, y: y + 4, 'text-anchor': 'middle'}, '?');
-  return drawn('circle', {cx: x, cy: y, r: 6.5, fill: step.again ? 'none' : color, stroke: color, 'stroke-width': 2});
+  const shape = step.part === 'chip' ? 'm0 -7.5l7.5 7.5l-7.5 7.5l-7.5 -7.5z' : SHAPES[step.part];
+  if (step.kind === 'unseen' || !shape) return drawn('text', {x, y: y + 4, 'text-anchor': 'middle'}, '?');
+  return drawn('path', {d: `M${x} ${y}${shape}`, fill: step.kind === 'latch' ? 'var(--paper)' : color, stroke: color, 'stroke-width': 2});
 }
 
-// One command's columns.
+function label(model, index, x, isDue) {
+  const {text} = model.commands[index];
+  const whole = short(text.trim());
+  return drawn('text', {transform: `translate(${x} ${TOP - 7}) rotate(-55)`, style: `font-size:11px;font-weight:${isDue ? 700 : 400}`},
+    whole.length > 16 ? whole.slice(0, 15) + '…' : whole);
+}
+
+// One command's columns, and how wide they are.
 function columns(model, index, x, at, parts, go) {
   const total = model.total(index);
   const width = total ? STEP * total : NARROW;
   const height = ROW * parts.length;
   const group = drawn('g');
-  const {isOn} = model.chip(index);
-  if (!isOn) group.append(drawn('rect', {x, y: TOP, width, height, fill: model.commands[index].word === 'on' ? 'var(--on)'
-    : 'var(--off)'}));
-  const isDue = index === at.command;
-  const label = short(model.commands[index].text);
-  const text = label.length > 17 ? label.slice(0, 16) + '…' : label;
-  group.append(drawn('text', {transform: `translate(${x + Math.min(width, STEP) / 2 + 2} ${TOP - 8}) rotate(-58)`,
-    style: `font-size:11px;font-weight:${isDue ? 700 : 400}`,
-    class: index > at.command ? 'soft' : null}, text));
+  const fill = model.chip(index).isOn ? null : model.commands[index].word === 'on' ? 'var(--on)' : 'var(--off)';
+  if (fill) group.append(drawn('rect', {x, y: TOP, width, height, fill}));
+  group.append(label(model, index, x + Math.min(width, STEP) / 2 + 2, index === at.command));
   group.append(drawn('line', {x1: x, x2: x, y1: TOP - 4, y2: TOP + height, stroke: 'var(--line)'}));
   const attack = model.tampered(index);
   if (attack) {
     const y = TOP + ROW * (parts.indexOf(attack.part) + 0.5), middle = x + width / 2;
     group.append(drawn('path', {d: `M${middle - 5} ${y - 5}l10 10m0 -10l-10 10`, stroke: 'var(--lost)', 'stroke-width': 3},
-      drawn('title', {}, `${model.commands[index].text}: line ${attack.line} is changed`)));
+      drawn('title', {}, `${short(model.commands[index].text)}: line ${attack.line} is changed`)));
   }
   for (let step = 1; step <= total; step++) group.append(column(model, index, step, x + STEP * (step - 1), at, parts, go));
-  if (/^cut/.test(model.replies[index].answer)) {
-    const end = x + width;
-    group.append(drawn('line', {x1: end, x2: end, y1: TOP - 4, y2: TOP + height + 6, stroke: 'var(--lost)', 'stroke-width': 2.5,
+  if (isCut(model.replies[index])) {
+    group.append(drawn('line', {x1: x + width, x2: x + width, y1: TOP - 4, y2: TOP + height + 6, stroke: 'var(--lost)', 'stroke-width': 2.5,
       'stroke-dasharray': '5 3'}));
   }
   return [group, width];
 }
 
 function column(model, index, step, x, at, parts, go) {
-  const height = ROW * parts.length;
   const isDue = index === at.command && step === at.step + 1;
   const isDone = index < at.command || (index === at.command && step <= at.step);
-  const known = model.known?.get(`${index}.${step}`);
-  const place = drawn('g', {class: 'column', opacity: isDone || isDue ? 1 : 0.4, onclick: () => go(index, step - 1)},
-    drawn('rect', {x, y: TOP, width: STEP, height, fill: isDue ? 'var(--due)' : 'transparent', stroke: isDue ? 'var(--ink)' : 'none',
-      'stroke-dasharray': '3 2'}));
-  if (!known) return place;
-  const row = known.part === null ? parts.length / 2 - 0.5 : Math.max(0, parts.indexOf(known.part));
-  place.append(mark(known, x + STEP / 2, TOP + ROW * (row + 0.5)),
-    drawn('title', {}, `step ${step} of ${short(model.texts[index])}: ${known.name}`));
-  return place;
+  const found = model.step(index, step);
+  return drawn('g', {class: `column${isDone || isDue ? '' : ' later'}`, onclick: () => go(index, step - 1)},
+    drawn('rect', {x, y: TOP, width: STEP, height: ROW * parts.length, fill: isDue ? 'var(--due)' : 'transparent',
+      stroke: isDue ? 'var(--ink)' : 'none', 'stroke-dasharray': '3 2'}),
+    mark(found, x + STEP / 2, TOP + ROW * (Math.max(0, parts.indexOf(found.part)) + 0.5)),
+    drawn('title', {}, `step ${step} of ${short(model.texts[index])}: ${found.name}`));
 }
 
-export function lanes(model, at, go) {
+function names(parts) {
+  const image = drawn('svg', {class: 'names', width: NAMES, height: TOP + ROW * parts.length + 8, 'aria-hidden': 'true'});
+  parts.forEach((part, row) => image.append(
+    drawn('text', {x: 0, y: TOP + ROW * (row + 0.68), style: `fill:${colorOf(part)};font-weight:600`}, part)));
+  return image;
+}
+
+// The lanes of these commands; the names of the parts stay in view as the rest is scrolled. `at` is the moment, `go` what a
+// click on a step does.
+function laneImage(model, [first, last], at, go, says) {
   const parts = model.layout.parts;
-  const [first, last] = around(model, at);
   const height = ROW * parts.length;
   const all = drawn('g');
   let x = LEFT, now = LEFT;
@@ -89,12 +96,22 @@ export function lanes(model, at, go) {
     x += width;
   }
   if (at.command >= last) now = x;
-  const image = drawn('svg', {width: x + 60, height: TOP + height + 10, role: 'img', 'aria-label': 'Lanes of persist steps'});
-  parts.forEach((part, row) => image.append(
-    drawn('rect', {x: 0, y: TOP + ROW * row, width: x + 30, height: ROW, fill: row % 2 ? 'transparent' : 'var(--back)'}),
-    drawn('text', {x: 4, y: TOP + ROW * (row + 0.66), style: `fill:${colorOf(part)}`}, part)));
   const here = now + STEP * at.step;
-  image.append(all, drawn('path', {d: `M${here} ${TOP - 6}v${height + 12}`, stroke: 'var(--ink)', 'stroke-width': 2.5}));
-  image.dataset.here = here;
-  return image;
+  const image = drawn('svg', {width: x + 60, height: TOP + height + 8, role: 'img', 'aria-label': says},
+    parts.map((part, row) => drawn('rect', {x: 0, y: TOP + ROW * row, width: x + 30, height: ROW,
+      fill: row % 2 ? 'transparent' : 'var(--back)'})),
+    all, at.isWhole ? null : drawn('path', {d: `M${here} ${TOP - 6}v${height + 12}`, stroke: 'var(--ink)', 'stroke-width': 2.5}));
+  return {box: element('div', {class: 'lanes'}, names(parts), element('div', {class: 'scroll', tabindex: 0, role: 'region',
+    'aria-label': 'Lanes of persist steps, to be scrolled'}, image)), here};
+}
+
+// The lanes around a moment.
+export function lanes(model, at, go) {
+  return laneImage(model, around(model, at), at, go, 'Lanes of persist steps; the table of cuts has each step in words');
+}
+
+// The lanes of a whole trace, as a picture.
+export function wholeLanes(model, says) {
+  const count = model.replies.length;
+  return laneImage(model, [Math.max(0, count - MOST_IN_PICTURE), count], {command: count, step: 0, isWhole: true}, () => {}, says).box;
 }

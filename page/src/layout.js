@@ -49,15 +49,16 @@ export class Layout {
     return `shadow of tree nodes, line ${line - this.firstNodeShadow}`;
   }
 
+  // The data lines that share a counter block.
+  get linesOfPage() {
+    return 64;
+  }
+
   // The positions of a page's path, the top first.
   pathOf(page) {
     const path = [this.nodes + page];
     while (path[0]) path.unshift((path[0] - 1 - (path[0] - 1) % 4) / 4);
     return path;
-  }
-
-  get metaLines() {
-    return upTo(this.firstMeta, this.nodes + this.pages);
   }
 
   // What the bytes of a line mean, as rows of [what, value].
@@ -78,7 +79,7 @@ export class Layout {
     }
     if (part === SHADOWS) {
       const named = upTo(0, 16).map(i => Number('0x' + hex(4 * i, 4))).map((it, i) => [i, it]).filter(([, it]) => it);
-      if (!named.length) return [['names', 'nothing']];
+      if (!named.length) return [['names', 'no line']];
       return named.map(([i, it]) => [`entry ${i} names`,
         it <= this.nodes + this.pages ? this.nameOf(this.firstMeta + it - 1) : `position ${it - 1}`]);
     }
@@ -105,9 +106,41 @@ export class TreeLayout {
     this.levels = levels;
     this.nodes = (4 ** (levels + 1) - 1) / 3;
     this.dataLines = 4 ** (levels + 1);
-    this.slots = 1 + levels * sets;
-    this.sets = sets;
+    this.pages = 4 ** levels;
+    this.firstTag = this.dataLines;
+    this.firstMeta = 2 * this.dataLines;
+    this.firstShadow = this.firstMeta + this.nodes;
+    this.size = this.firstShadow + 1 + levels * sets;
     this.parts = PARTS_OF_TREE;
+  }
+
+  get regions() {
+    return [[DATA, 0, this.dataLines], [TAGS, this.firstTag, this.dataLines], [NODES, this.firstMeta, this.nodes],
+      [SHADOWS, this.firstShadow, this.size - this.firstShadow]];
+  }
+
+  partOf(line) {
+    return this.regions.find(([, first, count]) => line < first + count)[0];
+  }
+
+  nameOf(line) {
+    const part = this.partOf(line);
+    if (part === DATA) return `data line ${line}`;
+    if (part === TAGS) return `tag of line ${line - this.firstTag}`;
+    if (part === NODES) return line === this.firstMeta ? 'node 0, the top' : `node ${line - this.firstMeta}`;
+    return `slot ${line - this.firstShadow}`;
+  }
+
+  // The data lines that share a path: four for each node of the lowest level.
+  get linesOfPage() {
+    return 4;
+  }
+
+  // The nodes above the lines of a page, the top first.
+  pathOf(page) {
+    const path = [(4 ** this.levels - 1) / 3 + page];
+    while (path[0]) path.unshift((path[0] - 1 - (path[0] - 1) % 4) / 4);
+    return path;
   }
 }
 

@@ -12,10 +12,6 @@ export class Program {
     this.runs = 0;
   }
 
-  get isLive() {
-    return true;
-  }
-
   // The status and the output of a run.
   answer(words, text) {
     const key = words.join(' ') + '\n' + text;
@@ -40,26 +36,5 @@ export class Program {
   ask(words, commands) {
     const {text, status} = this.answer(words, commands.join('\n') + '\n');
     return Object.assign(repliesOf(text), {status});
-  }
-}
-
-// In place of the program where a browser has no 64-bit memory: replies that were recorded when the page was made.
-export class Recorded {
-  constructor(records) {
-    this.records = new Map(records.map(record => [record.words + '\n' + record.trace, record]));
-    this.runs = 0;
-  }
-
-  get isLive() {
-    return false;
-  }
-
-  answer(words, text) {
-    return this.records.get(words.join(' ') + '\n' + text) || null;
-  }
-
-  ask(words, commands) {
-    const found = this.answer(words, commands.join('\n') + '\n');
-    return found ? Object.assign(repliesOf(found.text), {status: found.status}) : null;
   }
 }

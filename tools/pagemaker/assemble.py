@@ -15,7 +15,7 @@ class PageError(Exception):
 
 
 def packed(module: bytes) -> str:
-    """A module as the page keeps it: base64 of gzip."""
+    """A module as the page has it: base64 of gzip."""
     return base64.b64encode(gzip.compress(module, 9, mtime=0)).decode()
 
 
@@ -29,14 +29,24 @@ def json_in_page(value: Any) -> str:
     return json.dumps(value, ensure_ascii=False, separators=(",", ":")).replace("<", "\\u003c")
 
 
-def assembled(module: str, made: Dict[str, str]) -> str:
-    """The whole page. `module` is packed; `made` says of what it was made."""
+def policy(script: str) -> str:
+    """What the page allows itself: this script, WebAssembly, its own styles and pictures in it; nothing from elsewhere."""
+    digest = base64.b64encode(hashlib.sha256(script.encode()).digest()).decode()
+    return (f"default-src 'none'; script-src 'sha256-{digest}' 'wasm-unsafe-eval'; style-src 'unsafe-inline'; img-src data:; "
+            "base-uri 'none'; form-action 'none'")
+
+
+def assembled(module: str, made: Dict[str, str], suffix: str = ".md", has_answers: bool = True) -> str:
+    """The whole page. `module` is packed; `made` says of what it was made; pages in docs/ are linked with this suffix."""
+    lessons = [lesson if has_answers else {**lesson, "answer": None} for lesson in sources.lessons(suffix)]
     page = sources.read(f"{sources.SOURCES}/page.html")
-    parts = {"@STYLE@": sources.read(f"{sources.SOURCES}/style.css").rstrip(), "@LESSONS@": json_in_page(sources.lessons()),
-             "@RECORDS@": json_in_page(sources.records()), "@MODULE@": module, "@MADE@": json_in_page(made),
+    script = "\n" + sources.script().rstrip() + "\n"
+    reference = json.loads(sources.read(f"{sources.SOURCES}/reference.json"))
+    parts = {"@STYLE@": sources.read(f"{sources.SOURCES}/style.css").rstrip(), "@LESSONS@": json_in_page(lessons),
+             "@MODULE@": module, "@MADE@": json_in_page(made),
              "@HONEST@": html_of(sources.read(f"{sources.SOURCES}/honest.md")),
-             "@KEYS@": html_of(sources.read(f"{sources.SOURCES}/keys.md")),
-             "@SCRIPT@": sources.script().rstrip()}
+             "@KEYS@": html_of(sources.read(f"{sources.SOURCES}/keys.md")), "@REFERENCE@": json_in_page(reference),
+             "@POLICY@": policy(script), "@SCRIPT@": script}
     return re.sub("@[A-Z]+@", lambda found: parts.get(found.group(), found.group()), page)
 
 
@@ -51,9 +61,3 @@ def element_of(page: str, name: str) -> str:
 def kept() -> Optional[str]:
     """The page as it stands."""
     return sources.read_or(sources.PAGE, "") or None
-
-
-def digest_of(file: str) -> str:
-    """The SHA-256 of a file."""
-    with open(file, "rb") as opened:
-        return hashlib.sha256(opened.read()).hexdigest()

@@ -1,27 +1,26 @@
 """The words of `tools/page`."""
 import argparse
-import json
+import hashlib
 import os
 import sys
 from typing import Dict, List
 
-from . import module
-from .assemble import PageError, assembled, digest_of, element_of, kept, packed
+from portablemaker.digest import made_of, sources_digest
+from portablemaker.kept import module_bytes
+from portablemaker.compiler import PortableError
+from portablemaker.lowered import lowered
+from portablemaker.wasm import WasmError
+
+from .assemble import PageError, assembled, element_of, kept, packed, unpacked
+from .site import write_site
 from .sources import PAGE, TOP
 
 MOST_BYTES = 1_500_000
-PROGRAM = f"{TOP}/crates/pmem/out/pmem"
+# What the page calls of the module.
+ROOTS = ["run_main"]
 
 HELP = """\
-Makes page/pmem.html, one file that runs the proved program in a browser, of page/src, the lessons, the examples and
-the program. Building the program's module needs the toolchain and the libraries as ./pmem or rt ci leaves them."""
-
-
-def program_digest() -> str:
-    """The digest of the proved program that was built."""
-    if not os.path.isfile(PROGRAM):
-        raise PageError("crates/pmem/out/pmem isn't built: run ./pmem or rt ci first")
-    return digest_of(PROGRAM)
+Makes page/pmem.html, one file that runs the proved program in a browser, of page/src, the lessons, the examples and module/pmem.wasm."""
 
 
 def write(page: str) -> None:
@@ -35,50 +34,59 @@ def write(page: str) -> None:
     print(f"page/pmem.html: {size} bytes")
 
 
-def standing() -> str:
-    """The page as it stands."""
-    page = kept()
-    if page is None:
-        raise PageError("there is no page/pmem.html")
-    return page
+def packed_module(data: bytes) -> str:
+    """The 32-bit form of what the page calls of the module, packed: as the page has it, if that unpacks to the same bytes, as not every
+    gzip packs alike."""
+    form, page = lowered(data, ROOTS), kept()
+    if page:
+        standing = element_of(page, "module")
+        try:
+            if unpacked(standing) == form:
+                return standing
+        except (ValueError, OSError):
+            pass
+    return packed(form)
+
+
+def module_made(data: bytes) -> Dict[str, str]:
+    """What the page says of its module: the digests of module/pmem.wasm and of the sources that this was made of, and the toolchain."""
+    return {"module": hashlib.sha256(data).hexdigest(), **made_of(data)}
+
+
+def made_page(suffix: str = ".md", has_answers: bool = True) -> str:
+    """The page as its sources and the module make it. Pages in docs/ are linked with this suffix."""
+    data = module_bytes()
+    return assembled(packed_module(data), module_made(data), suffix, has_answers)
 
 
 def page_differs() -> List[str]:
-    """How the page differs from what its sources and its module make."""
-    page = standing()
-    remade = assembled(element_of(page, "module"), module_made(page))
-    return [] if remade == page else ["page/pmem.html isn't what its sources make: run tools/page --keep-module"]
+    """How the page differs from what its sources and the module make."""
+    page = kept()
+    if page is None:
+        return ["there is no page/pmem.html: run tools/page"]
+    return [] if made_page() == page else ["page/pmem.html isn't what its sources and module/pmem.wasm make: run tools/page"]
 
 
 def module_differs() -> List[str]:
-    """How its module isn't of the program that is built here. Where none is built, nothing is known of it."""
-    if not os.path.isfile(PROGRAM) or module_made(standing()) == {"program": program_digest()}:
+    """How the module isn't of the sources as they stand, by what it says of itself. tools/module --check compares its bytes."""
+    if made_of(module_bytes())["sources"] == sources_digest(TOP):
         return []
-    return ["page/pmem.html was made of another program: run tools/page"]
-
-
-def module_made(page: str) -> Dict[str, str]:
-    """What a page says that its module was made of."""
-    made: Dict[str, str] = json.loads(element_of(page, "made"))
-    return made
+    return ["module/pmem.wasm was made of other sources: run tools/module"]
 
 
 def work(options: argparse.Namespace) -> int:
     """Does what the words say."""
     if options.check:
         found = page_differs() + module_differs()
-        print("\n".join(found) if found else "page/pmem.html is what its sources make"
-              + ("" if os.path.isfile(PROGRAM) else "; the program isn't built here, so its module isn't compared"))
+        print("\n".join(found) if found else "page/pmem.html is what its sources and module/pmem.wasm make")
         return 1 if found else 0
-    if options.keep_module:
-        page = standing()
-        write(assembled(element_of(page, "module"), module_made(page)))
-    elif options.module:
-        with open(options.module, "rb") as file:
-            write(assembled(packed(file.read()), {"program": options.program or program_digest()}))
-    else:
-        digest = program_digest()
-        write(assembled(packed(module.built()), {"program": digest}))
+    if options.site:
+        pages, files = write_site(options.site, made_page(".html", not options.without_answers), not options.without_answers)
+        print(f"{options.site}: {pages} pages, {files} other files")
+        return 0
+    if options.without_answers:
+        raise PageError("--without-answers needs --site FOLDER: page/pmem.html has the answers")
+    write(made_page())
     return 0
 
 
@@ -86,12 +94,11 @@ def main(words: List[str]) -> int:
     """Runs `tools/page`."""
     parser = argparse.ArgumentParser(prog="page", description=HELP, formatter_class=argparse.RawDescriptionHelpFormatter)
     group = parser.add_mutually_exclusive_group()
-    group.add_argument("--keep-module", action="store_true", help="make the page anew with the module that it has")
-    group.add_argument("--module", metavar="FILE", help="make the page with this module")
-    group.add_argument("--check", action="store_true", help="say whether the page is what its sources make")
-    parser.add_argument("--program", metavar="DIGEST", help="with --module: the SHA-256 of the program that it was made of")
+    group.add_argument("--check", action="store_true", help="say whether the page is what its sources and the module make")
+    group.add_argument("--site", metavar="FOLDER", help="write a website into a new folder: the page, the lessons, the pages of docs/")
+    parser.add_argument("--without-answers", action="store_true", help="with --site: leave the answers out of the page and the lessons")
     try:
         return work(parser.parse_args(words))
-    except (PageError, OSError) as error:
+    except (PageError, PortableError, WasmError, OSError) as error:
         sys.stderr.write(f"page: {error}\n")
         return 1

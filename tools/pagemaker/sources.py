@@ -1,17 +1,19 @@
 """What the page is made of: its own sources, the lessons, exercises and examples."""
+import html
 import os
 import re
-from typing import Any, Dict, List, Sequence, Tuple
+from typing import Any, Dict, List, Optional
 
-from .markdown import html_of
+from .markdown import How, html_of
 
 TOP = os.path.dirname(os.path.dirname(os.path.dirname(os.path.realpath(__file__))))
 PAGE = f"{TOP}/page/pmem.html"
 SOURCES = f"{TOP}/page/src"
 
-MODULES = ("dom", "trace", "layout", "address", "goal", "engine", "program", "moments", "translate", "tree", "model", "lanes", "view",
-           "lessons", "main")
-DEFAULTS = {"--levels": "2", "--sets": "4", "--ways": "2", "--loss": "4", "--suite": "aes", "--every": "100"}
+MODULES = ("dom", "trace", "options", "layout", "address", "goal", "engine", "bounded", "program", "device", "model", "reference",
+           "lanes", "view", "chip", "map", "compare", "lessons", "files", "app", "main")
+DEFAULTS = {"--levels": "2", "--sets": "4", "--ways": "2", "--loss": "4", "--major": "0", "--suite": "aes", "--key": "", "--tag-key": "",
+            "--every": "100"}
 EXAMPLES = (("first", "run", "A write waits until it is drained"), ("power_cut", "run", "Power cuts"), ("attack", "run", "An attack"),
             ("forged_tag", "run", "A forged tag"), ("wear", "wear", "Lines that move"), ("txn", "txn", "A transaction, and cuts in it"),
             ("tree", "tree", "The counter tree"))
@@ -52,15 +54,40 @@ def commands_of(trace: str) -> List[str]:
     return [line for line in trace.split("\n") if line.strip() and not line.strip().startswith("#")]
 
 
-def part_of(folder: str, machine: str) -> Dict[str, Any]:
+def part_of(folder: str, machine: str, suffix: str) -> Dict[str, Any]:
     """A trace with its machine, its words, and the page beside it."""
     return {"machine": read_or(f"{folder}/machine", machine).strip(), "words": words_of(read_or(f"{folder}/options", "")),
-            "trace": read(f"{folder}/trace"), "text": html_of(without_title(read_or(f"{folder}/README.md", "")))}
+            "trace": read(f"{folder}/trace"), "text": html_in_page(read_or(f"{folder}/README.md", ""), folder, suffix)}
 
 
-def without_title(text: str) -> str:
-    """A page's text below its title."""
-    return re.sub(r"^# .*\n", "", text, count=1)
+def html_in_page(text: str, folder: str, suffix: str) -> str:
+    """A lesson's text below its title, as the page shows it: without what is typed in a shell, with pictures that the page draws,
+    links to lessons that open them, and links to other pages, which have this suffix."""
+    text = re.sub(r"^# .*\n", "", text, count=1)
+    text = re.sub(r"(?m)^    (?:\./pmem|lessons/|tools/)[^\n]*\n(?:    [^\n]*\n)*", "", text)
+    text = re.sub(r"\s*(?:One to begin with is in\s+\[trace\]\(trace\);\s+)?\[an\s+answer\]\(answer/README\.md\)\.?", "", text, flags=re.I)
+    text = re.sub(r"`lessons/grade[^`]*`", "*check my trace* below", text)
+    return html_of(text, How(lambda address: link_in_page(address, folder, suffix), picture_in_page))
+
+
+def picture_in_page(says: str, address: str) -> str:
+    """A place for a picture, which the page draws."""
+    return f'<span class="picture">{html.escape(says)}</span>'
+
+
+def link_in_page(address: str, folder: str, suffix: str) -> Optional[str]:
+    """Where a link of a lesson leads from the page; None if the page has no such place."""
+    if re.match(r"https?://", address):
+        return address
+    path, _, anchor = address.partition("#")
+    target = os.path.normpath(os.path.join(folder, path))
+    lesson = re.fullmatch(r"lessons/(?:exercises/)?(\d+)-[^/]*(?:/README\.md)?", os.path.relpath(target, TOP))
+    if lesson:
+        return f"#lesson={'exercise-' if '/exercises/' in target else ''}{lesson[1]}"
+    if not path.endswith(".md") or not os.path.isfile(target):
+        return None
+    name = os.path.relpath(target, os.path.dirname(PAGE))
+    return re.sub(r"\.md$", suffix, name) + (f"#{anchor}" if anchor else "")
 
 
 def title_of(folder: str) -> str:
@@ -68,12 +95,12 @@ def title_of(folder: str) -> str:
     return read(f"{folder}/README.md").split("\n", 1)[0].lstrip("# ")
 
 
-def lesson_of(folder: str, kind: str, name: str) -> Dict[str, Any]:
-    """A lesson or an exercise."""
-    lesson: Dict[str, Any] = {"id": name, "kind": kind, "title": title_of(folder), **part_of(folder, "run")}
+def lesson_of(folder: str, kind: str, name: str, suffix: str = ".md") -> Dict[str, Any]:
+    """A lesson or an exercise. Links to pages have this suffix."""
+    lesson: Dict[str, Any] = {"id": name, "kind": kind, "title": title_of(folder), **part_of(folder, "run", suffix)}
     lesson.update({"goal": read_or(f"{folder}/goal", ""), "answer": None})
     if os.path.isdir(f"{folder}/answer"):
-        lesson["answer"] = part_of(f"{folder}/answer", lesson["machine"])
+        lesson["answer"] = part_of(f"{folder}/answer", lesson["machine"], suffix)
     aim = lesson["answer"] or lesson
     lesson.update({"goalMachine": aim["machine"], "goalWords": aim["words"], "isFixed": True})
     return lesson
@@ -84,40 +111,12 @@ def numbered(folder: str) -> List[str]:
     return sorted(name for name in os.listdir(folder) if re.match(r"\d", name)) if os.path.isdir(folder) else []
 
 
-def lessons() -> List[Dict[str, Any]]:
-    """All that can be opened in the page."""
-    found = [lesson_of(f"{TOP}/lessons/{name}", "lesson", name[:2]) for name in numbered(f"{TOP}/lessons")]
+def lessons(suffix: str = ".md") -> List[Dict[str, Any]]:
+    """All that can be opened in the page. Links to pages have this suffix."""
+    found = [lesson_of(f"{TOP}/lessons/{name}", "lesson", name.split("-")[0], suffix) for name in numbered(f"{TOP}/lessons")]
     exercises = f"{TOP}/lessons/exercises"
-    found += [lesson_of(f"{exercises}/{name}", "exercise", f"exercise-{name[:1]}") for name in numbered(exercises)]
+    found += [lesson_of(f"{exercises}/{name}", "exercise", f"exercise-{name.split('-')[0]}", suffix) for name in numbered(exercises)]
     for name, machine, title in EXAMPLES:
         found.append({"id": name, "kind": "example", "title": title, "machine": machine, "words": EXAMPLE_WORDS.get(name, []),
                       "trace": read(f"{TOP}/examples/{name}.trace"), "text": "", "goal": "", "answer": None})
-    return found
-
-
-def replies_kept() -> List[Tuple[str, str, int]]:
-    """The folders and files that keep a trace's replies: what they print, and the status."""
-    kept = []
-    for base in [f"{TOP}/lessons/{name}" for name in numbered(f"{TOP}/lessons")]:
-        for folder in (base, f"{base}/answer"):
-            if os.path.isdir(folder):
-                kept.append((folder, read(f"{folder}/replies"), int(read(f"{folder}/status"))))
-    return kept
-
-
-def record(machine: str, words: Sequence[str], trace: str, text: str, status: int) -> Dict[str, Any]:
-    """A run that was recorded: what the page asks of the program, and the answer."""
-    return {"words": " ".join([machine, *words]), "trace": "\n".join(commands_of(trace)) + "\n", "text": text, "status": status}
-
-
-def records() -> List[Dict[str, Any]]:
-    """The recorded replies of all lessons, answers and examples."""
-    found = []
-    for folder, text, status in replies_kept():
-        machine = read_or(f"{folder}/machine", read_or(f"{os.path.dirname(folder)}/machine", "run")).strip()
-        found.append(record(machine, words_of(read_or(f"{folder}/options", "")), read(f"{folder}/trace"), text, status))
-    for name, machine, _ in EXAMPLES:
-        text = read(f"{TOP}/examples/{name}.out")
-        status = 6 if name == "forged_tag" else 0
-        found.append(record(machine, EXAMPLE_WORDS.get(name, []), read(f"{TOP}/examples/{name}.trace"), text, status))
     return found

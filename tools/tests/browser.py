@@ -128,6 +128,14 @@ class Browser:
         entries = self.of_session("/se/log", {"type": "browser"})
         return [entry["message"] for entry in entries if entry["level"] in ("SEVERE", "WARNING")]
 
+    def size(self, width: int, height: int) -> None:
+        """Gives the page a size, also one that is smaller than a window may be."""
+        self.develop("Emulation.setDeviceMetricsOverride", width=width, height=height, deviceScaleFactor=1, mobile=width < 700)
+
+    def develop(self, command: str, **values: Any) -> Any:
+        """A command of the browser's tools for developers."""
+        return self.of_session("/goog/cdp/execute", {"cmd": command, "params": values})
+
     def picture(self, file: str) -> None:
         """A picture of the window."""
         import base64

@@ -1,12 +1,11 @@
 """The page that runs the program: what it is made of, and what it does in a real browser."""
-import os
 import re
-import shutil
 import subprocess
 import sys
 import unittest
 from functools import lru_cache
 from typing import Any, List, Tuple
+from unittest import mock
 
 from . import browser
 from .helpers import TOOLS, program_path
@@ -16,8 +15,9 @@ sys.path.insert(0, str(TOP / "lessons"))
 sys.path.insert(0, str(TOOLS))
 
 import goals  # noqa: E402
-from pagemaker import assemble, command_line, module, sources  # noqa: E402
+from pagemaker import assemble, command_line, sources  # noqa: E402
 from pagemaker.markdown import html_of  # noqa: E402
+from portablemaker.wasm import Module  # noqa: E402
 
 PAGE = TOP / "page" / "pmem.html"
 SEEDS = range(1, 11)
@@ -55,10 +55,14 @@ class SourcesTest(unittest.TestCase):
     def test_page_is_what_its_sources_make(self) -> None:
         self.assertEqual(command_line.page_differs(), [])
 
-    def test_module_is_of_this_program(self) -> None:
-        if not os.path.isfile(command_line.PROGRAM):
-            self.skipTest("the program isn't built here")
-        self.assertEqual(command_line.module_differs(), [])
+    def test_a_replaced_module_is_seen(self) -> None:
+        """By the bytes of the page's module, whatever the page says of it."""
+        page = PAGE.read_text(encoding="utf-8")
+        form = assemble.unpacked(assemble.element_of(page, "module"))
+        self.assertIn(b"refused", form)
+        other = page.replace(assemble.element_of(page, "module"), assemble.packed(form.replace(b"refused", b"welcome")))
+        with mock.patch.object(command_line, "kept", lambda: other):
+            self.assertEqual(len(command_line.page_differs()), 1)
 
     def test_page_is_small_and_whole(self) -> None:
         page = PAGE.read_text(encoding="utf-8")
@@ -69,8 +73,9 @@ class SourcesTest(unittest.TestCase):
 
     def test_module_asks_for_three_functions_alone(self) -> None:
         made = assemble.unpacked(assemble.element_of(PAGE.read_text(encoding="utf-8"), "module"))
-        self.assertEqual(made[:8], b"\0asm\1\0\0\0")
-        self.assertEqual(sorted(imports_of(made)), ["host.arg", "host.read", "host.write"])
+        module = Module(made)
+        self.assertEqual(sorted(f"{it.module}.{it.name}" for it in module.imports), ["host.arg", "host.read", "host.write"])
+        self.assertFalse(module.is_long)  # for every browser
 
     def test_modules_of_the_script_have_each_name_once(self) -> None:
         names = re.findall(r"^(?:async )?(?:function\*? |class |const |let )([A-Za-z_]+)", sources.script(), re.M)
@@ -78,55 +83,10 @@ class SourcesTest(unittest.TestCase):
         self.assertEqual({f"{name}.js" for name in sources.MODULES}, {it.name for it in (TOP / "page" / "src").glob("*.js")})
 
     def test_pages_become_html(self) -> None:
-        self.assertEqual(html_of("# A\n\nb `<c>` **d**\n\n| e | f |\n|---|---|\n| g | h |\n\n- i\n  j\n- k\n\n    l\n"),
+        self.assertEqual(html_of("# A\n\nb `<c>` **d**\n\n| e | f |\n|---|---|\n| g | h |\n\n- i\n  j\n- k\n\nm\n\n    l\n"),
                          "<h2>A</h2><p>b <code>&lt;c&gt;</code> <b>d</b></p>"
-                         "<table><tr><th>e</th><th>f</th></tr><tr><td>g</td><td>h</td></tr></table>"
-                         "<ul><li>i j</li><li>k</li></ul><pre>l</pre>")
-
-    def test_what_is_missing_is_said(self) -> None:
-        path = shutil.which
-        self.addCleanup(setattr, shutil, "which", path)
-        setattr(shutil, "which", lambda name: None)
-        with self.assertRaisesRegex(assemble.PageError, "rt is not on the PATH"):
-            module.kit()
-
-    def test_records_are_the_kept_replies(self) -> None:
-        for record in sources.records():
-            with self.subTest(record["words"]):
-                said = program(record["words"].split(), record["trace"])
-                self.assertEqual(said, (record["text"], record["status"]))
-
-
-def imports_of(made: bytes) -> List[str]:
-    """The names that a WebAssembly module imports."""
-    def number(at: int) -> Tuple[int, int]:
-        value = shift = 0
-        while True:
-            value |= (made[at] & 127) << shift
-            shift, at = shift + 7, at + 1
-            if made[at - 1] < 128:
-                return value, at
-
-    def name(at: int) -> Tuple[str, int]:
-        size, at = number(at)
-        return made[at:at + size].decode(), at + size
-
-    at = 8
-    while at < len(made):
-        section = made[at]
-        size, at = number(at + 1)
-        if section == 2:
-            count, place = number(at)
-            found = []
-            for _ in range(count):
-                group, place = name(place)
-                one, place = name(place)
-                assert made[place] == 0
-                _, place = number(place + 1)
-                found.append(f"{group}.{one}")
-            return found
-        at += size
-    return []
+                         '<table><thead><tr><th scope="col">e</th><th scope="col">f</th></tr></thead><tbody><tr><td>g</td><td>h</td></tr>'
+                         "</tbody></table><ul><li>i j</li><li>k</li></ul><p>m</p><pre>l</pre>")
 
 
 class GoalsTest(unittest.TestCase):
@@ -223,7 +183,7 @@ class BrowserTest(unittest.TestCase):
         page.click("#undo")
         page.click("#undo")
         self.assertNotIn("cut kept 4", page.text("#rows"))
-        self.assertIn("at=1.4", page.run("return location.hash"))
+        page.wait("return location.hash.includes('at=1.4')", 120)
 
     def test_attack_by_clicks(self) -> None:
         page = self.open("#lesson=04&at=2.0&line=5")
@@ -293,19 +253,6 @@ class BrowserTest(unittest.TestCase):
                     here = page.run("return pmem.missing(arguments[0], arguments[1])", lesson["goal"], run)
                     self.assertEqual(here, goals.missing(goals.goal_of(lesson["goal"]), run))
 
-    def test_translated_machines_take_the_same_steps(self) -> None:
-        page = self.open("")
-        for lesson in ("11", "12", "wear", "txn"):
-            with self.subTest(lesson):
-                self.assertEqual(page.run("pmem.open(arguments[0]); return pmem.model.moments.differs", lesson), -1)
-
-    def test_recorded_replies(self) -> None:
-        page = self.open("#recorded&lesson=02")
-        self.assertIn("has no 64-bit memory", page.text("#notice"))
-        page.click("#last")
-        self.assertIn("cut kept 6", page.text("#rows"))
-        self.assertTrue(page.run("return document.querySelector('#cut').disabled"))
-
     def test_address_is_a_case(self) -> None:
         page = self.open("#machine=run&options=--suite_weak&trace=post_0_5_77x64~drain_0~flip_5_0~flip_5_8~read_0_5&at=2.0&line=5")
         self.assertEqual(page.run("return pmem.model.exhibit.split(' ')[0]"), "forged")
@@ -314,22 +261,55 @@ class BrowserTest(unittest.TestCase):
 
     def test_faults_of_a_trace_are_told(self) -> None:
         page = self.open("#machine=run&trace=post_0_0_11x64~red_0_0&at=2.0")
-        self.assertIn("stop line 2 1: no such command", page.text("#rows"))
+        self.assertIn("stop line 2 1: there is no such command", page.text("#rows"))
 
 
 @unittest.skipUnless(browser.has_firefox(), "firefox-esr isn't there")
 class FirefoxTest(unittest.TestCase):
     """The page in Firefox, opened as a file."""
 
+    shown: browser.Firefox
+
+    @classmethod
+    def setUpClass(cls) -> None:
+        cls.shown = browser.Firefox()
+
+    @classmethod
+    def tearDownClass(cls) -> None:
+        cls.shown.close()
+
+    def open(self, moment: str) -> browser.Firefox:
+        self.shown.open(browser.address_of(str(PAGE)) + moment)
+        self.shown.wait("return document.body.dataset.idle === String(pmem.round)")
+        return self.shown
+
     def test_lessons_have_the_same_bytes(self) -> None:
-        with browser.Firefox() as page:
-            page.open(browser.address_of(str(PAGE)) + "#lesson=02&at=12.3")
-            self.assertEqual(page.run("return document.body.dataset.ready"), "live")
-            page.wait("return document.querySelector('#now').innerText.includes('cut lost 3')")
-            for name, words, trace in given_runs():
-                with self.subTest(name):
-                    found = page.run(ANSWER, words, trace)
-                    self.assertEqual(tuple(found), program(words, trace))
+        page = self.open("#lesson=02&at=12.3")
+        self.assertEqual(page.run("return document.body.dataset.ready"), "live")
+        self.assertIn("cut lost 3", page.run("return document.querySelector('#now').innerText"))
+        for name, words, trace in given_runs():
+            with self.subTest(name):
+                found = page.run(ANSWER, words, trace)
+                self.assertEqual(tuple(found), program(words, trace))
+
+    def test_trace_in_a_link_and_in_the_history(self) -> None:
+        page = self.open("#machine=run&trace=" + "~".join("post_0_%d_11x64~drain_0" % at for at in range(40)) + "&at=3.0")
+        before = page.run("return history.length")
+        count = page.run("document.querySelector('#cut').click(); return pmem.state.lines.length")
+        self.assertEqual(count, 81)
+        page.wait("return history.length > %d && location.hash.includes('z=')" % before, 120)
+        address = page.run("return location.hash")
+        page.run("history.back()")
+        page.wait("return pmem.state.lines.length === 80", 120)
+        self.open(address)
+        self.assertEqual(page.run("return pmem.state.lines.length"), count)
+        self.open("#machine=run&options=--levels_9&trace=stat")
+        self.assertIn("--levels 9", page.run("return document.querySelector('#notice').innerText"))
+
+    def test_accessible(self) -> None:
+        page = self.open("#lesson=05&at=4.3&line=5")
+        self.assertIn("80a0", page.run("return document.querySelector('#chip').innerText"))
+        self.assertEqual(page.run((TOOLS / "tests" / "accessibility.js").read_text(encoding="utf-8")), [])
 
 
 if __name__ == "__main__":
