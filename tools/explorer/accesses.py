@@ -88,13 +88,13 @@ class Teller:
         return tuple(steps)
 
     def latch_does(self, index: int, group: int) -> str:
-        """What a latch does after which the group has so many lines. None but `loss` sets the stop-loss number."""
+        """What a latch does after which the group has that many lines. None but `loss` sets the stop-loss number."""
         if group:
             return ARMS
         return SETS if self.recording.commands[index].word == "loss" else EMPTIES
 
     def work(self, log: Log, steps: int) -> Work:
-        """What a command took besides its steps, before which the trace had so many."""
+        """What a command took besides its steps, before which the trace had that many."""
         reads: List[Tuple[int, Place]] = []
         for word, number in log.accesses:
             if word == LOOK:
@@ -114,13 +114,13 @@ class Teller:
 
 
 def told_steps(recording: Recording, with_work: bool) -> Optional[List[Traced]]:
-    """All commands that were answered, with their steps, by one run with `--log`; None where the program hasn't that."""
+    """All commands that were answered, with their steps, by one run with `--log`; None if the program hasn't that."""
     data = recording.program.logged(recording.script, recording.settings)
     return None if data is None else Teller(recording, with_work).traced(data)
 
 
 def told_last(recording: Recording) -> Optional[int]:
-    """The steps of the last command that was answered, by one run with `--log`; None where the program hasn't that."""
+    """The steps of the last command that was answered, by one run with `--log`; None if the program hasn't that."""
     data = recording.program.logged(recording.script, recording.settings)
     if data is None:
         return None

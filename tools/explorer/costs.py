@@ -2,6 +2,7 @@
 the times are made of it."""
 import math
 import re
+import sys
 from dataclasses import dataclass
 from pathlib import Path
 from typing import Any, Dict, List, Sequence, Tuple
@@ -140,7 +141,7 @@ def read_costs(name: str) -> Costs:
     path = file_of(name)
     try:
         value = toml.loads(read_bytes(path).decode("utf-8"))
-    except (toml.TOMLDecodeError, UnicodeDecodeError) as error:
+    except (ValueError, RecursionError) as error:
         raise ExploreError(f"{path} is no TOML: {error}") from error
     title = value.pop("title", None)
     if not isinstance(title, str) or not title.strip() or not title.isprintable():
@@ -182,6 +183,6 @@ def number_of(path: str, name: str, field: str, value: Any) -> float:
         return float(value)
     is_count = field in ("at_once", "writes")
     right = isinstance(value, (int,) if is_count else (int, float)) and not isinstance(value, bool)
-    if not right or not math.isfinite(value) or value < (1 if is_count else 0):
+    if not right or not (1 if is_count else 0) <= value <= sys.float_info.max:
         raise ExploreError(f"{path}: {name} is to be a {'whole number from 1 on' if is_count else 'number that is not negative'}")
     return float(value)

@@ -1,15 +1,17 @@
 """What a cut at each persist step of a trace leaves, and what recovery takes after it."""
 import itertools
 import re
+import time
 from dataclasses import dataclass, field, replace
 from functools import cached_property
-from typing import Any, Callable, Dict, FrozenSet, Iterator, List, Optional, Sequence, Tuple, TypeVar
+from typing import Any, Callable, Dict, FrozenSet, Iterable, Iterator, List, Optional, Sequence, Tuple, TypeVar
 
 from .errors import ExploreError
 from .layout import DATA, TAGS, Layout
 from .moments import Moment
-from .output import json_text, table_text
+from .output import csv_text, table_text
 from .program import MARKS, Question, Recording, text_of
+from .rows import Event, Rows
 from .second_cuts import Seconds
 from .shared import Shared
 from .steps import Totals, mentioned_lines, stepping_indexes, tampered_lines
@@ -35,14 +37,14 @@ T = TypeVar("T")
 
 @dataclass(frozen=True)
 class Recovery:
-    """What `on` answers, and the names of its numbers where recovery goes through."""
+    """What `on` answers, and the names of its numbers if recovery goes through."""
 
     answer: str
     names: Tuple[str, ...] = ("trials", "digests", "steps")
 
     @cached_property
     def numbers(self) -> Optional[Tuple[int, ...]]:
-        """The numbers, where it goes through."""
+        """The numbers, if it goes through."""
         words = self.answer.split(" ")
         if words[0] != "on" or len(words) != 1 + len(self.names):
             return None
@@ -50,7 +52,7 @@ class Recovery:
 
     @property
     def steps(self) -> int:
-        """Its steps, where it goes through."""
+        """Its steps, if it goes through."""
         return self.numbers[-1] if self.numbers else 0
 
 
@@ -64,15 +66,27 @@ class Other:
 
     @property
     def text(self) -> str:
-        """The line's number, with the refusal where there is one."""
+        """The line's number, with the refusal if there is one."""
         return str(self.line) if self.after.startswith("line ") else f"{self.line} ({short_text(self.after)})"
+
+
+@dataclass(frozen=True)
+class Stored:
+    """Which of a program's stores memory has: just before the row `before` (None: at the end of the trace), of the stores that no
+    fence has made sure of, those that are there, those that are there in part, and those that are missing."""
+
+    before: Optional[Event]
+    kept: Tuple[Event, ...]
+    partly: Tuple[Event, ...]
+    missing: Tuple[Event, ...]
 
 
 @dataclass(frozen=True)
 class Cut:
     """A cut after `steps` steps of the trace, `number` of them the command's, and what comes of it. `lost` are the writes
-    that waited and are lost. With `recovery_steps` the recovery is cut too, after so many steps of its own. With `script`
-    no command is cut: these commands lead to it, by which `written` are the writes that are in memory."""
+    that waited and are lost. With `recovery_steps` the recovery is cut too, after that many steps of its own. With `script`
+    no command is cut: these commands lead to it, by which `written` are the writes that are in memory, or `stored` says which
+    of the program's stores are. `row` is what the imported program did by the command."""
 
     index: int
     number: int
@@ -87,6 +101,8 @@ class Cut:
     again: Tuple["Cut", ...] = field(default=())
     written: Tuple[Write, ...] = ()
     script: Tuple[bytes, ...] = ()
+    stored: Optional[Stored] = None
+    row: Optional[Event] = None
 
     @property
     def key(self) -> Tuple[int, int, int, Tuple[Write, ...], Tuple[bytes, ...]]:
@@ -107,7 +123,7 @@ class Cut:
 
 class CutFinder:
     """Cuts one trace at each of its steps. `lines` are those that the trace names or tampers with; those that are read at
-    a cut are fewer where nobody tampers (`InPlay`)."""
+    a cut are fewer if nobody tampers (`InPlay`)."""
 
     def __init__(self, recording: Recording, together: Together, every_line: bool, named_lines: bool = False) -> None:
         self.recording = recording
@@ -122,6 +138,7 @@ class CutFinder:
         self.plain_before: Readings = []
         self.together = together
         self.machine = recording.settings.machine
+        self.rows = Rows(recording.trace)
         self.recovery = Recovery("", self.machine.recovery)
         self.totals = Totals(recording, together)
         self.lines = list(range(recording.settings.data_lines)) if every_line else self.lines_to_read()
@@ -135,7 +152,7 @@ class CutFinder:
 
     def lines_to_read(self) -> List[int]:
         """The lines that the trace names, and those whose line or tag its attacker changes."""
-        lines = set(mentioned_lines(self.recording))
+        lines = {*mentioned_lines(self.recording), *(line for line in self.rows.lines if line < self.recording.settings.data_lines)}
         if self.machine.has_counts:
             layout = Layout(self.recording.settings)
             for line in tampered_lines(self.recording, layout.size):
@@ -165,7 +182,7 @@ class CutFinder:
         return text_of([self.machine.read(line, port) for line in lines])
 
     def lines_at(self, moment: Moment) -> Sequence[int]:
-        """The lines that are read at a moment. Where cuts are observed all are read before a command, or those that can have
+        """The lines that are read at a moment. If cuts are observed all are read before a command, or those that can have
         changed since the last time."""
         if self.in_play is None:
             return self.lines
@@ -215,7 +232,7 @@ class CutFinder:
         return moments
 
     def answers(self, moments: Sequence[Moment], what: str) -> Iterator[Tuple[Moment, bytes]]:
-        """What is printed of each moment. Where a run of the whole trace is worth it, its log tells which cuts one recovery
+        """What is printed of each moment. If a run of the whole trace is worth it, its log tells which cuts one recovery
         stands for."""
         if self.seconds is not None:
             yield from self.seconds.answers(moments, what)
@@ -264,7 +281,7 @@ class CutFinder:
             before = [self.before[self.places[line]] for line in lines]
         after, others, unread = self.seen(lines, before, printed)
         cut = Cut(moment.index, moment.number, moment.steps, command, answers[-2], self.recovery, others, tuple(lost),
-                  unread, moment.recovery_steps)
+                  unread, moment.recovery_steps, row=self.rows.by_command.get(moment.index))
         if self.observe is not None:
             self.observe(cut, self.whole(lines, after))
         return cut
@@ -316,17 +333,28 @@ class CutFinder:
         return self.texts.setdefault(reading, reading.decode())
 
     def lines_unread(self, lines: Sequence[int], unread: Sequence[int]) -> Tuple[int, ...]:
-        """All lines that can't be read, where those that were read are some of them."""
+        """All lines that can't be read, if those that were read are some of them."""
         return tuple(self.lines) if len(unread) == len(lines) and unread else tuple(unread)
+
+    def prepared(self, lines: Optional[range]) -> List[Moment]:
+        """The moments of all cuts of the commands on these lines of the trace, with those before the commands."""
+        indexes = stepping_indexes(self.recording, lines)
+        self.totals.count(indexes)
+        return self.moments(indexes, lines is None and not self.recording.ends_in_exhibit)
 
     def find(self, lines: Optional[range], twice: bool, rows_checked: int) -> List[Cut]:
         """All cuts of the commands on these lines of the trace. So many of them are compared with those of a run from
         the trace's start."""
+        return self.found(self.prepared(lines), twice, rows_checked)
+
+    def found(self, moments: Sequence[Moment], twice: bool, rows_checked: int, deadline: Optional[float] = None) -> List[Cut]:
+        """The cuts of these moments, up to the deadline; that many of them are compared."""
         self.is_twice = twice
-        indexes = stepping_indexes(self.recording, lines)
-        self.totals.count(indexes)
-        moments = self.moments(indexes, lines is None and not self.recording.ends_in_exhibit)
-        cuts = list(self.cuts(moments, "cuts"))
+        cuts = []
+        for cut in self.cuts(moments, "cuts"):
+            cuts.append(cut)
+            if deadline is not None and time.monotonic() >= deadline:
+                break
         if self.together.library_for(self.recording, len(cuts)):
             self.check(self.sample(cuts, rows_checked))
         return self.with_second_cuts(cuts, rows_checked) if twice else cuts
@@ -345,7 +373,7 @@ class CutFinder:
                                    "run that is asked there and by a run from the start: use --from-start")
 
     def sample(self, cuts: Sequence[Cut], count: int) -> List[Cut]:
-        """So many of the cuts, in their order. Half of them are from those behind a commit group's end, where other cuts tell
+        """So many of the cuts, in their order. Half of them are from those behind a commit group's end, if other cuts tell
         of such."""
         behind = {(moment.index, moment.number) for moment in spread(self.behind, count // 2)}
         places = {place for place, cut in enumerate(cuts) if behind and (cut.index, cut.number) in behind}
@@ -373,7 +401,7 @@ class CutFinder:
 
 
 class InPlay:
-    """The lines that a cut of `run` can leave otherwise where nobody tampers: those of the writes that wait, those that
+    """The lines that a cut of `run` can leave otherwise if nobody tampers: those of the writes that wait, those that
     the command seals, and those that were so before the last command that had such lines."""
 
     def __init__(self, recording: Recording, places: Dict[int, int]) -> None:
@@ -397,6 +425,25 @@ class InPlay:
     def between(self, first: int, last: int) -> List[int]:
         """Those of some commands in a row."""
         return sorted({line for lines in self.lines[first:last + 1] for line in lines})
+
+
+def some_of(moments: Sequence[Moment], places: Sequence[int]) -> List[Moment]:
+    """Of the cuts among these moments those at some places, with the moments before their commands."""
+    chosen = set(places)
+    found: List[Moment] = []
+    before: Optional[Moment] = None
+    place = 0
+    for moment in moments:
+        if moment.kind == "before":
+            before = moment
+            continue
+        if place in chosen:
+            if before is not None:
+                found.append(replace(before, since=None))
+                before = None
+            found.append(moment)
+        place += 1
+    return found
 
 
 def spread(every: Sequence[T], count: int) -> List[T]:
@@ -448,6 +495,8 @@ def row_of(cut: Cut) -> List[str]:
     """A cut's row of the table."""
     if cut.script:
         head = ["", str(cut.command.number), f"before {cut.command.short}"] if cut.command else ["", "", "end of the trace"]
+        if cut.stored and cut.stored.before:
+            head = ["", "", f"before {cut.stored.before.short}"]
         head.append(cut.answer)
     elif cut.recovery_steps is not None:
         head = ["", "", f"  on, cut after {cut.recovery_steps}", cut.answer]
@@ -464,7 +513,7 @@ def row_of(cut: Cut) -> List[str]:
 
 
 def summary_lines(cuts: Sequence[Cut], names: Sequence[str]) -> List[str]:
-    """How many cuts there are, and the greatest and the mean recovery, but for where lines lie."""
+    """How many cuts there are, and the greatest and the mean recovery, except for where lines lie."""
     every = all_cuts(cuts)
     found = [cut.recovery.numbers for cut in every if cut.recovery.numbers]
     lines = [f"{len(every)} cuts, {len(found)} recovered"]
@@ -488,7 +537,7 @@ def heads_of(names: Sequence[str]) -> List[List[str]]:
 
 def cuts_text(cuts: Sequence[Cut], recording: Recording,
               verdict_of: Optional[Callable[[Cut], str]] = None) -> str:
-    """The cuts for people, each with its verdict where it was checked."""
+    """The cuts for people, each with its verdict if it was checked."""
     names = recording.settings.machine.recovery
     heads, rows = heads_of(names), [row_of(cut) for cut in all_cuts(cuts)]
     if verdict_of is not None:
@@ -516,13 +565,52 @@ def cut_record(cut: Cut) -> Dict[str, Any]:
         "unread": list(cut.unread)}
     if cut.recovery_steps is not None:
         record["recovery_cut_after"] = cut.recovery_steps
-    if cut.script:
+    if cut.row:
+        record.update(event_record(cut.row))
+    if cut.stored:
+        record["before"] = event_record(cut.stored.before) if cut.stored.before else None
+        for name in ("kept", "partly", "missing"):
+            record[name] = [event_record(event) for event in getattr(cut.stored, name)]
+    elif cut.script:
         record["written"] = [{"port": port, "line": line, "trace_line": number} for port, line, number in cut.written]
     if cut.again:
         record["cuts_of_recovery"] = [cut_record(each) for each in cut.again]
     return record
 
 
-def cuts_json(cuts: Sequence[Cut], more: Callable[[Cut], Dict[str, Any]]) -> str:
-    """The cuts for scripts; `more` has what else is told of each."""
-    return json_text([{**cut_record(cut), **more(cut)} for cut in cuts])
+def event_record(event: Event) -> Dict[str, Any]:
+    """What a program did, for scripts: the row of the file that was imported, the place in its source, the section that a mark began, and
+    a store's address."""
+    return {"row": event.row, "source": event.source or None, "section": event.section or None, "word": event.word,
+            **({} if event.address is None else {"address": f"{event.address:#x}"})}
+
+
+def cut_records(cuts: Sequence[Cut], more: Callable[[Cut], Dict[str, Any]]) -> List[Dict[str, Any]]:
+    """The cuts for scripts; `more` has what else is known of each."""
+    return [{**cut_record(cut), **more(cut)} for cut in cuts]
+
+
+def cuts_csv(cuts: Sequence[Cut], names: Sequence[str], more: Callable[[Cut], Dict[str, Any]]) -> str:
+    """The cuts as CSV, those of a recovery behind their own; lists are numbers with spaces between."""
+    columns = ["steps_before", "trace_line", "row", "source", "section", "command", "answer", "recovery_cut_after", "recovery", *names,
+               "read_otherwise", "writes_lost", "unread", "in_memory", "missing", "outcome", "check", "reason"]
+    return csv_text(columns, [[flat_record(cut, more(cut)).get(name) for name in columns] for cut in all_cuts(cuts)])
+
+
+def flat_record(cut: Cut, more: Dict[str, Any]) -> Dict[str, Any]:
+    """A cut as fields of a CSV."""
+    record = {**cut_record(cut), **more}
+    record.update(read_otherwise=numbers_text(other.line for other in cut.others), unread=numbers_text(cut.unread),
+                  writes_lost=numbers_text(number for _, _, number in cut.lost))
+    if cut.stored:
+        before = cut.stored.before
+        record.update(event_record(before) if before else {}, steps_before=None, in_memory=numbers_text(event.row for event in cut.stored.kept),
+                      missing=numbers_text(event.row for event in (*cut.stored.partly, *cut.stored.missing)))
+    elif cut.script:
+        record.update(steps_before=None, in_memory=numbers_text(number for _, _, number in cut.written))
+    return record
+
+
+def numbers_text(numbers: Iterable[int]) -> str:
+    """Numbers with spaces between."""
+    return " ".join(map(str, numbers))

@@ -1,6 +1,6 @@
 """What stands between a program's stores and loads and memory: nothing, a buffer that combines stores, or a cache."""
 from collections import OrderedDict
-from typing import Dict, Iterator, List, Optional, Tuple
+from typing import Callable, Dict, Iterator, List, Optional, Tuple
 
 from .symbols import LINE_BYTES
 
@@ -19,9 +19,17 @@ class Front:
         """A load from one line."""
         raise NotImplementedError
 
+    def store_past(self, line: int, start: int, data: bytes) -> Iterator[Reaching]:
+        """A store into one line past the cache."""
+        yield line, start, data
+
     def flush(self, line: int) -> Iterator[Reaching]:
         """The program writes a line back."""
         return iter(())
+
+    def held(self, first: int, last: int) -> List[int]:
+        """Which of these lines have stores that aren't in memory yet."""
+        return []
 
     def fence(self) -> Iterator[Reaching]:
         """The program waits for what it wrote."""
@@ -44,20 +52,36 @@ class Straight(Front):
 
 class Held(Front):
     """Lines with stores that aren't in memory yet. With flushes a line is written by its flush, else by the fence. What
-    the program never stored into a line is zero."""
+    the program never stored into a line is as `before` has it."""
 
-    def __init__(self, has_flushes: bool) -> None:
+    def __init__(self, has_flushes: bool, before: Callable[[int], bytes] = lambda line: bytes(LINE_BYTES)) -> None:
         self.has_flushes = has_flushes
+        self.before = before
         self.bytes: Dict[int, bytearray] = {}
         self.dirty: Dict[int, None] = {}
 
     def put(self, line: int, start: int, data: bytes) -> None:
         """The bytes of a store."""
-        self.bytes.setdefault(line, bytearray(LINE_BYTES))[start:start + len(data)] = data
+        self.known(line)[start:start + len(data)] = data
         self.dirty[line] = None
 
+    def known(self, line: int) -> bytearray:
+        """The bytes of a line."""
+        if line not in self.bytes:
+            self.bytes[line] = bytearray(self.before(line))
+        return self.bytes[line]
+
+    def store_past(self, line: int, start: int, data: bytes) -> Iterator[Reaching]:
+        self.known(line)[start:start + len(data)] = data
+        yield line, start, data
+
+    def held(self, first: int, last: int) -> List[int]:
+        if last - first < len(self.dirty):
+            return [line for line in range(first, last + 1) if line in self.dirty]
+        return sorted(line for line in self.dirty if first <= line <= last)
+
     def written(self, line: int) -> Iterator[Reaching]:
-        """A line is written, where it has to be."""
+        """A line is written, if it has to be."""
         if line in self.dirty:
             del self.dirty[line]
             yield line, 0, bytes(self.bytes[line])
@@ -77,7 +101,7 @@ class Held(Front):
 
 
 class Combining(Held):
-    """Stores to a line are combined until it is written. Loads reach memory, but for lines that are held."""
+    """Stores to a line are combined until it is written. Loads reach memory, except for lines that are held."""
 
     def store(self, line: int, start: int, data: bytes) -> Iterator[Reaching]:
         self.put(line, start, data)
@@ -93,17 +117,17 @@ class Combining(Held):
 
 
 class WriteBackCache(Held):
-    """A cache that writes back, with so many bytes and ways: of each set the line that wasn't used for longest gives way. A
+    """A cache that writes back, with that many bytes and ways: of each set the line that wasn't used for longest is evicted. A
     store takes its line into the cache, as a load does."""
 
-    def __init__(self, size: int, ways: int, has_flushes: bool) -> None:
-        super().__init__(has_flushes)
+    def __init__(self, size: int, ways: int, has_flushes: bool, before: Callable[[int], bytes] = lambda line: bytes(LINE_BYTES)) -> None:
+        super().__init__(has_flushes, before)
         self.size = size
         self.ways = ways
         self.sets: List["OrderedDict[int, None]"] = [OrderedDict() for _ in range(size // (LINE_BYTES * ways))]
 
     def use(self, line: int) -> Iterator[Reaching]:
-        """A line is used: where it isn't there it is read, and another one gives way."""
+        """A line is used: where it isn't there it is read, and another one is evicted."""
         lines = self.sets[line % len(self.sets)]
         if line in lines:
             lines.move_to_end(line)

@@ -1,5 +1,5 @@
 """The four machines that the program has, as far as their traces and replies go. docs/FORMATS.md, WEAR.md, TXN.md and
-SHADOW.md have their commands."""
+TREE_MACHINE.md have their commands."""
 from dataclasses import dataclass
 from typing import Dict, FrozenSet, List, Tuple
 

@@ -6,7 +6,7 @@ from typing import Optional
 @dataclass(frozen=True)
 class Moment:
     """A moment to be asked about: before a command (`kind` is `before`), a cut in it, or power off after the trace.
-    `steps` counts those of the whole trace. `since`: the command before which the last such moment was, where no command that
+    `steps` counts those of the whole trace. `since`: the command before which the last such moment was, if no command that
     isn't asked about took steps in between."""
 
     kind: str

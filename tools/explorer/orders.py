@@ -1,16 +1,30 @@
-"""Power cuts between two fences, where a machine may have written any of the writes that wait: not those that this one
-has drained, in the order of its queue, but any of them, each line's own in their order."""
+"""Power cuts between two fences, when any of the writes that no fence has made sure of may be in memory. If a trace says which stores
+came when (`Rows`), these are the program's stores, flushed or not (`early`). Otherwise they are the writes that wait, each line's in
+their order."""
 import itertools
 import random
+from collections import deque
 from dataclasses import dataclass, replace
-from typing import Callable, Dict, Iterator, List, Optional, Sequence, Tuple
+from typing import Any, Callable, Deque, Dict, Generic, Iterator, List, Optional, Sequence, Set, Tuple, TypeVar, Union
 
-from .cuts import NO_CUT, Cut, CutFinder, Readings, Recovery, answers_in, reading_of
+from .cuts import NO_CUT, Cut, CutFinder, Readings, Recovery, Stored, answers_in, reading_of
+from .early import Chain, Moments, Part
+from .early import Moment as StoreMoment
 from .errors import WRONG_WORDS, ExploreError
 from .output import table_text
 from .program import Question, Recording
+from .rows import Event
 from .trace import TAMPERING_WORDS
-from .waiting import Write, port_of, write_of
+from .waiting import PORTS, Write, port_of, write_of
+
+Item = TypeVar("Item")
+NOT_MODELLED = ("not modelled: the order of several processors' stores, and whether a store of more than 8 bytes reaches memory whole "
+                "(--torn: it doesn't)")
+# Far apart, so that no two moments have the same numbers under neighbouring seeds.
+SEEDS = 1_000_003
+MOST_SHOWN = 10 ** 12
+LOG10_OF_2 = 0.301029995663981
+NOT_MODELLED_TORN = "not modelled: the order of several processors' stores"
 
 
 @dataclass(frozen=True)
@@ -24,16 +38,6 @@ class Epoch:
     writes: Tuple[int, ...]
     certain: Tuple[int, ...]
     is_changed: bool
-
-
-@dataclass(frozen=True)
-class Tried:
-    """How many of an epoch's outcomes were tried, of how many."""
-
-    epoch: Epoch
-    tried: int
-    total: int
-    cuts: Tuple[Cut, ...]
 
 
 class Epochs:
@@ -79,7 +83,7 @@ class Epochs:
         self.unfenced, self.certain, self.drained, self.has_more = [], [], {}, False
 
     def put(self, index: int, words: Sequence[str]) -> None:
-        """A drain or a fence: a drained write isn't sure yet, one that was refused is no write any more."""
+        """A drain or a fence: a drained write isn't sure yet, one that was refused isn't a write any more."""
         command = self.recording.commands[index]
         port = port_of(command)
         own = [each for each in self.unfenced if port_of(self.recording.commands[each]) == port]
@@ -99,107 +103,247 @@ class Epochs:
             self.certain = []
 
 
-class Orders:
-    """Tries the outcomes of each epoch."""
+class States(Generic[Item]):
+    """The states that some chains may be in at a moment. A state is an option of each chain."""
 
-    def __init__(self, finder: CutFinder, bound: int, lines: Optional[range]) -> None:
+    def __init__(self, chains: Sequence[Chain[Item]]) -> None:
+        self.chains = chains
+        self.options = [chain.options for chain in chains]
+        self.total = 1
+        for count in self.options:
+            self.total *= count
+
+    def tried(self, bound: int, generator: random.Random) -> List[List[Item]]:
+        """Up to `bound` of the states, each as what has happened in it. If there are more: none, all, for up to half of them each chain
+        alone and all chains except one, and then any, each as likely as another."""
+        options = itertools.product(*map(range, self.options)) if self.total <= bound else iter(self.some(bound, generator))
+        return [self.chosen(each) for each in options]
+
+    def chosen(self, options: Sequence[int]) -> List[Item]:
+        """What has happened in a state."""
+        return [each for chain, option in zip(self.chains, options) for each in chain.chosen(option)]
+
+    def some(self, bound: int, generator: random.Random) -> List[Tuple[int, ...]]:
+        """That many of the states."""
+        full = tuple(count - 1 for count in self.options)
+        none = tuple(0 for _ in full)
+        found = {none: None, full: None}
+        for place in generator.sample(range(len(full)), len(full)):
+            if len(found) + 2 > max(bound // 2, 2):
+                break
+            for base, option in ((none, full[place]), (full, 0)):
+                found[(*base[:place], option, *base[place + 1:])] = None
+        while len(found) < bound:
+            found[tuple(generator.randrange(count) for count in self.options)] = None
+        return list(found)
+
+
+@dataclass(frozen=True)
+class Trial:
+    """A state that is tried: the cut that it is, without what comes of it, and the question that makes it."""
+
+    cut: Cut
+    question: Question
+
+
+@dataclass(frozen=True)
+class Asked:
+    """A moment, with its states: `trial` makes one of them. `place` has the row and the source, or the trace's line, of what comes
+    next; `writes` is how many aren't sure before it. `is_changed`: the attacker comes in between, so it isn't tried."""
+
+    index: int
+    place: Tuple[str, ...]
+    writes: int
+    states: "States[Any]"
+    trial: Callable[[Sequence[Any]], Trial]
+    is_changed: bool
+
+
+@dataclass(frozen=True)
+class Tried:
+    """What the states that were tried at a moment leave."""
+
+    asked: Asked
+    cuts: Tuple[Cut, ...]
+
+
+class WriteOrders:
+    """The states of a trace without rows, or of its flushed lines only: any of the writes that wait."""
+
+    heads = (("trace", "writes before", "outcomes", "of", "that", "that"), ("line", "the fence", "tried", "all", "differ", "fail"))
+
+    def __init__(self, finder: CutFinder, lines: Optional[range]) -> None:
         self.finder = finder
         self.recording = finder.recording
-        if not finder.machine.has_ports:
-            raise ExploreError(f"--orders is for traces of pmem run: {finder.machine.name} has no writes that wait",
-                               WRONG_WORDS)
-        self.bound = bound
-        self.epochs = [epoch for epoch in Epochs(self.recording).found()
-                       if lines is None or any(self.recording.commands[each].number in lines for each in epoch.writes)]
+        self.moments = [self.asked(epoch) for epoch in Epochs(self.recording).found()
+                        if lines is None or any(self.recording.commands[each].number in lines for each in epoch.writes)]
 
-    def lines_of(self, epoch: Epoch) -> List[List[int]]:
-        """An epoch's writes, those of one line together."""
-        lines: Dict[int, List[int]] = {}
+    def notes(self, tried: int, total: int) -> List[str]:
+        """What is printed under the table."""
+        return [f"{tried} of {count_text(total)} outcomes tried"]
+
+    def asked(self, epoch: Epoch) -> Asked:
+        """An epoch with its states: the writes of one line keep their order."""
+        lines: Dict[int, List[Tuple[int, ...]]] = {}
         for each in epoch.writes:
-            lines.setdefault(self.write(each)[1], []).append(each)
-        return list(lines.values())
+            lines.setdefault(self.write(each)[1], []).append((each,))
+        is_end = epoch.index >= len(self.recording.replies)
+        place = "end" if is_end else str(self.recording.commands[epoch.index].number)
+        return Asked(epoch.index, (place,), len(epoch.writes), States([Chain(tuple(groups)) for groups in lines.values()]),
+                     lambda chosen: self.trial(epoch, chosen), epoch.is_changed)
 
     def write(self, index: int) -> Write:
         """The write that a command posted."""
         return write_of(self.recording.commands[index])
 
-    def choices(self, epoch: Epoch) -> Tuple[List[Tuple[int, ...]], int]:
-        """The outcomes that are tried, each the writes that are in memory, and how many there are."""
-        lines = self.lines_of(epoch)
-        total = 1
-        for line in lines:
-            total *= len(line) + 1
-        fronts = itertools.product(*(range(len(line) + 1) for line in lines)) if total <= self.bound \
-            else self.some_fronts(lines, epoch.index)
-        chosen = [tuple(sorted(each for line, count in zip(lines, front) for each in line[:count])) for front in fronts]
-        return chosen, total
-
-    def some_fronts(self, lines: Sequence[Sequence[int]], seed: int) -> List[Tuple[int, ...]]:
-        """Where there are too many: none and all, each line alone, all lines but one, and then any, the same ones at each
-        run."""
-        full = tuple(len(line) for line in lines)
-        none = tuple(0 for _ in lines)
-        fronts = {none: None, full: None}
-        for place in range(len(lines)):
-            for base, count in ((none, full[place]), (full, 0)):
-                if len(fronts) < self.bound:
-                    fronts[(*base[:place], count, *base[place + 1:])] = None
-        generator = random.Random(seed)
-        while len(fronts) < self.bound:
-            fronts[tuple(generator.randint(0, len(line)) for line in lines)] = None
-        return list(fronts)
-
-    def script(self, epoch: Epoch, written: Sequence[int]) -> Tuple[bytes, ...]:
-        """The commands that write these and no others of an epoch, and then lose power."""
+    def trial(self, epoch: Epoch, chosen: Sequence[int]) -> Trial:
+        """The cut that leaves these writes and no others."""
         script = [NO_CUT]
-        for each in sorted((*epoch.certain, *written)):
+        for each in sorted((*epoch.certain, *chosen)):
             command = self.recording.commands[each]
             script += [command.text, b"drain %d" % port_of(command)]
-        return (*script, b"off", b"on")
+        script += [b"off", b"on"]
+        is_end = epoch.index >= len(self.recording.replies)
+        lost = tuple(self.write(each) for each in epoch.writes if each not in chosen)
+        cut = Cut(epoch.start, 0, 0, None if is_end else self.recording.commands[epoch.index],
+                  f"{len(chosen)} of {len(epoch.writes)} written", Recovery(""), (), lost,
+                  written=tuple(self.write(each) for each in sorted(chosen)), script=tuple(script))
+        return Trial(cut, Question(epoch.start, tuple(script), self.finder.reads))
 
-    def find(self, observe: Callable[[Cut, Readings], None]) -> List[Tried]:
-        """What the outcomes of each epoch leave; each is observed."""
-        asked = [(epoch, *self.choices(epoch)) for epoch in self.epochs if not epoch.is_changed]
-        trials = [(epoch, written) for epoch, chosen, _ in asked for written in chosen]
-        questions = (Question(epoch.start, self.script(epoch, written), self.finder.reads) for epoch, written in trials)
-        found = self.finder.together.answers(self.recording, questions, len(trials), "orders")
-        cuts: Dict[int, List[Cut]] = {}
-        before: Dict[int, Readings] = {}
-        for (epoch, written), (question, data) in zip(trials, found):
-            answers, readings = answers_in(data, len(question.script))
-            none = before.setdefault(epoch.index, readings)
-            cut = replace(self.cut(epoch, written, question.script, answers[-1]),
-                          others=self.finder.others(self.finder.lines, none, readings)[0])
-            cuts.setdefault(epoch.index, []).append(cut)
-            observe(cut, list(map(reading_of, readings)))
-        return [Tried(epoch, len(chosen), total, tuple(cuts[epoch.index])) for epoch, chosen, total in asked]
 
-    def cut(self, epoch: Epoch, written: Sequence[int], script: Tuple[bytes, ...], answer: str) -> Cut:
-        """The cut that leaves these writes and no others."""
-        command = self.recording.commands[epoch.index] if epoch.index < len(self.recording.replies) else None
-        lost = tuple(self.write(each) for each in epoch.writes if each not in written)
-        return Cut(epoch.start, 0, 0, command, f"{len(written)} of {len(epoch.writes)} written",
-                   Recovery(answer, self.finder.machine.recovery), (), lost, (), None, (),
-                   tuple(self.write(each) for each in written), script)
+class StoreOrders:
+    """The states of a trace whose rows say which stores came when: any of them may be in memory, flushed or not."""
+
+    heads = (("row", "source", "stores not", "states", "of", "that", "that"), ("", "", "yet sure", "tried", "all", "differ", "fail"))
+
+    def __init__(self, finder: CutFinder, lines: Optional[range], torn: bool) -> None:
+        self.finder = finder
+        self.recording = finder.recording
+        self.torn = torn
+        used = {port_of(command) for command in self.recording.commands if command.word in ("post", "part", "drain", "fence")}
+        self.port = next((port for port in range(PORTS) if port not in used), None)
+        self.moments = [self.asked(moment) for moment in Moments(self.recording, finder.rows, torn).found()
+                        if lines is None or self.number(moment) in lines]
+
+    def number(self, moment: StoreMoment) -> int:
+        """The line of the trace that comes next."""
+        commands = self.recording.commands
+        return commands[moment.index].number if moment.index < len(commands) else self.recording.trace.line_count
+
+    def notes(self, tried: int, total: int) -> List[str]:
+        """What is printed under the table."""
+        left = f"; {count_text(total - tried)} left out" if total > tried else ""
+        return [f"{tried} of {count_text(total)} states tried, early evictions included{left}",
+                NOT_MODELLED_TORN if self.torn else NOT_MODELLED]
+
+    def asked(self, moment: StoreMoment) -> Asked:
+        """A moment with its states."""
+        place = ("end", "") if moment.event is None else (str(moment.event.row), moment.event.source)
+        states = States([chain for _, _, line in moment.lines for chain in line.chains()])
+        return Asked(moment.index, place, len(moment.stores), states, lambda chosen: self.trial(moment, chosen), moment.is_changed)
+
+    def trial(self, moment: StoreMoment, chosen: Sequence[Part]) -> Trial:
+        """The cut that leaves these parts of stores, what is sure, and nothing else."""
+        parts = set(chosen)
+        has_port = self.port is not None and moment.has_power
+        script = [NO_CUT] if has_port else [NO_CUT, b"off", b"on"]
+        port = self.port if has_port and self.port is not None else 0
+        for number, device, line in moment.lines:
+            data = line.with_parts(parts)
+            if data != device:
+                script += [b"post %d %d %s" % (port, number, data.hex().encode()), b"drain %d" % port]
+        script += [b"off", b"on"]
+        stored = stored_of(moment, parts)
+        command = self.recording.commands[moment.index] if moment.index < len(self.recording.replies) else None
+        answer = f"{len(stored.kept)} of {len(moment.stores)} stores"
+        cut = Cut(moment.index, 0, 0, command, answer, Recovery(""), (), script=tuple(script), stored=stored)
+        return Trial(cut, Question(moment.index, tuple(script), self.finder.reads))
+
+
+def stored_of(moment: StoreMoment, chosen: Set[Part]) -> Stored:
+    """Which stores that aren't sure memory has, which it has in part, and which it doesn't have."""
+    kept: List[Event] = []
+    partly: List[Event] = []
+    missing: List[Event] = []
+    for store in moment.stores:
+        count = sum(part in chosen for part in store.parts)
+        (kept if count == len(store.parts) else partly if count else missing).append(store.event)
+    return Stored(moment.event, tuple(kept), tuple(partly), tuple(missing))
+
+
+class Orders:
+    """Tries the states at each moment: `bound` at most, which `seed` chooses if there are more. Without `early` only lines that
+    were flushed may be in memory. With `torn` a store of more than 8 bytes may be there in part."""
+
+    def __init__(self, finder: CutFinder, bound: int, lines: Optional[range], early: bool = True, torn: bool = False,
+                 seed: int = 0) -> None:
+        self.finder = finder
+        self.bound = bound
+        self.seed = seed
+        if not finder.machine.has_ports:
+            raise ExploreError(f"--orders is for traces of pmem run: {finder.machine.name} has no writes that wait",
+                               WRONG_WORDS)
+        self.kind: Union[StoreOrders, WriteOrders] = StoreOrders(finder, lines, torn) if early and finder.rows.knows_stores \
+            else WriteOrders(finder, lines)
+        self.moments = [asked for asked in self.kind.moments if not asked.is_changed]
 
     @property
     def changed(self) -> int:
-        """How many epochs aren't tried, because the attacker comes in between."""
-        return sum(epoch.is_changed for epoch in self.epochs)
+        """How many moments aren't tried, because the attacker comes in between."""
+        return len(self.kind.moments) - len(self.moments)
+
+    def trials(self, moments: Sequence[Asked]) -> Iterator[Tuple[Asked, Trial]]:
+        """The states that are tried at these moments."""
+        for asked in moments:
+            generator = random.Random(self.seed * SEEDS + asked.index)
+            for chosen in asked.states.tried(self.bound, generator):
+                yield asked, asked.trial(chosen)
+
+    def find(self, observe: Callable[[Cut, Readings], None], moments: Optional[Sequence[Asked]] = None) -> List[Tried]:
+        """What the states at these moments leave, or at all of them; each is observed."""
+        chosen = self.moments if moments is None else moments
+        waiting: Deque[Tuple[Asked, Trial]] = deque()
+
+        def questions() -> Iterator[Question]:
+            for each in self.trials(chosen):
+                waiting.append(each)
+                yield each[1].question
+
+        total = sum(min(asked.states.total, self.bound) for asked in chosen)
+        cuts: Dict[int, List[Cut]] = {id(asked): [] for asked in chosen}
+        before: Dict[int, Readings] = {}
+        for question, data in self.finder.together.answers(self.finder.recording, questions(), total, "orders"):
+            asked, trial = waiting.popleft()
+            answers, readings = answers_in(data, len(question.script))
+            none = before.setdefault(id(asked), readings)
+            cut = replace(trial.cut, recovery=Recovery(answers[-1], self.finder.machine.recovery),
+                          others=self.finder.others(self.finder.lines, none, readings)[0])
+            cuts[id(asked)].append(cut)
+            observe(cut, list(map(reading_of, readings)))
+        return [Tried(asked, tuple(cuts[id(asked)])) for asked in chosen]
 
 
-def orders_text(tried: Sequence[Tried], changed: int, outcome_of: Callable[[Cut], Tuple[int, str]]) -> str:
+def count_text(count: int) -> str:
+    """A number; one with more than twelve digits with its first two, as 4.6e39."""
+    if count < MOST_SHOWN:
+        return str(count)
+    power = int((count.bit_length() - 1) * LOG10_OF_2)
+    digits = count // 10 ** (power - 1)
+    if digits >= 100:
+        power, digits = power + 1, digits // 10
+    return f"{digits // 10}.{digits % 10}e{power}"
+
+
+def orders_text(tried: Sequence[Tried], orders: Orders, outcome_of: Callable[[Cut], Tuple[int, str]]) -> str:
     """The orders for people. `outcome_of` has the number of a cut's outcome and its verdict."""
-    heads = [["trace", "writes before", "outcomes", "of", "that", "that"],
-             ["line", "the fence", "tried", "all", "differ", "fail"]]
     rows = []
     for each in tried:
         found = [outcome_of(cut) for cut in each.cuts]
-        command = each.cuts[0].command
-        rows.append([str(command.number) if command else "end", str(len(each.epoch.writes)), str(each.tried),
-                     str(each.total), str(len({number for number, _ in found})),
-                     str(sum(verdict == "fails" for _, verdict in found))])
-    notes = [f"{sum(each.tried for each in tried)} of {sum(each.total for each in tried)} outcomes tried"]
-    if changed:
-        notes.append(f"{changed} fences aren't tried: the attacker comes in between")
-    return table_text(heads, rows, left=()) + "\n" + "".join(f"{note}\n" for note in notes)
+        rows.append([*each.asked.place, str(each.asked.writes), str(len(each.cuts)), count_text(each.asked.states.total),
+                     str(len({number for number, _ in found})), str(sum(verdict == "fails" for _, verdict in found))])
+    total = sum(asked.states.total for asked in orders.moments)
+    notes = orders.kind.notes(sum(len(each.cuts) for each in tried), total)
+    if orders.changed:
+        notes.append(f"{orders.changed} fences aren't tried: the attacker comes in between")
+    left = (1,) if isinstance(orders.kind, StoreOrders) else ()
+    return table_text(orders.kind.heads, rows, left=left) + "\n" + "".join(f"{note}\n" for note in notes)

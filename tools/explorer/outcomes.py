@@ -1,75 +1,31 @@
 """What the cuts of a trace leave, each outcome once, and one's own question about it."""
 import hashlib
 import os
-import shlex
-import subprocess
-import tempfile
-from dataclasses import dataclass, field
 from pathlib import Path
 from typing import Any, Dict, List, Optional, Sequence, Tuple
 
-from .cuts import Cut, Readings, all_cuts, cut_record, heads_of, row_of
-from .errors import ExploreError, reason_of
-from .output import json_text, table_text
-from .processes import new_selector, start
-from .program import Output, Recording
+from .cuts import Cut, Readings, Stored, all_cuts, cut_record, flat_record, heads_of, row_of
+from .checks import reasons
+from .output import csv_text, table_text
+from .program import Recording
+from .rows import Event
 from .symbols import LINE_BYTES, Names
-from .together import FromStart, Progress, in_order
-from .trace import short_text, told_line
+from .trace import short_text, shown_path, told_line
+from .verdicts import ERROR, WRONG, Outcome, Verdict
 
-RIGHT, WRONG = "ok", "fails"
 MOST_CHANGED = 64
-
-
-@dataclass(frozen=True)
-class Verdict:
-    """Whether an outcome is all right, and the last line of why it isn't."""
-
-    is_right: bool
-    reason: str = ""
-
-    @property
-    def text(self) -> str:
-        """It in a word."""
-        return RIGHT if self.is_right else WRONG
-
-
-@dataclass
-class Outcome:
-    """What some cuts leave alike: the recovered memory, or in place of it why there is none. Of its lines those in `changed`
-    aren't as in `base`, which many outcomes share."""
-
-    number: int
-    base: Readings
-    changed: Dict[int, bytes]
-    cuts: List[Cut] = field(default_factory=list)
-    verdict: Optional[Verdict] = None
-
-    @property
-    def readings(self) -> Readings:
-        """What its lines read as."""
-        readings = list(self.base)
-        for place, reading in self.changed.items():
-            readings[place] = reading
-        return readings
-
-    @property
-    def first(self) -> Cut:
-        """The first cut that leads to it."""
-        return self.cuts[0]
-
-    @property
-    def is_recovered(self) -> bool:
-        """Whether there is a memory to be asked about."""
-        return all(reading.startswith(b"line ") for reading in self.readings)
+MOST_EVENTS = 8
 
 
 class Outcomes:
     """The outcomes of a trace's cuts, gathered as these are found."""
 
-    def __init__(self, recording: Recording, lines: Sequence[int]) -> None:
+    def __init__(self, recording: Recording, lines: Sequence[int], names: Optional[Names] = None,
+                 addresses: Optional[Tuple[int, int]] = None) -> None:
         self.recording = recording
         self.lines = lines
+        self.names = names or Names(recording.trace)
+        self.addresses = addresses
         self.base: Readings = []
         self.by_memory: Dict[bytes, Outcome] = {}
         self.by_cut: Dict[Any, Outcome] = {}
@@ -110,15 +66,27 @@ class Outcomes:
         return outcome.number, verdict_text(outcome)
 
     def verdict_record_of(self, cut: Cut) -> Dict[str, Any]:
-        """The verdict of a cut for scripts, where there is one."""
+        """The verdict of a cut for scripts, if there is one."""
         outcome = self.by_cut.get(cut.key)
         return verdict_record(outcome) if outcome else {}
 
+    def row_of(self, cut: Cut) -> Dict[str, Any]:
+        """The number of a cut's outcome and its verdict, for a CSV."""
+        outcome = self.by_cut.get(cut.key)
+        return {"outcome": outcome.number, **verdict_record(outcome)} if outcome else {}
+
     def memory_of(self, outcome: Outcome) -> bytes:
-        """The recovered memory, line by line from line 0 on; what wasn't read is zero."""
-        memory = bytearray(LINE_BYTES * self.recording.settings.data_lines)
+        """The recovered memory, line by line from line 0 on, or the bytes of the other program's `addresses`; what wasn't read is
+        zero."""
+        low, high = self.addresses or (0, LINE_BYTES * self.recording.settings.data_lines - 1)
+        memory = bytearray(high - low + 1)
         for line, reading in zip(self.lines, outcome.readings):
-            memory[LINE_BYTES * line:LINE_BYTES * (line + 1)] = bytes.fromhex(reading.split(b" ")[1].decode())
+            data = bytes.fromhex(reading.split(b" ")[1].decode())
+            for address in self.names.addresses_of(line) if self.addresses else [LINE_BYTES * line]:
+                start = address - low
+                if -LINE_BYTES < start < len(memory):
+                    part = data[max(0, -start):len(memory) - start]
+                    memory[max(0, start):max(0, start) + len(part)] = part
         return bytes(memory)
 
     def lines_text(self, outcome: Outcome, names: Names) -> str:
@@ -126,51 +94,30 @@ class Outcomes:
         return "".join(f"{line}\t{names.address_text(line)}\t{names.symbol_text(line)}\t{reading.split(b' ')[1].decode()}\n"
                        for line, reading in zip(self.lines, outcome.readings))
 
-    def check(self, command: str, names: Names, jobs: int) -> None:
-        """Asks a command whether each recovered memory is all right."""
-        words = shlex.split(command)
-        if not words:
-            raise ExploreError("--check names no command")
-        asked = [outcome for outcome in self.all if outcome.is_recovered]
-        for outcome in self.all:
-            if not outcome.is_recovered:
-                outcome.verdict = Verdict(False, f"on answers {short_text(outcome.first.recovery.answer)}")
-        done: Dict[int, Output] = {}
-        with tempfile.TemporaryDirectory() as folder, new_selector() as selector:
-            def begin(outcome: Outcome) -> Tuple["subprocess.Popen[bytes]", bytes]:
-                return self.asked(outcome, words, names, Path(folder)), b""
-
-            workers = [FromStart[Outcome](selector, done, begin) for _ in range(jobs)]
-            for outcome, output in in_order(selector, asked, workers, done, Progress("checks", len(asked))):
-                last = output.data.strip().split(b"\n")[-1]
-                outcome.verdict = Verdict(output.status == 0, told_line(last) or f"status {output.status}")
-                for name in files_of(outcome, Path(folder)):
-                    name.unlink()
-
-    def asked(self, outcome: Outcome, words: Sequence[str], names: Names,
-              folder: Path) -> "subprocess.Popen[bytes]":
-        """Begins the command on an outcome's two files."""
-        image, lines = files_of(outcome, folder)
+    def write_files(self, outcome: Outcome, image: Path, lines: Path) -> None:
+        """Writes the two files that a check is given."""
         image.write_bytes(self.memory_of(outcome))
-        lines.write_text(self.lines_text(outcome, names))
-        try:
-            return start([*words, str(image), str(lines)], with_errors=True)
-        except OSError as error:
-            raise ExploreError(f"cannot run {words[0]}: {reason_of(error)}") from error
+        lines.write_text(self.lines_text(outcome, self.names), encoding="utf-8")
+
+    def unchecked(self) -> List[Outcome]:
+        """The outcomes that have no verdict and can be asked about. Those without a memory get theirs here."""
+        for outcome in self.all:
+            if outcome.verdict is None and not outcome.is_recovered:
+                outcome.verdict = Verdict(False, f"on answers {short_text(outcome.first.recovery.answer)}")
+        return [outcome for outcome in self.all if outcome.verdict is None]
 
     def wrong(self) -> List[Outcome]:
         """Those that aren't all right."""
-        return [outcome for outcome in self.all if outcome.verdict is not None and not outcome.verdict.is_right]
+        return [outcome for outcome in self.all if outcome.verdict is not None and outcome.verdict.text == WRONG]
+
+    def broken(self) -> List[Outcome]:
+        """Those that couldn't be checked."""
+        return [outcome for outcome in self.all if outcome.verdict is not None and outcome.verdict.is_error]
 
     def shortest_wrong(self) -> Optional[Outcome]:
         """The one that the fewest commands lead to."""
         wrong = sorted(self.wrong(), key=lambda outcome: outcome.first.key[:3])
         return wrong[0] if wrong else None
-
-
-def files_of(outcome: Outcome, folder: Path) -> Tuple[Path, Path]:
-    """The names of the two files that a check is given."""
-    return folder / f"{outcome.number}.memory", folder / f"{outcome.number}.lines"
 
 
 def outcomes_text(outcomes: Outcomes) -> str:
@@ -197,9 +144,15 @@ def notes_of(outcomes: Outcomes) -> List[str]:
     count = sum(len(outcome.cuts) for outcome in outcomes.all)
     notes = [f"{count} cuts, {len(outcomes.all)} outcomes"]
     wrong = outcomes.wrong()
+    broken = outcomes.broken()
     if any(outcome.verdict for outcome in outcomes.all):
         cuts = sum(len(outcome.cuts) for outcome in wrong)
-        notes.append(f"{len(wrong)} outcomes of {cuts} cuts fail the check" if wrong else "all pass the check")
+        left = sum(outcome.verdict is None for outcome in outcomes.all)
+        notes.append(f"{len(wrong)} outcomes of {cuts} cuts fail the check" if wrong else
+                     "all pass the check" if not (broken or left) else "none fails the check")
+        if left:
+            notes.append(f"{left} outcomes aren't checked: the budget is exhausted")
+        notes += [f"{count} outcomes couldn't be checked: {reason}" for reason, count in reasons(broken).items()]
     shortest = outcomes.shortest_wrong()
     if shortest is not None and shortest.verdict is not None:
         notes.append(f"the first: {moment_text(shortest.first)}: {shortest.verdict.reason}")
@@ -207,25 +160,52 @@ def notes_of(outcomes: Outcomes) -> List[str]:
 
 
 def moment_text(cut: Cut) -> str:
-    """A cut in words."""
+    """A cut in words, with the row and the source that it comes in."""
+    if cut.stored is not None:
+        return stored_text(cut.stored)
+    row = f"{cut.row.place}: " if cut.row else ""
     if cut.script:
         lines = ", ".join(str(number) for _, _, number in cut.written) or "none"
         place = f"before line {cut.command.number}" if cut.command else "at the end of the trace"
-        return f"{place}, of the writes that wait those of the trace's lines {lines} alone written"
+        return f"{row}{place}, of the writes that wait those of the trace's lines {lines} alone written"
     if cut.command is None:
         return "power off after the trace"
     again = "" if cut.recovery_steps is None else f", and the recovery cut after {cut.recovery_steps}"
-    return f"line {cut.command.number}, {cut.command.short}, cut after {cut.number} of its steps{again}"
+    return f"{row}line {cut.command.number}, {cut.command.short}, cut after {cut.number} of its steps{again}"
 
 
-def outcomes_json(outcomes: Outcomes) -> str:
-    """The outcomes for scripts."""
-    return json_text([{"outcome": outcome.number, "cuts": len(outcome.cuts), **verdict_record(outcome),
-                       "first": cut_record(outcome.first)} for outcome in outcomes.all])
+def stored_text(stored: Stored) -> str:
+    """Which stores memory has, in words."""
+    place = f"before {stored.before.place} ({stored.before.word})" if stored.before else "at the end"
+    texts = [f"{what} {events_text(events)}" for what, events in
+             (("memory has", stored.kept), ("has in part", stored.partly), ("misses", stored.missing)) if events]
+    return f"{place}: " + ", ".join(texts or ["every store is sure"])
+
+
+def events_text(events: Sequence[Event]) -> str:
+    """Rows in words, each once."""
+    found = list(dict.fromkeys(event.short for event in events))
+    more = len(found) - MOST_EVENTS
+    return ", ".join(found[:MOST_EVENTS]) + (f" and {more} more" if more > 0 else "")
+
+
+def outcome_records(outcomes: Outcomes) -> List[Dict[str, Any]]:
+    """The outcomes with their first cuts."""
+    return [{"outcome": outcome.number, "cuts": len(outcome.cuts), **verdict_record(outcome), "first": cut_record(outcome.first)}
+            for outcome in outcomes.all]
+
+
+def outcomes_csv(outcomes: Outcomes, names: Sequence[str]) -> str:
+    """The outcomes as CSV, each with its first cut."""
+    columns = ["outcome", "cuts", "check", "reason", "steps_before", "trace_line", "row", "source", "section", "command", "answer", "recovery",
+               *names, "read_otherwise", "writes_lost", "in_memory", "missing"]
+    rows = [{**flat_record(outcome.first, verdict_record(outcome)), "outcome": outcome.number, "cuts": len(outcome.cuts)}
+            for outcome in outcomes.all]
+    return csv_text(columns, [[row.get(name) for name in columns] for row in rows])
 
 
 def verdict_record(outcome: Outcome) -> Dict[str, Any]:
-    """A verdict for scripts, where there is one."""
+    """A verdict for scripts, if there is one."""
     return {"check": outcome.verdict.text, "reason": outcome.verdict.reason} if outcome.verdict else {}
 
 
@@ -242,8 +222,8 @@ def failing_trace(outcomes: Outcomes, outcome: Outcome, check: str) -> str:
         commands += [f"cut {cut.recovery_steps}", "on", "on"] if cut.recovery_steps is not None else ["on"]
     commands += [recording.settings.machine.read(line).decode() for line in outcomes.lines]
     reason = outcome.verdict.reason if outcome.verdict else ""
-    return "\n".join([f"# Of {told_line(recording.trace.name.encode())}: {moment_text(cut)}.",
-                      f"# {told_line(check.encode())} says: {reason}",
+    return "\n".join([f"# Of {shown_path(recording.trace.name)[:200]}: {moment_text(cut)}.",
+                      f"# {told_line(os.fsencode(check))} says: {reason}",
                       f"# To run it: pmem {' '.join(recording.settings.words())}", *commands]) + "\n"
 
 
@@ -254,27 +234,40 @@ def attribute(text: str) -> str:
 
 
 def junit_text(cuts: Sequence[Cut], outcomes: Outcomes) -> str:
-    """A test for each command that was cut, and for each fence whose writes were put in other orders, as JUnit writes
-    them."""
-    tests: Dict[Tuple[int, bool], List[Cut]] = {}
+    """A test for each command that was cut, and for each moment whose stores or writes were put in other orders, as JUnit writes
+    them. A check that failed itself is an error and not a failure."""
+    tests: Dict[Tuple[int, int], List[Cut]] = {}
     for cut in all_cuts(cuts):
-        tests.setdefault((cut.command.number if cut.command else -1, bool(cut.script)), []).append(cut)
-    name = attribute(os.path.basename(outcomes.recording.trace.name))
+        row = -1 if cut.stored is None else cut.stored.before.row if cut.stored.before else 0
+        tests.setdefault((cut.command.number if cut.command else -1, row if cut.stored else -2 if cut.script else -3), []).append(cut)
+    name = attribute(shown_path(os.path.basename(outcomes.recording.trace.name)))
     cases = [junit_case(some, outcomes, name) for some in tests.values()]
-    failures = sum("<failure" in case for case in cases)
+    failures, errors = sum("<failure" in case for case in cases), sum("<error" in case for case in cases)
     return ('<?xml version="1.0" encoding="UTF-8"?>\n'
-            f'<testsuite name={name} tests="{len(cases)}" failures="{failures}" errors="0" skipped="0">\n'
+            f'<testsuite name={name} tests="{len(cases)}" failures="{failures}" errors="{errors}" skipped="0">\n'
             + "".join(cases) + "</testsuite>\n")
 
 
 def junit_case(cuts: Sequence[Cut], outcomes: Outcomes, name: str) -> str:
     """The test of a command."""
-    command = cuts[0].command
-    place = f"line {command.number}: {command.short}" if command else "the end of the trace"
-    case = attribute(f"{place}: other orders" if cuts[0].script else place)
-    told = [f"{moment_text(cut)}: {verdict.reason}" for cut in cuts for verdict in [outcomes.of(cut).verdict]
-            if verdict is not None and not verdict.is_right]
-    if not told:
+    case = attribute(junit_name(cuts[0]))
+    parts = []
+    for kind, word in (("failure", WRONG), ("error", ERROR)):
+        told = [f"{moment_text(cut)}: {verdict.reason}" for cut in cuts for verdict in [outcomes.of(cut).verdict]
+                if verdict is not None and verdict.text == word]
+        if told:
+            parts.append(f"    <{kind} message={attribute(chr(10).join(told))}/>\n")
+    if not parts:
         return f"  <testcase classname={name} name={case}/>\n"
-    message = attribute("\n".join(told))
-    return f"  <testcase classname={name} name={case}>\n    <failure message={message}/>\n  </testcase>\n"
+    return f"  <testcase classname={name} name={case}>\n" + "".join(parts) + "  </testcase>\n"
+
+
+def junit_name(cut: Cut) -> str:
+    """The name of the test that a cut belongs to."""
+    if cut.stored is not None:
+        before = cut.stored.before
+        return f"{before.place}: {before.word}: any state of the stores before" if before else "the end: any state of the stores before"
+    place = f"line {cut.command.number}: {cut.command.short}" if cut.command else "the end of the trace"
+    if cut.row is not None and cut.command is not None:
+        place = f"{place} ({cut.row.place})"
+    return f"{place}: other orders" if cut.script else place

@@ -12,6 +12,9 @@ from .errors import ExploreError, reason_of
 from .processes import INTERRUPTS
 
 
+# What begins a formula for a spreadsheet.
+FORMULAS = ("=", "+", "-", "@", "\t", "\r")
+
 # What LaTeX would take for something else.
 LATEX = {"\\": r"\textbackslash{}", "~": r"\textasciitilde{}", "^": r"\textasciicircum{}",
          **{letter: "\\" + letter for letter in "&%$#_{}"}}
@@ -44,7 +47,7 @@ def write_file(name: str, data: bytes) -> None:
 
 
 def remove(name: str) -> None:
-    """Removes a file where it is there."""
+    """Removes a file if it is there."""
     if name and os.path.exists(name):
         os.unlink(name)
 
@@ -72,7 +75,7 @@ def check_writable(name: Optional[str]) -> None:
 
 
 def put(text: str, name: Optional[str]) -> None:
-    """Writes text to a file, or to standard output where none is named."""
+    """Writes text to a file, or to standard output if none is named."""
     INTERRUPTS.check()
     if name is None:
         sys.stdout.write(text)
@@ -92,12 +95,17 @@ def csv_text(names: Sequence[str], rows: Iterable[Sequence[Any]]) -> str:
     writer = csv.writer(out, lineterminator="\n")
     writer.writerow(names)
     for row in rows:
-        writer.writerow(["" if value is None else value for value in row])
+        writer.writerow(["" if value is None else plain_cell(value) for value in row])
     return out.getvalue()
 
 
+def plain_cell(value: Any) -> Any:
+    """A cell that no spreadsheet takes for a formula: a text that begins as one has an apostrophe in front."""
+    return f"'{value}" if isinstance(value, str) and value.startswith(FORMULAS) else value
+
+
 def latex_text(heads: Sequence[str], rows: Sequence[Sequence[str]], left: Sequence[int] = ()) -> str:
-    """A table for LaTeX, in its own words alone; the columns in `left` begin at the left."""
+    """A table for LaTeX, in its own macros alone; the columns in `left` begin at the left."""
     def line(row: Sequence[str]) -> str:
         return " & ".join("".join(LATEX.get(letter, letter) for letter in cell) for cell in row) + " \\\\\n"
 

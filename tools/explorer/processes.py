@@ -16,10 +16,11 @@ TOLD = b"explore: interrupted\n"
 PIPE_BYTES = 1 << 20
 SIGNALS = (signal.SIGINT, signal.SIGTERM, signal.SIGHUP)
 SET_PIPE_SIZE = 1031  # Linux's F_SETPIPE_SZ
+SET_SUBREAPER = 36  # Linux's PR_SET_CHILD_SUBREAPER
 
 
 class Interrupts:
-    """Ctrl-C: noted, and raised at once, but not amid the start of a process, which would be left behind, and not again while
+    """Ctrl-C: noted, and raised at once, but not during the start of a process, which would be left behind, and not again while
     the first one ends all. One that comes just before a wait for processes ends that wait too: `woken` can be read then."""
 
     def __init__(self) -> None:
@@ -54,7 +55,7 @@ class Interrupts:
 
     @contextmanager
     def at_once(self) -> Iterator[None]:
-        """Within it one ends the command where it stands: no process of it runs then, and amid the callbacks of a library an
+        """Within it one ends the command where it stands: no process of it runs then, and during the callbacks of a library an
         exception could be lost."""
         self.is_last = True
         try:
@@ -109,7 +110,7 @@ def new_selector() -> selectors.BaseSelector:
 
 
 def serve(selector: selectors.BaseSelector, timeout: Optional[float] = None, rest: float = 0) -> None:
-    """Waits until a process tells something or takes something, and serves it; so many seconds pass first, in which none
+    """Waits until a process tells something or takes something, and serves it; that many seconds pass first, in which none
     needs it."""
     INTERRUPTS.check()
     if rest:
@@ -138,7 +139,7 @@ def start(command: Sequence[str], environment: Optional[Dict[str, str]] = None,
 
 
 def end(process: "subprocess.Popen[bytes]") -> int:
-    """Ends a process with all that it started, where it hasn't ended by itself, and answers its status."""
+    """Ends a process with all that it started, if it hasn't ended by itself, and answers its status."""
     if process.poll() is None:
         try:
             os.killpg(process.pid, signal.SIGKILL)
@@ -159,6 +160,45 @@ def end_all() -> None:
     """Ends all that run."""
     for process in list(RUNNING):
         end(process)
+
+
+class Orphans:
+    """Processes that left the group of the one that started them, once that one has ended: Linux gives them to this process. Within
+    it they are collected, and at its end they are ended. Other systems don't do that."""
+
+    def __enter__(self) -> None:
+        self.before = children()
+        try:
+            import ctypes  # Here, as few commands need it.
+            self.is_reaper = sys.platform.startswith("linux") and ctypes.CDLL(None, use_errno=True).prctl(SET_SUBREAPER, 1, 0, 0, 0) == 0
+        except (ImportError, OSError, AttributeError):
+            self.is_reaper = False
+
+    def __exit__(self, *_: object) -> None:
+        while self.is_reaper:
+            left = children() - self.before - {process.pid for process in RUNNING}
+            if not left:
+                return
+            for number in left:  # whose own children come to this process then
+                end_orphan(number)
+
+
+def end_orphan(number: int) -> None:
+    """Ends a child that isn't in `RUNNING`."""
+    try:
+        os.kill(number, signal.SIGKILL)
+        os.waitpid(number, 0)
+    except (ProcessLookupError, ChildProcessError):
+        pass
+
+
+def children() -> Set[int]:
+    """The children of this process, if the system lists them."""
+    try:
+        with open("/proc/self/task/%d/children" % os.getpid(), encoding="ascii") as file:
+            return set(map(int, file.read().split()))
+    except (OSError, ValueError):
+        return set()
 
 
 class Listener(Protocol):
@@ -222,7 +262,7 @@ class Channel:
         self.is_writing = writing
 
     def read(self) -> Optional[bytes]:
-        """What it has told, nothing (`b""`) at its end, or None where it tells nothing now."""
+        """What it has told, nothing (`b""`) at its end, or None if it tells nothing now."""
         if self.is_released:
             return None
         try:
@@ -242,7 +282,7 @@ class Channel:
         end(self.process)
 
     def release(self) -> None:
-        """Serves its pipes no more, also where they were found to be ready before: their numbers may be those of other pipes."""
+        """Serves its pipes no more, also if they were found to be ready before: their numbers may be those of other pipes."""
         self.watch(False)
         self.is_released = True
         if self.source in self.selector.get_map():

@@ -78,14 +78,14 @@ def ranges_of(cuts: Sequence[Cut], recording: Recording, verdict_of: Optional[Ca
 
 
 def since(cut: Cut, told: Optional[Sequence[Traced]]) -> str:
-    """The step that comes just before a cut; nothing where the program doesn't tell it."""
+    """The step that comes just before a cut; nothing if the program doesn't tell it."""
     if told is None or cut.command is None:
         return ""
     return step_text(told[cut.index].steps, cut.number - 1) if cut.number else START
 
 
 def step_text(steps: Sequence[Step], number: int) -> str:
-    """A step in words: the line that it writes, and of a latch that arms a group the lines of the group, where they are
+    """A step in words: the line that it writes, and of a latch that arms a group the lines of the group, if they are
     written."""
     step = steps[number]
     if step.kind != LATCH or step.does != ARMS:

@@ -1,5 +1,5 @@
 """Which line writes give a line the bytes that it had. The log names the lines alone, so they are shown (`peek`) before and
-after each command that writes them, and, where it writes one more than once, by a cut in between."""
+after each command that writes them, and, if it writes one more than once, by a cut in between."""
 from dataclasses import dataclass, replace
 from typing import Dict, Iterator, List, Sequence, Set, Tuple
 
@@ -68,7 +68,7 @@ def showings(traced: Sequence[Traced], chosen: Set[int]) -> Iterator[Showing]:
 
 
 def in_parts(shown: Iterator[Showing], most: int) -> List[List[Showing]]:
-    """The same in parts in which no more lines are shown, but for a part that is one command."""
+    """The same in parts in which no more lines are shown, except for a part that is one command."""
     parts: List[List[Showing]] = []
     room = 0
     for each in shown:

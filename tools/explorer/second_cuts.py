@@ -1,11 +1,11 @@
-"""Cuts of recoveries (`cuts --twice`) of which one tells what others leave. Where a recovery stands for those after several cuts
+"""Cuts of recoveries (`cuts --twice`) of which one tells what others leave. If a recovery stands for those after several cuts
 (`shared.py`), a cut of it stands for the cuts of those, and the log of both recoveries shows which:
 
-Of cuts amid a group's lines a recovery that is cut leaves the same chip, and lines alone that it didn't write otherwise: it may not
+Of cuts during a group's lines a recovery that is cut leaves the same chip, and lines alone that it didn't write otherwise: it may not
 have looked at one that it hadn't written, nor may the recovery after it.
 
 Of a cut behind the group's end a recovery that is cut after some steps leaves what the one that finishes the group does that is
-cut after so many more."""
+cut after that many more."""
 from dataclasses import dataclass
 from typing import Dict, Iterator, List, Optional, Sequence, Tuple
 
@@ -20,7 +20,7 @@ FIRST_RECOVERY, SECOND_RECOVERY = 3, 4
 
 class Second:
     """What is printed to the question of a cut of the recovery after a stretch's first cut, in which these lines are read, and what
-    that tells of others. `count`: so many lines of the stretch may have been written before; `is_finished`: whether the recovery
+    that tells of others. `count`: that many lines of the stretch may have been written before; `is_finished`: whether the recovery
     began by finishing the group."""
 
     def __init__(self, moment: Moment, stretch: Stretch, lines: Sequence[int], data: bytes, path: str) -> None:
@@ -37,7 +37,7 @@ class Second:
             self.is_finished = stretch.is_emptied and cut_log.startswith(finished(stretch.lines))
 
     def data(self, lines: Sequence[int]) -> Optional[bytes]:
-        """All that is printed to its own question, in which these lines are read, without the log; None where that can't be told."""
+        """All that is printed to its own question, in which these lines are read, without the log; None if that can't be told."""
         if lines == self.lines or not self.readings:
             return b"".join(self.replies)
         return b"".join([*self.replies[:SECOND_RECOVERY + 1], self.read(lines)]) if self.is_whole else None
@@ -50,7 +50,7 @@ class Second:
         return b"".join([known[line] for line in lines])
 
     def told(self, cut: "Told", steps: int, lines: Sequence[int]) -> bytes:
-        """What is printed to the question of another cut whose recovery is cut after so many steps."""
+        """What is printed to the question of another cut whose recovery is cut after that many steps."""
         return b"ok\n%b\nok\ncut %d\n" % (cut.answer, steps) + self.replies[SECOND_RECOVERY] + self.read(lines)
 
 
@@ -124,7 +124,7 @@ class Seconds:
             yield Second(moment, stretch, shared.lines_asked(moment, stretch), data, shared.recording.program.path)
 
     def told_in(self, moment: Moment, first: Optional[Moment], known: Known[Second]) -> Optional[bytes]:
-        """What is printed to a moment's question, where another one tells it."""
+        """What is printed to a moment's question, if another one tells it."""
         if first is None or moment.recovery_steps is None:
             return None
         second, lines = known.first(first), self.shared.finder.lines_at(moment)

@@ -4,9 +4,9 @@ Those between which a command writes lines alone, with the commit group armed, t
 them: up to there recovery can't know how far the command came, since the chip was the same and it looked at no line that
 differs; and then no line differs any more.
 
-The one behind the latch that empties the group, and where that was the command's last step the one before the first step of a
-later command, where nothing else reached the device: the recovery that began by finishing the group, with the same lines and
-the same latch, has the same chip and device before it from there on. It made so many more steps."""
+The one behind the latch that empties the group, and if that was the command's last step the one before the first step of a
+later command, if nothing else reached the device: the recovery that began by finishing the group, with the same lines and
+the same latch, has the same chip and device before it from there on. It made that many more steps."""
 import re
 from dataclasses import dataclass
 from typing import Dict, Generic, Iterator, List, Optional, Protocol, Sequence, Tuple, TypeVar
@@ -42,7 +42,7 @@ class Finder(Protocol):
 
 @dataclass(frozen=True)
 class Stretch:
-    """Cuts of a command in a row, the first after so many of its steps, between which these lines are written, one in each
+    """Cuts of a command in a row, the first after that many of its steps, between which these lines are written, one in each
     step, while the commit group is armed. `is_emptied`: the command's next step empties the group."""
 
     first: int
@@ -55,12 +55,12 @@ class Stretch:
         return self.first + len(self.lines)
 
     def has(self, number: int) -> bool:
-        """Whether the cut after so many steps is one of them, or the one behind the latch that empties the group."""
+        """Whether the cut after that many steps is one of them, or the one behind the latch that empties the group."""
         return 0 <= number - self.first <= len(self.lines) + self.is_emptied
 
 
 def stretches_of(accesses: Sequence[Tuple[bytes, int]], is_armed: bool) -> Tuple[List[Stretch], bool]:
-    """Those of a command that made these accesses, where the group was armed before it or wasn't; and whether it is then."""
+    """Those of a command that made these accesses, if the group was armed before it or wasn't; and whether it is then."""
     stretches: List[Stretch] = []
     lines: List[int] = []
     first = number = 0
@@ -102,7 +102,7 @@ class First:
                 self.fewer = len(stretch.lines) + 1
 
     def read(self, lines: Sequence[int]) -> Optional[bytes]:
-        """What is printed to reads of these lines alone; None where that can't be told."""
+        """What is printed to reads of these lines alone; None if that can't be told."""
         if lines == self.lines:
             return b"".join(self.readings)
         if not self.is_whole:
@@ -124,7 +124,7 @@ class First:
         return moment.index > self.moment.index or moment.number > self.stretch.last
 
     def tells(self, moment: Moment) -> bool:
-        """Whether it tells of another cut, where the trace's log shows that it may."""
+        """Whether it tells of another cut, if the trace's log shows that it may."""
         if self.is_behind(moment):
             return self.fewer > 0 and RECOVERED.fullmatch(self.recovery) is not None
         return moment.number - self.moment.number <= self.count
@@ -137,14 +137,14 @@ class First:
 
     def between(self, moment: Moment, last: bytes) -> Optional[bytes]:
         """What is printed up to a cut between the first and the last one of its stretch, to which this is printed: the same as to
-        both, but for the number of steps. None where they differ otherwise."""
+        both, except for the number of steps. None if they differ otherwise."""
         start, end = b" %d\n" % self.moment.number, b" %d\n" % self.stretch.last
         if not self.to_the_cut.endswith(start) or self.to_the_cut[:-len(start)] + end != last:
             return None
         return self.to_the_cut[:-len(start)] + b" %d\n" % moment.number
 
     def same_at(self, moment: Moment, to_the_cut: bytes, marks: bytes, lines: Sequence[int]) -> Optional[bytes]:
-        """What is printed to the question of a cut that it tells of, to which this is printed up to the cut; None where that
+        """What is printed to the question of a cut that it tells of, to which this is printed up to the cut; None if that
         isn't as it should be. `marks` are the replies up to the cut, without the last answer, that it should have had to be one
         of its command."""
         if not (to_the_cut in OFF_REPLIES if moment.kind == "before" else is_cut(to_the_cut)) \
@@ -251,7 +251,7 @@ class Others:
 
 class Shared:
     """The cuts of one trace, of which the log is `data`. `behind`: those that come behind a group's end and that another one told
-    of. `told_by`: where they are noted all those that another one told of, with its moment and its stretch."""
+    of. `told_by` notes all those that another one told of, with its moment and its stretch."""
 
     def __init__(self, recording: Recording, together: Together, data: bytes, finder: Finder, are_noted: bool = False) -> None:
         self.recording = recording
@@ -275,7 +275,7 @@ class Shared:
         self.logged = logged_again(recording, data, sizes)
 
     def go_on(self, index: int, steps: int, ended: Optional[int]) -> Optional[int]:
-        """Notes whether a command, which made so many steps, finds the chip and the device as `ended` left them, a command that
+        """Notes whether a command, which made that many steps, finds the chip and the device as `ended` left them, a command that
         ended by emptying its group; and answers which command left them so after it."""
         command, reply = self.recording.commands[index], self.recording.replies[index]
         is_cut_here = steps > 0 or reply.is_cut
@@ -288,7 +288,7 @@ class Shared:
         return None if command.word in TAMPERING_WORDS or reply.marks else ended
 
     def firsts_of(self, moments: Sequence[Moment]) -> List[Optional[Moment]]:
-        """For each of these moments the first cut of the stretch that may tell of it, where that is among them."""
+        """For each of these moments the first cut of the stretch that may tell of it, if that is among them."""
         firsts: List[Optional[Moment]] = []
         first: Optional[Moment] = None
         for moment in moments:
@@ -367,7 +367,7 @@ class Shared:
             progress.end()
 
     def other(self, moment: Moment, teller: Optional[First], others: Others) -> Optional[bytes]:
-        """What is printed to the question of a moment that is no first cut; None where that can't be told."""
+        """What is printed to the question of a moment that is no first cut; None if that can't be told."""
         if teller is None or not teller.tells(moment):
             return others.take()
         to_the_cut = teller.between(moment, others.next()) if teller.is_between(moment) else others.take()

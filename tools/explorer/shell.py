@@ -18,7 +18,7 @@ from .traced import Traced
 
 PROMPT = "pmem> "
 HELP = """\
-A line is a command of the machine (docs/FORMATS.md, WEAR.md, TXN.md, SHADOW.md), or one of these words:
+A line is a command of the machine (docs/FORMATS.md, WEAR.md, TXN.md, TREE_MACHINE.md), or one of these words:
   cut here [N]      the last command again, with power cut after N of its steps, or before the step of a break
   undo [N], redo    take back the last N commands, or what `cut here` or `load` did; do it again
   break LINE        stop at a command that writes a device line; without LINE: show all; `break off` takes them away

@@ -10,7 +10,7 @@ from .accesses import told_last, told_steps
 from .errors import WRONG_WORDS, ExploreError
 from .layout import Layout, Place
 from .machines import LINES_OF_PAGE
-from .output import json_text
+from .output import csv_text
 from .program import Counts, Question, Recording, counts_of, replies_in, text_of
 from .same_bytes import SHOWN_BYTES, SameBytes, peeks
 from .together import Together
@@ -165,7 +165,7 @@ class StepFinder:
         return [b"cut %d" % number, text]
 
     def question(self, index: int, number: int, asked: bytes, turned: Sequence[int] = ()) -> Question:
-        """The question that shows lines after so many steps of a command before which a bit of some was turned."""
+        """The question that shows lines after that many steps of a command before which a bit of some was turned."""
         return Question(index, (*(b"flip %d 0" % place for place in turned), *self.script_to(index, number)), asked)
 
     def states(self, questions: Iterable[Question], total: int, count: int, what: str) -> Iterator[State]:
@@ -174,7 +174,7 @@ class StepFinder:
             yield state_in(data, count)
 
     def shown(self, indexes: Sequence[int]) -> List[Tuple[int, int]]:
-        """The moments that are asked about: after each step of these commands, and before the first, where the device may
+        """The moments that are asked about: after each step of these commands, and before the first, if the device may
         be another than after the last one. After an exhibit nothing can be asked."""
         moments = []
         last = -1
@@ -208,7 +208,7 @@ class StepFinder:
         return steps
 
     def step(self, old: State, new: State, places: Sequence[int], index: int, number: int) -> Optional[Step]:
-        """The step between two states, where these places show it."""
+        """The step between two states, if these places show it."""
         risen = new.counts.since(old.counts)
         if (risen.writes, risen.latches) == (0, 1):
             return Step(0, LATCH)
@@ -243,7 +243,7 @@ class StepFinder:
     def turn_bits(self, hidden: Sequence[Tuple[int, int]]) -> Dict[Tuple[int, int], Step]:
         """The steps that write a likely place with the bytes that it had. A bit of each is turned before the command:
         what the step writes is whole again. Nothing that is read may be turned with it, so this is done with all places
-        at once only where none is read before such a step: by a recovery's redo, and by a flush."""
+        at once only if none is read before such a step: by a recovery's redo, and by a flush."""
         trials = [self.turned_at(moment) for moment in hidden]
         questions = (self.question(index, number, self.asked, turned)
                      for (index, after), turns in zip(hidden, trials) for turned in ((), *turns)
@@ -264,12 +264,12 @@ class StepFinder:
         return [[place] for place in self.likely] if len(self.likely) <= MOST_TURNED else []
 
     def state_of(self, data: bytes) -> Optional[State]:
-        """A state, or None where the run ended before it."""
+        """A state, or None if the run ended before it."""
         return state_in(data, len(self.likely)) if data.count(b"\n") > len(self.likely) else None
 
     def made_whole(self, turned: Sequence[int], plain_old: Optional[State], plain_new: Optional[State],
                    old: Optional[State], new: Optional[State]) -> List[int]:
-        """Those of the turned lines that a step makes whole, where all else is as it is without turned bits. The states
+        """Those of the turned lines that a step makes whole, if all else is as it is without turned bits. The states
         are those before and after the step, and those with turned bits."""
         if plain_old is None or plain_new is None or old is None or new is None:
             return []
@@ -320,7 +320,7 @@ def stepping_indexes(recording: Recording, lines: Optional[range]) -> List[int]:
 
 def trace_steps(recording: Recording, together: Together, lines: Optional[range] = None,
                 with_work: bool = False) -> List[Traced]:
-    """The commands on these lines of the trace with their replies and steps, and where it is asked for with their work."""
+    """The commands on these lines of the trace with their replies and steps, and if it is asked for with their work."""
     indexes = stepping_indexes(recording, lines)
     shows_device = recording.settings.machine.has_counts
     if shows_device:
@@ -381,7 +381,7 @@ def fates_traced(recording: Recording, together: Together, indexes: Sequence[int
 
 
 def fate_of(fates: Sequence[Fate], number: int) -> str:
-    """What becomes of a write whose command is cut after so many steps: `lost`, `kept`, or nothing where none is cut."""
+    """What becomes of a write whose command is cut after that many steps: `lost`, `kept`, or nothing if none is cut."""
     answer = next(fate.answer for fate in fates if fate.first <= number <= fate.last)
     return answer.rsplit(" ", 1)[-1] if answer.startswith("cut ") else ""
 
@@ -415,7 +415,7 @@ def steps_text(traced: Sequence[Traced], whole: bool) -> str:
 
 
 def access_texts(entry: Traced, places: int) -> Iterator[str]:
-    """The steps of a command, and where they are told what it read between, and how much work it was."""
+    """The steps of a command, and if they are told what it read between, and how much work it was."""
     reads = deque(entry.work.reads if entry.work else ())
     for step in entry.steps:
         while reads and reads[0][0] < step.number:
@@ -429,7 +429,7 @@ def access_texts(entry: Traced, places: int) -> Iterator[str]:
 
 
 def work_text(traced: Sequence[Traced]) -> str:
-    """The sum of the work of these commands, where it is told."""
+    """The sum of the work of these commands, if it is told."""
     works = [entry.work for entry in traced if entry.work]
     if not works:
         return ""
@@ -455,14 +455,28 @@ def work_record(work: Work) -> Dict[str, Any]:
                       for before, place in work.reads], "tags": work.tags, "digests": work.digests}
 
 
-def steps_json(traced: Sequence[Traced]) -> str:
+def steps_records(traced: Sequence[Traced]) -> List[Dict[str, Any]]:
     """The steps for scripts."""
-    return json_text([{"trace_line": entry.command.number, "command": " ".join(entry.command.words),
-                       "marks": list(entry.reply.marks), "answer": entry.reply.answer,
-                       "steps": [step_record(step) for step in entry.steps],
-                       **(work_record(entry.work) if entry.work else {}),
-                       **({"cuts": [fate_record(fate) for fate in entry.fates]} if entry.fates else {})}
-                      for entry in traced])
+    return [{"trace_line": entry.command.number, "command": " ".join(entry.command.words),
+             "marks": list(entry.reply.marks), "answer": entry.reply.answer,
+             "steps": [step_record(step) for step in entry.steps],
+             **(work_record(entry.work) if entry.work else {}),
+             **({"cuts": [fate_record(fate) for fate in entry.fates]} if entry.fates else {})}
+            for entry in traced]
+
+
+STEP_COLUMNS = ("trace_line", "command", "answer", "step", "kind", "device_line", "part", "name", "same_bytes", "latch", "group_lines")
+
+
+def steps_csv(traced: Sequence[Traced]) -> str:
+    """The steps as CSV: a row for each; a command without steps has a row without one, and a read one of the kind `read`."""
+    rows: List[List[Any]] = []
+    for record in steps_records(traced):
+        reads = [{"step": read["steps_before"], "kind": "read", **{name: read[name] for name in ("device_line", "part", "name")}}
+                 for read in record.get("reads", [])]
+        for each in sorted([*record["steps"], *reads], key=lambda one: (one["step"], one["kind"] == "read")) or [{}]:
+            rows.append([{**record, **each}.get(name) for name in STEP_COLUMNS])
+    return csv_text(STEP_COLUMNS, rows)
 
 
 def fate_record(fate: Fate) -> Dict[str, Any]:

@@ -3,7 +3,7 @@ import bisect
 import re
 import struct
 from dataclasses import dataclass
-from typing import Dict, List, Optional, Sequence, Tuple
+from typing import List, Optional, Sequence, Tuple
 
 from .errors import ExploreError
 from .trace import Trace, read_bytes
@@ -11,6 +11,8 @@ from .trace import Trace, read_bytes
 LINE_BYTES = 64
 LINES_AT = re.compile(rb"# lines? ([0-9]{1,9})(?: to ([0-9]{1,9}))? (?:is|are) at (0x[0-9a-f]{1,16})")
 
+# Names of C++ are longer than those of C.
+LONGEST_NAME = 300
 SYMBOL_TABLE = 2
 OBJECT = 1
 
@@ -34,20 +36,26 @@ class Names:
     """Where lines of memory lie in the other program's."""
 
     def __init__(self, trace: Trace, symbols: Sequence[Symbol] = ()) -> None:
-        self.addresses: Dict[int, List[int]] = {}
-        for first, last, address in map(read_lines_at, trace.data.split(b"\n")):
-            for place in range(first, last + 1):
-                self.addresses.setdefault(place, []).append(address + LINE_BYTES * (place - first))
+        # Each comment as it is: it may name more lines than there is memory for.
+        self.ranges = [found for found in map(read_lines_at, trace.data.split(b"\n")) if found[1] >= found[0]]
+        self.ranges.sort()
+        self.firsts = [first for first, _, _ in self.ranges]
+        self.longest = max((last - first for first, last, _ in self.ranges), default=0)
         self.symbols = sorted(symbols, key=lambda symbol: symbol.address)
         self.starts = [symbol.address for symbol in self.symbols]
 
+    def addresses_of(self, line: int) -> List[int]:
+        """The addresses of a line of memory: several if several lines were folded onto it."""
+        low, high = bisect.bisect_left(self.firsts, line - self.longest), bisect.bisect_right(self.firsts, line)
+        return [address + LINE_BYTES * (line - first) for first, last, address in self.ranges[low:high] if line <= last]
+
     def address_text(self, line: int) -> str:
-        """The addresses of a line of memory: several where several lines were folded onto it, `-` for none."""
-        return ",".join(f"{address:#x}" for address in self.addresses.get(line, ())) or "-"
+        """The addresses of a line of memory, `-` for none."""
+        return ",".join(f"{address:#x}" for address in self.addresses_of(line)) or "-"
 
     def symbol_text(self, line: int) -> str:
         """The variables that lie in a line of memory, each with the place in it where the line begins."""
-        return ",".join(text for address in self.addresses.get(line, ()) for text in self.symbols_at(address)) or "-"
+        return ",".join(text for address in self.addresses_of(line) for text in self.symbols_at(address)) or "-"
 
     def symbols_at(self, address: int) -> List[str]:
         """The variables that lie in the line at an address."""
@@ -58,7 +66,7 @@ class Names:
 
 
 def read_lines_at(text: bytes) -> Tuple[int, int, int]:
-    """The first and the last line that a comment tells, and the address; no line where it tells none."""
+    """The first and the last line that a comment tells, and the address; no line if it tells none."""
     match = LINES_AT.fullmatch(text.strip())
     if match is None:
         return 0, -1, 0
@@ -73,7 +81,7 @@ def elf_symbols(name: str, base: int) -> List[Symbol]:
         raise ExploreError(f"{name} is no ELF file of 64 bits, lowest byte first")
     try:
         return list(symbols_in(data, base))
-    except (struct.error, ValueError) as error:
+    except (struct.error, ValueError, IndexError, OverflowError) as error:
         raise ExploreError(f"{name}: its symbol table can't be read") from error
 
 
@@ -84,17 +92,25 @@ def symbols_in(data: bytes, base: int) -> List[Symbol]:
     sections = [struct.unpack_from("<IIQQQQIIQQ", data, start + size * number) for number in range(count)]
     symbols = []
     for _, kind, _, _, offset, length, link, _, _, entry in sections:
-        if kind != SYMBOL_TABLE or not entry:
+        if kind != SYMBOL_TABLE or not entry or length > len(data):
             continue
         names = sections[link][4]
         for place in range(offset, offset + length, entry):
             name, info, _, _, value, extent = struct.unpack_from("<IBBHQQ", data, place)
             if info & 15 == OBJECT and extent and value:
-                text = data[names + name:data.index(b"\0", names + name)].decode("utf-8", "replace")
-                symbols.append(Symbol(base + value, extent, text))
+                symbols.append(Symbol(base + value, extent, name_at(data, names + name)))
     return symbols
 
 
+def name_at(data: bytes, place: int) -> str:
+    """The name that begins at a place of a file, up to its zero byte: the first letters of a long one, and none that would end a row or
+    that a terminal would act on."""
+    text = data[place:place + LONGEST_NAME + 1].split(b"\0", 1)[0][:LONGEST_NAME]
+    if place >= len(data):
+        raise ValueError("a name isn't in the file")
+    return "".join(letter if letter.isprintable() and letter != "," else "?" for letter in text.decode("utf-8", "replace"))
+
+
 def symbols_of(name: Optional[str], base: int) -> List[Symbol]:
-    """The variables of the ELF file, where one is named."""
+    """The variables of the ELF file, if one is named."""
     return elf_symbols(name, base) if name else []

@@ -1,4 +1,4 @@
-"""Runs of the program side by side on all processors, with progress where standard error is a terminal."""
+"""Runs of the program side by side on all processors, with progress if standard error is a terminal."""
 import copy
 import os
 import selectors
@@ -32,7 +32,7 @@ FORKS = "FORK_SERVER_FORKS"
 
 
 class Progress:
-    """A line on standard error that tells how far long work is, and how long it will yet take; nothing where that is no
+    """A line on standard error that tells how far long work is, and how long it will yet take; nothing if that is no
     terminal, or the work has no name."""
 
     def __init__(self, what: str, total: Optional[int] = None) -> None:
@@ -42,7 +42,7 @@ class Progress:
         self.begun = self.told = time.monotonic()
 
     def reach(self, done: int) -> None:
-        """Writes the line anew, not too often."""
+        """Writes the line again, not too often."""
         now = time.monotonic()
         if self.shown and (now - self.told >= BETWEEN_TOLD or done in (0, self.total)):
             self.told = now
@@ -171,7 +171,7 @@ class Forked(Worker[Question]):
         self.push()
 
     def rest(self) -> float:
-        """About the time that half of its questions take, where it has many: each look at it would be for one of them."""
+        """About the time that half of its questions take, if it has many: each look at it would be for one of them."""
         if not self.answered or 2 * self.load < self.room:
             return 0.0
         return min(LONGEST_REST, (time.monotonic() - self.begun) / self.answered * self.load / 2)
@@ -240,7 +240,7 @@ class Forked(Worker[Question]):
 
 def in_order(selector: selectors.BaseSelector, tasks: Iterable[Task], workers: Sequence[Worker[Task]],
              done: Dict[int, Output], progress: Progress) -> Iterator[Tuple[Task, Output]]:
-    """The tasks with their outputs, in their order. Only so many are begun as are soon needed."""
+    """The tasks with their outputs, in their order. Only as many are begun as are soon needed."""
     source = iter(tasks)
     under_way: Deque[Task] = deque()
     given = taken = 0
@@ -325,8 +325,8 @@ class Together:
                 yield question, recording.answer(question, output, library is None)
 
     def library_for(self, recording: Recording, total: int) -> Optional[str]:
-        """The library by which the program is asked, once it is seen to work; None where each question is a run from
-        the trace's start, which is told where that takes long."""
+        """The library by which the program is asked, once it is seen to work; None if each question is a run from
+        the trace's start, which is told if that takes long."""
         if self.library is None and not self.why_from_start:
             self.library, self.why_from_start = fork_server.library()
             if self.library is not None:
@@ -341,7 +341,7 @@ class Together:
 
 
 def trial(recording: Recording, library: str) -> str:
-    """Tries whether a program can be asked by forks; answers why not, or nothing where it can."""
+    """Tries whether a program can be asked by forks; answers why not, or nothing if it can."""
     done: Dict[int, Output] = {}
     end = time.monotonic() + SECONDS_TO_ANSWER
     with new_selector() as selector:

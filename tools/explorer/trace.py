@@ -97,7 +97,7 @@ def short_word(word: str) -> str:
 
 
 def commands_of(data: bytes) -> List[Command]:
-    """The commands of a trace: its lines but for blank ones and comments."""
+    """The commands of a trace: its lines except for blank ones and comments."""
     commands = []
     for number, line in enumerate(data.split(b"\n"), 1):
         if line.endswith(b"\r"):
@@ -109,19 +109,24 @@ def commands_of(data: bytes) -> List[Command]:
 
 
 def read_bytes(name: str) -> bytes:
-    """The bytes of a file, or of standard input where the name is `-`."""
+    """The bytes of a file, or of standard input if the name is `-`."""
     try:
         if name == "-":
             return sys.stdin.buffer.read()
         with open(name, "rb") as file:
             return file.read()
     except OSError as error:
-        raise ExploreError(f"cannot read {name}: {reason_of(error)}") from error
+        raise ExploreError(f"cannot read {shown_name(name)}: {reason_of(error)}") from error
 
 
 def shown_name(name: str) -> str:
-    """A file's name in messages."""
-    return "standard input" if name == "-" else name
+    """A file's name in messages, without what a terminal would act on."""
+    return "standard input" if name == "-" else shown_path(name)
+
+
+def shown_path(name: str) -> str:
+    """A path with letters that a terminal would act on, and bytes that aren't text, as in a string of Python."""
+    return "".join(letter if letter.isprintable() else ascii(letter)[1:-1] for letter in name)
 
 
 def trace_of(name: str, data: bytes) -> Trace:
@@ -130,7 +135,7 @@ def trace_of(name: str, data: bytes) -> Trace:
 
 
 def read_trace(name: str) -> Trace:
-    """The trace in a file, or on standard input where the name is `-`."""
+    """The trace in a file, or on standard input if the name is `-`."""
     return trace_of(name, read_bytes(name))
 
 

@@ -18,8 +18,8 @@ ARMS, EMPTIES, SETS = "arms", "empties", "sets"
 
 @dataclass(frozen=True)
 class Step:
-    """One persist step: a latch, or a write of a device line. `again`: with the bytes that it had, None where that can't
-    be asked. Of a latch `does` is what it does, where that is told, and `group` how many lines it arms. Of a machine that
+    """One persist step: a latch, or a write of a device line. `again`: with the bytes that it had, None if that can't
+    be asked. Of a latch `does` is what it does, if that is told, and `group` how many lines it arms. Of a machine that
     doesn't show its device `fate` is what a cut just before the step answers: `lost`, `kept` or nothing."""
 
     number: int

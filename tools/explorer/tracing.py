@@ -62,7 +62,7 @@ def compare_designs(traces: Sequence[Union[str, "os.PathLike[str]", bytes]], des
                     cost: Optional[str] = None, program: Optional[str] = None, jobs: Optional[int] = None, fold: bool = False,
                     recoveries: int = compare.CUTS, suite: str = "aes", **numbers: Sequence[int]) -> List[Dict[str, Any]]:
     """What workloads take on several designs, as `explore compare` finds it: a row for each trace and each design, and those of
-    the means where there are several traces. `numbers` are lists: `levels`, `sets`, `ways`, `loss`, `every`; `cost` a file of
+    the means if there are several traces. `numbers` are lists: `levels`, `sets`, `ways`, `loss`, `every`; `cost` a file of
     figures; `recoveries` after how many cuts recovery is looked at."""
     base = Settings(suite=suite)
     wrong = sorted(set(numbers) - set(compare.NUMBERS))

@@ -1,4 +1,5 @@
 """What the tests share: running `explore` as a command, and traces to run it on."""
+import ctypes
 import json
 import os
 import subprocess
@@ -38,20 +39,38 @@ def program_path() -> str:
     return os.environ.get("PMEM_PROGRAM") or str(TOOLS.parent / "pmem")
 
 
+def build_of(folder: Path) -> str:
+    """Which build the library in a folder is, as it says itself."""
+    told = ctypes.CDLL(str(folder / "libpmem.so")).pmem_build
+    told.restype = ctypes.c_char_p
+    return bytes(told()).decode()
+
+
 @lru_cache(maxsize=None)
-def library_folder() -> Path:
-    """The folder of libpmem.a and libpmem.so: PMEM_LIBRARY, else out/, where tools/library makes them of what is proved. Where that, a
-    compiler or the toolchain is missing, the tests that ask are skipped."""
+def library_folder(build: str) -> Path:
+    """The folder of libpmem.a and libpmem.so of a build, `native` or `portable`: PMEM_LIBRARY, else where tools/library makes them; the
+    native build of what is proved. If that, a compiler or the toolchain is missing, the tests that ask are skipped."""
     given = os.environ.get("PMEM_LIBRARY")
     if given:
+        if build_of(Path(given)) != build:
+            raise unittest.SkipTest(f"PMEM_LIBRARY names the other build, not the {build} one")
         return Path(given)
-    made = subprocess.run([str(TOOLS / "library"), "--of-proved"], stdin=subprocess.DEVNULL, stdout=subprocess.PIPE, stderr=subprocess.PIPE,
-                          universal_newlines=True, check=False)
+    folder = TOOLS.parent / "out" / build
+    words = [sys.executable, str(TOOLS / "library"), "--of-proved" if build == "native" else "--portable", "--out", str(folder)]
+    made = subprocess.run(words, stdin=subprocess.DEVNULL, stdout=subprocess.PIPE, stderr=subprocess.PIPE, universal_newlines=True, check=False)
     if made.returncode in (126, 127):
         raise unittest.SkipTest(made.stderr.strip())
     if made.returncode:
         raise AssertionError(made.stderr)
-    return TOOLS.parent / "out"
+    return folder
+
+
+def any_library() -> Path:
+    """The shared library of a build: the portable one, or else the native one."""
+    try:
+        return library_folder("portable") / "libpmem.so"
+    except unittest.SkipTest:
+        return library_folder("native") / "libpmem.so"
 
 
 class ExploreTest(unittest.TestCase):

@@ -62,7 +62,7 @@ class CompareCase(ExploreTest):
 
 
 class CountsTest(CompareCase):
-    """Sums by the tables of docs/ENGINE.md, WEAR.md, TXN.md and SHADOW.md."""
+    """Sums by the tables of docs/ENGINE.md, WEAR.md, TXN.md and TREE_MACHINE.md."""
 
     def test_run(self) -> None:
         (row,) = self.rows(SMALL, "--designs", "run", "--cuts", "0")

@@ -112,7 +112,7 @@ class ImportAsTest(ExploreTest):
     def test_a_program_for_each_machine(self) -> None:
         accesses = self.file("a.csv", "".join(f"store,{64 * line},8,\nload,{64 * line},8\n" for line in range(2000)))
         for machine in MACHINES:
-            text = self.output("import", "csv", accesses, "--as", machine, "--commands", "3000")
+            text = self.output("import", "csv", accesses, "--as", machine, "--commands", "3000", "--fold")
             words = {line.split(" ")[0] for line in text.splitlines() if not line.startswith("#")}
             self.assertEqual(words, {"run": {"part", "read", "fence", "drain"}, "txn": {"begin", "put", "commit", "read"}}.get(
                 machine, {"write", "read"}) - ({"drain"} if machine == "run" else set()))

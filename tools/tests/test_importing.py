@@ -1,7 +1,11 @@
 """`explore import`: traces of what other programs wrote down."""
+import os
+import resource
+import subprocess
+import sys
 from typing import List
 
-from .helpers import ExploreTest
+from .helpers import EXPLORE, ExploreTest
 
 LACKEY = """==7== Lackey, an example Valgrind tool
 ==7==
@@ -33,7 +37,7 @@ class LackeyTest(ExploreTest):
             "part 0 65 60 00000003", "part 0 66 0 00000003",
             "post 0 128 " + "00000004" * 16,
             "fence 0"])
-        self.assertIn("modulo 1024", text)
+        self.assertIn("page address / 4096 modulo 16, or the next free one.\n", text)
 
     def test_what_is_made_is_a_trace(self) -> None:
         trace = self.file("made.trace", self.output("import", "lackey", "-", "--levels", "1", text=LACKEY))
@@ -92,11 +96,39 @@ class LackeyTest(ExploreTest):
         text = self.output("import", "lackey", "-", "--skip", "2", text=LACKEY)
         self.assertEqual(commands(text)[0], "read 0 65")
 
+    def test_a_log_that_ends_early(self) -> None:
+        for text, told in ((LACKEY.replace("==7== Exit code: 0\n", ""), "no line \"Exit code:\""),
+                           (LACKEY.replace("==7== Exit code: 0\n", "\nLackey: lk_main.c:529 (addEvent_Ir): Assertion 'isize' failed.\n"),
+                            "lackey failed: Lackey: lk_main.c:529")):
+            file = self.file("torn.txt", text)
+            self.assert_fails(self.explore("import", "lackey", file), 1, "ends early", told)
+            self.assert_fails(self.explore("import", "lackey", file, "--commands", "2"), 1, "ends early", told)
+            self.assert_fails(self.explore("import", "lackey", "-", text=text), 1, "ends early", told)
+
+    def test_ranges_of_a_file_are_those_of_its_accesses(self) -> None:
+        file = self.file("whole.txt", LACKEY)
+        self.assertEqual(self.output("import", "lackey", file, "--top", "9"), self.output("import", "lackey", "-", "--top", "9", text=LACKEY))
+
     def test_what_is_no_output_of_lackey(self) -> None:
         self.assert_fails(self.explore("import", "lackey", "-", text="op,address\n"), 1, "line 1", "lackey")
         self.assert_fails(self.explore("import", "lackey", "-", text="==7== nothing\n"), 1, "no store or load")
         self.assert_fails(self.explore("import", "lackey", "-", text=" S 00601040,0\n"), 1, "line 1", "bytes")
         self.assert_fails(self.explore("import", "lackey", "-", "--within", "10-20", text=LACKEY), 1, "within 0xa-0x14 (an address")
+
+
+class LargeLogTest(ExploreTest):
+    def test_a_large_log_is_read_fast(self) -> None:
+        """Seven of ten lines are instructions, as in a log of SQLite: 117 MB of it are to take less than 8 seconds of processor time."""
+        lines = "".join(f"I  {0x4000000 + 4 * number:08x},4\n" + (f" L {0x1ffe000000 + 8 * (number % 4096):08x},8\n" if number % 3 == 0 else "")
+                        for number in range(120_000))
+        name = self.file("large.txt", LACKEY.replace("==7== Exit", 3 * lines + "==7== Exit"))
+        self.assertGreater(os.path.getsize(name), 6_000_000)
+        for words in (("--top", "3"), ("--within", "0x601000-0x602fff", "--commands", "100000")):
+            before = resource.getrusage(resource.RUSAGE_CHILDREN)
+            subprocess.run([sys.executable, str(EXPLORE), "import", "lackey", name, *words], stdout=subprocess.DEVNULL, check=True)
+            after = resource.getrusage(resource.RUSAGE_CHILDREN)
+            # As much as a start takes, and 8 seconds for each 117 MB, threefold for a machine that is busy.
+            self.assertLess(after.ru_utime + after.ru_stime - before.ru_utime - before.ru_stime, 2 + 3 * 8 * os.path.getsize(name) / 117e6)
 
 
 class FrontTest(ExploreTest):
@@ -133,11 +165,13 @@ class FrontTest(ExploreTest):
 
     def test_flushes_say_when_a_store_is_written(self) -> None:
         text = "store,0,4,01020304\nstore,64,1,05\nstore,128,1,06\nflush,0,65\nfence\nstore,0,1,09\n"
-        made = self.output("import", "csv", "-", text=text)
+        ran = self.explore("import", "csv", "-", text=text)
+        self.assertEqual((ran.returncode, ran.stderr), (0, "explore: never flushed: 2 lines: 0x80 (row 3), 0x0 (row 6)\n"))
+        made = ran.stdout
         self.assertEqual([line[:18] for line in commands(made)], ["post 0 0 010203040", "post 0 1 050000000", "fence 0"])
         self.assertIn("# Lines stored to and never flushed after that: 2. Those stores are in no command.\n", made)
-        text = "store,0,4,01020304\nclwb,0,\n".replace("clwb,0,", "clwb,0,64")
-        self.assertEqual(len(commands(self.output("import", "csv", "-", text=text))), 1)
+        ran = self.explore("import", "csv", "-", text="store,0,4,01020304\nclwb,0,64\n")
+        self.assertEqual((len(commands(ran.stdout)), ran.stderr), (1, "explore: flushed, but with no fence after that: 1 line: 0x0 (row 1)\n"))
 
     def test_sizes_that_are_none(self) -> None:
         for size in ("0,1", "64", "100,1", "64,2", "64,0", "x,1"):
@@ -145,7 +179,7 @@ class FrontTest(ExploreTest):
 
     def test_addresses_are_told(self) -> None:
         made = self.output("import", "csv", "-", text="store,0x1000,4,\nstore,0x1040,4,\nstore,0x9000,4,\nload,0x11000,1\n")
-        self.assertIn("\n# lines 64 to 65 are at 0x1000\n# line 576 is at 0x9000\n# line 64 is at 0x11000\n", made)
+        self.assertIn("\n# lines 64 to 65 are at 0x1000\n# line 576 is at 0x9000\n# line 128 is at 0x11000\n", made)
 
     def test_a_trace_that_goes_on_says_so(self) -> None:
         self.assertIn("# It goes on after these 3 commands", self.output("import", "csv", "-", "--commands", "3", text=self.TEXT))
@@ -158,13 +192,79 @@ class FrontTest(ExploreTest):
         self.assert_fails(self.explore("import", "csv", "-", "--top", "1", text="fence\n"), 1, "no store or load")
 
 
+class FindingsTest(ExploreTest):
+    """What the import says of flushes and fences."""
+
+    def notes(self, *rows: str) -> List[str]:
+        """What standard error says of these rows."""
+        ran = self.explore("import", "csv", "-", text="".join(row + "\n" for row in rows))
+        self.assertEqual(ran.returncode, 0)
+        return ran.stderr.replace("explore: ", "").splitlines()
+
+    def test_flushes_and_fences_that_are_missing_or_redundant(self) -> None:
+        rows = ("store,0x40,8,0101010101010101,a.c:1", "clwb,0x40,8,,a.c:2", "sfence,,,,a.c:3")
+        self.assertEqual(self.notes(*rows), [])
+        self.assertEqual(self.notes(*rows, "clwb,0x40,8,,a.c:4"),
+                         ["redundant: 1 flush of lines with no store since their last flush: 0x40 (row 4, a.c:4)"])
+        self.assertEqual(self.notes(*rows, "sfence,,,,a.c:5"), ["redundant: 1 fence with nothing to wait for: row 4, a.c:5"])
+        self.assertEqual(self.notes(*rows, *rows[:1]), ["never flushed: 1 line: 0x40 (row 4, a.c:1)"])
+        self.assertEqual(self.notes(*rows, *rows[:2]), ["flushed, but with no fence after that: 1 line: 0x40 (row 4, a.c:1)"])
+        many = self.notes(*(f"store,{64 * line},8,0101010101010101" for line in range(7)), "sfence")
+        self.assertTrue(many[0].endswith("0x100 (row 5) and 2 more"), many)
+
+    def test_a_flush_of_a_large_range_takes_its_stored_lines_only(self) -> None:
+        text = self.explore("import", "csv", "-", text="store,0x40,8,0101010101010101\nflush,0x0,0xffffffffffffffff\nfence\n").stdout
+        self.assertEqual([line[:18] for line in commands(text)], ["post 0 1 010101010", "fence 0"])
+        log = "START|STORE;0x0;0x1;0x1|FLUSH;0x0;0xffffffffffffffffffffffff|FENCE|STOP\n"
+        self.assertEqual(len(commands(self.output("import", "pmemcheck", "-", text=log))), 2)
+
+    def test_words_of_x86(self) -> None:
+        rows = "store,0,8,0101010101010101\nntstore,64,8,0202020202020202\nmark,a section\nclflushopt,0,8\nmfence\nclflush,0,8\nload,0,8\n"
+        ran = self.explore("import", "csv", "-", text=rows)
+        self.assertEqual([line for line in ran.stdout.splitlines() if line.startswith("# row")],
+                         ["# row 1: store 0 0 0101010101010101", "# row 2: ntstore 1 0 0202020202020202", "# row 3: mark a section",
+                          "# row 4: clflushopt 0", "# row 5: mfence", "# row 7: load"])
+        self.assertEqual([line[:20] for line in commands(ran.stdout)], ["part 0 1 0 020202020", "post 0 0 01010101010", "fence 0", "read 0 0"])
+
+
+class PagesTest(ExploreTest):
+    """Which line of memory an address is."""
+
+    def test_pages_that_would_meet_have_one_each(self) -> None:
+        stores = "".join(f"store,{0x10000 * page:#x},8,\n" for page in range(16))
+        lines = [line.split(" ")[2] for line in commands(self.output("import", "csv", "-", text=stores)) if line.startswith("part")]
+        self.assertEqual(lines, [str(64 * page) for page in range(16)])
+
+    def test_more_pages_than_memory_has(self) -> None:
+        stores = "".join(f"store,{0x1000 * page:#x},8,\n" for page in range(17))
+        self.assert_fails(self.explore("import", "csv", "-", text=stores), 1, "more than the 16 pages", "--levels 3", "--fold")
+        made = self.output("import", "csv", "-", "--fold", text=stores)
+        self.assertIn("; 1 page folded onto pages that others have.\n", made)
+        self.assertEqual([line.split(" ")[2] for line in commands(made) if line.startswith("part")][-1], "0")
+        self.assertNotIn("folded", self.output("import", "csv", "-", "--levels", "3", text=stores))
+
+    def test_an_image_is_what_memory_holds_before(self) -> None:
+        image = self.directory / "pool"
+        image.write_bytes(b"\x11" * 64 + bytes(64) + b"\x33" * 8)
+        rows = "store,0x1048,8,0202020202020202\nclwb,0x1040,64\nsfence\n"
+        made = self.output("import", "csv", "-", "--image", f"0x1000={image}", text=rows)
+        self.assertEqual([line[:30] for line in commands(made)], [
+            "post 0 64 " + "11" * 10, "post 0 66 3333333333333333" + "0000", "fence 0", "post 0 65 0000000000000000" + "0202", "fence 0"])
+        self.assert_fails(self.explore("import", "csv", "-", "--image", "0x1000=nowhere", text=rows), 2, "cannot read nowhere")
+        rows = "store,0x1088,8,0202020202020202\nclwb,0x1080,64\nsfence\n"
+        made = self.output("import", "csv", "-", "--image", f"0x1000={image}", text=rows)
+        self.assertIn("post 0 66 33333333333333330202020202020202", made)
+
+
 class PmemcheckTest(ExploreTest):
     LOG = ("==7== pmemcheck-1.0, a simple persistent store checker\n"
            "START|REGISTER_FILE;/pool;0x4000000;0x1000;0x0|STORE;0x4000000;0x1122334455667788;0x8|STORE;0x4000050;0x1;0x4|"
            "FLUSH;0x4000000;0x40|FENCE|FLUSH;0x4000040;0x40|FENCE|STORE;0x4000000;0xff;0x1|STOP\n")
 
     def test_values_flushes_and_fences(self) -> None:
-        made = self.output("import", "pmemcheck", "-", text=self.LOG)
+        ran = self.explore("import", "pmemcheck", "-", text=self.LOG)
+        self.assertEqual((ran.returncode, ran.stderr), (0, "explore: never flushed: 1 line: 0x4000000 (row 10)\n"))
+        made = ran.stdout
         self.assertEqual([line.rstrip("0") for line in commands(made)],
                          ["post 0 0 8877665544332211", "fence ", "post 0 1 " + "00" * 16 + "01", "fence "])
         self.assertIn("Lines stored to and never flushed after that: 1.", made)

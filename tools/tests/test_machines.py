@@ -27,7 +27,7 @@ class PagesTest(ExploreTest):
 
     def test_tables_of_the_pages(self) -> None:
         self.need_logs()
-        for name in ("WEAR.md", "TXN.md", "SHADOW.md"):
+        for name in ("WEAR.md", "TXN.md", "TREE_MACHINE.md"):
             ((command, table),) = tables_in(DOCS / name)
             with self.subTest(name):
                 ran = subprocess.run(["bash", "-c", command.replace("tools/explore", f"{sys.executable} {EXPLORE}")],
