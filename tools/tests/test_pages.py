@@ -202,6 +202,18 @@ class PagesTest(unittest.TestCase):
         self.told([f"{name}:{line}: `{span}` is in no source" for _, name, text in self.each_page()
                    for line, span in unknown_names(prose(text))])
 
+    def test_the_readme_is_read_on_a_screen_and_a_bit(self) -> None:
+        """It has under 120 lines, of 120 columns where they aren't rows of a table or lines of code."""
+        text = (TOP / "README.md").read_text(encoding="utf-8")
+        self.assertLess(len(text.splitlines()), 120)
+        self.told([f"README.md:{number}: {len(line)} columns" for number, line in enumerate(prose(text).split("\n"), 1)
+                   if len(line) > 120 and not line.startswith(("|", "!["))])
+
+    def test_each_page_begins_with_what_it_is(self) -> None:
+        """A page begins with its title and a paragraph, before any table, list, code or further heading; parts of page/pmem.html don't."""
+        self.told([f"{name}: no paragraph after the title" for _, name, text in self.each_page()
+                   if not name.startswith("page/src/") and not re.match(r"# [^\n]+\n+(?:!?\[|\*\*|`|[A-Za-z(])", text)])
+
     def test_every_page_is_in_the_contents(self) -> None:
         contents = TOP / "docs" / "README.md"
         linked = {(contents.parent / target.partition("#")[0]).resolve() for _, target in targets(contents.read_text(encoding="utf-8"))}
@@ -211,7 +223,7 @@ class PagesTest(unittest.TestCase):
 class CheckTest(unittest.TestCase):
     """What the checks themselves find."""
 
-    PAGE = TOP / "docs" / "MACHINE.md"
+    PAGE = TOP / "docs" / "PARTS.md"
 
     def broken(self, text: str) -> List[str]:
         return [target for _, target in targets(text) if broken_link(self.PAGE, target)]
@@ -234,7 +246,7 @@ class CheckTest(unittest.TestCase):
         self.assertEqual(list(unknown_names(text)), [(2, name) for name in wrong])
 
     def test_anchors_are_those_of_forges(self) -> None:
-        self.assertLessEqual({"what-a-user-sees", "a-cut-step-by-step", "the-board-in-memory-power-and-the-fuse"}, anchors(self.PAGE))
+        self.assertLessEqual({"the-board-in-memory-power-and-the-fuse", "the-tree-over-the-counters-seals-and-tag-lines"}, anchors(self.PAGE))
 
 
 if __name__ == "__main__":
