@@ -1,3 +1,4 @@
 pub mod Kept
 pub mod Setups
 pub mod Worlds
+pub mod ToldAlike

@@ -12,6 +12,15 @@ use Rattle.pmem_cli.specs.declared.options.SuiteName.{SuiteName}
 use Rattle.pmem_cli.specs.declared.options.SuiteName.TheVariants.{Aes, Weak, Blur}
 use Rattle.pmem_cli.specs.Keys.{chosen_key, chosen_tag_key, formulas_named, formulas_of, shape_chosen, setup_chosen}
 use Rattle.pmem_cli.specs.Standing.{IsFirstWorld}
+use Rattle.pmem_cli.specs.Wear.{IsFirstWear}
+use Rattle.pmem_cli.specs.Txn.{IsFirstTxn}
+use Rattle.pmem_cli.specs.Tree.{IsFirstTree}
+use Rattle.line_session.specs.New.{IsNewByPlan}
+use Rattle.wear_session.specs.Planned as wear
+use Rattle.wear_session.specs.State.{WearState, IsNewWear}
+use Rattle.txn_session.specs.Planned as txn
+use Rattle.txn_session.specs.State.{TxnState, IsNewTxn}
+use Rattle.tree_session.specs.State.{SessionState, IsNewTree, IsFormattedTree}
 use Rattle.any_session.specs.Opened.{IsBegun, keys_named, keys_chosen}
 
 any_named : (name : SuiteName) (keys : List ℕ) → any_formulas (keys_named name keys) ≡ formulas_named name keys
@@ -50,3 +59,31 @@ pub first_world : (setup : Setup) (counts : ℕ × ℕ × ℕ) (world : WorldSta
     → IsNewWorld setup world → HasFormatWork setup.shape counts.1 counts.2 world → IsFirstWorld setup world
 first_world setup counts world unused new work =
     record { new = new; work = subst (λ (n : ℕ × ℕ × ℕ). HasFormatWork setup.shape n.1 n.2 world) unused work }
+
+-- and so are the new sessions of other kinds
+pub first_wear : (setup : Setup) (keys : List ℕ) (every : ℕ) (counts : ℕ × ℕ × ℕ) (state : WearState) → counts ≡ (0, 0, 0) → IsNewWear setup every state
+    → IsNewByPlan setup (wear.open_call setup) counts.1 counts.2 state.session → state.session.keys ≡ keys → IsFirstWear setup keys every state
+first_wear setup keys every counts state unused new opened same =
+    record {
+      new = new;
+      opened = subst (λ (n : ℕ × ℕ × ℕ). IsNewByPlan setup (wear.open_call setup) n.1 n.2 state.session) unused opened;
+      its_keys = same;
+    }
+
+pub first_txn : (setup : Setup) (keys : List ℕ) (counts : ℕ × ℕ × ℕ) (state : TxnState) → counts ≡ (0, 0, 0) → IsNewTxn setup state
+    → IsNewByPlan setup (txn.open_call setup) counts.1 counts.2 state.session → state.session.keys ≡ keys → IsFirstTxn setup keys state
+first_txn setup keys counts state unused new opened same =
+    record {
+      new = new;
+      opened = subst (λ (n : ℕ × ℕ × ℕ). IsNewByPlan setup (txn.open_call setup) n.1 n.2 state.session) unused opened;
+      its_keys = same;
+    }
+
+pub first_tree : (setup : Setup) (keys : List ℕ) (counts : ℕ × ℕ × ℕ) (state : SessionState) → counts ≡ (0, 0, 0) → IsNewTree setup state
+    → IsFormattedTree setup counts.0 counts.1 counts.2 state → state.keys ≡ keys → IsFirstTree setup keys state
+first_tree setup keys counts state unused new formatted same =
+    record {
+      new = new;
+      formatted = subst (λ (n : ℕ × ℕ × ℕ). IsFormattedTree setup n.0 n.1 n.2 state) unused formatted;
+      its_keys = same;
+    }

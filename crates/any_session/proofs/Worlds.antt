@@ -10,5 +10,5 @@ use Rattle.any_session.specs.Worlds.{IsStepAt, world_lines}
 -- the world goes on, or an exhibit ends it
 pub going_on : (over : Bool) (f : List ℕ → Formulas) (old : WorldState) (line : List ℕ) (step : Step) (new : WorldState)
     → over ≡ is_shown step.reply.answer → IsStepAt f old line step new → IsReplyGoingOn (world_lines f).protocol over old line step new
-going_on true f old line step new is at_line = (new, at_line, sym is)
+going_on true f old line step new is at_line = (at_line, sym is)
 going_on false f old line step new is at_line = (at_line, sym is)

@@ -27,7 +27,7 @@ wear_lines =
     record {
       protocol =
           talk_protocol sort_of_wear (λ old line text new. IsWearTalkedOf (wear_setup_in any_formulas old) old line text new)
-          (λ old line exhibit. IsWearShownOf (wear_setup_in any_formulas old) old line exhibit) (λ old line. IsWearStarvedOf old line);
+          (λ old line exhibit new. IsWearShownOf (wear_setup_in any_formulas old) old line exhibit new) (λ old line. IsWearStarvedOf old line);
       logs = λ old line log_old log_new new. IsWearLogOf (reading_of_wear line) log_old old log_new new;
       work = λ state. (state.session.tags, state.session.digests);
     }
@@ -37,7 +37,7 @@ txn_lines =
     record {
       protocol =
           talk_protocol sort_of_txn (λ old line text new. IsTxnTalkedOf (txn_setup_in any_formulas old) old line text new)
-          (λ old line exhibit. IsTxnShownOf (txn_setup_in any_formulas old) old line exhibit) (λ old line. IsTxnStarvedOf old line);
+          (λ old line exhibit new. IsTxnShownOf (txn_setup_in any_formulas old) old line exhibit new) (λ old line. IsTxnStarvedOf old line);
       logs = λ old line log_old log_new new. IsTxnLogOf (reading_of_txn line) log_old old log_new new;
       work = λ state. (state.session.tags, state.session.digests);
     }
@@ -47,7 +47,7 @@ tree_lines =
     record {
       protocol =
           talk_protocol sort_of_tree (λ old line text new. IsTreeTalkedOf (tree_setup_in any_formulas old) old line text new)
-          (λ old line exhibit. IsTreeShownOf (tree_setup_in any_formulas old) old line exhibit) (λ old line. IsTreeStarvedOf old line);
+          (λ old line exhibit new. IsTreeShownOf (tree_setup_in any_formulas old) old line exhibit new) (λ old line. IsTreeStarvedOf old line);
       logs = λ old line log_old log_new new. IsTreeLogOf (reading_of_tree line) log_old old log_new new;
       work = λ state. (state.tags, state.digests);
     }

@@ -11,11 +11,11 @@ use Rattle.pmem_cli.specs.declared.options.Choices.{Choices}
 use Rattle.pmem_cli.specs.declared.options.SuiteName.{SuiteName}
 use Rattle.pmem_cli.specs.declared.options.SuiteName.TheVariants as Name
 use Rattle.pmem_cli.specs.declared.options.Task.{Task}
-use Rattle.pmem_cli.specs.Keys.{chosen_key, chosen_tag_key, setup_chosen}
+use Rattle.pmem_cli.specs.Keys.{chosen_key, chosen_tag_key, setup_chosen, every_chosen}
 use Rattle.pmem_cli.specs.Standing.{IsFirstWorld}
-use Rattle.pmem_cli.specs.Wear.{wear_chosen}
-use Rattle.pmem_cli.specs.Txn.{txn_chosen}
-use Rattle.pmem_cli.specs.Tree.{tree_chosen}
+use Rattle.pmem_cli.specs.Wear.{IsFirstWear}
+use Rattle.pmem_cli.specs.Txn.{IsFirstTxn}
+use Rattle.pmem_cli.specs.Tree.{IsFirstTree}
 use Rattle.any_session.specs.declared.kinds.AnySession.{AnySession}
 use Rattle.any_session.specs.declared.kinds.AnySession.TheVariants.{Run, Wear, Txn, Tree}
 
@@ -47,11 +47,12 @@ abbrev pub IsOpened : Task → AnySession → Type 0
 IsOpened (Task.Run c) any = IsRunOpened c false any
 IsOpened (Task.Log c) any = IsRunOpened c true any
 IsOpened (Task.Wear c) (Wear its) =
-    IsBegun (wear_chosen c).begins c c.log its.session (wear_setup_in any_formulas its.session) its.logged its.over
+    IsBegun (IsFirstWear (setup_chosen c) (keys_chosen c) (every_chosen c)) c c.log its.session (wear_setup_in any_formulas its.session) its.logged
+    its.over
 IsOpened (Task.Txn c) (Txn its) =
-    IsBegun (txn_chosen c).begins c c.log its.session (txn_setup_in any_formulas its.session) its.logged its.over
+    IsBegun (IsFirstTxn (setup_chosen c) (keys_chosen c)) c c.log its.session (txn_setup_in any_formulas its.session) its.logged its.over
 IsOpened (Task.Tree c) (Tree its) =
-    IsBegun (tree_chosen c).begins c c.log its.session (tree_setup_in any_formulas its.session) its.logged its.over
+    IsBegun (IsFirstTree (setup_chosen c) (keys_chosen c)) c c.log its.session (tree_setup_in any_formulas its.session) its.logged its.over
 IsOpened task any = ⊥
 
 -- the task is a run or a session, which answers lines

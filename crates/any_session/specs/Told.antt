@@ -26,10 +26,10 @@ abbrev pub kept_text : Bool → List ℕ → List ℕ
 kept_text true text = text
 kept_text false text = []
 
--- the reply goes on with the new state, or is an exhibit, which ends the session
+-- the reply leaves the new state; it goes on, or is an exhibit, which ends the session
 abbrev pub IsReplyGoingOn : {S X : Type 0} → Protocol S X → Bool → S → List ℕ → X → S → Type 0
 IsReplyGoingOn protocol false old line reply new = protocol.answers old line reply new
-IsReplyGoingOn protocol true old line reply new = protocol.shows old line reply
+IsReplyGoingOn protocol true old line reply new = protocol.shows old line reply new
 
 -- Whether the log is told, whether the text is kept, and that text: the reply's, which the program prints, where the log is
 -- told with the command's log before it.

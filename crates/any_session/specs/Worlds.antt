@@ -38,7 +38,7 @@ world_lines formulas_of =
           record {
             sort_of = λ line. sort_of_reading (reading_of line);
             answers = λ old line step new. IsStepAt formulas_of old line step new × (is_shown step.reply.answer ≡ false);
-            shows = λ old line step. (new : WorldState) × IsStepAt formulas_of old line step new × (is_shown step.reply.answer ≡ true);
+            shows = λ old line step new. IsStepAt formulas_of old line step new × (is_shown step.reply.answer ≡ true);
             text_of = step_text;
             wants_memory = IsWorldStarvedOf;
             runs = λ world. world.shown ≡ false;

@@ -4,12 +4,14 @@
 #![tactic(auto)]
 
 mod kinds;
+mod laws;
 mod opening;
 mod replies;
 mod talks;
 mod world;
 
 pub use kinds::AnySession;
+pub use laws::told_is_determined;
 pub use opening::Unopened;
 use pmem_base::Kind;
 pub use talks::TalkSession;

@@ -11,3 +11,4 @@ pub mod Worlds
 pub mod MadeCalls
 pub mod TurnedCalls
 pub mod KeptLines
+pub mod NewDetermined

@@ -1,9 +1,10 @@
 -- Two outcomes of one call of a session are the same.
-use Rattle.std.proofs.Common.{ℕ, ◌≡◌, cond, Some, None, Result, refl, sym, ap, ◌∙◌, [], Err, arith, rules}
+use Rattle.std.proofs.Common.{ℕ, ◌≡◌, true, cond, Some, None, Result, refl, sym, ap, ◌∙◌, [], Err, arith, rules}
 use Rattle.line_session.proofs.Common.{same_Some, Setup, steps_in, LineSession, chip_in, CallPlan, HasCalledStore, StartFault, HasStarted, RecFault, zero_line, ChipState}
 use Rattle.call_plan.proofs.DeterminedCalls.{call_is_determined}
 use Rattle.line_session.specs.Answered.{CallRelation, IsAnsweredBy}
 use Rattle.line_session.specs.Started.{IsRefusedFrom}
+use Rattle.line_session.specs.State.{at_rest}
 use Rattle.line_session.specs.declared.starts.StartFault.TheVariants.{Recovery}
 use Rattle.pmem_base.specs.declared.answers.Exhibit.{Exhibit}
 use Rattle.pmem_base.specs.declared.answers.Exhibit.TheVariants as Show
@@ -20,7 +21,7 @@ same_kept : (a b : LineSession) (x y : ChipState) → a.engine ≡ cond a.board.
 same_kept a b x y kept its board same = cc
 
 -- sessions with the same board, chip, geometry and keys
-same_after : (a b : LineSession) (x y : ChipState) → a.engine ≡ cond a.board.powered (Some x) None → b.engine ≡ cond b.board.powered (Some y) None
+pub same_after : (a b : LineSession) (x y : ChipState) → a.engine ≡ cond a.board.powered (Some x) None → b.engine ≡ cond b.board.powered (Some y) None
     → a.shape ≡ b.shape → a.keys ≡ b.keys → a.board ≡ b.board → chip_in a x ≡ chip_in b y → a ≡ b
 same_after a b x y kept its shape keys board chip = search (rules, same_session, same_kept)
 
@@ -59,11 +60,21 @@ abbrev refusal_in : {F A : Type 0} → RecFault → Result A (StartFault F) → 
 refusal_in other (Err (Recovery fault)) = fault
 refusal_in other end = other
 
--- it tells one reason
-pub refusal_determined : {F A : Type 0} (setup : Setup) (opening : CallPlan F A) (old : LineSession) (one other : RecFault)
-    → IsRefusedFrom setup opening old one → IsRefusedFrom setup opening old other → one ≡ other
-refusal_determined setup opening old one other it its =
-    ap (refusal_in one) (start_determined setup opening it.steps its.steps (Err (Recovery one)) (Err (Recovery other)) old it.new its.new it.started its.started).0
+-- it tells one reason, and leaves one session
+pub refusal_determined : {F A : Type 0} (setup : Setup) (opening : CallPlan F A) (old : LineSession) (one other : RecFault) (a b : LineSession)
+    → IsRefusedFrom setup opening old one a → IsRefusedFrom setup opening old other b → (one ≡ other) × (a ≡ b)
+refusal_determined setup opening old one other a b it its =
+    let same =
+    start_determined setup opening it.steps its.steps (Err (Recovery one)) (Err (Recovery other)) old it.lit its.lit it.started its.started in
+    (ap (refusal_in one) same.0, it.rests ∙ ap at_rest same.2 ∙ sym its.rests)
+
+-- so no start that left power off is one of a recovery that refused
+pub refusal_alone : {F A : Type 0} (setup : Setup) (opening : CallPlan F A) (steps : ℕ) (end : Result A (StartFault F)) (old new left : LineSession)
+    (fault : RecFault) → HasStarted setup opening steps end old new → IsRefusedFrom setup opening old fault left
+    → (end ≡ Err (Recovery fault)) × (new.board.powered ≡ true)
+refusal_alone setup opening steps end old new left fault it refused =
+    let same = start_determined setup opening steps refused.steps end (Err (Recovery fault)) old new refused.lit it refused.started in
+    (same.0, ap (λ (s : LineSession). s.board.powered) same.2 ∙ refused.powered)
 
 -- the exhibit of a twin
 abbrev pub twin_in : RecFault → Exhibit

@@ -81,21 +81,22 @@ turned_off setup opening steps old new shape was_off none it =
     }
 
 -- recovery that refuses with power on is a start of the session
-pub refused_from : {F A : Type 0} (setup : Setup) (opening : CallPlan F A) (old : LineSession) (fault : RecFault) → old.engine ≡ None
-    → HasRefused setup old fault → IsRefusedFrom setup opening old fault
-refused_from setup opening old fault was_off it =
-    let left : LineSession =
+pub refused_from : {F A : Type 0} (setup : Setup) (opening : CallPlan F A) (old : LineSession) (fault : RecFault) (new : LineSession) → old.engine ≡ None
+    → HasRefused setup old fault new → IsRefusedFrom setup opening old fault new
+refused_from setup opening old fault new was_off it =
+    let lit : LineSession =
     record old {
       board = it.board;
       engine = cond it.board.powered (Some (on_chip (new_engine setup.shape))) None;
-      ledger = it.ledger;
-      tags = it.suite.tags;
-      digests = it.suite.digests;
+      tags = it.between.tags;
+      digests = it.between.digests;
     } in
     record {
       steps = steps_in it.taken;
-      new = left;
+      lit = lit;
       started = search (rules, true≢false, start_stopped);
+      powered = it.powered;
+      rests = it.rests;
     }
 
 -- a mark that is there keeps a call's lines, whatever the call says

@@ -5,7 +5,7 @@ use Rattle.call_plan.proofs.StillCalls.{untouched, rests}
 use Rattle.pmem_base.specs.declared.answers.Exhibit.TheVariants.{Twin}
 use Rattle.pmem_recovery.specs.declared.faults.RecFault.TheVariants as Rec
 use Rattle.line_session.specs.declared.starts.StartFault.TheVariants as Start
-use Rattle.line_session.specs.State.{setup_in}
+use Rattle.line_session.specs.State.{LineSession, setup_in}
 use Rattle.line_session.specs.World.{StoreSession, session_of, IsLineWorld, IsLineOff, IsLineBy}
 use Rattle.line_session.specs.Kept.{IsOpenedOn, OpensLines, OpensBoth}
 use Rattle.line_session.specs.Turned.{HasTurned, IsCutInRecovery, HasShownTwin, IsTurnedUnder, IsTurnHalt}
@@ -120,7 +120,7 @@ module _ {L O F : Type 0} (c : TurnedCall L O F) where
       IsLineWorld c.engine_of setup (left c.board_new None) × IsCutInRecovery setup c.steps old.state (left c.board_new None).state
   Outcome (Err (Start.Recovery Rec.Memory)) = IsLineWorld c.engine_of setup (left rested None) × (left rested c.found ≡ old)
   Outcome (Err (Start.Recovery (Rec.Twin at major low high cipher tag))) =
-      IsLineWorld c.engine_of setup (left rested None) × HasShownTwin setup old.state at major low high cipher tag × (c.ledger_new ≡ c.ledger)
+      IsLineWorld c.engine_of setup (left rested None) × HasShownTwin setup old.state at major low high cipher tag (left rested None).state
   Outcome answer = ⊥
 
   module _ (between : Device) (suite_between : SuiteState) (engine : EngineState) (work : Work)
@@ -194,9 +194,18 @@ module _ {L O F : Type 0} (c : TurnedCall L O F) where
               c.world.whole_formulas off.durable.mendable.anchored c.world.places within
               (twin_of_last setup c.ledger c.ledger_new lit c.board_new c.taken suite_old suite_between ledger off.durable c.world.few_armed at major low
               high cipher tag it);
-          refused = search (rules, watched);
+          refused =
+              record {
+                board = c.board_new;
+                between = suite_between;
+                taken = c.taken;
+                watched = watched;
+                powered = it.power.live refl;
+                follows = it.plan;
+                rests =
+                    rw (c.same_keys, ledger, ap (λ (s : SuiteState). s.tags) suite, ap (λ (s : SuiteState). s.digests) suite) refl;
+              };
         },
-        ledger,
       )
 
   outcome : Outcome c.answer
@@ -287,6 +296,10 @@ module _ {L O F : Type 0} (c : TurnedCall L O F) where
     twin_exit at major low high cipher tag is =
         let it = outcome_as (Err (Start.Recovery (Rec.Twin at major low high cipher tag))) is in (
           held_rested it.0,
-          subst (HaltsAs (Stop.Shown (Twin at major low high cipher tag)) (left board c.found)) c.seen
-              (c.there, it.1, record { none = c.there; ledger = it.2; shape = refl; keys = c.same_keys }),
+          subst (HaltsAs (Stop.Shown (Twin at major low high cipher tag)) (left board c.found)) c.seen (
+            c.there,
+            subst (λ (s : LineSession). HasShownTwin setup old.state at major low high cipher tag s)
+                (ap (λ (s : Option L). (left rested s).state) (sym c.there) ∙ ap (λ b. (left b c.found).state) (sym is_rested)) it.1,
+            c.there,
+          ),
         )

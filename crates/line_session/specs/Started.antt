@@ -1,5 +1,5 @@
 -- Power comes on: the device is recovered, and its lines are opened, as one plan.
-use Rattle.std.specs.Prelude.{ℕ, ◌≡◌, Some, None, Result, Err, if◌then◌else◌}
+use Rattle.std.specs.Prelude.{ℕ, ◌≡◌, true, Some, None, Result, Err, if◌then◌else◌}
 use Rattle.pmem_base.specs.declared.registers.Regs.{Regs}
 use Rattle.call_plan.specs.Plans.{Plan, bind, mapped}
 use Rattle.call_plan.specs.Runs.{IsOutcome}
@@ -16,7 +16,7 @@ use Rattle.pmem_recovery.specs.Plans.{SuiteCounts, suite_counts, recover_plan}
 use Rattle.engine_lines.specs.Plans.{with_regs}
 use Rattle.line_session.specs.declared.starts.StartFault.{StartFault}
 use Rattle.line_session.specs.declared.starts.StartFault.TheVariants.{Recovery, Opening}
-use Rattle.line_session.specs.State.{LineSession, chip_in, with_power}
+use Rattle.line_session.specs.State.{LineSession, chip_in, with_power, at_rest}
 use Rattle.line_session.specs.StoreCalls.{CallPlan}
 
 -- a chip with a new engine, before anything is told of it but the counts
@@ -51,8 +51,10 @@ pub record HasStarted {F A : Type 0} (setup : Setup) (opening : CallPlan F A) (s
   pub shape : new.shape ≡ old.shape
   pub keys : new.keys ≡ old.keys
 
--- Where power comes on recovery refuses, and tells why.
-pub record IsRefusedFrom {F A : Type 0} (setup : Setup) (opening : CallPlan F A) (old : LineSession) (fault : RecFault) : Type 0 where
+-- Power came on, recovery refused with power on and told why, and power went off again.
+pub record IsRefusedFrom {F A : Type 0} (setup : Setup) (opening : CallPlan F A) (old : LineSession) (fault : RecFault) (new : LineSession) : Type 0 where
   pub steps : ℕ
-  pub new : LineSession
-  pub started : HasStarted setup opening steps (Err (Recovery fault)) old new
+  pub lit : LineSession
+  pub started : HasStarted setup opening steps (Err (Recovery fault)) old lit
+  pub powered : lit.board.powered ≡ true
+  pub rests : new ≡ at_rest lit

@@ -65,6 +65,10 @@ abbrev pub without_power : LineSession → LineSession
 without_power session =
     record session { engine = None; board = record session.board { powered = false; fuse = None } }
 
+-- power goes off, and a cut that is set stays
+abbrev pub at_rest : LineSession → LineSession
+at_rest session = record session { engine = None; board = record session.board { powered = false } }
+
 -- power comes on, and no engine is there yet
 abbrev pub with_power : LineSession → LineSession
 with_power session = record session { board = record session.board { powered = true } }

@@ -8,7 +8,6 @@ use Rattle.board.specs.Memory.{BoardMemory}
 use Rattle.call_plan.specs.Following.{Follows}
 use Rattle.watched_board.specs.declared.taken.Taken.{Taken}
 use Rattle.watched_board.specs.Watching.{IsWatched, device_during, none_taken, steps_in}
-use Rattle.seal_ledger.specs.Ledger.{LedgerState}
 use Rattle.suite.specs.Formulas.{Formulas}
 use Rattle.suite.specs.Setup.{Setup}
 use Rattle.collision_witness.specs.Exhibits.{IsExhibit}
@@ -26,7 +25,7 @@ use Rattle.trace_text.specs.declared.talk.Halt.{Halt}
 use Rattle.trace_text.specs.declared.talk.Halt.TheVariants as Stop
 use Rattle.line_session.specs.declared.powering.Turned.{Turned}
 use Rattle.line_session.specs.declared.powering.Turned.TheVariants.{Already, On, Cut}
-use Rattle.line_session.specs.State.{LineSession, setup_in, view_in, places_in, with_power}
+use Rattle.line_session.specs.State.{LineSession, setup_in, view_in, places_in, with_power, at_rest}
 use Rattle.line_session.specs.World.{StoreSession, IsLineWorld}
 use Rattle.line_session.specs.During.{OpeningRelation}
 
@@ -85,40 +84,30 @@ abbrev pub IsTurnedUnder : {L O F T : Type 0} → (List ℕ → Formulas) → (O
 IsTurnedUnder formulas_of store_of told_of opens engine_of old turned new =
     IsTurned store_of told_of (opens (setup_in formulas_of old.state)) engine_of (setup_in formulas_of old.state) old turned new
 
--- the board followed a recovery that refused with power on
-pub record HasRefused (setup : Setup) (old : LineSession) (fault : RecFault) : Type 0 where
+-- the board followed a recovery that refused with power on, and then power went off
+pub record HasRefused (setup : Setup) (old : LineSession) (fault : RecFault) (new : LineSession) : Type 0 where
   pub board : BoardMemory
-  pub ledger : LedgerState
   pub between : SuiteState
-  pub suite : SuiteState
   pub taken : Taken
   pub watched : IsWatched (with_power old).board board taken
   pub powered : board.powered ≡ true
   pub follows :
       Follows (recover_plan setup old.board.regs (suite_counts old.tags old.digests)) (device_during (with_power old).board none_taken)
       (device_during board taken) (Err (counts_of between, fault))
-  pub same_ledger : ledger ≡ old.ledger
-  pub same_suite : suite ≡ between
+  pub rests : new ≡ at_rest (record old { board = board; tags = between.tags; digests = between.digests })
 
 -- a twin of the last seal of one of the data lines, which recovery finds first
-pub record HasShownTwin (setup : Setup) (old : LineSession) (at major low high : ℕ) (cipher : Line) (tag : List ℕ) : Type 0 where
+pub record HasShownTwin (setup : Setup) (old : LineSession) (at major low high : ℕ) (cipher : Line) (tag : List ℕ) (new : LineSession) : Type 0 where
   pub within : at < data_lines setup.shape
   pub exhibit : IsExhibit setup.formulas (Twin at major low high cipher tag)
   pub twin : IsTwinOfSeal setup (places_in setup old) old.board.regs.loss (view_in old) at major low high cipher tag
-  pub refused : HasRefused setup old (Rec.Twin at major low high cipher tag)
-
--- no store is there, and the marks are as they were
-pub record IsDarkStill {L : Type 0} (old new : StoreSession L) : Type 0 where
-  pub none : new.store ≡ None
-  pub ledger : new.state.ledger ≡ old.state.ledger
-  pub shape : new.state.shape ≡ old.state.shape
-  pub keys : new.state.keys ≡ old.state.keys
+  pub refused : HasRefused setup old (Rec.Twin at major low high cipher tag) new
 
 -- why power on has no answer: memory is wanted, and nothing was done; or a twin is shown
 abbrev pub IsTurnHalt : {L : Type 0} → Setup → StoreSession L → Halt → StoreSession L → Type 0
 IsTurnHalt setup old Stop.Memory new = (old.store ≡ None) × (new ≡ old)
 IsTurnHalt setup old (Stop.Shown (Twin at major low high cipher tag)) new =
-    (old.store ≡ None) × HasShownTwin setup old.state at major low high cipher tag × IsDarkStill old new
+    (old.store ≡ None) × HasShownTwin setup old.state at major low high cipher tag new.state × (new.store ≡ None)
 IsTurnHalt setup old halt new = ⊥
 
 -- what no recovery was made for

@@ -2,6 +2,7 @@
 //! their own, and each call of it over a watched and logged board.
 #![tactic(auto)]
 
+mod blank;
 mod calls;
 mod laws;
 mod making;
@@ -11,7 +12,7 @@ mod session;
 mod starts;
 
 pub use calls::{LineStore, StoreCall};
-pub use laws::{calls_are_determined, starts_are_determined};
+pub use laws::{calls_are_determined, new_sessions_are_determined, starts_are_determined};
 pub use making::Done;
 pub use powering::Turned;
 pub use session::{LineSession, NewFault};

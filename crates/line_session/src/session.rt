@@ -6,11 +6,11 @@ ghost use Rattle.line_session.specs.New.{IsNewStore, IsNewFault, HoldsZeros};
 ghost use Rattle.line_session.specs.State.{setup_in, with_fuse};
 ghost use Rattle.line_session.specs.World.{IsLineWorld, session_off};
 
+use crate::blank::{format, open};
 use crate::calls::LineStore;
 use crate::starts::StoreOpening;
 use board::MemBoard;
 use pmem_base::{Geo, MemFault};
-use pmem_recovery::format;
 use seal_ledger::{Audit, Ledger};
 use std::alloc::Global;
 use std::marker::Model;
@@ -61,8 +61,9 @@ impl<S: Suite + Drop, L: LineStore> LineSession<S, L> {
     ) -> Result<LineSession<S, L>, NewFault<O::Fault>>
         requires can { O.can opening.now }
         requires zeros { HoldsZeros (O.holds opening.now) (setup_with S.Suite geo suite) }
-        ensures new { IfOk result (λ session. IsNewStore O.store (O.relation opening.now) L.engine (setup_with S.Suite geo suite) session) }
-        ensures fault { IfErr result (λ fault. IsNewFault (O.relation opening.now) (setup_with S.Suite geo suite) fault) }
+        ensures new { IfOk result (λ session. IsNewStore O.store (O.relation opening.now) L.engine (setup_with S.Suite geo suite)
+            (S.tags suite) (S.digests suite) session) }
+        ensures fault { IfErr result (λ fault. IsNewFault (O.relation opening.now) (setup_with S.Suite geo suite) (S.tags suite) (S.digests suite) fault) }
         ensures keys { IfOk result (λ session. session.state.keys ≡ S.keys suite) }
         ensures shape { IfOk result (λ session. session.state.shape ≡ shape_of geo) }
     {
@@ -80,7 +81,7 @@ impl<S: Suite + Drop, L: LineStore> LineSession<S, L> {
         if let Err(MemFault) = ledger.reserve(opening.room()) {
             return Err(NewFault::Memory);
         }
-        match opening.open(engine, &mut board, &mut suite, &mut ledger) {
+        match open(opening, engine, &mut board, &mut suite, &mut ledger) {
             Err(fault) => Err(NewFault::Opening(fault)),
             Ok(opened) => {
                 let (store, _) = O::split(opened);

@@ -4,6 +4,7 @@
 mod answering;
 mod ends;
 mod handle;
+mod laws;
 mod opening;
 mod session;
 mod words;
@@ -17,6 +18,7 @@ use crate::ends::HeapSink;
 use crate::handle::Handle;
 use crate::opening::boxed_session;
 use crate::session::Session;
+pub use laws::answer_is_determined;
 use loose::Loose;
 use std::alloc::Global;
 use std::boxed::Box;

@@ -1,5 +1,5 @@
 -- Two calls of `run` with the same words for one trace put one text, with one status.
-use Rattle.std.proofs.Common.{◌≡◌, ◌≢◌, ◌∙◌, ℕ, List, ◌++◌, refl, sym, ap, ap₂, subst, inl, inr}
+use Rattle.std.proofs.Common.{◌≡◌, ◌≢◌, ◌∙◌, ℕ, Bool, List, ◌++◌, refl, sym, ap, ap₂, subst, inl, inr}
 use Rattle.std.specs.Prelude.{IfSome, IsNone, Option, None, Some}
 use Rattle.std.specs.Io.KnownBytes.{Appends}
 use Rattle.collision_witness.specs.Words.{Word}
@@ -7,22 +7,31 @@ use Rattle.plain_model.specs.Defaults.{default_setup}
 use Rattle.plain_model.specs.declared.Stop.{Stop}
 use Rattle.plain_model.specs.declared.Stop.TheVariants.{Words}
 use Rattle.plain_model.specs.Run.{Step, status_of, output_of, stop_text, Ends}
+use Rattle.trace_text.specs.Conversations.{texts_of}
 use Rattle.trace_text.specs.Samples.{sample_trace, commands_text}
 use Rattle.pmem_cli.specs.declared.options.Choices.{Choices}
 use Rattle.pmem_cli.specs.declared.options.Task.{Task}
 use Rattle.pmem_cli.specs.declared.ending.Ending.{Ending}
 use Rattle.pmem_cli.specs.Causes.{Rose}
 use Rattle.pmem_cli.specs.Checked.{IsChecked}
-use Rattle.pmem_cli.specs.Determined.{Call, IsCallWith, IsByMachine, IsSettled, IsUndisturbed, AreAnsweredAlike}
+use Rattle.pmem_cli.specs.Determined.{Call, IsCallWith, IsByMachine, IsUndisturbed, AreAnsweredAlike}
 use Rattle.pmem_cli.specs.Endings.{ending_text, ending_status}
 use Rattle.pmem_cli.specs.HasRun.{HasRun, IsWorldRun, HasTextPut, IsWorldSample, HasCheckedTrace, TaskMachine, AreRefusedWords}
-use Rattle.pmem_cli.specs.Keys.{formulas_of, setup_chosen}
+use Rattle.pmem_cli.specs.Keys.{formulas_of, setup_chosen, suite_keys_chosen, every_chosen}
 use Rattle.pmem_cli.specs.Logged.{HasLoggedRun, IsWorldLoggedRun, LoggedStep, LoggedEnds, steps_logged, logged_texts}
+use Rattle.pmem_cli.specs.Sessions.{Session, telling, spoken, IsSaidBySession}
+use Rattle.pmem_cli.specs.Sessions as sessions
+use Rattle.pmem_cli.specs.Telling.{ReplyAs}
+use Rattle.pmem_cli.specs.Tree.{tree_chosen}
+use Rattle.pmem_cli.specs.Txn.{txn_chosen}
+use Rattle.pmem_cli.specs.Wear.{wear_chosen}
 use Rattle.pmem_cli.specs.Words.{task_of}
 use Rattle.pmem_cli.proofs.ChecksAlike.{checks_alike}
 use Rattle.pmem_cli.proofs.LogsAlike.{logs_alike}
 use Rattle.pmem_cli.proofs.ReplaysAlike.{IsOfTrace, replays_alike}
 use Rattle.pmem_cli.proofs.SamplesAlike.{samples_alike}
+use Rattle.pmem_cli.proofs.SessionsAlike.{conversations_alike, wear_exact, txn_exact, tree_exact, wear_begun, txn_begun, tree_begun}
+use Rattle.pmem_cli.proofs.TalksAlike.{IsExact}
 
 module _ (trace put : List ℕ) where
   -- ---- one call
@@ -31,11 +40,11 @@ module _ (trace put : List ℕ) where
   appended_to None text all = absurd all
   appended_to (Some bytes) text all = ap (λ (bs : List ℕ). Some bs) all
 
-  appended : (before after : Option (List ℕ)) (text : List ℕ) → before ≡ Some put → Appends before after text → after ≡ Some (put ++ text)
+  pub appended : (before after : Option (List ℕ)) (text : List ℕ) → before ≡ Some put → Appends before after text → after ≡ Some (put ++ text)
   appended before after text is all = appended_to after text (subst (λ (o : Option (List ℕ)). Appends o after text) is all)
 
   -- what is said of a call that asks for this, without what its words are
-  abbrev Said : Task → Call → Type 0
+  abbrev pub Said : Task → Call → Type 0
   Said task call =
       TaskMachine task call.status (Rose call.pulls_before call.pulls_after) call.trace call.left call.put_before call.put_after
 
@@ -46,7 +55,7 @@ module _ (trace put : List ℕ) where
       record { status = first ∙ sym second; text = text; first = one; second = other }
 
   -- a stop of a call in which nothing failed
-  calm_stop : (call : Call) (stop : Stop) → IsUndisturbed trace put call → call.status ≡ status_of stop → call.status ≢ 4 → call.status ≢ 3
+  pub calm_stop : (call : Call) (stop : Stop) → IsUndisturbed trace put call → call.status ≡ status_of stop → call.status ≢ 4 → call.status ≢ 3
       → IsOfTrace stop
   calm_stop call stop calm status pushed pulled =
       record {
@@ -137,31 +146,55 @@ module _ (trace put : List ℕ) where
         (appended b.put_before b.put_after (logged_texts other.all ++ stop_text other.stop) quiet.put_told (other.whole pushed_too)
         ∙ ap₂ (λ (xs : List LoggedStep) (s : Stop). Some (put ++ (logged_texts xs ++ stop_text s))) (sym same.1) (sym same.0))
 
+    session_alike : {S R : Type 0} (session : Session S R) (logged : Bool) → IsExact (telling session logged)
+        → ((s t : S) → session.begins s → session.begins t → s ≡ t)
+        → IsSaidBySession session logged a.status (Rose a.pulls_before a.pulls_after) a.trace a.left a.put_before a.put_after
+        → IsSaidBySession session logged b.status (Rose b.pulls_before b.pulls_after) b.trace b.left b.put_before b.put_after → AreAnsweredAlike put a b
+    session_alike {R = R} session logged exact begun one two =
+        let it = one.told in
+        let its = two.told in
+        let status : a.status ≡ status_of it.stop = it.its_status pushed in
+        let its_status : b.status ≡ status_of its.stop = its.its_status pushed_too in
+        let same =
+        conversations_alike session logged exact begun trace a.trace b.trace a.left b.left calm.trace_told quiet.trace_told it.stop its.stop it.replies
+        its.replies (calm_stop b its.stop quiet its_status pushed_too pulled_too) two.conversed (calm_stop a it.stop calm status pushed pulled) one.conversed in
+        let texts = texts_of (spoken session.language logged) in
+        put_alike a b (status_of it.stop) (texts it.replies ++ stop_text it.stop) status (its_status ∙ ap status_of (sym same.0))
+        (appended a.put_before a.put_after (texts it.replies ++ stop_text it.stop) calm.put_told (it.whole pushed))
+        (appended b.put_before b.put_after (texts its.replies ++ stop_text its.stop) quiet.put_told (its.whole pushed_too)
+        ∙ ap₂ (λ (xs : List (ReplyAs (sessions.Said R) logged)) (s : Stop). Some (put ++ (texts xs ++ stop_text s))) (sym same.1) (sym same.0))
+
     -- ---- by what the words ask for
 
-    tasks_alike : (task : Option Task) → IsSettled task → IfSome task (λ its. Said its a) → IfSome task (λ its. Said its b)
+    tasks_alike : (task : Option Task) → IfSome task (λ its. Said its a) → IfSome task (λ its. Said its b)
         → (IsNone task → AreAnsweredAlike put a b) → AreAnsweredAlike put a b
-    tasks_alike None settled it its none = none refl
-    tasks_alike (Some (Task.Run choices)) settled it its none = runs_alike choices it its
-    tasks_alike (Some (Task.Make seed count)) settled it its none = texts_alike (commands_text (sample_trace seed count)) it its
-    tasks_alike (Some (Task.Sample seed count)) settled it its none = sampled_alike seed count it its
-    tasks_alike (Some (Task.Check choices)) settled it its none = checked_alike choices it its
-    tasks_alike (Some (Task.Log choices)) settled it its none = logged_alike choices it its
-    tasks_alike (Some (Task.Wear choices)) settled it its none = absurd settled
-    tasks_alike (Some (Task.Tree choices)) settled it its none = absurd settled
-    tasks_alike (Some (Task.Txn choices)) settled it its none = absurd settled
+    tasks_alike None it its none = none refl
+    tasks_alike (Some (Task.Run choices)) it its none = runs_alike choices it its
+    tasks_alike (Some (Task.Make seed count)) it its none = texts_alike (commands_text (sample_trace seed count)) it its
+    tasks_alike (Some (Task.Sample seed count)) it its none = sampled_alike seed count it its
+    tasks_alike (Some (Task.Check choices)) it its none = checked_alike choices it its
+    tasks_alike (Some (Task.Log choices)) it its none = logged_alike choices it its
+    tasks_alike (Some (Task.Wear choices)) it its none =
+        session_alike (wear_chosen choices) choices.log (wear_exact (setup_chosen choices) (suite_keys_chosen choices) (every_chosen choices) choices.log)
+        (wear_begun (setup_chosen choices) (suite_keys_chosen choices) (every_chosen choices)) it its
+    tasks_alike (Some (Task.Tree choices)) it its none =
+        session_alike (tree_chosen choices) choices.log (tree_exact (setup_chosen choices) (suite_keys_chosen choices) choices.log)
+        (tree_begun (setup_chosen choices) (suite_keys_chosen choices)) it its
+    tasks_alike (Some (Task.Txn choices)) it its none =
+        session_alike (txn_chosen choices) choices.log (txn_exact (setup_chosen choices) (suite_keys_chosen choices) choices.log)
+        (txn_begun (setup_chosen choices) (suite_keys_chosen choices)) it its
 
   -- faulty words are told in full, as no push failed
-  refused : (call : Call) → IsUndisturbed trace put call → AreRefusedWords call.put_before call.put_after call.pushes_before call.pushes_after
+  pub refused : (call : Call) → IsUndisturbed trace put call → AreRefusedWords call.put_before call.put_after call.pushes_before call.pushes_after
       → call.put_after ≡ Some (put ++ stop_text Words)
   refused call calm (inl whole) = appended call.put_before call.put_after (stop_text Words) calm.put_told whole
   refused call calm (inr failed) = absurd (calm.pushed failed.1)
 
-pub calls_alike : (words : List Word) (trace put : List ℕ) (a b : Call) → IsSettled (task_of words) → IsCallWith words a → IsCallWith words b
+pub calls_alike : (words : List Word) (trace put : List ℕ) (a b : Call) → IsCallWith words a → IsCallWith words b
     → IsByMachine words a → IsByMachine words b → IsUndisturbed trace put a → IsUndisturbed trace put b → AreAnsweredAlike put a b
-calls_alike words trace put a b settled it its by_one by_other calm quiet =
+calls_alike words trace put a b it its by_one by_other calm quiet =
     tasks_alike trace put a b calm quiet (λ is. calm.pushed (it.write is)) (λ is. quiet.pushed (its.write is)) (λ is. calm.pulled (it.read is))
-    (λ is. quiet.pulled (its.read is)) (task_of words) settled by_one by_other
+    (λ is. quiet.pulled (its.read is)) (task_of words) by_one by_other
     (λ none.
     let first : a.status ≡ 2 = it.faulty.1 none in
     let second : b.status ≡ 2 = its.faulty.1 none in

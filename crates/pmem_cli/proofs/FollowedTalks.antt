@@ -21,8 +21,8 @@ pub record Follows {S X Y : Type 0} (p : Protocol S X) (q : Protocol S Y) (I : S
       (old new : S) (line : List ℕ) (x : X) → I old → p.answers old line x new
       → (y : Y) × q.answers old line y new × (q.text_of y ≡ p.text_of x) × I new
   pub shown :
-      (old : S) (line : List ℕ) (x : X) → I old → p.shows old line x
-      → (y : Y) × q.shows old line y × (q.text_of y ≡ p.text_of x)
+      (old new : S) (line : List ℕ) (x : X) → I old → p.shows old line x new
+      → (y : Y) × q.shows old line y new × (q.text_of y ≡ p.text_of x)
 
 module _ {S X Y : Type 0} (p : Protocol S X) (q : Protocol S Y) (I : S → Type 0) (f : Follows p q I) where
   -- ---- some lines
@@ -65,10 +65,10 @@ module _ {S X Y : Type 0} (p : Protocol S X) (q : Protocol S Y) (I : S → Type 
         (line, f.sorts line ∙ its_sort, inl (next, one.1, rest.1)),
         rw (one.2, rest.2) refl,
       )
-  follow_given first (x ∷ xs) i (line, its_sort, inr (shown, none)) =
-      let one = f.shown first line x i shown in (
+  follow_given first (x ∷ xs) i (line, its_sort, inr (next, shown, none)) =
+      let one = f.shown first next line x i shown in (
         one.0 ∷ [],
-        (line, f.sorts line ∙ its_sort, inr (one.1, refl)),
+        (line, f.sorts line ∙ its_sort, inr (next, one.1, refl)),
         rw none (ap (λ l. l ++ []) one.2),
       )
 
@@ -82,7 +82,7 @@ module _ {S X Y : Type 0} (p : Protocol S X) (q : Protocol S Y) (I : S → Type 
       → Followed (λ s ys. IsShownTalk q s served lines ys) first xs
   follow_shown first served lines xs i ends =
       let talk = follow_talk first ends.middle ends.before ends.earlier i ends.talk in
-      let one = f.shown ends.middle ends.line ends.last talk.3 ends.shown in
+      let one = f.shown ends.middle ends.after ends.line ends.last talk.3 ends.shown in
       let its_sort = f.sorts ends.line ∙ ends.its_sort in (
         talk.0 ++ one.0 ∷ [],
         record {
@@ -96,10 +96,11 @@ module _ {S X Y : Type 0} (p : Protocol S X) (q : Protocol S Y) (I : S → Type 
           last = one.0;
           all = refl;
           its_sort = its_sort;
+          after = ends.after;
           shown = one.1;
           counted = ends.counted;
         },
-        AreRepliesGiven-after q first ends.middle ends.before talk.0 (one.0 ∷ []) talk.1 (AreRepliesGiven-shown q ends.middle ends.line one.0 its_sort one.1),
+        AreRepliesGiven-after q first ends.middle ends.before talk.0 (one.0 ∷ []) talk.1 (AreRepliesGiven-shown q ends.middle ends.after ends.line one.0 its_sort one.1),
         rw (ends.all, flat_map-append q.text_of talk.0 (one.0 ∷ []), flat_map-append p.text_of ends.earlier (ends.last ∷ []), talk.2, one.2) refl,
       )
 
@@ -237,10 +238,10 @@ follows_voiced p q I logs work true f =
             ap (λ text. log_text told.accesses told.tags told.digests ++ text) one.2,
             one.3,
           );
-      shown = λ old line told i shown.
-          let one = f.shown old line told.said i shown.0 in (
+      shown = λ old new line told i shown.
+          let one = f.shown old new line told.said i shown.0 in (
             record { said = one.0; accesses = told.accesses; tags = told.tags; digests = told.digests },
-            (one.1, (shown.1.0, record { accessed = shown.1.1.accessed; tags = shown.1.1.tags; digests = shown.1.1.digests })),
+            (one.1, record { accessed = shown.1.accessed; tags = shown.1.tags; digests = shown.1.digests }),
             ap (λ text. log_text told.accesses told.tags told.digests ++ text) one.2,
           );
     }
@@ -250,8 +251,8 @@ untold : {S X : Type 0} (p : Protocol S X) (logs : S → List ℕ → Option (Li
     (all : List (Told X)) → AreRepliesGiven (told_protocol p logs work) first all → AreRepliesGiven p first (map (λ (told : Told X). told.said) all)
 untold p logs work first [] given = tt
 untold p logs work first (told ∷ all) (line, its_sort, inl (next, answered, more)) = (line, its_sort, inl (next, answered.0, untold p logs work next all more))
-untold {S} {X} p logs work first (told ∷ all) (line, its_sort, inr (shown, none)) =
-    (line, its_sort, inr (shown.0, ap (map (λ (told : Told X). told.said)) none))
+untold {S} {X} p logs work first (told ∷ all) (line, its_sort, inr (next, shown, none)) =
+    (line, its_sort, inr (next, shown.0, ap (map (λ (told : Told X). told.said)) none))
 
 pub said_given : {S X : Type 0} (p : Protocol S X) (logs : S → List ℕ → Option (List Access) → Option (List Access) → S → Type 0) (work : S → ℕ × ℕ) (logged : Bool)
     (first : S) (all : List (ReplyAs X logged)) → AreRepliesGiven (voice p logs work logged) first all → AreRepliesGiven p first (said_by X logged all)

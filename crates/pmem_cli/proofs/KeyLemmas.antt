@@ -1,5 +1,5 @@
 -- The formulas of a named suite under chosen keys.
-use Rattle.std.proofs.Common.{◌≡◌, ◌∙◌, ℕ, true, false, List, [], ◌∷◌, ◌++◌, refl, ap}
+use Rattle.std.proofs.Common.{◌≡◌, ◌∙◌, ℕ, true, false, List, [], ◌∷◌, ◌++◌, refl, sym, ap}
 use Rattle.std.specs.Prelude.{unwrap_or}
 use Rattle.suite.specs.Aes.{aes_formulas}
 use Rattle.suite.specs.Weak.{weak_formulas, blur_flag}
@@ -10,7 +10,7 @@ use Rattle.suite.specs.Formulas.{Formulas}
 use Rattle.suite.specs.Setup.{Setup}
 use Rattle.plain_model.specs.Defaults.{default_shape, default_keys, default_setup}
 use Rattle.pmem_cli.specs.Words.{no_choices}
-use Rattle.pmem_cli.specs.Keys.{chosen_key, chosen_tag_key, formulas_of, shape_chosen, setup_chosen}
+use Rattle.pmem_cli.specs.Keys.{chosen_key, chosen_tag_key, suite_keys_named, suite_keys_chosen, formulas_of, shape_chosen, setup_chosen}
 
 pub formulas_aes : (c : Choices) (keys : List ℕ) → unwrap_or c.suite Aes ≡ Aes → keys ≡ chosen_key c ++ chosen_tag_key c → aes_formulas keys ≡ formulas_of c
 unfolding formulas_of
@@ -23,6 +23,16 @@ formulas_weak c keys name same = rw (name, same) refl
 pub formulas_blur : (c : Choices) (keys : List ℕ) → unwrap_or c.suite Aes ≡ Blur → keys ≡ (chosen_key c ++ chosen_tag_key c) ++ blur_flag true ∷ [] → weak_formulas keys ≡ formulas_of c
 unfolding formulas_of
 formulas_blur c keys name same = rw (name, same) refl
+
+-- the keys themselves
+pub keys_aes : (c : Choices) (keys : List ℕ) → unwrap_or c.suite Aes ≡ Aes → keys ≡ chosen_key c ++ chosen_tag_key c → keys ≡ suite_keys_chosen c
+keys_aes c keys name same = same ∙ ap (λ n. suite_keys_named n (chosen_key c ++ chosen_tag_key c)) (sym name)
+
+pub keys_weak : (c : Choices) (keys : List ℕ) → unwrap_or c.suite Aes ≡ Weak → keys ≡ (chosen_key c ++ chosen_tag_key c) ++ blur_flag false ∷ [] → keys ≡ suite_keys_chosen c
+keys_weak c keys name same = same ∙ ap (λ n. suite_keys_named n (chosen_key c ++ chosen_tag_key c)) (sym name)
+
+pub keys_blur : (c : Choices) (keys : List ℕ) → unwrap_or c.suite Aes ≡ Blur → keys ≡ (chosen_key c ++ chosen_tag_key c) ++ blur_flag true ∷ [] → keys ≡ suite_keys_chosen c
+keys_blur c keys name same = same ∙ ap (λ n. suite_keys_named n (chosen_key c ++ chosen_tag_key c)) (sym name)
 
 -- ---- setups
 

@@ -24,6 +24,9 @@ pub mod SamplesAlike
 pub mod ChecksAlike
 pub mod LogsAlike
 pub mod CallsAlike
+pub mod TalksAlike
+pub mod SessionsAlike
+pub mod FrontCalls
 pub mod UntamperedRuns
 pub mod StepSums
 pub mod StatusLemmas

@@ -135,6 +135,7 @@ plain_shown f world served lines xs ends =
       last = ends.last.step;
       all = ap steps_logged ends.all ∙ map-append (λ (logged : LoggedStep). logged.step) ends.earlier (ends.last ∷ []);
       its_sort = ends.its_sort;
+      after = ends.after;
       shown = ends.shown.ends;
       counted = ends.counted;
     }
@@ -231,7 +232,7 @@ told_of_given f world [] given = (world, refl)
 told_of_given f world (x ∷ xs) (line, its_sort, inl (next, goes, more)) =
     let rest = told_of_given f next xs more in
     (rest.0, (next, goes.stepped, goes.told, subst (λ (setup : Setup). AreTold setup next xs rest.0) goes.goes.on.setup rest.1))
-told_of_given f world (x ∷ xs) (line, its_sort, inr (ends, none)) =
+told_of_given f world (x ∷ xs) (line, its_sort, inr (next, ends, none)) =
     let last : AreTold (standing_of f world).setup ends.next xs ends.next =
     subst (λ zs. AreTold (standing_of f world).setup ends.next zs ends.next) (sym none) refl in
     (ends.next, (ends.next, ends.stepped, ends.told, last))

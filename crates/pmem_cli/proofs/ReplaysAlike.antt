@@ -1,6 +1,6 @@
 -- Two runs of one trace over new worlds come to one stop, by the same steps.
-use Rattle.std.proofs.Common.{◌≡◌, ◌≢◌, ◌∙◌, ◌<◌, ◌≤◌, ℕ, false, List, [], ◌∷◌, ◌++◌, length, refl, sym, ap, subst, inl, inr, arith, append-nil}
-use Rattle.std.specs.Prelude.{All, IsOk, map, Option}
+use Rattle.std.proofs.Common.{◌≡◌, ◌≢◌, ◌∙◌, ◌<◌, ◌≤◌, ℕ, false, List, [], ◌∷◌, ◌++◌, length, refl, sym, ap, subst, inl, inr, arith, append-nil, append_assoc, ◌+◌}
+use Rattle.std.specs.Prelude.{All, IsOk, map, Option, ◌⊎◌, Some, None}
 use Rattle.std.proofs.lemmas.List.{length-map, map-append}
 use Rattle.std.proofs.lemmas.List.Elements.{All-head, All-tail, All-cons, All-nil}
 use Rattle.pmem_base.specs.declared.commands.Command.{Command}
@@ -10,8 +10,8 @@ use Rattle.plain_model.specs.declared.Stop.{Stop}
 use Rattle.plain_model.specs.declared.Stop.TheVariants.{Finished, Words, Memory, ReadFault, WriteFault, Refused, Shown, TooManyLines}
 use Rattle.plain_model.specs.Answers.{is_shown}
 use Rattle.plain_model.specs.Grammar.{Reading, reading_of}
-use Rattle.plain_model.specs.Lines.{lines_of}
-use Rattle.plain_model.specs.Run.{Step, start, line_limit, commands_of, commands_asked, IsRunFrom, IsFinishedFrom, IsRefusedFrom, IsShownFrom, IsCutOffFrom, Ends}
+use Rattle.plain_model.specs.Lines.{lines_of, ended}
+use Rattle.plain_model.specs.Run.{Step, start, line_limit, commands_of, commands_asked, IsRunFrom, IsFinishedFrom, IsRefusedFrom, IsShownFrom, IsCutOffFrom, Ends, IsMemoryWanted}
 use Rattle.plain_model.specs.State.{Reply}
 use Rattle.pmem_replay.specs.World.{WorldState, IsWorld}
 use Rattle.pmem_replay.specs.Determined.{AreAlike}
@@ -19,6 +19,9 @@ use Rattle.pmem_replay.proofs.SameSteps.NewWorldsAlike.{new_worlds_alike}
 use Rattle.pmem_replay.proofs.SameSteps.StepsAlike.{steps_alike}
 use Rattle.pmem_cli.specs.Standing.{IsFirstWorld, IsWorldStep, AreStepped, IsReplayed}
 use Rattle.pmem_cli.proofs.RunsAlike as runs
+use Rattle.std.specs.List.{flat_map}
+use Rattle.std.specs.Io.KnownBytes.{Consumes}
+use Rattle.pmem_cli.proofs.LineLemmas.{lines_of-all_ended}
 
 -- ---- lines, as they are read
 
@@ -42,6 +45,16 @@ pub record IsOfTrace (stop : Stop) : Type 0 where
   pub had_memory : stop ≢ Memory
   pub pulled : stop ≢ ReadFault
   pub pushed : stop ≢ WriteFault
+
+-- ---- a run that was broken off
+
+-- it stops before the trace does
+abbrev pub IsBreak : Stop → Type 0
+IsBreak stop = (stop ≡ Memory) ⊎ ((stop ≡ ReadFault) ⊎ (stop ≡ WriteFault))
+
+-- one run is the other, or a front of it
+abbrev pub IsFrontRun : {X : Type 0} → Stop → Stop → List X → List X → Type 0
+IsFrontRun {X} stop other xs ys = ((stop ≡ other) × (xs ≡ ys)) ⊎ (IsBreak stop × (rest : List X) × (ys ≡ xs ++ rest))
 
 module _ (setup : Setup) where
   -- the world answers a command
@@ -168,3 +181,61 @@ module _ (setup : Setup) where
       let b = first_of other ys quiet.had_memory run in
       runs.stops_alike answers line_limit AreRunning one_reply 0 (read_all (lines_of trace)) a.0 b.0 stop other xs ys (begun a.0 b.0 a.2 b.2)
       (stops_by a.0 a.1 stop trace left xs calm ends a.3) (stops_by b.0 b.1 other trace rest ys quiet finishes b.3)
+
+  -- ---- a run that was broken off
+
+  wanted_within : (served : ℕ) (lines : List (List ℕ)) → IsMemoryWanted served lines → served ≤ line_limit
+  wanted_within served [] wanted = absurd wanted
+  wanted_within served (line ∷ lines) wanted = omega (arith, wanted.1)
+
+  -- a run of a front of the lines, beside one that came to its stop
+  pub front_of : (trace : List ℕ) (before behind : List (List ℕ)) (a last b end : WorldState) (other : Stop) (rest : Option (List ℕ)) (xs ys : List Step)
+      → AreRunning a b → lines_of trace ≡ before ++ behind → length before ≤ line_limit → IsRunFrom setup (start setup) before xs → AreStepped setup a xs last
+      → IsOfTrace other → Ends setup other trace rest ys → AreStepped setup b ys end → (more : List Step) × (ys ≡ xs ++ more)
+  front_of trace before behind a last b end other rest xs ys running cut within run chain quiet finishes stepped =
+      runs.front_alike answers line_limit AreRunning one_reply 0 (read_all before) (read_all behind) last other (all_read before run.in_grammar)
+      (omega (arith, within, length-map before reading_of)) a b xs ys running (run_of a last before xs run chain)
+      (subst (λ rs. StopsBy b 0 rs other ys) (ap read_all cut ∙ map-append reading_of before behind) (stops_by b end other trace rest ys quiet finishes stepped))
+
+  module _ (trace : List ℕ) (other : Stop) (left rest : Option (List ℕ)) (xs ys : List Step) (quiet : IsOfTrace other) (finishes : Ends setup other trace rest ys)
+      (run : IsReplayed setup other ys) where
+    -- it came to a stop of the trace's own
+    stopped : (stop : Stop) → IsOfTrace stop → Ends setup stop trace left xs → IsReplayed setup stop xs → IsFrontRun stop other xs ys
+    stopped stop calm ends replayed = inl (replays_alike trace stop other left rest xs ys calm quiet ends finishes replayed run)
+
+    pub fronted : (stop : Stop) (before behind : List (List ℕ)) → IsBreak stop → lines_of trace ≡ before ++ behind → length before ≤ line_limit
+        → IsRunFrom setup (start setup) before xs → IsReplayed setup stop xs → IsFrontRun stop other xs ys
+    fronted stop before behind broken cut within ran (inl none) = inr (broken, ys, ap (λ (zs : List Step). zs ++ ys) (sym none.1))
+    fronted stop before behind broken cut within ran (inr a) =
+        let b = first_of other ys quiet.had_memory run in
+        let front = front_of trace before behind a.0 a.1 b.0 b.1 other rest xs ys (begun a.0 b.0 a.2 b.2) cut within ran a.3 quiet finishes b.3 in
+        inr (broken, front.0, front.1)
+
+    shown_instead : IsReplayed setup WriteFault xs → IsReplayed setup Shown xs
+    shown_instead (inl none) = absurd (cc (none.0))
+    shown_instead (inr found) = inr found
+
+    pub replays_front : (stop : Stop) → Ends setup stop trace left xs → IsReplayed setup stop xs → IsFrontRun stop other xs ys
+    replays_front Finished ends replayed = stopped Finished (record { had_memory = λ is. cc; pulled = λ is. cc; pushed = λ is. cc }) ends replayed
+    replays_front Memory ends replayed =
+        fronted Memory ends.front.before ends.front.behind (inl refl) ends.front.cut
+        (elim ends.wanting [ inl none ↦ omega (arith, none) | inr wanted ↦ omega (arith, wanted_within (0 + length ends.front.before) ends.front.behind wanted) ]) ends.front.run replayed
+    replays_front Words ends replayed = absurd ends
+    replays_front ReadFault ends replayed =
+        let its : (left_bytes : List ℕ) × (trace ≡ (flat_map ended ends.before ++ ends.part) ++ left_bytes) = consumed left trace (flat_map ended ends.before ++ ends.part) ends.taken in
+        fronted ReadFault ends.before (lines_of (ends.part ++ its.0)) (inr (inl refl))
+        (ap lines_of (its.1 ∙ append_assoc (flat_map ended ends.before) ends.part its.0) ∙ lines_of-all_ended ends.before (ends.part ++ its.0) ends.whole)
+        (omega (arith, ends.counted)) ends.run replayed
+      where
+        consumed : (left : Option (List ℕ)) (bytes part : List ℕ) → Consumes (Some bytes) left part → (rest : List ℕ) × (bytes ≡ part ++ rest)
+        consumed None bytes part taken = absurd taken
+        consumed (Some rest) bytes part taken = (rest, taken)
+    replays_front WriteFault (inl ends) replayed =
+        fronted WriteFault ends.front.before ends.front.behind (inr (inr refl)) ends.front.cut (omega (arith, ends.counted)) ends.front.run replayed
+    replays_front WriteFault (inr ends) replayed =
+        let same = replays_alike trace Shown other left rest xs ys (record { had_memory = λ is. cc; pulled = λ is. cc; pushed = λ is. cc }) quiet ends finishes (shown_instead replayed) run in
+        inr (inr (inr refl), [], sym same.1 ∙ sym (append-nil xs))
+    replays_front (Refused number kind) ends replayed =
+        stopped (Refused number kind) (record { had_memory = λ is. cc; pulled = λ is. cc; pushed = λ is. cc }) ends replayed
+    replays_front Shown ends replayed = stopped Shown (record { had_memory = λ is. cc; pulled = λ is. cc; pushed = λ is. cc }) ends replayed
+    replays_front TooManyLines ends replayed = stopped TooManyLines (record { had_memory = λ is. cc; pulled = λ is. cc; pushed = λ is. cc }) ends replayed

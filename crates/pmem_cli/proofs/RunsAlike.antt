@@ -184,3 +184,36 @@ module _ {S : Type 0} (stepped : S → Command → Reply → S → Type 0) (limi
     stops_alike served (reading ∷ readings) a b stop other steps more same (inr it) (inr its) =
         one_at a b served (λ next its rest. Stops next (served + 1) readings its rest) reading stop other steps more (stops_alike (served + 1) readings) same
         it.1 its.1
+
+    -- a front of what is asked is answered alike, and its steps are a front of all steps
+    front_at : (served : ℕ) (before behind : List Reading) (b last : S) (other : Stop) (a : S) (more : List Step) (reading : Reading) (steps : List Step)
+        → ((a b : S) (steps more : List Step) → alike a b → AreRun a (asked_by before) steps last → Stops b (served + 1) (before ++ behind) other more
+        → (rest : List Step) × (more ≡ steps ++ rest))
+        → alike a b → IsOk reading → AreRun a (commands_asked reading ++ asked_by before) steps last
+        → StopsAt b served (λ next its rest. Stops next (served + 1) (before ++ behind) its rest) reading other more → (rest : List Step) × (more ≡ steps ++ rest)
+    front_at served before behind b last other a more (Err kind) steps on same ok run at = absurd (true≢false (sym ok))
+    front_at served before behind b last other a more (Ok None) steps on same ok run at = on a b steps more same run at
+    front_at served before behind b last other a more (Ok (Some command)) [] on same ok run at = let order = run.in_order in absurd (cc (order))
+    front_at served before behind b last other a more (Ok (Some command)) (step ∷ steps) on same ok run (another, after, gone, ends) =
+        let rest = rest_of a last command (asked_by before) step steps run in
+        let hidden = All-head (λ (step : Step). is_shown step.reply.answer ≡ false) step steps run.hidden in
+        let went = subst (λ (c : Command). stepped a c step.reply run.chain.0) rest.0 run.chain.1 in
+        let both = one_reply a b run.chain.0 after command step.reply another same went gone in
+        elim ends [
+          | inl shown ↦ absurd (true≢false (sym shown.0 ∙ ap (λ (r : Reply). is_shown r.answer) (sym both.0) ∙ hidden))
+          | inr its ↦
+              let further = on run.chain.0 after steps its.1 (both.1 hidden) rest.1 its.3 in (
+                further.0,
+                its.2 ∙ ap₂ (λ (c : Command) (r : Reply). told c r ∷ its.1) (sym rest.0) (sym both.0) ∙ ap (λ (xs : List Step). step ∷ xs) further.1,
+              )
+        ]
+
+    pub front_alike : (served : ℕ) (before behind : List Reading) (last : S) (other : Stop) → All IsOk before → served + length before ≤ limit
+        → (a b : S) (steps more : List Step) → alike a b → AreRun a (asked_by before) steps last → Stops b served (before ++ behind) other more
+        → (rest : List Step) × (more ≡ steps ++ rest)
+    front_alike served [] behind last other ok within a b steps more same run its = (more, ap (λ (xs : List Step). xs ++ more) (sym (no_step steps run.in_order)))
+    front_alike served (reading ∷ before) behind last other ok within a b steps more same run (inl full) = absurd (omega (arith, full.0, within))
+    front_alike served (reading ∷ before) behind last other ok within a b steps more same run (inr (room, at)) =
+        front_at served before behind b last other a more reading steps
+        (front_alike (served + 1) before behind last other (All-tail IsOk reading before ok) (omega (arith, within))) same (All-head IsOk reading before ok) run
+        at

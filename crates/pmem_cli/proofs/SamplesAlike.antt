@@ -1,7 +1,7 @@
 -- Two runs of one list of commands over new worlds come to one stop, and their last answers are the same.
 use Rattle.std.proofs.Common.{◌≡◌, ◌∙◌, ◌+◌, ℕ, true, false, List, [], ◌∷◌, ◌++◌, length, refl, sym, ap, subst, inl, inr, arith, append-nil, length-append}
 use Rattle.std.specs.Prelude.{All, IsOk, map, Some, Ok}
-use Rattle.std.proofs.lemmas.Bool.{true≢false}
+use Rattle.std.proofs.lemmas.Bool.{true≢false, cases_Bool}
 use Rattle.std.proofs.lemmas.List.{append_assoc, length-map, map-append}
 use Rattle.std.proofs.lemmas.List.Elements.{All-append, All-cons, All-nil}
 use Rattle.pmem_base.specs.declared.answers.Answer.{Answer}
@@ -17,7 +17,7 @@ use Rattle.plain_model.specs.Texts.{as_line, answer_text}
 use Rattle.pmem_replay.specs.World.{WorldState}
 use Rattle.pmem_cli.specs.Sampled.{IsLastAnswer, SampleEnds}
 use Rattle.pmem_cli.specs.Standing.{AreStepped, IsReplayed}
-use Rattle.pmem_cli.proofs.ReplaysAlike.{IsOfTrace, AreRunning, answers, chain_of, chain_cut, one_reply, first_of, begun}
+use Rattle.pmem_cli.proofs.ReplaysAlike.{IsOfTrace, AreRunning, answers, chain_of, chain_cut, one_reply, first_of, begun, IsFrontRun}
 use Rattle.pmem_cli.proofs.RunsAlike as runs
 
 -- ---- commands, as lines that read so
@@ -100,6 +100,21 @@ module _ (setup : Setup) (commands : List Command) where
       (runs.shown_here (answers setup) (length commands) cut.0 cut.2.0 (length before) (Ok (Some last.last.command)) (asks last.behind) last.last refl
       cut.2.1 (ap is_shown last.its_answer ∙ shown) (omega (arith, counted)))))
 
+  -- what a stop says, as how a run of the commands stops
+  ended : (stop : Stop) (steps : List Step) (text : List ℕ) → IsOfTrace stop → SampleEnds setup (start setup) commands stop steps text
+      → (text ≡ said_by steps)
+      × ((world end : WorldState) → AreStepped setup world steps end → StopsBy world 0 (asks commands) stop steps)
+  ended Finished steps text calm (answer, last, line, hidden) =
+      (said_text steps answer text last line, λ world end chain. stops_finished world end steps answer last hidden chain)
+  ended Shown steps text calm (exhibit, last, line, holds) =
+      (said_text steps (Say.Shown exhibit) text last line, λ world end chain. stops_shown world end steps (Say.Shown exhibit) last refl chain)
+  ended WriteFault steps text calm ends = absurd (calm.pushed refl)
+  ended Memory steps text calm ends = absurd (calm.had_memory refl)
+  ended Words steps text calm ends = absurd ends
+  ended ReadFault steps text calm ends = absurd ends
+  ended (Refused number kind) steps text calm ends = absurd ends
+  ended TooManyLines steps text calm ends = absurd ends
+
   pub samples_alike : (stop other : Stop) (xs ys : List Step) (text more : List ℕ) → IsOfTrace stop → IsOfTrace other
       → SampleEnds setup (start setup) commands stop xs text → SampleEnds setup (start setup) commands other ys more → IsReplayed setup stop xs
       → IsReplayed setup other ys → (stop ≡ other) × (text ≡ more)
@@ -112,17 +127,29 @@ module _ (setup : Setup) (commands : List Command) where
       runs.stops_alike (answers setup) (length commands) (AreRunning setup) (one_reply setup) 0 (asks commands) a.0 b.0 stop other xs ys
       (begun setup a.0 b.0 a.2 b.2) (it.1 a.0 a.1 a.3) (its.1 b.0 b.1 b.3) in
       (same.0, it.0 ∙ ap said_by same.1 ∙ sym its.0)
-    where
-      ended : (stop : Stop) (steps : List Step) (text : List ℕ) → IsOfTrace stop → SampleEnds setup (start setup) commands stop steps text
-          → (text ≡ said_by steps)
-          × ((world end : WorldState) → AreStepped setup world steps end → StopsBy world 0 (asks commands) stop steps)
-      ended Finished steps text calm (answer, last, line, hidden) =
-          (said_text steps answer text last line, λ world end chain. stops_finished world end steps answer last hidden chain)
-      ended Shown steps text calm (exhibit, last, line, holds) =
-          (said_text steps (Say.Shown exhibit) text last line, λ world end chain. stops_shown world end steps (Say.Shown exhibit) last refl chain)
-      ended WriteFault steps text calm ends = absurd (calm.pushed refl)
-      ended Memory steps text calm ends = absurd (calm.had_memory refl)
-      ended Words steps text calm ends = absurd ends
-      ended ReadFault steps text calm ends = absurd ends
-      ended (Refused number kind) steps text calm ends = absurd ends
-      ended TooManyLines steps text calm ends = absurd ends
+
+  -- ---- a run that was broken off
+
+  pub samples_front : (stop other : Stop) (xs ys : List Step) (text more : List ℕ) → IsOfTrace other → SampleEnds setup (start setup) commands stop xs text
+      → SampleEnds setup (start setup) commands other ys more → IsReplayed setup stop xs → IsReplayed setup other ys → IsFrontRun stop other text more
+  samples_front Finished other xs ys text more quiet ends finishes replayed run =
+      inl (samples_alike Finished other xs ys text more (record { had_memory = λ is. cc; pulled = λ is. cc; pushed = λ is. cc }) quiet ends finishes replayed run)
+  samples_front Shown other xs ys text more quiet ends finishes replayed run =
+      inl (samples_alike Shown other xs ys text more (record { had_memory = λ is. cc; pulled = λ is. cc; pushed = λ is. cc }) quiet ends finishes replayed run)
+  samples_front Memory other xs ys text more quiet ends finishes replayed run = inr (inl refl, more, ap (λ l. l ++ more) (sym ends.1))
+  samples_front WriteFault other xs ys text more quiet (answer, last, line) finishes replayed run =
+      let a = first_of setup WriteFault xs (λ is. cc) replayed in
+      let b = first_of setup other ys quiet.had_memory run in
+      let its = ended other ys more quiet finishes in
+      let stops : (stop : Stop) × StopsBy a.0 0 (asks commands) stop xs = elim (cases_Bool (is_shown answer)) [
+        | inl shown ↦ (Shown, stops_shown a.0 a.1 xs answer last shown a.3)
+        | inr hidden ↦ (Finished, stops_finished a.0 a.1 xs answer last hidden a.3)
+      ] in
+      let same =
+      runs.stops_alike (answers setup) (length commands) (AreRunning setup) (one_reply setup) 0 (asks commands) a.0 b.0 stops.0 other xs ys
+      (begun setup a.0 b.0 a.2 b.2) stops.1 (its.1 b.0 b.1 b.3) in
+      inr (inr (inr refl), [], its.0 ∙ ap said_by (sym same.1) ∙ sym (said_text xs answer text last line) ∙ sym (append-nil text))
+  samples_front Words other xs ys text more quiet ends finishes replayed run = absurd ends
+  samples_front ReadFault other xs ys text more quiet ends finishes replayed run = absurd ends
+  samples_front (Refused number kind) other xs ys text more quiet ends finishes replayed run = absurd ends
+  samples_front TooManyLines other xs ys text more quiet ends finishes replayed run = absurd ends

@@ -1,5 +1,5 @@
 -- A session that was made for a command, over a trace.
-use Rattle.std.proofs.Common.{◌≡◌, ◌∙◌, ℕ, List, [], refl, sym, subst, inl, inr, Bool}
+use Rattle.std.proofs.Common.{◌≡◌, ◌∙◌, ℕ, List, [], refl, sym, subst, subst₂, inl, inr, Bool}
 use Rattle.std.specs.Prelude.{◌⊎◌, Option}
 use Rattle.pmem_base.specs.Shape.{Shape}
 use Rattle.suite.specs.Formulas.{Formulas}
@@ -8,7 +8,7 @@ use Rattle.plain_model.specs.declared.Stop.{Stop}
 use Rattle.plain_model.specs.declared.Stop.TheVariants.{Memory}
 use Rattle.trace_text.specs.Conversations.{Protocol, texts_of, AreRepliesGiven}
 use Rattle.pmem_cli.specs.declared.options.Choices.{Choices}
-use Rattle.pmem_cli.specs.Keys.{shape_chosen, formulas_of, setup_chosen}
+use Rattle.pmem_cli.specs.Keys.{shape_chosen, formulas_of, setup_chosen, suite_keys_chosen}
 use Rattle.pmem_cli.specs.Printed.{Output, Prints, PrintsFront}
 use Rattle.pmem_cli.specs.Sessions.{Session, Said, session_protocol, telling, spoken, HasConversed, HasSaidFirst}
 use Rattle.pmem_cli.specs.Talked.{HasToldFirst}
@@ -72,16 +72,19 @@ module _ {S R X : Type 0} (session : Session S R) (p : Protocol S X) (I : S → 
 
 -- ---- as it is chosen
 
-module _ {S R : Type 0} (session : Setup → Session S R) (logged : Bool) where
-  pub conversed_as : (c : Choices) (shape : Shape) (formulas : Formulas) (stop : Stop) (trace left : Option (List ℕ)) (a b : Output)
-      → shape ≡ shape_chosen c → formulas ≡ formulas_of c → HasConversed (session (record { shape = shape; formulas = formulas })) logged stop trace left a b
-      → HasConversed (session (setup_chosen c)) logged stop trace left a b
-  conversed_as c shape formulas stop trace left a b its_shape its_formulas =
-      subst (λ (setup : Setup). HasConversed (session setup) logged stop trace left a b) (setup_same c shape formulas its_shape its_formulas)
+module _ {S R : Type 0} (session : Setup → List ℕ → Session S R) (logged : Bool) where
+  pub conversed_as : (c : Choices) (shape : Shape) (formulas : Formulas) (keys : List ℕ) (stop : Stop) (trace left : Option (List ℕ)) (a b : Output)
+      → shape ≡ shape_chosen c → formulas ≡ formulas_of c → keys ≡ suite_keys_chosen c
+      → HasConversed (session (record { shape = shape; formulas = formulas }) keys) logged stop trace left a b
+      → HasConversed (session (setup_chosen c) (suite_keys_chosen c)) logged stop trace left a b
+  conversed_as c shape formulas keys stop trace left a b its_shape its_formulas its_keys =
+      subst₂ (λ (setup : Setup) (keys : List ℕ). HasConversed (session setup keys) logged stop trace left a b)
+      (setup_same c shape formulas its_shape its_formulas) its_keys
 
-  pub said_as : {T : Type 0} (before now : T) (c : Choices) (shape : Shape) (formulas : Formulas) (trace told : Option (List ℕ)) (o : Output) (put : Option (List ℕ))
-      → shape ≡ shape_chosen c → formulas ≡ formulas_of c
-      → (now ≡ before) ⊎ HasSaidFirst (session (record { shape = shape; formulas = formulas })) logged trace told o put
-      → (now ≡ before) ⊎ HasSaidFirst (session (setup_chosen c)) logged trace told o put
-  said_as before now c shape formulas trace told o put its_shape its_formulas =
-      subst (λ (setup : Setup). (now ≡ before) ⊎ HasSaidFirst (session setup) logged trace told o put) (setup_same c shape formulas its_shape its_formulas)
+  pub said_as : {T : Type 0} (before now : T) (c : Choices) (shape : Shape) (formulas : Formulas) (keys : List ℕ) (trace told : Option (List ℕ)) (o : Output)
+      (put : Option (List ℕ)) → shape ≡ shape_chosen c → formulas ≡ formulas_of c → keys ≡ suite_keys_chosen c
+      → (now ≡ before) ⊎ HasSaidFirst (session (record { shape = shape; formulas = formulas }) keys) logged trace told o put
+      → (now ≡ before) ⊎ HasSaidFirst (session (setup_chosen c) (suite_keys_chosen c)) logged trace told o put
+  said_as before now c shape formulas keys trace told o put its_shape its_formulas its_keys =
+      subst₂ (λ (setup : Setup) (keys : List ℕ). (now ≡ before) ⊎ HasSaidFirst (session setup keys) logged trace told o put)
+      (setup_same c shape formulas its_shape its_formulas) its_keys

@@ -15,7 +15,7 @@ record Forgets {S T X : Type 0} (p : Protocol S X) (q : Protocol T X) (t : T) : 
   sorts : (line : List ℕ) → line_sort q line ≡ line_sort p line
   wants : (old : S) (line : List ℕ) → p.wants_memory old line → q.wants_memory t line
   answered : (old new : S) (line : List ℕ) (x : X) → p.answers old line x new → q.answers t line x t
-  shown : (old : S) (line : List ℕ) (x : X) → p.shows old line x → q.shows t line x
+  shown : (old new : S) (line : List ℕ) (x : X) → p.shows old line x new → q.shows t line x t
 
 module _ {S T X : Type 0} (p : Protocol S X) (q : Protocol T X) (t : T) (f : Forgets p q t) where
   forget_one : (old new : S) (line : List ℕ) (xs : List X) → AnswersOne p old line xs new → AnswersOne q t line xs t
@@ -32,8 +32,8 @@ module _ {S T X : Type 0} (p : Protocol S X) (q : Protocol T X) (t : T) (f : For
   forget_given first [] given = tt
   forget_given first (x ∷ xs) (line, its_sort, inl (next, answered, more)) =
       (line, f.sorts line ∙ its_sort, inl (t, f.answered first next line x answered, forget_given next xs more))
-  forget_given first (x ∷ xs) (line, its_sort, inr (shown, none)) =
-      (line, f.sorts line ∙ its_sort, inr (f.shown first line x shown, none))
+  forget_given first (x ∷ xs) (line, its_sort, inr (next, shown, none)) =
+      (line, f.sorts line ∙ its_sort, inr (t, f.shown first next line x shown, none))
 
   forget_front : (first : S) (ls : List (List ℕ)) (xs : List X) → (front : IsTalkFront p first ls xs) → IsTalk q t front.before xs t
   forget_front first ls xs front = forget_talk first front.last front.before xs front.talk
@@ -50,7 +50,8 @@ module _ {S T X : Type 0} (p : Protocol S X) (q : Protocol T X) (t : T) (f : For
     last = ends.last;
     all = ends.all;
     its_sort = f.sorts ends.line ∙ ends.its_sort;
-    shown = f.shown ends.middle ends.line ends.last ends.shown;
+    after = t;
+    shown = f.shown ends.middle ends.after ends.line ends.last ends.shown;
     counted = ends.counted;
   }
 
@@ -145,22 +146,22 @@ module _ {S R : Type 0} (session : Session S R) where
   replied old new line (reply its) answered = answered.0
   replied old new line (exhibit its) answered = answered
 
-  is_exhibit : (old : S) (line : List ℕ) (said : Said R) → Shows session old line said → IsExhibitSaid said
-  is_exhibit old line (reply its) shown = shown
-  is_exhibit old line (exhibit its) shown = tt
+  is_exhibit : (old new : S) (line : List ℕ) (said : Said R) → Shows session old line said new → IsExhibitSaid said
+  is_exhibit old new line (reply its) shown = shown
+  is_exhibit old new line (exhibit its) shown = tt
 
   forgets : (logged : Bool) → Forgets (telling session logged) (spoken session.language logged) tt
   forgets false = record {
     sorts = λ line. refl;
     wants = λ old line wants. tt;
     answered = λ old new line said answered. replied old new line said answered;
-    shown = λ old line said shown. is_exhibit old line said shown;
+    shown = λ old new line said shown. is_exhibit old new line said shown;
   }
   forgets true = record {
     sorts = λ line. refl;
     wants = λ old line wants. tt;
     answered = λ old new line told answered. replied old new line told.said answered.0;
-    shown = λ old line told shown. is_exhibit old line told.said shown.0;
+    shown = λ old new line told shown. is_exhibit old new line told.said shown.0;
   }
 
   pub spoken_texts : (logged : Bool) (xs : List (ReplyAs (Said R) logged)) → texts_of (spoken session.language logged) xs ≡ texts_of (telling session logged) xs

@@ -70,8 +70,8 @@ module _ {S X : Type 0} (p : Protocol S X) where
   AreRepliesGiven-all first last ls xs a = subst (λ zs. AreRepliesGiven p first zs) (append-nil xs) (AreRepliesGiven-after first last ls xs [] a tt)
 
   -- a reply that is an exhibit
-  pub AreRepliesGiven-shown : (first : S) (line : List ℕ) (x : X) → line_sort p line ≡ asked → p.shows first line x → AreRepliesGiven p first (x ∷ [])
-  AreRepliesGiven-shown first line x its_sort shown = (line, its_sort, inr (shown, refl))
+  pub AreRepliesGiven-shown : (first next : S) (line : List ℕ) (x : X) → line_sort p line ≡ asked → p.shows first line x next → AreRepliesGiven p first (x ∷ [])
+  AreRepliesGiven-shown first next line x its_sort shown = (line, its_sort, inr (next, shown, refl))
 
   -- ---- what a stop says after some lines, it says from the lines before them on
 
@@ -103,6 +103,7 @@ module _ {S X : Type 0} (p : Protocol S X) where
         last = ends.last;
         all = ap (λ l. xs ++ l) ends.all ∙ sym (append_assoc xs ends.earlier (ends.last ∷ []));
         its_sort = ends.its_sort;
+        after = ends.after;
         shown = ends.shown;
         counted = rw length-append (omega (arith, ends.counted));
       }
@@ -227,10 +228,10 @@ module _ {S X : Type 0} (p : Protocol S X) where
       }
 
   -- it was answered by an exhibit
-  pub TalkEnds-shown : (first : S) (served : ℕ) (left : Option (List ℕ)) (trace line : List ℕ) (behind : List (List ℕ)) (x : X)
-      → lines_of trace ≡ line ∷ behind → line_sort p line ≡ asked → p.shows first line x → served < line_limit
+  pub TalkEnds-shown : (first next : S) (served : ℕ) (left : Option (List ℕ)) (trace line : List ℕ) (behind : List (List ℕ)) (x : X)
+      → lines_of trace ≡ line ∷ behind → line_sort p line ≡ asked → p.shows first line x next → served < line_limit
       → TalkEnds p first served Shown trace left (x ∷ [])
-  TalkEnds-shown first served left trace line behind x cut its_sort shown limit =
+  TalkEnds-shown first next served left trace line behind x cut its_sort shown limit =
       record {
         before = [];
         line = line;
@@ -242,13 +243,14 @@ module _ {S X : Type 0} (p : Protocol S X) where
         last = x;
         all = refl;
         its_sort = its_sort;
+        after = next;
         shown = shown;
         counted = omega (arith, limit);
       }
 
   -- it was answered, and its reply wasn't printed
   pub TalkEnds-untold : (first next : S) (served : ℕ) (left : Option (List ℕ)) (trace line : List ℕ) (behind : List (List ℕ)) (x : X)
-      → lines_of trace ≡ line ∷ behind → line_sort p line ≡ asked → p.answers first line x next ⊎ p.shows first line x → served < line_limit
+      → lines_of trace ≡ line ∷ behind → line_sort p line ≡ asked → p.answers first line x next ⊎ p.shows first line x next → served < line_limit
       → TalkEnds p first served WriteFault trace left (x ∷ [])
   TalkEnds-untold first next served left trace line behind x cut its_sort (inl replied) limit =
       inl (record {
@@ -256,9 +258,9 @@ module _ {S X : Type 0} (p : Protocol S X) where
         counted = omega (arith, limit);
       })
   TalkEnds-untold first next served left trace line behind x cut its_sort (inr shown) limit =
-      inr (TalkEnds-shown first served left trace line behind x cut its_sort shown limit)
+      inr (TalkEnds-shown first next served left trace line behind x cut its_sort shown limit)
 
   -- so its reply was given
-  pub AreRepliesGiven-untold : (first next : S) (line : List ℕ) (x : X) → line_sort p line ≡ asked → p.answers first line x next ⊎ p.shows first line x → AreRepliesGiven p first (x ∷ [])
+  pub AreRepliesGiven-untold : (first next : S) (line : List ℕ) (x : X) → line_sort p line ≡ asked → p.answers first line x next ⊎ p.shows first line x next → AreRepliesGiven p first (x ∷ [])
   AreRepliesGiven-untold first next line x its_sort (inl replied) = (line, its_sort, inl (next, replied, tt))
-  AreRepliesGiven-untold first next line x its_sort (inr shown) = AreRepliesGiven-shown first line x its_sort shown
+  AreRepliesGiven-untold first next line x its_sort (inr shown) = AreRepliesGiven-shown first next line x its_sort shown

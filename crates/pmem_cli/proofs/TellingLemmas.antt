@@ -27,7 +27,7 @@ pub shown_is : (exhibit : Exhibit) → exhibit_text exhibit ≡ answer_text (Say
 unfolding answer_text
 shown_is exhibit = refl
 
-module _ {S : Type 0} (sort_of : List ℕ → Sort) (answers : S → List ℕ → List ℕ → S → Type 0) (shows : S → List ℕ → Exhibit → Type 0) (wants_memory : S → List ℕ → Type 0)
+module _ {S : Type 0} (sort_of : List ℕ → Sort) (answers : S → List ℕ → List ℕ → S → Type 0) (shows : S → List ℕ → Exhibit → S → Type 0) (wants_memory : S → List ℕ → Type 0)
     (logs : S → List ℕ → Option (List Access) → Option (List Access) → S → Type 0) (work : S → ℕ × ℕ) where
   abbrev protocol : Protocol S (Told (List ℕ))
   protocol = told_protocol (talk_protocol sort_of answers shows wants_memory) logs work
@@ -56,7 +56,7 @@ module _ {S : Type 0} (sort_of : List ℕ → Sort) (answers : S → List ℕ �
 
   -- an exhibit ends all
   module _ (line : List ℕ) (number : ℕ) (old new : S) (log : Option (List Access)) (exhibit : Exhibit) (from to : Output) (its_sort : sort_of line ≡ asked)
-      (shown : shows old line exhibit) (logged : logs old line (Some []) log new) where
+      (shown : shows old line exhibit new) (logged : logs old line (Some []) log new) where
     pub exhibited : TellsLine None log ((work new).0 - (work old).0) ((work new).1 - (work old).1) (answer_text (Say.Shown exhibit)) from to
         → AnswersLine protocol (Some Shown) line number old new from to
     exhibited it = go log logged it
@@ -67,7 +67,7 @@ module _ {S : Type 0} (sort_of : List ℕ → Sort) (answers : S → List ℕ �
         go (Some accesses) told it = (
           record { said = answer_text (Say.Shown exhibit); accesses = accesses; tags = (work new).0 - (work old).0; digests = (work new).1 - (work old).1 },
           its_sort,
-          ((exhibit, refl, shown), (new, record { accessed = told; tags = refl; digests = refl })),
+          ((exhibit, refl, shown), record { accessed = told; tags = refl; digests = refl }),
           it,
         )
         go None told it = absurd it
@@ -82,7 +82,7 @@ module _ {S : Type 0} (sort_of : List ℕ → Sort) (answers : S → List ℕ �
         go WriteFault (Some accesses) told it = (
           record { said = answer_text (Say.Shown exhibit); accesses = accesses; tags = (work new).0 - (work old).0; digests = (work new).1 - (work old).1 },
           its_sort,
-          inr ((exhibit, refl, shown), (new, record { accessed = told; tags = refl; digests = refl })),
+          inr ((exhibit, refl, shown), record { accessed = told; tags = refl; digests = refl }),
           it,
         )
         go Memory None told it = (its_sort, inr (new, told), it)

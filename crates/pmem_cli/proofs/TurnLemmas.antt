@@ -142,8 +142,8 @@ module _ {S X : Type 0} (p : Protocol S X) where
       let here = sort_within p line short ∙ its_sort in
       record {
         replies = x ∷ [];
-        ends = ends (x ∷ []) (λ trace behind cut. TalkEnds-shown p s served left trace line behind x cut here shown limit);
-        given = AreRepliesGiven-shown p s line x here shown;
+        ends = ends (x ∷ []) (λ trace behind cut. TalkEnds-shown p s t served left trace line behind x cut here shown limit);
+        given = AreRepliesGiven-shown p s t line x here shown;
         front = rw append-nil (Prints-front o q (p.text_of x) printed);
         whole = λ told. rw append-nil printed;
       }

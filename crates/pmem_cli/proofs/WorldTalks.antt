@@ -144,7 +144,7 @@ stepped_of_given f world [] given = (world, refl)
 stepped_of_given f world (step ∷ xs) (line, its_sort, inl (next, goes, more)) =
     let rest = stepped_of_given f next xs more in
     (rest.0, AreStepped-after (standing_of f world) (standing_of f next) rest.0 (step ∷ []) xs goes.on rest.1)
-stepped_of_given f world (step ∷ xs) (line, its_sort, inr (ends, none)) =
+stepped_of_given f world (step ∷ xs) (line, its_sort, inr (next, ends, none)) =
     let replied = ends.reply.replied in
     (replied.next, subst (λ zs. AreStepped (standing_of f world).setup world (step ∷ zs) replied.next) (sym none) (replied.next, replied.stepped, refl))
 

@@ -1,11 +1,13 @@
 -- That a run of a trace leaves nothing open: what the clauses of `run` allow to be put and answered for the same words
 -- and the same trace, where no pull and no push failed and memory could be had, is one text with one status.
-use Rattle.std.specs.Prelude.{◌≡◌, ◌≢◌, ◌↔◌, ◌++◌, ⊤, ℕ, List, Option, Some, None, IfSome, IsNone}
+use Rattle.std.specs.Prelude.{◌≡◌, ◌≢◌, ◌↔◌, ◌++◌, ℕ, List, Option, Some, None, IfSome, IsNone, ◌⊎◌, []}
 use Rattle.collision_witness.specs.Words.{Word}
-use Rattle.pmem_cli.specs.declared.options.Task.{Task}
 use Rattle.pmem_cli.specs.Causes.{Rose}
 use Rattle.pmem_cli.specs.HasRun.{TaskOutcome, TaskMachine, AreRefusedWords}
 use Rattle.pmem_cli.specs.Words.{task_of}
+use Rattle.plain_model.specs.declared.Stop.{Stop}
+use Rattle.plain_model.specs.declared.Stop.TheVariants.{Memory, ReadFault}
+use Rattle.plain_model.specs.Run.{stop_text, status_of}
 
 -- What is seen of a call of `run`: its status, how many pulls and pushes had failed before and after it, the bytes that
 -- the source had left, and those that the sink had put, where they are told.
@@ -53,17 +55,6 @@ IsByMachine words call =
     IfSome (task_of words) (λ task.
     TaskMachine task call.status (Rose call.pulls_before call.pulls_after) call.trace call.left call.put_before call.put_after)
 
--- What the words ask for is of those of which one text is said: a run, with its log or without, a sample trace, a check,
--- and faulty words.
-abbrev pub IsSettled : Option Task → Type 0
-IsSettled None = ⊤
-IsSettled (Some (Task.Run c)) = ⊤
-IsSettled (Some (Task.Log c)) = ⊤
-IsSettled (Some (Task.Check c)) = ⊤
-IsSettled (Some (Task.Make seed count)) = ⊤
-IsSettled (Some (Task.Sample seed count)) = ⊤
-IsSettled (Some task) = ⊥
-
 -- the source told this trace and the sink what it had put, no pull and no push failed, and memory could be had
 pub record IsUndisturbed (trace put : List ℕ) (call : Call) : Type 0 where
   pub trace_told : call.trace ≡ Some trace
@@ -81,5 +72,31 @@ pub record AreAnsweredAlike (put : List ℕ) (a b : Call) : Type 0 where
 
 abbrev pub RunIsDetermined : Type 0
 RunIsDetermined =
-    (words : List Word) (trace put : List ℕ) (a b : Call) → IsSettled (task_of words) → IsCallWith words a → IsCallWith words b
-    → IsByMachine words a → IsByMachine words b → IsUndisturbed trace put a → IsUndisturbed trace put b → AreAnsweredAlike put a b
+    (words : List Word) (trace put : List ℕ) (a b : Call) → IsCallWith words a → IsCallWith words b → IsByMachine words a → IsByMachine words b
+    → IsUndisturbed trace put a → IsUndisturbed trace put b → AreAnsweredAlike put a b
+
+-- ---- a call that was disturbed
+
+-- The line of a stop that broke a call off: the whole of it, with the stop's status, or a front of it, with status 4.
+abbrev pub HasBreakLine : Call → List ℕ → Type 0
+HasBreakLine call line =
+    (stop : Stop) × ((stop ≡ Memory) ⊎ (stop ≡ ReadFault))
+    × (((call.status ≡ status_of stop) × (line ≡ stop_text stop))
+    ⊎ ((call.status ≡ 4) × (rest : List ℕ) × (stop_text stop ≡ line ++ rest)))
+
+-- What the first call put is a front of what the second put, and then maybe a line: it is all of that, with the same status; or a
+-- push failed; or the line of the stop follows that broke it off.
+pub record IsFrontOf (put : List ℕ) (a b : Call) : Type 0 where
+  pub done : List ℕ
+  pub rest : List ℕ
+  pub last : List ℕ
+  pub whole : b.put_after ≡ Some (put ++ (done ++ rest))
+  pub front : a.put_after ≡ Some (put ++ (done ++ last))
+  pub its_end :
+      ((a.status ≡ b.status) × (rest ≡ []) × (last ≡ []))
+      ⊎ ((Rose a.pushes_before a.pushes_after × (last ≡ [])) ⊎ HasBreakLine a last)
+
+abbrev pub DisturbedRunIsFront : Type 0
+DisturbedRunIsFront =
+    (words : List Word) (trace put : List ℕ) (a b : Call) → IsCallWith words a → IsCallWith words b → IsByMachine words a → IsByMachine words b
+    → a.trace ≡ Some trace → a.put_before ≡ Some put → IsUndisturbed trace put b → IsFrontOf put a b

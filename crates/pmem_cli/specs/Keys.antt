@@ -31,6 +31,16 @@ formulas_named Aes keys = aes_formulas keys
 formulas_named Weak keys = weak_formulas (keys ++ blur_flag false ∷ [])
 formulas_named Blur keys = weak_formulas (keys ++ blur_flag true ∷ [])
 
+-- the keys of a named suite, as that suite keeps them
+abbrev pub suite_keys_named : SuiteName → List ℕ → List ℕ
+suite_keys_named Aes keys = keys
+suite_keys_named Weak keys = keys ++ blur_flag false ∷ []
+suite_keys_named Blur keys = keys ++ blur_flag true ∷ []
+
+-- those of the suite that is chosen
+abbrev pub suite_keys_chosen : Choices → List ℕ
+suite_keys_chosen c = suite_keys_named (unwrap_or c.suite Aes) (chosen_key c ++ chosen_tag_key c)
+
 -- aes where no suite is chosen
 unfoldable pub formulas_of : Choices → Formulas
 formulas_of c = formulas_named (unwrap_or c.suite Aes) (chosen_key c ++ chosen_tag_key c)

@@ -100,7 +100,7 @@ logged_protocol formulas_of =
     record {
       sort_of = λ line. sort_of_reading (reading_of line);
       answers = GoesOnTold formulas_of;
-      shows = EndsTold formulas_of;
+      shows = λ old line logged new. EndsTold formulas_of old line logged;
       text_of = logged_text;
       wants_memory = λ old line. WantsMemoryLogged old.shape old.state (reading_of line);
       runs = λ world. world.shown ≡ false;

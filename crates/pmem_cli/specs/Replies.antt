@@ -68,7 +68,7 @@ pub record GoesOn (formulas_of : List ℕ → Formulas) (old : WorldState) (line
   pub hidden : is_shown step.reply.answer ≡ false
   pub on : StandingAfter (standing_of formulas_of old) (standing_of formulas_of new) (step ∷ [])
 
--- a reply that is an exhibit ends the run
+-- A reply that is an exhibit ends the run. Which world it leaves is said of all replies together (`IsReplayed`).
 pub record EndsShown (formulas_of : List ℕ → Formulas) (old : WorldState) (line : List ℕ) (step : Step) : Type 0 where
   pub reply : IsReplyTo formulas_of old line step
   pub shown : is_shown step.reply.answer ≡ true
@@ -79,7 +79,7 @@ world_protocol formulas_of =
     record {
       sort_of = λ line. sort_of_reading (reading_of line);
       answers = GoesOn formulas_of;
-      shows = EndsShown formulas_of;
+      shows = λ old line step new. EndsShown formulas_of old line step;
       text_of = step_text;
       wants_memory = λ old line. WantsMemoryIn old.state (reading_of line);
       runs = λ world. world.shown ≡ false;

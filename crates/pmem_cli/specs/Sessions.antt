@@ -42,8 +42,8 @@ pub record Session (S R : Type 0) : Type 1 where
   pub begins : S → Type 0
   -- the state before, a command with its answer, and the state after
   pub answers : S → R → S → Type 0
-  -- the state before, a line that asks, and an exhibit that ends the session in place of a reply
-  pub shows : S → List ℕ → Exhibit → Type 0
+  -- the state before, a line that asks, an exhibit that ends the session in place of a reply, and the state after
+  pub shows : S → List ℕ → Exhibit → S → Type 0
   -- the state before, and a line that asks, for which memory may be wanted
   pub wants_memory : S → List ℕ → Type 0
   -- the state before, a line, the log of the board's accesses before and after, and the state after
@@ -57,9 +57,9 @@ abbrev pub Replies : {S R : Type 0} → Session S R → S → List ℕ → Said 
 Replies session old line (reply its) new = session.language.replies line its × session.answers old its new
 Replies session old line (exhibit its) new = ⊥
 
-abbrev pub Shows : {S R : Type 0} → Session S R → S → List ℕ → Said R → Type 0
-Shows session old line (reply its) = ⊥
-Shows session old line (exhibit its) = session.shows old line its
+abbrev pub Shows : {S R : Type 0} → Session S R → S → List ℕ → Said R → S → Type 0
+Shows session old line (reply its) new = ⊥
+Shows session old line (exhibit its) new = session.shows old line its new
 
 abbrev pub said_text : {R : Type 0} → Language R → Said R → List ℕ
 said_text language (reply its) = language.text_of its
@@ -109,7 +109,7 @@ spoken {R} language logged =
     record {
       sort_of = language.sort_of;
       answers = λ old line its new. IsReplyTo language line (said_in (Said R) logged its);
-      shows = λ old line its. IsExhibitSaid (said_in (Said R) logged its);
+      shows = λ old line its new. IsExhibitSaid (said_in (Said R) logged its);
       text_of = λ its. log_before (Said R) logged its ++ as_line (said_text language (said_in (Said R) logged its));
       wants_memory = λ old line. ⊤;
       runs = λ state. ⊤;

@@ -32,7 +32,7 @@ told_protocol {S} {X} protocol logs work =
     record {
       sort_of = protocol.sort_of;
       answers = λ old line told new. protocol.answers old line told.said new × IsToldOf logs work old line told new;
-      shows = λ old line told. protocol.shows old line told.said × ((new : S) × IsToldOf logs work old line told new);
+      shows = λ old line told new. protocol.shows old line told.said new × IsToldOf logs work old line told new;
       text_of = λ told. log_text told.accesses told.tags told.digests ++ protocol.text_of told.said;
       wants_memory = λ old line. protocol.wants_memory old line ⊎ ((new : S) × logs old line (Some []) None new);
       runs = protocol.runs;

@@ -11,16 +11,15 @@ use Rattle.tree_session.specs.Answers.{tree_text}
 use Rattle.tree_session.specs.Commands.{reading_of_tree, sort_of_tree}
 use Rattle.tree_session.specs.Guarantees.{TreeReply, AreAllowed, History, first_history, history_after, MayShow, IsNoTampering, IsTreeAnswerUnrefused}
 use Rattle.tree_session.specs.Logged.{IsTreeLogOf}
-use Rattle.tree_session.specs.State.{SessionState, IsNewTree}
+use Rattle.tree_session.specs.State.{SessionState, IsNewTree, IsFormattedTree}
 use Rattle.pmem_cli.specs.declared.options.Choices.{Choices}
-use Rattle.pmem_cli.specs.Keys.{setup_made, setup_chosen}
+use Rattle.pmem_cli.specs.Keys.{setup_made, setup_chosen, suite_keys_chosen}
 use Rattle.pmem_cli.specs.Sessions.{Language, Session, Said, replies_among, exhibits_among}
 
--- an exhibit that ends the session in place of an answer to the line's command
-pub record IsExhibitOf (setup : Setup) (old : SessionState) (line : List ℕ) (exhibit : Exhibit) : Type 0 where
+-- an exhibit that ends the session in place of an answer to the line's command, and the state after it
+pub record IsExhibitOf (setup : Setup) (old : SessionState) (line : List ℕ) (exhibit : Exhibit) (new : SessionState) : Type 0 where
   pub command : TreeCommand
   pub its_reading : reading_of_tree line ≡ Ok (Some command)
-  pub new : SessionState
   pub shown : IsEngineShown setup old command exhibit new
 
 -- an exhibit that holds, and that a command may show after these commands and answers
@@ -53,11 +52,18 @@ counter_tree_language setup =
       promises = IsAsPromised setup;
     }
 
-abbrev pub counter_tree_session : Setup → Session SessionState TreeReply
-counter_tree_session setup =
+-- The state that a session begins with: a new one under these keys, whose device was formatted along its plan by a suite
+-- that had made nothing before.
+pub record IsFirstTree (setup : Setup) (keys : List ℕ) (state : SessionState) : Type 0 where
+  pub new : IsNewTree setup state
+  pub formatted : IsFormattedTree setup 0 0 0 state
+  pub its_keys : state.keys ≡ keys
+
+abbrev pub counter_tree_session : Setup → List ℕ → Session SessionState TreeReply
+counter_tree_session setup keys =
     record {
       language = counter_tree_language setup;
-      begins = IsNewTree setup;
+      begins = IsFirstTree setup keys;
       answers = λ old reply new. IsTreeAnswered setup old reply.command reply.answer new;
       shows = IsExhibitOf setup;
       wants_memory = IsTreeStarvedOf;
@@ -68,11 +74,11 @@ counter_tree_session setup =
 
 -- of a geometry and a suite
 abbrev pub tree_made : {U : Type 0} → Geo → (List ℕ → Formulas) → (U → List ℕ) → U → Session SessionState TreeReply
-tree_made geo formulas_of keys suite = counter_tree_session (setup_made geo formulas_of keys suite)
+tree_made geo formulas_of keys suite = counter_tree_session (setup_made geo formulas_of keys suite) (keys suite)
 
 -- as it is chosen
 abbrev pub tree_language : Choices → Language TreeReply
 tree_language c = counter_tree_language (setup_chosen c)
 
 abbrev pub tree_chosen : Choices → Session SessionState TreeReply
-tree_chosen c = counter_tree_session (setup_chosen c)
+tree_chosen c = counter_tree_session (setup_chosen c) (suite_keys_chosen c)

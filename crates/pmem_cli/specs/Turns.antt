@@ -43,10 +43,10 @@ AnswersLine protocol (Some (Refused n kind)) line number before after from to =
     (n ≡ number) × (protocol.sort_of line ≡ faulty kind) × (to ≡ from)
 AnswersLine protocol (Some Memory) line number before after from to = (protocol.sort_of line ≡ asked) × protocol.wants_memory before line × (to ≡ from)
 AnswersLine {S} {X} protocol (Some WriteFault) line number before after from to =
-    (reply : X) × (protocol.sort_of line ≡ asked) × (protocol.answers before line reply after ⊎ protocol.shows before line reply)
+    (reply : X) × (protocol.sort_of line ≡ asked) × (protocol.answers before line reply after ⊎ protocol.shows before line reply after)
     × PrintsFront from to (protocol.text_of reply)
 AnswersLine {S} {X} protocol (Some Shown) line number before after from to =
-    (reply : X) × (protocol.sort_of line ≡ asked) × protocol.shows before line reply × Prints from to (protocol.text_of reply)
+    (reply : X) × (protocol.sort_of line ≡ asked) × protocol.shows before line reply after × Prints from to (protocol.text_of reply)
 AnswersLine protocol (Some Finished) line number before after from to = ⊥
 AnswersLine protocol (Some Words) line number before after from to = ⊥
 AnswersLine protocol (Some ReadFault) line number before after from to = ⊥

@@ -32,6 +32,7 @@ fn tree_with<U: Counted + Drop, S: Source, K: Sink>(
     out: &mut K,
 ) -> Stop
     requires keys { U.keys watch_suite ≡ U.keys suite }
+    requires unused { (U.pads suite ≡ 0) × (U.tags suite ≡ 0) × (U.digests suite ≡ 0) }
     ensures talked { Across (HasConversed (tree_made geo U.formulas_of U.keys suite) logged result)
         S.left trace.old trace.new K.put out.old out.new printer.old printer.new }
     ensures cause { StopsByCause (Some result) (S.faults trace.old) (S.faults trace.new) (K.faults out.old) (K.faults out.new) }

@@ -1,5 +1,5 @@
 //! A trace answered by a levelled memory.
-ghost use Rattle.std.specs.Prelude.{◌≤◌, Some};
+ghost use Rattle.std.specs.Prelude.{◌≡◌, ◌≤◌, Some};
 ghost use Rattle.pmem_cli.specs.Printed.{Across, IfPulled};
 ghost use Rattle.pmem_cli.specs.Pulling.{IsInTime};
 ghost use Rattle.pmem_cli.specs.Sessions.{HasConversed, HasSaidFirst};
@@ -30,7 +30,8 @@ fn wear_with<U: Counted + Drop, S: Source, K: Sink>(
     printer: &mut Printer,
     out: &mut K,
 ) -> Stop
-    requires { 1 ≤ every }
+    requires some { 1 ≤ every }
+    requires unused { (U.tags suite ≡ 0) × (U.digests suite ≡ 0) }
     ensures talked { Across (HasConversed (wear_made geo U.formulas_of U.keys suite every) logged result)
         S.left trace.old trace.new K.put out.old out.new printer.old printer.new }
     ensures cause { StopsByCause (Some result) (S.faults trace.old) (S.faults trace.new) (K.faults out.old) (K.faults out.new) }

@@ -22,8 +22,8 @@ pub record Protocol (S X : Type 0) : Type 1 where
   pub sort_of : List ℕ → Sort
   -- the state before, a line that asks, a reply to it, and the state after
   pub answers : S → List ℕ → X → S → Type 0
-  -- the state before, a line that asks, and a reply that is an exhibit and ends all
-  pub shows : S → List ℕ → X → Type 0
+  -- the state before, a line that asks, a reply that is an exhibit and ends all, and the state after
+  pub shows : S → List ℕ → X → S → Type 0
   -- what is printed of a reply, with each LF
   pub text_of : X → List ℕ
   -- the state before, and a line that asks, whose reply may want memory
@@ -32,13 +32,13 @@ pub record Protocol (S X : Type 0) : Type 1 where
   pub runs : S → Type 0
 
 -- a session by itself: a reply is the text of an answer, and is printed as a line
-abbrev pub talk_protocol : {S : Type 0} → (List ℕ → Sort) → (S → List ℕ → List ℕ → S → Type 0) → (S → List ℕ → Exhibit → Type 0)
+abbrev pub talk_protocol : {S : Type 0} → (List ℕ → Sort) → (S → List ℕ → List ℕ → S → Type 0) → (S → List ℕ → Exhibit → S → Type 0)
     → (S → List ℕ → Type 0) → Protocol S (List ℕ)
 talk_protocol sort_of answers shows wants_memory =
     record {
       sort_of = sort_of;
       answers = answers;
-      shows = λ old line text. (exhibit : Exhibit) × (text ≡ answer_text (Say.Shown exhibit)) × shows old line exhibit;
+      shows = λ old line text new. (exhibit : Exhibit) × (text ≡ answer_text (Say.Shown exhibit)) × shows old line exhibit new;
       text_of = as_line;
       wants_memory = wants_memory;
       runs = λ state. ⊤;
@@ -72,7 +72,8 @@ abbrev pub AreRepliesGiven : {S X : Type 0} → Protocol S X → S → List X �
 AreRepliesGiven protocol first [] = ⊤
 AreRepliesGiven {S} protocol first (reply ∷ replies) =
     (line : List ℕ) × (line_sort protocol line ≡ asked)
-    × (((next : S) × protocol.answers first line reply next × AreRepliesGiven protocol next replies) ⊎ (protocol.shows first line reply × (replies ≡ [])))
+    × (((next : S) × protocol.answers first line reply next × AreRepliesGiven protocol next replies)
+    ⊎ ((next : S) × protocol.shows first line reply next × (replies ≡ [])))
 
 -- ---- stops
 
@@ -117,7 +118,8 @@ pub record IsShownTalk {S X : Type 0} (protocol : Protocol S X) (first : S) (ser
   pub last : X
   pub all : replies ≡ earlier ++ last ∷ []
   pub its_sort : line_sort protocol line ≡ asked
-  pub shown : protocol.shows middle line last
+  pub after : S
+  pub shown : protocol.shows middle line last after
   pub counted : served + length before < line_limit
 
 -- the lines up to the limit were answered, and more lines follow

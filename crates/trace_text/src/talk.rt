@@ -33,8 +33,8 @@ pub trait Talk {
     /// The state before, a line that asks, the text of an answer to it without its LF, and the state after.
     ghost answers: { Self → List ℕ → List ℕ → Self → Type 0 };
 
-    /// The state before, a line that asks, and an exhibit that stands in place of its answer.
-    ghost shows: { Self → List ℕ → Exhibit → Type 0 };
+    /// The state before, a line that asks, an exhibit that stands in place of its answer, and the state after.
+    ghost shows: { Self → List ℕ → Exhibit → Self → Type 0 };
 
     /// The state before, and a line that asks, whose answer may want memory.
     ghost wants_memory: { Self → List ℕ → Type 0 };
@@ -56,7 +56,7 @@ pub trait Talk {
     ) -> Result<Option<ArrayVec<u8, TEXT_BYTES>>, Halt>
         ensures sort { IsOfSort result (sort_of line.now) }
         ensures text { IfText result (λ text. answers self.old line.now text self.new) }
-        ensures shown { IfShown result (λ exhibit. shows self.old line.now exhibit) }
+        ensures shown { IfShown result (λ exhibit. shows self.old line.now exhibit self.new) }
         ensures minors { IfShown result AreSmallMinors }
         ensures memory { IfMemory result (wants_memory self.old line.now) }
         ensures unchanged { IfNothing result (self.new ≡ self.old) }

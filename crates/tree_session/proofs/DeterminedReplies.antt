@@ -1,10 +1,19 @@
 -- Two replies to one command in one state are the same, and leave the same state and the same log.
-use Rattle.std.proofs.Common.{◌≡◌, Bool, true, false, List, [], Option, Some, None, Result, Ok, Err, inl, inr, refl, sym, ap, subst, ◌∙◌, arith, rules}
-use Rattle.tree_session.proofs.Common.{not, nat_lt, ⊤, if◌then◌else◌, same_Some, Exhibit, Access, BoardMemory, Setup, Plan, tree_lines, Taken, same_logged, TreeFault, PlainTree, with_board, TreeChip, read_plan, write_plan, RecoverParts, TreeCommand, TreeAnswer, SessionState, HasTreeCalled, HasTreeStarted, IsTreeCallOf, IsTreeCalled, plain_said, on_said, read_said, write_said, board_resting, engine_made, AnswersWith, tree_decided, IsTreeAnswered, IsEngineShown, IsTreeShownBy, IsTreeLogged}
-use Rattle.call_plan.proofs.DeterminedCalls.{call_is_determined}
+use Rattle.std.proofs.Common.{◌≡◌, ◌<◌, Bool, true, false, List, [], Option, Some, None, Result, Ok, Err, inl, inr, refl, sym, ap, subst, ◌∙◌, arith, rules}
+use Rattle.tree_session.proofs.Common.{not, nat_lt, ext_get_or, ⊤, if◌then◌else◌, same_Some, Exhibit, Access, BoardMemory, Setup, Plan, tree_lines, Taken, same_logged, TreeFault, PlainTree, with_board, TreeChip, read_plan, write_plan, RecoverParts, TreeCommand, TreeAnswer, SessionState, HasTreeCalled, HasTreeStarted, IsTreeCallOf, IsTreeCalled, plain_said, on_said, read_said, write_said, board_resting, engine_made, AnswersWith, tree_decided, IsTreeAnswered, IsEngineShown, IsTreeShownBy, IsTreeLogged}
+use Rattle.board.specs.Device.{Device}
+use Rattle.board.specs.Memory.{device_of, new_memory}
+use Rattle.call_plan.proofs.Determined.{uncut_alike}
+use Rattle.pmem_base.specs.declared.commands.Kind.{Kind}
+use Rattle.tree_session.specs.Logged.{IsTreeLogOf}
+use Rattle.call_plan.proofs.DeterminedCalls.{call_is_determined, same_board}
+use Rattle.counter_tree.specs.Layout.{tree_size}
+use Rattle.counter_tree.specs.declared.watch.LineSeal.{LineSeal}
+use Rattle.pmem_base.specs.declared.lines.Line.{Line}
+use Rattle.tree_session.specs.State.{IsNewTree}
 use Rattle.tree_session.specs.declared.commands.TreeCommand.TheVariants as Do
 use Rattle.tree_session.specs.declared.answers.TreeAnswer.TheVariants as Say
-use Rattle.tree_session.specs.Determined.{TreeRepliesAreDetermined, TreeLogsAreDetermined}
+use Rattle.tree_session.specs.Determined.{TreeRepliesAreDetermined, NewTreeIsDetermined, TreeLogsAreDetermined}
 
 -- a state is its fields
 same_state : (a b : SessionState) → a.shape ≡ b.shape → a.keys ≡ b.keys → a.plain ≡ b.plain → a.shown ≡ b.shown → a.engine ≡ b.engine → a.seals ≡ b.seals
@@ -162,5 +171,43 @@ same_log_of (Do.Read a) old new accesses others it its =
 same_log_of Do.On old new accesses others it its = same_logged (tree_decided old.shape old.plain Do.On) old.plain.board new.plain.board accesses others it its
 same_log_of command old new accesses others it its = same_Some accesses others (it ∙ sym its)
 
+-- the same of what a line asks for
+pub same_logs : (reading : Result (Option TreeCommand) Kind) (old new : SessionState) (accesses others : List Access)
+    → IsTreeLogOf reading (Some []) old (Some accesses) new → IsTreeLogOf reading (Some []) old (Some others) new → accesses ≡ others
+same_logs (Ok (Some command)) old new accesses others it its = same_log_of command old new accesses others it its
+same_logs (Ok None) old new accesses others it its = same_Some accesses others (it ∙ sym its)
+same_logs (Err kind) old new accesses others it its = same_Some accesses others (it ∙ sym its)
+
 pub logs_are_determined : TreeLogsAreDetermined
 logs_are_determined setup command first second old one other accesses others it its log its_log = search (rules, replies_are_determined, same_log_of)
+
+-- ---- new states
+
+-- a board is its device, its fuse and its snapshot
+same_device : (a b : BoardMemory) → device_of a ≡ device_of b → a.fuse ≡ b.fuse → a.snapshot ≡ b.snapshot → a ≡ b
+same_device a b device fuse snapshot =
+    same_board a b (same_Some a.lines b.lines (ap (λ (d : Device). d.lines) device)) (ap (λ (d : Device). d.regs) device)
+    (ap (λ (d : Device). d.live) device) fuse snapshot (ap (λ (d : Device). d.reads) device) (ap (λ (d : Device). d.writes) device)
+    (ap (λ (d : Device). d.latches) device) (ap (λ (d : Device). d.cuts) device)
+    (same_Some a.accesses b.accesses (ap (λ (d : Device). d.accesses) device))
+
+same_plain : (a b : PlainTree) → a.memory ≡ b.memory → a.counts ≡ b.counts → a.named ≡ b.named → a.tampered ≡ b.tampered → a.hurt ≡ b.hurt
+    → a.board ≡ b.board → a ≡ b
+same_plain a b memory counts named tampered hurt board = grind arith
+
+same_seals : (setup : Setup) (a b : SessionState) → IsNewTree setup a → IsNewTree setup b → a.seals ≡ b.seals
+same_seals setup a b new other =
+    ext_get_or None a.seals b.seals (new.seal_count ∙ sym other.seal_count)
+    (λ i low. let inside : i < tree_lines setup.shape = omega (arith, low, new.seal_count) in new.seals i inside ∙ sym (other.seals i inside))
+
+pub begins_are_determined : NewTreeIsDetermined
+begins_are_determined setup pads tags digests a b new other it its keys =
+    let device =
+    (uncut_alike (new_memory (tree_size setup.shape)).lines {old = device_of (new_memory (tree_size setup.shape))} refl new.power other.power it.follows
+    its.follows).1 in
+    let board = same_device a.plain.board b.plain.board device (new.fuse ∙ sym other.fuse) (new.snapshot ∙ sym other.snapshot) in
+    same_state a b (new.shape ∙ sym other.shape) keys
+    (same_plain a.plain b.plain (new.memory ∙ sym other.memory) (new.counts ∙ sym other.counts) (new.named ∙ sym other.named)
+    (new.tampered ∙ sym other.tampered) (new.hurt ∙ sym other.hurt) board)
+    (new.shown ∙ sym other.shown) (new.engine ∙ sym other.engine) (same_seals setup a b new other) (new.nodes ∙ sym other.nodes)
+    (new.slots ∙ sym other.slots) (it.its_pads ∙ sym its.its_pads) (it.its_tags ∙ sym its.its_tags) (it.its_digests ∙ sym its.its_digests)

@@ -1,6 +1,10 @@
 -- A new session, as its fields have it.
-use Rattle.std.proofs.Common.{ℕ, ◌≡◌, false, Bool, List, Some, None, ap, subst, sym, ◌∙◌}
+use Rattle.std.proofs.Common.{ℕ, ◌≡◌, ◌+◌, false, Bool, List, Some, None, ap, subst, sym, ◌∙◌}
 use Rattle.tree_session.proofs.Common.{All, replicate, IsLine, Shape, IsShape, Formulas, AreInRange, Setup, BoardMemory, device_of, new_memory, new_watch, tree_lines, tree_size, WatchState, TreeState, HasTreeFormatted, rest_of, IsNewTree, TreeParts, state_of, IsTreeWorld}
+use Rattle.pmem_base.specs.Counts.{risen_times}
+use Rattle.pmem_base.specs.Layout.{meta_lines}
+use Rattle.counter_tree.specs.Shadow.{shadow_digests}
+use Rattle.tree_session.specs.State.{IsFormattedTree}
 use Rattle.tree_session.proofs.NewWorlds.{new_held, new_is}
 use Rattle.tree_session.proofs.AnswerClauses.{setup_under}
 
@@ -62,3 +66,9 @@ module _ (n : NewTreeCall) where
       (subst (λ (t : List Bool). IsNewTree setup (state_of setup (with_flags t n.hurt n.keys))) (sym n.tampered_is)
       (subst (λ (h : List Bool). IsNewTree setup (state_of setup (with_flags (replicate (tree_size n.geometry) false) h n.keys))) (sym n.hurt_is)
       (new_is setup n.keys n.pads n.tags n.digests n.engine n.board n.watch n.shape n.in_range made n.each n.snapshot)))
+
+  pub is_formatted : (pads tags digests : ℕ) → n.pads ≡ risen_times (tree_lines n.geometry) pads
+      → n.tags ≡ risen_times (tree_lines n.geometry + meta_lines n.geometry) tags → n.digests ≡ risen_times (shadow_digests n.geometry) digests
+      → IsFormattedTree setup pads tags digests (state_of (setup_under n.formulas_of n.geometry n.keys_then) (with_flags n.tampered n.hurt n.keys_then))
+  is_formatted pads tags digests its_pads its_tags its_digests =
+      record { follows = made.device.plan; its_pads = its_pads; its_tags = its_tags; its_digests = its_digests }

@@ -451,10 +451,9 @@ pub record IsTreeTalkedOf (setup : Setup) (old : SessionState) (line text : List
   pub answered : IsTreeAnswered setup old command answer new
 
 -- the line asks for a command whose answer is the exhibit
-pub record IsTreeShownOf (setup : Setup) (old : SessionState) (line : List ℕ) (exhibit : Exhibit) : Type 0 where
+pub record IsTreeShownOf (setup : Setup) (old : SessionState) (line : List ℕ) (exhibit : Exhibit) (new : SessionState) : Type 0 where
   pub command : TreeCommand
   pub its_reading : reading_of_tree line ≡ Ok (Some command)
-  pub new : SessionState
   pub shown : IsTreeShownBy setup old command exhibit new
 
 -- the line asks for a command that may want memory

@@ -1,19 +1,23 @@
 -- The state of a session over a counter tree, which is plain data.
-use Rattle.std.specs.Prelude.{ℕ, ◌≡◌, ◌<◌, true, false, List, replicate, Option, Some, None, slice_set, length}
+use Rattle.std.specs.Prelude.{ℕ, ◌≡◌, ◌<◌, ◌+◌, true, false, List, replicate, Option, Some, None, Ok, slice_set, length}
 use Rattle.pmem_base.specs.declared.lines.Line.{Line}
 use Rattle.pmem_base.specs.declared.answers.Exhibit.{Exhibit}
+use Rattle.pmem_base.specs.Counts.{risen_times}
 use Rattle.pmem_base.specs.Shape.{Shape}
 use Rattle.pmem_base.specs.Lines.{zero_line}
 use Rattle.pmem_base.specs.Layout.{meta_lines}
 use Rattle.board.specs.Counts.{RisesBy}
+use Rattle.board.specs.Memory.{device_of, new_memory}
+use Rattle.call_plan.specs.Following.{Follows}
 use Rattle.suite.specs.Formulas.{Formulas}
 use Rattle.suite.specs.Setup.{Setup}
 use Rattle.counter_tree.specs.Layout.{tree_lines, tree_slots, tree_size}
 use Rattle.counter_tree.specs.declared.nodes.Node.{Node}
 use Rattle.counter_tree.specs.declared.watch.LineSeal.{LineSeal}
 use Rattle.counter_tree.specs.Nodes.{zero_node}
+use Rattle.counter_tree.specs.Shadow.{shadow_digests}
 use Rattle.counter_tree.specs.Watch.{WatchState, last_seal_of}
-use Rattle.asit_shadow.specs.Formatting.{AreLinesFormatted, first_tree_regs, first_tree_seal, first_slots, first_engine}
+use Rattle.asit_shadow.specs.Formatting.{AreLinesFormatted, tree_format_plan, first_tree_regs, first_tree_seal, first_slots, first_engine}
 use Rattle.asit_shadow.specs.Plain.{PlainTree}
 use Rattle.asit_shadow.specs.State.{TreeState}
 
@@ -72,3 +76,11 @@ pub record IsNewTree (setup : Setup) (state : SessionState) : Type 0 where
   pub nodes : state.nodes ≡ replicate (meta_lines setup.shape) zero_node
   pub slots : state.slots ≡ first_slots setup.shape
   pub shown : state.shown ≡ None
+
+-- The device was formatted along the plan of formatting, after so many pads, tags and digests: a pad and a tag for each data
+-- line, a tag for each node, and the digests of the tree over the slot lines.
+pub record IsFormattedTree (setup : Setup) (pads tags digests : ℕ) (state : SessionState) : Type 0 where
+  pub follows : Follows (tree_format_plan setup) (device_of (new_memory (tree_size setup.shape))) (device_of state.plain.board) (Ok tt)
+  pub its_pads : state.pads ≡ risen_times (tree_lines setup.shape) pads
+  pub its_tags : state.tags ≡ risen_times (tree_lines setup.shape + meta_lines setup.shape) tags
+  pub its_digests : state.digests ≡ risen_times (shadow_digests setup.shape) digests

@@ -1,6 +1,6 @@
 //! Calls of the engine, and recovery, over a board whose fuse is watched: one watched board for each command, so
 //! that its steps are those of the whole command.
-ghost use Rattle.std.specs.Prelude.{◌≡◌, ◌≢◌, ◌<◌, true, None, Err, All, IfOk, length};
+ghost use Rattle.std.specs.Prelude.{◌≡◌, ◌≢◌, ◌<◌, true, None, Err, All, IfOk, OnOk, length};
 ghost use Rattle.pmem_base.specs.Geo.{shape_of};
 ghost use Rattle.pmem_base.specs.Layout.{meta_lines};
 ghost use Rattle.pmem_base.specs.Lines.{IsLine};
@@ -10,6 +10,7 @@ ghost use Rattle.watched_board.specs.Watching.{IsWatched, device_during, none_ta
 ghost use Rattle.access_log.specs.Traced.{GoesOn};
 ghost use Rattle.counter_tree.specs.Layout.{tree_lines, tree_slots, tree_size};
 ghost use Rattle.asit_shadow.specs.Parts.{IsTreeUsable, tree_parts_of};
+ghost use Rattle.asit_shadow.specs.Promised.{CountsFormat};
 ghost use Rattle.asit_shadow.specs.Recovering.{IsRestUsable, rest_of};
 ghost use Rattle.tree_session.specs.During.{parts_during, rest_during};
 ghost use Rattle.tree_session.specs.Promised.{ReadsLineOver, FollowsReadOver, ReadsLine, FollowsRead, WritesLineOver, FollowsWriteOver, WritesLine, FollowsWrite, StaysUsable, RecoversOver, FollowsRecoveryOver, Recovers, FollowsRecovery, StaysRecoverable, Formats};
@@ -210,6 +211,7 @@ pub(crate) fn format<S: Suite, W: Watch>(
     requires slots { length (W.watched watch.old).slots ≡ tree_slots (shape_of geo.now) }
     ensures formatted { IfOk result (Formats S.Suite W.Watch geo.now board.old suite.old watch.old
         board.new watch.new) }
+    ensures counts { OnOk result (CountsFormat S.Suite geo.now suite.old suite.new) }
     ensures none { (memory_of board.new).snapshot ≡ None }
     ensures each_line { All IsLine (memory_of board.new).lines }
     ensures keys { S.keys suite.new ≡ S.keys suite.old }
@@ -239,6 +241,7 @@ fn format_kept<'a, K: Start, S: Suite, W: Watch>(
     ensures name { result.board.ghost_name ≡ K.name }
     ensures formatted { IfOk result.answer (Formats S.Suite W.Watch geo.now board.old suite.old watch.old
         result.board.now watch.new) }
+    ensures counts { OnOk result.answer (CountsFormat S.Suite geo.now suite.old suite.new) }
     ensures none { (memory_of result.board.now).snapshot ≡ None }
     ensures each_line { All IsLine (memory_of result.board.now).lines }
     ensures keys { S.keys suite.new ≡ S.keys suite.old }

@@ -1,6 +1,6 @@
 //! Laws of whole sessions.
 ghost use Rattle.pmem_base.specs.Geo.{shape_of};
-ghost use Rattle.tree_session.specs.Determined.{TreeLogsAreDetermined, TreeRepliesAreDetermined};
+ghost use Rattle.tree_session.specs.Determined.{NewTreeIsDetermined, TreeLogsAreDetermined, TreeRepliesAreDetermined};
 ghost use Rattle.tree_session.specs.Guarantees.{IsTreeKept, IsTreeShown, IsTreeUntouched};
 
 use pmem_base::Geo;
@@ -8,9 +8,11 @@ use suite::Suite;
 
 /// A law: two replies to one command in one state, answers or exhibits, are the same, with the same state after them:
 /// so a session's relation leaves nothing open but where memory is wanting. A log that isn't lost has the same accesses
-/// of the device, in the same order.
+/// of the device, in the same order. And two new states of one setup, whose suites had the same keys and had made as many
+/// pads, tags and digests before, are the same.
 pub fn tree_replies_are_determined()
     ensures replies { TreeRepliesAreDetermined }
+    ensures begins { NewTreeIsDetermined }
     ensures logs { TreeLogsAreDetermined }
 {}
 

@@ -51,7 +51,7 @@ impl<S: Counted + Drop> Talk for TreeWorld<S> {
 
     ghost answers = { λ old line text new. IsTreeTalkedOf (tree_setup_in S.formulas_of old) old line text new };
 
-    ghost shows = { λ old line exhibit. IsTreeShownOf (tree_setup_in S.formulas_of old) old line exhibit };
+    ghost shows = { λ old line exhibit new. IsTreeShownOf (tree_setup_in S.formulas_of old) old line exhibit new };
 
     ghost wants_memory = { λ old line. IsTreeStarvedOf old line };
 

@@ -1,7 +1,7 @@
 //! A device under a counter tree, and what a session keeps of it.
 ghost use Rattle.std.specs.Prelude.{◌≡◌, IfOk};
 ghost use Rattle.pmem_base.specs.Geo.{shape_of};
-ghost use Rattle.tree_session.specs.State.{IsNewTree};
+ghost use Rattle.tree_session.specs.State.{IsFormattedTree, IsNewTree};
 
 use crate::calls;
 use asit_shadow::TreeEngine;
@@ -62,11 +62,13 @@ impl<S: Suite + Drop> Model for TreeWorld<S> {
 }
 
 impl<S: Suite + Drop> TreeWorld<S> {
-    /// A formatted device with power on: all lines are zeros, and nothing was tampered with. The one error is want of
-    /// memory.
+    /// A formatted device with power on: all lines are zeros, and nothing was tampered with. Formatting follows its plan.
+    /// The one error is want of memory.
     pub fn new(alloc: Global, geo: Geo, suite: S, watch_suite: S) -> Result<TreeWorld<S>, MemFault>
         requires { S.keys watch_suite ≡ S.keys suite }
         ensures new { IfOk result (λ world. IsNewTree (record { shape = shape_of geo; formulas = S.formulas_of (S.keys suite) }) world) }
+        ensures formatted { IfOk result (λ world. IsFormattedTree (record { shape = shape_of geo; formulas = S.formulas_of (S.keys suite) })
+            (S.pads suite) (S.tags suite) (S.digests suite) world) }
         ensures keys { IfOk result (λ world. world.keys ≡ S.keys suite) }
     {
         geo.layout_is_one_to_one();

@@ -1,11 +1,12 @@
 -- A new session: formatting, and the opening of zero lines.
 use Rattle.std.proofs.lemmas.Grind.{common_steps}
 use Rattle.std.proofs.Common.{ℕ, ◌≡◌, ◌<◌, ◌+◌, inl, inr, List, [], replicate, Some, None, Result, Ok, Err, refl, sym, ap, subst, subst₂, ◌∙◌, arith, rules}
-use Rattle.txn_session.proofs.Common.{true≢false, get_or-replicate, Line, LineSession, Mark, line_at, zero_line, Shape, device_of, Setup, plain_memory, Fault, EngineState, IsSound, Parts, parts_of, HasReadLine, Store, Opened, TxnFault, IsHeader, IsLogged, AreEdited, HasStoreOpened, HasStoreStarted, HasTargetsRedone, IsOpenedBy, IsStoreOpening, logged_lines, one_header, zero_logged, logged_size, IsNewTxn, targets_in_force, txn_left, IsTxnWorld, IsOpenBy, HoldsLogged, StoreSession, Formulas, setup_in, txn_of, stuck_in, on_chip, TxnStore, txn_store}
+use Rattle.txn_session.proofs.Common.{true≢false, get_or-replicate, Line, LineSession, Mark, line_at, zero_line, Shape, device_of, Setup, plain_memory, Fault, EngineState, IsSound, Parts, parts_of, HasReadLine, Store, Opened, TxnFault, IsHeader, IsLogged, AreEdited, HasStoreOpened, HasStoreStarted, HasTargetsRedone, IsOpenedBy, IsStoreOpening, Follows, ended, chip_of, chip_in, open_call, logged_lines, one_header, zero_logged, logged_size, IsNewTxn, targets_in_force, txn_left, IsTxnWorld, IsOpenBy, HoldsLogged, StoreSession, Formulas, setup_in, txn_of, stuck_in, on_chip, TxnStore, txn_store}
 use Rattle.pmem_base.specs.Layout as layout
+use Rattle.pmem_recovery.specs.Formatting.{HasFormatted}
 use Rattle.line_session.proofs.NewSessions.{zero_places, marks_stay, new_session}
 use Rattle.line_session.specs.State.{IsNewSession}
-use Rattle.line_session.specs.New.{HoldsZeros, HasOpenedNew}
+use Rattle.line_session.specs.New.{HoldsZeros, HasOpenedNew, IsNewByPlan, blank_device, tags_formatted, digests_formatted}
 use Rattle.pmem_engine.specs.declared.fault.Fault.TheVariants as Fail
 use Rattle.line_txn.specs.declared.store.TxnFault.TheVariants as Txn
 use Rattle.txn_session.proofs.Worlds.{few_lines, targets_held, memory_held, logged_is}
@@ -13,9 +14,11 @@ use Rattle.txn_session.proofs.Worlds.{few_lines, targets_held, memory_held, logg
 -- what formatting and the opening leave
 pub record NewTxnCall : Type 0 where
   pub setup : Setup
+  pub tags : ℕ
+  pub digests : ℕ
   pub answer : Result (Store × Opened) TxnFault
   pub left : LineSession
-  pub it : HasOpenedNew setup (λ engine old now. IsStoreOpening setup engine old now) answer left
+  pub it : HasOpenedNew setup (λ engine old now. IsStoreOpening setup engine old now) tags digests answer left
 
 -- zero lines are those of a store
 zeros_logged : (setup : Setup) (lines : List Line) → lines ≡ replicate (layout.data_lines setup.shape) zero_line
@@ -33,7 +36,7 @@ module _ (c : NewTxnCall) where
   n = logged_lines g
 
   abbrev from : Parts
-  from = parts_of c.it.engine (device_of c.it.middle) c.it.ledger c.it.tags c.it.digests
+  from = parts_of c.it.engine (device_of c.it.middle) c.it.ledger (tags_formatted g c.tags) (digests_formatted g c.digests)
 
   abbrev to : EngineState → Parts
   to now = parts_of now (device_of c.left.board) c.left.ledger c.left.tags c.left.digests
@@ -42,7 +45,7 @@ module _ (c : NewTxnCall) where
   sound = c.it.formatted.sound c.it.middle.lines refl
 
   places : plain_memory c.setup c.it.ledger.marks ≡ replicate (layout.data_lines g) zero_line
-  places = zero_places c.setup c.it.start c.it.middle c.it.ledger c.it.engine c.it.formatted
+  places = zero_places c.setup (blank_device g) c.it.middle c.it.ledger c.it.engine c.it.formatted
 
   size : n + 16 ≡ layout.data_lines g
   size = logged_size g
@@ -90,12 +93,14 @@ module _ (c : NewTxnCall) where
   module _ (store : Store) (line : Line) (was : HasReadLine c.setup n from (to store.engine) (Ok line)) (log : store.logged.items ≡ [])
       (unstuck : store.stuck ≡ None) where
     marks : c.left.ledger.marks ≡ c.it.ledger.marks
-    marks = marks_stay c.setup c.it.start c.it.middle c.it.ledger c.it.engine c.it.formatted c.left store.engine c.it.tags c.it.digests n line was
+    marks =
+        marks_stay c.setup (blank_device g) c.it.middle c.it.ledger c.it.engine c.it.formatted c.left store.engine (tags_formatted g c.tags)
+        (digests_formatted g c.digests) n line was
 
     new : c.left.shape ≡ c.setup.shape → IsNewSession c.setup c.left
     new shape =
-        new_session c.setup c.it.start c.it.middle c.it.ledger c.it.engine c.it.formatted c.left store.engine c.it.tags c.it.digests n line was
-        c.it.no_writes c.it.no_latches c.it.no_cuts shape
+        new_session c.setup (blank_device g) c.it.middle c.it.ledger c.it.engine c.it.formatted c.left store.engine (tags_formatted g c.tags)
+        (digests_formatted g c.digests) n line was refl refl refl shape
 
     logged : IsLogged n (plain_memory c.setup c.left.ledger.marks) [] (replicate n zero_line)
     logged = subst (λ (m : List Mark). IsLogged n (plain_memory c.setup m) [] (replicate n zero_line)) (sym marks) begun
@@ -161,13 +166,37 @@ module _ (c : NewTxnCall) where
       go (Err (Txn.Header line)) it = absurd (it.1.none [] (header_read (to it.0) line it.1.was_read))
 
 -- the session that is new
-pub new_session_held : (formulas_of : List ℕ → Formulas) (setup : Setup) (session : StoreSession TxnStore) (store : Store) (opened : Opened)
+pub new_session_held : (formulas_of : List ℕ → Formulas) (setup : Setup) (tags digests : ℕ) (session : StoreSession TxnStore) (store : Store) (opened : Opened)
     → session.store ≡ Some (txn_store store) → setup_in formulas_of session.state ≡ setup → session.state.shape ≡ setup.shape
-    → HasOpenedNew setup (λ engine old now. IsStoreOpening setup engine old now) (Ok (store, opened)) session.state
+    → HasOpenedNew setup (λ engine old now. IsStoreOpening setup engine old now) tags digests (Ok (store, opened)) session.state
     → IsTxnWorld (setup_in formulas_of session.state) session None × IsNewTxn setup (txn_of (setup_in formulas_of session.state) session None)
-new_session_held formulas_of setup session store opened there same shape it =
-    let its = new_outcome (record { setup = setup; answer = Ok (store, opened); left = session.state; it = it }) in
+new_session_held formulas_of setup tags digests session store opened there same shape it =
+    let its = new_outcome (record { setup = setup; tags = tags; digests = digests; answer = Ok (store, opened); left = session.state; it = it }) in
     subst (λ s. IsTxnWorld s session None × IsNewTxn setup (txn_of s session None)) (sym same) (
       its.0 session refl there,
       subst (λ k. IsNewTxn setup (txn_left setup session.state (stuck_in k) None)) (sym there) (its.1 shape),
     )
+
+-- the store was opened along the opening's plan
+pub new_opened : (setup : Setup) (tags digests : ℕ) (left : LineSession) (store : Store) (opened : Opened) → left.engine ≡ Some (on_chip store.engine)
+    → HasOpenedNew setup (λ engine old now. IsStoreOpening setup engine old now) tags digests (Ok (store, opened)) left
+    → IsNewByPlan setup (open_call setup) tags digests left
+new_opened setup tags digests left store opened engine it =
+    let up = ap (λ (e : EngineState). e.down) it.formatted.engine_new in
+    let opening = (it.opened.did up).plan.opening in
+    record {
+      middle = it.middle;
+      ledger = it.ledger;
+      formatted =
+          subst (λ (e : EngineState). HasFormatted setup it.ledger (blank_device setup.shape) (device_of it.middle) e) it.formatted.engine_new
+          it.formatted;
+      after = on_chip store.engine;
+      end = opening.end;
+      follows =
+          subst (λ (e : EngineState).
+          Follows
+          (open_call setup it.middle.regs (chip_of e it.ledger (tags_formatted setup.shape tags) (digests_formatted setup.shape digests)))
+          (device_of it.middle) (device_of left.board) (ended opening.end (chip_in left (on_chip store.engine)))) it.formatted.engine_new opening.follows;
+      engine = engine;
+      unsnapped = it.unsnapped;
+    }

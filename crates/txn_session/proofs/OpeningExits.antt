@@ -1,6 +1,6 @@
 -- Power comes on in the session: what is held after recovery, the opening and its redo, and what is answered.
 use Rattle.std.proofs.Common.{ℕ, ◌≡◌, ◌<◌, ◌≤◌, ◌+◌, ◌⊎◌, inl, inr, true, false, cond, List, [], length, take, Option, Some, None, Result, Ok, Err, refl, sym, ap, ap₂, subst, ◌∙◌, arith, rules}
-use Rattle.txn_session.proofs.Common.{option_map, open_call, MatchOption, le-ltb, true≢false, append-nil, Line, Twin, Posted, Device, LedgerState, Setup, recovery_bound, Fault, EngineState, Parts, parts_of, AreSound, HasReadLine, TakesAtMost, TakesFewer, Store, Opened, TxnFault, redoing_edits, HasStoreStarted, HasFailedRedo, HasTargetsRedone, IsOpenedBy, Writing, read_steps, sound_recovered, fewer_within, at_most, fewer, memory_done, read_cut, TxnAnswer, Regs, Chip, chip_of, OpeningStop, opened_of, FollowsOpening, IsOpenedAs, LineSession, started_as, HasOpenedStore, IsStoreOpening, IsTxnCalled, Said, open_said, opened_said, serving_said, TxnState, IsTxnWorld, stuck_in, IsTxnAnswered, IsTxnShownBy, GoesToTxnState, HasTxnOpened, after_redo, IsCutAt, EndsAt, refused_from, turned_off, HasTurned, IsCutInRecovery, HasShownTwin, setup_in, chip_in, on_chip, TxnStore, txn_store}
+use Rattle.txn_session.proofs.Common.{option_map, open_call, MatchOption, le-ltb, true≢false, append-nil, Line, Twin, Posted, Device, LedgerState, Setup, recovery_bound, Fault, EngineState, Parts, parts_of, AreSound, HasReadLine, TakesAtMost, TakesFewer, Store, Opened, TxnFault, redoing_edits, HasStoreStarted, HasFailedRedo, HasTargetsRedone, IsOpenedBy, Writing, read_steps, sound_recovered, fewer_within, at_most, fewer, memory_done, read_cut, TxnAnswer, Regs, Chip, chip_of, OpeningStop, opened_of, FollowsOpening, IsOpenedAs, LineSession, started_as, HasOpenedStore, IsStoreOpening, IsTxnCalled, Said, open_said, opened_said, serving_said, TxnState, txn_left, IsTxnWorld, stuck_in, IsTxnAnswered, IsTxnShownBy, GoesToTxnState, HasTxnOpened, after_redo, IsCutAt, EndsAt, refused_from, turned_off, HasTurned, IsCutInRecovery, HasShownTwin, setup_in, chip_in, on_chip, TxnStore, txn_store}
 use Rattle.pmem_engine.specs.declared.fault.Fault.TheVariants as Fail
 use Rattle.pmem_recovery.specs.declared.faults.RecFault.TheVariants as Rec
 use Rattle.line_txn.specs.declared.store.TxnFault.TheVariants as Txn
@@ -233,12 +233,14 @@ module _ (c : OnTxnCall) where
   cut_exit gone (inr it) = unopened it.0 gone it.1
 
   -- a twin is shown
-  pub twin_shown : (at major low high : ℕ) (cipher : Line) (tag : List ℕ) → HasShownTwin setup c.old.state at major low high cipher tag
-      → IsTxnShownBy setup old Do.On (Twin at major low high cipher tag)
-  twin_shown at major low high cipher tag it = (
+  pub twin_shown : (at major low high : ℕ) (cipher : Line) (tag : List ℕ) (left : LineSession)
+      → HasShownTwin setup c.old.state at major low high cipher tag left
+      → IsTxnShownBy setup old Do.On (Twin at major low high cipher tag) (txn_left setup left None None)
+  twin_shown at major low high cipher tag left it = (
     (state.off c).unpowered,
     it.within,
     it.exhibit,
     it.twin,
-    refused_from setup (open_call setup) c.old.state (Rec.Twin at major low high cipher tag) (state.was_off c) it.refused,
+    refused_from setup (open_call setup) c.old.state (Rec.Twin at major low high cipher tag) left (state.was_off c) it.refused,
+    refl,
   )

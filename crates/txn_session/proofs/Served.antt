@@ -1,5 +1,5 @@
 -- What each command over the session is answered, whatever its call comes to.
-use Rattle.std.proofs.Common.{ℕ, ◌≡◌, ◌<◌, ◌≤◌, inl, inr, Bool, true, false, List, [], ◌∷◌, Option, Some, None, Result, Ok, Err, refl, sym, ap, subst, subst₂, ◌∙◌, arith, rules}
+use Rattle.std.proofs.Common.{ℕ, ◌≡◌, ◌<◌, ◌≤◌, inl, inr, Bool, true, false, List, [], ◌∷◌, Option, Some, None, Result, Ok, Err, refl, sym, ap, ap₂, subst, subst₂, ◌∙◌, arith, rules}
 use Rattle.std.specs.Prelude.{IsOk, IfErr, OnErr, not}
 use Rattle.pmem_base.specs.declared.faults.MemFault.{MemFault}
 use Rattle.board.specs.declared.access.Access.{Access}
@@ -12,7 +12,7 @@ use Rattle.line_session.specs.declared.powering.Turned.{Turned}
 use Rattle.line_session.specs.declared.powering.Turned.TheVariants as Turn
 use Rattle.line_session.specs.Made.{HasAsked, HasMade, IsDone, IsRoomWanted, undone}
 use Rattle.line_session.specs.Turned.{IsTurned, IsTurnHalt}
-use Rattle.txn_session.proofs.Common.{if◌then◌else◌, All, All-head, All-tail, IfOk, MatchOption, option_map, is_some, unwrap_or, none-some, true≢false, eqb-true, lt-ltb, le-ltb, ◌==◌, Twin, targets_of, Line, Formulas, Setup, Fault, Store, Opened, Committed, CommitFault, TxnAnswer, TxnCommand, TxnState, Entries, entry_in, txn_lines_in, IsTxnWorld, txn_of, txn_of_line, line_held, held, txn_decided, txn_after_decided, IsTxnAnswered, IsTxnAnsweredAs, IsTxnShownBy, txn_setup_in, same_setup, StoreSession, IsLineWorld, IsLineBy, setup_in, line_on_in, HasReadAt, HasCommitted, IsStoreOpening, TxnStore, txn_store}
+use Rattle.txn_session.proofs.Common.{if◌then◌else◌, All, All-head, All-tail, IfOk, MatchOption, option_map, is_some, unwrap_or, none-some, true≢false, eqb-true, lt-ltb, le-ltb, ◌==◌, Twin, targets_of, Line, Formulas, Setup, Fault, Store, Opened, Committed, CommitFault, TxnAnswer, TxnCommand, LineSession, TxnState, txn_left, stuck_in, Entries, entry_in, txn_lines_in, IsTxnWorld, txn_of, txn_of_line, line_held, held, txn_decided, txn_after_decided, IsTxnAnswered, IsTxnAnsweredAs, IsTxnShownBy, txn_setup_in, same_setup, StoreSession, IsLineWorld, IsLineBy, setup_in, line_on_in, HasReadAt, HasCommitted, IsStoreOpening, TxnStore, txn_store}
 use Rattle.txn_session.specs.declared.commands.TxnCommand.TheVariants as Do
 use Rattle.txn_session.specs.declared.answers.TxnAnswer.TheVariants as Say
 use Rattle.txn_session.specs.Answered.{IsTxnHalt}
@@ -229,6 +229,13 @@ module _ (formulas_of : List ℕ → Formulas) (old new : StoreSession TxnStore)
   by_stuck call redone None it = it
   by_stuck call redone (Some page) it = it
 
+  -- without a store, under the same geometry and keys
+  dark_left : old.store ≡ None → new.state.shape ≡ old.state.shape → new.state.keys ≡ old.state.keys → new.store ≡ None
+      → txn_left setup new.state None None ≡ after txn
+  dark_left was_none shape keys none =
+      ap (λ (u : Setup). txn_left u new.state None None) (sym (same_setup formulas_of old.state new.state shape keys))
+      ∙ ap₂ (λ (s : Option ℕ) (t : Option Entries). txn_left (setup_in formulas_of new.state) new.state s t) (sym (ap stuck_in none)) (sym (closed was_none))
+
   abbrev IsTurnedTo : Turned Opened → Type 0
   IsTurnedTo turned =
       IsTurned (λ (o : Store × Opened). txn_store o.0) (λ (o : Store × Opened). o.1) (λ engine start now. IsStoreOpening setup engine start now) engine_of
@@ -248,13 +255,18 @@ module _ (formulas_of : List ℕ → Formulas) (old new : StoreSession TxnStore)
       told it.1 (Say.Cut steps) shape keys (opening.cut_exit (on_call it.1 new it.3 steps shape keys) it.0 it.2)
   turned_to (Err Stop.Memory) it halt = search (rules, on_undecided, off)
   turned_to (Err (Stop.Shown (Twin at major low high cipher tag))) it halt =
-      let still = halt.2 in
+      let none : new.store ≡ None = halt.2 in
+      let rests = halt.1.refused.rests in
+      let shape : new.state.shape ≡ old.state.shape = ap (λ (s : LineSession). s.shape) rests in
+      let keys : new.state.keys ≡ old.state.keys = ap (λ (s : LineSession). s.keys) rests in
+      let ledger : new.state.ledger ≡ old.state.ledger = ap (λ (s : LineSession). s.ledger) rests in
       record {
         held = search (rules, closed, off_after, logged_still);
         answered = tt;
         halted =
-            subst (λ (w : TxnState). IsTxnShownBy (txn_setup_in formulas_of w) w Do.On (Twin at major low high cipher tag)) view_is
-            (opening.twin_shown (on_call halt.0 old world 0 refl refl) at major low high cipher tag halt.1);
+            subst (λ (w : TxnState). IsTxnShownBy (txn_setup_in formulas_of w) w Do.On (Twin at major low high cipher tag) (after txn)) view_is
+            (subst (λ (w : TxnState). IsTxnShownBy setup before Do.On (Twin at major low high cipher tag) w) (dark_left halt.0 shape keys none)
+            (opening.twin_shown (on_call halt.0 old world 0 refl refl) at major low high cipher tag new.state halt.1));
       }
   turned_to (Err halted) it halt = absurd halt
 

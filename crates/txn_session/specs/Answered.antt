@@ -28,7 +28,7 @@ use Rattle.trace_text.specs.declared.talk.Halt.TheVariants as Stop
 use Rattle.txn_session.specs.Answers.{txn_text}
 use Rattle.txn_session.specs.Commands.{reading_of_txn}
 use Rattle.txn_session.specs.Planned.{IsTxnCalled, open_call}
-use Rattle.txn_session.specs.State.{TxnState, Entries, txn_lines_in, entry_in, with_put_line, commit_writes, redo_writes, txn_without_power, with_commit, with_redo}
+use Rattle.txn_session.specs.State.{TxnState, txn_left, Entries, txn_lines_in, entry_in, with_put_line, commit_writes, redo_writes, txn_without_power, with_commit, with_redo}
 
 -- ---- answers that the state decides
 
@@ -228,14 +228,16 @@ abbrev pub IsTxnAnswered : Setup → TxnState → TxnCommand → TxnAnswer → T
 IsTxnAnswered setup old command answer new =
     IsTxnAnsweredAs (txn_decided old command) setup old command answer new
 
--- an exhibit comes of recovery alone: a twin that holds, of the last seal of one of the data lines, which recovery finds first
-abbrev pub IsTxnShownBy : Setup → TxnState → TxnCommand → Exhibit → Type 0
-IsTxnShownBy setup old Do.On (Twin at major low high cipher tag) =
+-- An exhibit comes of recovery alone: a twin that holds, of the last seal of one of the data lines, which recovery finds first.
+-- It leaves the state that recovery left, without power.
+abbrev pub IsTxnShownBy : Setup → TxnState → TxnCommand → Exhibit → TxnState → Type 0
+IsTxnShownBy setup old Do.On (Twin at major low high cipher tag) new =
     (old.session.board.powered ≡ false) × (at < data_lines setup.shape)
     × IsExhibit setup.formulas (Twin at major low high cipher tag)
     × IsTwinOfSeal setup (places_in setup old.session) old.session.board.regs.loss (view_in old.session) at major low high cipher tag
-    × IsRefusedFrom setup (open_call setup) old.session (Rec.Twin at major low high cipher tag)
-IsTxnShownBy setup old command exhibit = ⊥
+    × IsRefusedFrom setup (open_call setup) old.session (Rec.Twin at major low high cipher tag) new.session
+    × (new ≡ txn_left setup new.session None None)
+IsTxnShownBy setup old command exhibit new = ⊥
 
 -- whether a command may want memory
 abbrev pub txn_takes_memory : TxnCommand → Bool
@@ -250,7 +252,7 @@ IsTxnMemoryWanted old command = IsTrue (txn_takes_memory command) × (txn_decide
 -- why a command has no answer: memory is wanted, and nothing was done; or it is an exhibit
 abbrev pub IsTxnHalt : Setup → TxnState → TxnCommand → Halt → TxnState → Type 0
 IsTxnHalt setup old command Stop.Memory new = IsTxnMemoryWanted old command × (new ≡ old)
-IsTxnHalt setup old command (Stop.Shown exhibit) new = IsTxnShownBy setup old command exhibit
+IsTxnHalt setup old command (Stop.Shown exhibit) new = IsTxnShownBy setup old command exhibit new
 IsTxnHalt setup old command (Stop.Line kind) new = ⊥
 
 -- ---- a line and its answer
@@ -264,10 +266,10 @@ pub record IsTxnTalkedOf (setup : Setup) (old : TxnState) (line text : List ℕ)
   pub answered : IsTxnAnswered setup old command answer new
 
 -- the line asks for a command whose answer is the exhibit
-pub record IsTxnShownOf (setup : Setup) (old : TxnState) (line : List ℕ) (exhibit : Exhibit) : Type 0 where
+pub record IsTxnShownOf (setup : Setup) (old : TxnState) (line : List ℕ) (exhibit : Exhibit) (new : TxnState) : Type 0 where
   pub command : TxnCommand
   pub its_reading : reading_of_txn line ≡ Ok (Some command)
-  pub shown : IsTxnShownBy setup old command exhibit
+  pub shown : IsTxnShownBy setup old command exhibit new
 
 -- the line asks for a command that may want memory
 pub record IsTxnStarvedOf (old : TxnState) (line : List ℕ) : Type 0 where

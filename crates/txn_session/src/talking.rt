@@ -52,7 +52,7 @@ impl<S: Counted + Drop> Talk for TxnWorld<S> {
 
     ghost answers = { λ old line text new. IsTxnTalkedOf (txn_setup_in S.formulas_of old) old line text new };
 
-    ghost shows = { λ old line exhibit. IsTxnShownOf (txn_setup_in S.formulas_of old) old line exhibit };
+    ghost shows = { λ old line exhibit new. IsTxnShownOf (txn_setup_in S.formulas_of old) old line exhibit new };
 
     ghost wants_memory = { λ old line. IsTxnStarvedOf old line };
 

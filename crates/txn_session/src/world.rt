@@ -1,6 +1,8 @@
 //! A device whose lines are written by transactions, and what a session keeps of it.
 ghost use Rattle.std.specs.Prelude.{◌≡◌, IfOk};
 ghost use Rattle.pmem_base.specs.Geo.{shape_of};
+ghost use Rattle.line_session.specs.New.{IsNewByPlan};
+ghost use Rattle.txn_session.specs.Planned.{open_call};
 ghost use Rattle.txn_session.specs.State.{IsNewTxn};
 
 use crate::calls::{OpenStore, TxnStore};
@@ -33,9 +35,11 @@ impl<S: Suite + Drop> Model for TxnWorld<S> {
 
 impl<S: Suite + Drop> TxnWorld<S> {
     /// A formatted device with power on and its lines opened: all are zeros, and no transaction is in force or
-    /// open. The one error is want of memory.
+    /// open. Formatting and the opening follow their plans. The one error is want of memory.
     pub fn new(alloc: Global, geo: Geo, suite: S) -> Result<TxnWorld<S>, MemFault>
         ensures new { IfOk result (λ world. IsNewTxn (record { shape = shape_of geo; formulas = S.formulas_of (S.keys suite) }) world) }
+        ensures opened { IfOk result (λ world. IsNewByPlan (record { shape = shape_of geo; formulas = S.formulas_of (S.keys suite) })
+            (open_call (record { shape = shape_of geo; formulas = S.formulas_of (S.keys suite) })) (S.tags suite) (S.digests suite) world.session) }
         ensures keys { IfOk result (λ world. world.session.keys ≡ S.keys suite) }
     {
         match LineSession::new(alloc, geo, suite, &OpenStore) {

@@ -1,9 +1,10 @@
 -- A new session: formatting, and the opening of zero lines.
 use Rattle.std.proofs.Common.{ℕ, ◌≡◌, ◌<◌, ◌≤◌, ◌+◌, List, replicate, Some, Result, Ok, Err, refl, sym, ap, subst, ◌∙◌, arith, rules}
-use Rattle.wear_session.proofs.Common.{none-some, true≢false, get_or-replicate, Line, LineSession, line_at, zero_line, IsShape, device_of, Setup, plain_memory, EngineState, IsSound, Parts, parts_of, HasReadLine, Gapped, LevelledLines, levelled_lines, GapFault, first_wear, recorded, IsLevelled, HasGappedOpened, HasReadRecord, IsLevelledOpening, logical_lines, zero_levelled, least_lines, IsNewWear, wear_in, wear_left, IsWearWorld, StoreSession, HoldsLevelled, Formulas, setup_in, wear_of, on_chip}
+use Rattle.wear_session.proofs.Common.{none-some, true≢false, get_or-replicate, Line, LineSession, line_at, zero_line, IsShape, device_of, Setup, plain_memory, EngineState, IsSound, Parts, parts_of, HasReadLine, Follows, ended, chip_of, chip_in, open_plan, open_call, Wear, Gapped, LevelledLines, levelled_lines, GapFault, first_wear, recorded, IsLevelled, HasGappedOpened, HasReadRecord, IsLevelledOpening, logical_lines, zero_levelled, least_lines, IsNewWear, wear_in, wear_left, IsWearWorld, StoreSession, HoldsLevelled, Formulas, setup_in, wear_of, on_chip}
 use Rattle.pmem_base.specs.Layout as layout
+use Rattle.pmem_recovery.specs.Formatting.{HasFormatted}
 use Rattle.line_session.specs.State.{IsNewSession}
-use Rattle.line_session.specs.New.{HoldsZeros, HasOpenedNew, IsNewFault}
+use Rattle.line_session.specs.New.{HoldsZeros, HasOpenedNew, IsNewFault, IsNewByPlan, blank_device, tags_formatted, digests_formatted}
 use Rattle.line_session.specs.declared.session.NewFault.{NewFault}
 use Rattle.line_session.specs.declared.session.NewFault.TheVariants as New
 use Rattle.pmem_engine.specs.declared.fault.Fault.TheVariants as Fail
@@ -18,9 +19,11 @@ pub record NewWearCall : Type 0 where
   pub setup : Setup
   pub every : ℕ
   pub some_every : 1 ≤ every
+  pub tags : ℕ
+  pub digests : ℕ
   pub answer : Result Gapped GapFault
   pub left : LineSession
-  pub it : HasOpenedNew setup (λ engine old now. IsLevelledOpening setup every engine old now) answer left
+  pub it : HasOpenedNew setup (λ engine old now. IsLevelledOpening setup every engine old now) tags digests answer left
 
 -- zero lines are levelled
 module _ (setup : Setup) (shape : IsShape setup.shape) where
@@ -46,7 +49,8 @@ module _ (c : NewWearCall) where
   lines = logical_lines c.setup.shape
 
   abbrev from : Parts
-  from = parts_of c.it.engine (device_of c.it.middle) c.it.ledger c.it.tags c.it.digests
+  from =
+      parts_of c.it.engine (device_of c.it.middle) c.it.ledger (tags_formatted c.setup.shape c.tags) (digests_formatted c.setup.shape c.digests)
 
   abbrev to : EngineState → Parts
   to now = parts_of now (device_of c.left.board) c.left.ledger c.left.tags c.left.digests
@@ -55,7 +59,7 @@ module _ (c : NewWearCall) where
   sound = c.it.formatted.sound c.it.middle.lines refl
 
   places : plain_memory c.setup c.it.ledger.marks ≡ replicate (layout.data_lines c.setup.shape) zero_line
-  places = zero_places c.setup c.it.start c.it.middle c.it.ledger c.it.engine c.it.formatted
+  places = zero_places c.setup (blank_device c.setup.shape) c.it.middle c.it.ledger c.it.engine c.it.formatted
 
   begun : IsLevelled lines (plain_memory c.setup c.it.ledger.marks) (first_wear lines) (replicate lines zero_line)
   begun = levelled_zeros c.setup c.it.whole (plain_memory c.setup c.it.ledger.marks) places
@@ -84,8 +88,8 @@ module _ (c : NewWearCall) where
 
     new : c.left.shape ≡ c.setup.shape → IsNewSession c.setup c.left
     new shape =
-        new_session c.setup c.it.start c.it.middle c.it.ledger c.it.engine c.it.formatted c.left gapped.engine c.it.tags c.it.digests (lines + 1) line was
-        c.it.no_writes c.it.no_latches c.it.no_cuts shape
+        new_session c.setup (blank_device c.setup.shape) c.it.middle c.it.ledger c.it.engine c.it.formatted c.left gapped.engine
+        (tags_formatted c.setup.shape c.tags) (digests_formatted c.setup.shape c.digests) (lines + 1) line was refl refl refl shape
 
     its_wear : gapped.wear ≡ first_wear lines
     its_wear =
@@ -135,21 +139,48 @@ module _ (c : NewWearCall) where
       go (Err (Gap.Engine fault)) it = absurd (it.1.unrefused sound)
 
 -- the session that is new
-pub new_session_held : (formulas_of : List ℕ → Formulas) (setup : Setup) (every : ℕ) (session : StoreSession LevelledLines) (gapped : Gapped) → 1 ≤ every
-    → session.store ≡ Some (levelled_lines gapped) → setup_in formulas_of session.state ≡ setup → session.state.shape ≡ setup.shape
-    → HasOpenedNew setup (λ engine old now. IsLevelledOpening setup every engine old now) (Ok gapped) session.state
+pub new_session_held : (formulas_of : List ℕ → Formulas) (setup : Setup) (every tags digests : ℕ) (session : StoreSession LevelledLines) (gapped : Gapped)
+    → 1 ≤ every → session.store ≡ Some (levelled_lines gapped) → setup_in formulas_of session.state ≡ setup → session.state.shape ≡ setup.shape
+    → HasOpenedNew setup (λ engine old now. IsLevelledOpening setup every engine old now) tags digests (Ok gapped) session.state
     → IsWearWorld (setup_in formulas_of session.state) every session × IsNewWear setup every (wear_of (setup_in formulas_of session.state) every session)
-new_session_held formulas_of setup every session gapped some there same shape it =
-    let its = new_outcome (record { setup = setup; every = every; some_every = some; answer = Ok gapped; left = session.state; it = it }) in
+new_session_held formulas_of setup every tags digests session gapped some there same shape it =
+    let its =
+    new_outcome
+    (record { setup = setup; every = every; some_every = some; tags = tags; digests = digests; answer = Ok gapped; left = session.state; it = it }) in
     subst (λ s. IsWearWorld s every session × IsNewWear setup every (wear_of s every session)) (sym same) (
       its.0 session refl there,
       rw there (its.1 shape),
     )
 
 -- no new session's lines stay unopened
-pub opens_always : {T : Type 0} (setup : Setup) (every : ℕ) → 1 ≤ every → (answer : Result T (NewFault GapFault))
-    → IfErr answer (IsNewFault (λ setup engine old now. IsLevelledOpening setup every engine old now) setup) → (fault : GapFault)
+pub opens_always : {T : Type 0} (setup : Setup) (every tags digests : ℕ) → 1 ≤ every → (answer : Result T (NewFault GapFault))
+    → IfErr answer (IsNewFault (λ setup engine old now. IsLevelledOpening setup every engine old now) setup tags digests) → (fault : GapFault)
     → answer ≡ Err (New.Opening fault) → ⊥
-opens_always setup every some answer it fault is =
-    let its = subst (λ r. IfErr r (IsNewFault (λ setup engine old now. IsLevelledOpening setup every engine old now) setup)) is it in
-    new_outcome (record { setup = setup; every = every; some_every = some; answer = Err fault; left = its.0; it = its.1 })
+opens_always setup every tags digests some answer it fault is =
+    let its = subst (λ r. IfErr r (IsNewFault (λ setup engine old now. IsLevelledOpening setup every engine old now) setup tags digests)) is it in
+    new_outcome (record { setup = setup; every = every; some_every = some; tags = tags; digests = digests; answer = Err fault; left = its.0; it = its.1 })
+
+-- the record was read along the opening's plan
+pub new_opened : (setup : Setup) (every tags digests : ℕ) (left : LineSession) (gapped : Gapped) → left.engine ≡ Some (on_chip gapped.engine)
+    → HasOpenedNew setup (λ engine old now. IsLevelledOpening setup every engine old now) tags digests (Ok gapped) left
+    → IsNewByPlan setup (open_call setup) tags digests left
+new_opened setup every tags digests left gapped engine it =
+    let up = ap (λ (e : EngineState). e.down) it.formatted.engine_new in
+    record {
+      middle = it.middle;
+      ledger = it.ledger;
+      formatted =
+          subst (λ (e : EngineState). HasFormatted setup it.ledger (blank_device setup.shape) (device_of it.middle) e) it.formatted.engine_new
+          it.formatted;
+      after = on_chip gapped.engine;
+      end = Ok gapped.wear;
+      follows =
+          subst (λ (e : EngineState).
+          Follows
+          (open_plan setup it.middle.regs (chip_of e it.ledger (tags_formatted setup.shape tags) (digests_formatted setup.shape digests)))
+          (device_of it.middle) (device_of left.board)
+          (ended (let end : Result Wear GapFault = Ok gapped.wear in end) (chip_in left (on_chip gapped.engine)))) it.formatted.engine_new
+          (it.opened.did up).plan;
+      engine = engine;
+      unsnapped = it.unsnapped;
+    }

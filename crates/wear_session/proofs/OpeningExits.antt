@@ -1,7 +1,7 @@
 -- Power comes on in the session: what is held after recovery and the opening, and what is answered.
 use Rattle.std.proofs.lemmas.Grind.{common_steps}
 use Rattle.std.proofs.Common.{ℕ, ◌≡◌, ◌<◌, ◌+◌, ◌⊎◌, inl, inr, true, false, cond, List, [], Some, None, Result, Ok, Err, refl, sym, ap, ◌∙◌, arith, rules}
-use Rattle.wear_session.proofs.Common.{option_map, if◌then◌else◌, true≢false, none-some, same_Some, append-nil, Line, Twin, Device, ended, Follows, Setup, recovery_bound, EngineState, Parts, parts_of, chip_of, HasReadLine, Wear, Gapped, LevelledLines, levelled_lines, count_in, GapFault, recorded, HasReadRecord, logical_lines, open_plan, step_limit, device_during, none_taken, at_most, fewer, StartFault, WearAnswer, HasOpenedLevelled, IsLevelledOpening, open_call, WearState, IsWearShownBy, wear_decided, read_steps, AreDone, read_line, read_done, read_cut, IsLineWorld, IsLineOff, HasStarted, LedgerState, started_as, chip_in, on_chip, HasTurned, IsCutInRecovery, HasShownTwin, turned_on, turned_off, refused_from, few_of_start}
+use Rattle.wear_session.proofs.Common.{option_map, if◌then◌else◌, true≢false, none-some, same_Some, append-nil, Line, Twin, Device, ended, Follows, Setup, recovery_bound, EngineState, Parts, parts_of, chip_of, HasReadLine, Wear, Gapped, LevelledLines, levelled_lines, count_in, GapFault, recorded, HasReadRecord, logical_lines, open_plan, step_limit, device_during, none_taken, at_most, fewer, StartFault, WearAnswer, HasOpenedLevelled, IsLevelledOpening, open_call, LineSession, WearState, wear_left, IsWearShownBy, wear_decided, read_steps, AreDone, read_line, read_done, read_cut, IsLineWorld, IsLineOff, HasStarted, LedgerState, started_as, chip_in, on_chip, HasTurned, IsCutInRecovery, HasShownTwin, turned_on, turned_off, refused_from, few_of_start}
 use Rattle.pmem_base.specs.Layout as layout
 use Rattle.pmem_engine.specs.declared.fault.Fault.TheVariants as Fail
 use Rattle.pmem_recovery.specs.declared.faults.RecFault.TheVariants as Rec
@@ -35,14 +35,16 @@ module _ (c : WearCall) (world : IsLineWorld engine_of (setup_of c) c.old) (ther
   pub undecided : wear_decided old Do.On ≡ None
   undecided = ap (λ b. if b then Some Say.Already else None) off.unpowered
 
-  pub twin_shown : (at major low high : ℕ) (cipher : Line) (tag : List ℕ) → HasShownTwin setup c.old.state at major low high cipher tag
-      → IsWearShownBy setup old Do.On (Twin at major low high cipher tag)
-  twin_shown at major low high cipher tag it = (
+  pub twin_shown : (at major low high : ℕ) (cipher : Line) (tag : List ℕ) (left : LineSession)
+      → HasShownTwin setup c.old.state at major low high cipher tag left
+      → IsWearShownBy setup old Do.On (Twin at major low high cipher tag) (wear_left setup c.every left 0)
+  twin_shown at major low high cipher tag left it = (
     off.unpowered,
     it.within,
     it.exhibit,
     it.twin,
-    refused_from setup (open_call setup) c.old.state (Rec.Twin at major low high cipher tag) was_off it.refused,
+    refused_from setup (open_call setup) c.old.state (Rec.Twin at major low high cipher tag) left was_off it.refused,
+    refl,
   )
 
   module _ (left : IsLineWorld engine_of setup c.new) (steps : ℕ) where

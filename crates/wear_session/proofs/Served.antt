@@ -1,12 +1,12 @@
 -- What each command over the session is answered, whatever its call comes to.
 use Rattle.std.proofs.lemmas.Grind.{common_steps}
-use Rattle.std.proofs.Common.{ℕ, ◌≡◌, ◌≤◌, inl, inr, Bool, false, List, Option, Some, None, Result, Ok, Err, refl, sym, ap, subst, arith, rules}
+use Rattle.std.proofs.Common.{ℕ, ◌≡◌, ◌≤◌, inl, inr, Bool, false, List, Option, Some, None, Result, Ok, Err, refl, sym, ap, ap₂, subst, arith, rules}
 use Rattle.std.proofs.lemmas.Bool.{le-ltb}
 use Rattle.std.specs.Prelude.{IfOk, IfErr, IsOk, OnErr}
 use Rattle.board.specs.declared.access.Access.{Access}
 use Rattle.trace_text.specs.Logged.{IsLoggedBy}
 use Rattle.trace_text.proofs.LogLemmas.{logged_by, still_logged}
-use Rattle.wear_session.proofs.Common.{if◌then◌else◌, nat_lt, Line, IsLine, Setup, Fault, Gapped, LevelledLines, levelled_lines, Moved, Wear, WriteFault, place_of, WearAnswer, WearCommand, WearState, wear_lines_in, wear_of, wear_setup_in, wear_of_line, wear_decided, wear_after_decided, IsWearAnswered, IsWearMemoryWanted, move_said, StoreSession, IsLineWorld, setup_in, same_setup, HasReadAt, IsLevelledWrite, IsLevelledOpening}
+use Rattle.wear_session.proofs.Common.{if◌then◌else◌, nat_lt, Line, IsLine, Setup, Fault, Gapped, LevelledLines, levelled_lines, Moved, Wear, WriteFault, place_of, WearAnswer, WearCommand, WearState, wear_left, wear_lines_in, wear_of, count_in, wear_setup_in, wear_of_line, wear_decided, wear_after_decided, IsWearAnswered, IsWearMemoryWanted, move_said, StoreSession, IsLineWorld, setup_in, same_setup, HasReadAt, IsLevelledWrite, IsLevelledOpening}
 use Rattle.pmem_base.specs.declared.answers.Exhibit.TheVariants.{Twin}
 use Rattle.pmem_base.specs.declared.faults.MemFault.{MemFault}
 use Rattle.trace_text.specs.declared.talk.Halt.{Halt}
@@ -15,7 +15,7 @@ use Rattle.line_session.specs.declared.making.Done.{Done}
 use Rattle.line_session.specs.declared.making.Done.TheVariants as Make
 use Rattle.line_session.specs.declared.powering.Turned.{Turned}
 use Rattle.line_session.specs.declared.powering.Turned.TheVariants as Turn
-use Rattle.line_session.specs.State.{with_fuse}
+use Rattle.line_session.specs.State.{LineSession, with_fuse}
 use Rattle.line_session.specs.World.{session_off}
 use Rattle.line_session.specs.Made.{IsDone, IsRoomWanted, undone}
 use Rattle.line_session.specs.Turned.{IsTurned, IsTurnHalt, unturned}
@@ -184,6 +184,13 @@ module _ (c : WearCall) (now : WearState) (is : before c ≡ now) where
         IsTurned levelled_lines (λ (g : Gapped). g.wear) (λ engine start now. IsLevelledOpening (setup_of c) c.every engine start now) engine_of (setup_of c)
         c.old turned c.new
 
+    -- without a store, under the same geometry and keys
+    dark_left : c.new.state.shape ≡ c.old.state.shape → c.new.state.keys ≡ c.old.state.keys → c.new.store ≡ None
+        → wear_left (setup_of c) c.every c.new.state 0 ≡ left
+    dark_left shape keys none =
+        ap₂ (λ (u : Setup) (k : ℕ). wear_left u c.every c.new.state k) (sym (same_setup c.formulas_of c.old.state c.new.state shape keys))
+        (sym (ap count_in none))
+
     turn_done : (turned : Result (Turned Wear) Halt) → IfOk turned IsTurnDone → IfErr turned (λ halt. IsTurnHalt (setup_of c) c.old halt c.new)
         → IsServed Do.On (unturned turned) (turned_said turned) Halts
     turn_done (Ok Turn.Already) it halt = search (rules, decided_exit, on_before)
@@ -194,12 +201,16 @@ module _ (c : WearCall) (now : WearState) (is : before c ≡ now) where
         (elim it.2 [ inl cut ↦ cut.keys | inr opened ↦ opened.1.keys ]) (opening.cut_exit c world it.1 it.3 steps it.0 it.2)
     turn_done (Err Stop.Memory) it halt = search (rules, still, decided_now, dark_is, still_now, called_logs)
     turn_done (Err (Stop.Shown (Twin at major low high cipher tag))) it halt =
+        let rests = halt.1.refused.rests in
+        let shape : c.new.state.shape ≡ c.old.state.shape = ap (λ (s : LineSession). s.shape) rests in
+        let keys : c.new.state.keys ≡ c.old.state.keys = ap (λ (s : LineSession). s.keys) rests in
         record {
-          held = off_after c halt.2.shape halt.2.keys (levelled_still c (ap (λ l. l.marks) halt.2.ledger)) halt.2.none;
+          held = off_after c shape keys (levelled_still c (ap (λ (s : LineSession). s.ledger.marks) rests)) halt.2;
           answered = tt;
           halted =
               subst (λ (w : WearState). IsWearHalt (wear_setup_in c.formulas_of w) w Do.On (Stop.Shown (Twin at major low high cipher tag)) left) is
-              (opening.twin_shown c world halt.0 at major low high cipher tag halt.1);
+              (subst (λ (w : WearState). IsWearHalt (setup_of c) (before c) Do.On (Stop.Shown (Twin at major low high cipher tag)) w)
+              (dark_left shape keys halt.2) (opening.twin_shown c world halt.0 at major low high cipher tag c.new.state halt.1));
           logged = called_logs Do.On (dark_is halt.0);
         }
     turn_done (Err other) it halt = absurd halt

@@ -27,7 +27,7 @@ use Rattle.trace_text.specs.declared.talk.Halt.TheVariants as Stop
 use Rattle.wear_session.specs.Answers.{wear_text}
 use Rattle.wear_session.specs.Commands.{reading_of_wear}
 use Rattle.wear_session.specs.Planned.{IsWearCalled, open_call}
-use Rattle.wear_session.specs.State.{WearState, wear_lines_in, place_in, is_due, engine_writes, wear_without_power, with_writes}
+use Rattle.wear_session.specs.State.{WearState, wear_left, wear_lines_in, place_in, is_due, engine_writes, wear_without_power, with_writes}
 
 -- ---- answers that the state decides
 
@@ -150,14 +150,16 @@ abbrev pub IsWearAnswered : Setup → WearState → WearCommand → WearAnswer �
 IsWearAnswered setup old command answer new =
     IsWearAnsweredAs (wear_decided old command) setup old command answer new
 
--- an exhibit comes of recovery alone: a twin that holds, of the last seal of one of the data lines, which recovery finds first
-abbrev pub IsWearShownBy : Setup → WearState → WearCommand → Exhibit → Type 0
-IsWearShownBy setup old Do.On (Twin at major low high cipher tag) =
+-- An exhibit comes of recovery alone: a twin that holds, of the last seal of one of the data lines, which recovery finds first.
+-- It leaves the state that recovery left, without power.
+abbrev pub IsWearShownBy : Setup → WearState → WearCommand → Exhibit → WearState → Type 0
+IsWearShownBy setup old Do.On (Twin at major low high cipher tag) new =
     (old.session.board.powered ≡ false) × (at < data_lines setup.shape)
     × IsExhibit setup.formulas (Twin at major low high cipher tag)
     × IsTwinOfSeal setup (places_in setup old.session) old.session.board.regs.loss (view_in old.session) at major low high cipher tag
-    × IsRefusedFrom setup (open_call setup) old.session (Rec.Twin at major low high cipher tag)
-IsWearShownBy setup old command exhibit = ⊥
+    × IsRefusedFrom setup (open_call setup) old.session (Rec.Twin at major low high cipher tag) new.session
+    × (new ≡ wear_left setup old.every new.session 0)
+IsWearShownBy setup old command exhibit new = ⊥
 
 -- whether a command may want memory
 abbrev pub wear_takes_memory : WearCommand → Bool
@@ -172,7 +174,7 @@ IsWearMemoryWanted old command = IsTrue (wear_takes_memory command) × (wear_dec
 -- why a command has no answer: memory is wanted, and nothing was done; or it is an exhibit
 abbrev pub IsWearHalt : Setup → WearState → WearCommand → Halt → WearState → Type 0
 IsWearHalt setup old command Stop.Memory new = IsWearMemoryWanted old command × (new ≡ old)
-IsWearHalt setup old command (Stop.Shown exhibit) new = IsWearShownBy setup old command exhibit
+IsWearHalt setup old command (Stop.Shown exhibit) new = IsWearShownBy setup old command exhibit new
 IsWearHalt setup old command (Stop.Line kind) new = ⊥
 
 -- ---- a line and its answer
@@ -186,10 +188,10 @@ pub record IsWearTalkedOf (setup : Setup) (old : WearState) (line text : List �
   pub answered : IsWearAnswered setup old command answer new
 
 -- the line asks for a command whose answer is the exhibit
-pub record IsWearShownOf (setup : Setup) (old : WearState) (line : List ℕ) (exhibit : Exhibit) : Type 0 where
+pub record IsWearShownOf (setup : Setup) (old : WearState) (line : List ℕ) (exhibit : Exhibit) (new : WearState) : Type 0 where
   pub command : WearCommand
   pub its_reading : reading_of_wear line ≡ Ok (Some command)
-  pub shown : IsWearShownBy setup old command exhibit
+  pub shown : IsWearShownBy setup old command exhibit new
 
 -- the line asks for a command that may want memory
 pub record IsWearStarvedOf (old : WearState) (line : List ℕ) : Type 0 where

@@ -1,30 +1,39 @@
--- That the relation of commands and answers leaves nothing open.
-use Rattle.std.specs.Prelude.{◌≡◌, List, [], Some}
+-- That the relation of commands and replies leaves nothing open: of two replies to one command, both are the same, and so
+-- are two logs.
+use Rattle.std.specs.Prelude.{ℕ, ◌≡◌, List, [], Some, Result, Ok, Err}
 use Rattle.pmem_base.specs.declared.answers.Exhibit.{Exhibit}
 use Rattle.board.specs.declared.access.Access.{Access}
 use Rattle.suite.specs.Setup.{Setup}
 use Rattle.wear_session.specs.declared.commands.WearCommand.{WearCommand}
 use Rattle.wear_session.specs.declared.answers.WearAnswer.{WearAnswer}
-use Rattle.wear_session.specs.State.{WearState}
+use Rattle.line_session.specs.New.{IsNewByPlan}
+use Rattle.wear_session.specs.Planned.{open_call}
+use Rattle.wear_session.specs.State.{WearState, IsNewWear}
 use Rattle.wear_session.specs.Logged.{IsWearLogged}
 use Rattle.wear_session.specs.Answered.{IsWearAnswered, IsWearShownBy}
 
--- two answers of one command from one state are the same, and leave the same state
+-- the reply to a command: an answer, or an exhibit in its place
+abbrev pub IsWearReplied : Setup → WearState → WearCommand → Result WearAnswer Exhibit → WearState → Type 0
+IsWearReplied setup old command (Ok answer) new = IsWearAnswered setup old command answer new
+IsWearReplied setup old command (Err exhibit) new = IsWearShownBy setup old command exhibit new
+
+-- two replies to one command from one state are the same, and leave the same state
 abbrev pub WearRepliesAreDetermined : Setup → Type 0
 WearRepliesAreDetermined setup =
-    (old one other : WearState) (command : WearCommand) (first second : WearAnswer) → IsWearAnswered setup old command first one
-    → IsWearAnswered setup old command second other → (first ≡ second) × (one ≡ other)
+    (old one other : WearState) (command : WearCommand) (first second : Result WearAnswer Exhibit) → IsWearReplied setup old command first one
+    → IsWearReplied setup old command second other → (first ≡ second) × (one ≡ other)
 
--- two exhibits of one command from one state are the same
-abbrev pub WearExhibitsAreDetermined : Setup → Type 0
-WearExhibitsAreDetermined setup =
-    (old : WearState) (command : WearCommand) (first second : Exhibit) → IsWearShownBy setup old command first → IsWearShownBy setup old command second
-    → first ≡ second
+-- two new states of one setup, whose suites had made as many tags and digests before, are the same
+abbrev pub NewWearIsDetermined : Setup → Type 0
+NewWearIsDetermined setup =
+    (every tags digests : ℕ) (a b : WearState) → IsNewWear setup every a → IsNewWear setup every b
+    → IsNewByPlan setup (open_call setup) tags digests a.session → IsNewByPlan setup (open_call setup) tags digests b.session
+    → a.session.keys ≡ b.session.keys → a ≡ b
 
 -- two logs of one command from one state are the same, where none was lost for want of memory
 abbrev pub WearLogsAreDetermined : Setup → Type 0
 WearLogsAreDetermined setup =
-    (old one other : WearState) (command : WearCommand) (first second : WearAnswer) (accesses others : List Access)
-    → IsWearAnswered setup old command first one → IsWearAnswered setup old command second other
+    (old one other : WearState) (command : WearCommand) (first second : Result WearAnswer Exhibit) (accesses others : List Access)
+    → IsWearReplied setup old command first one → IsWearReplied setup old command second other
     → IsWearLogged command (Some []) old (Some accesses) one → IsWearLogged command (Some []) old (Some others) other
     → accesses ≡ others

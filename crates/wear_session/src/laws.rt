@@ -1,6 +1,6 @@
 //! Laws of whole sessions.
 ghost use Rattle.pmem_base.specs.Geo.{shape_of};
-ghost use Rattle.wear_session.specs.Determined.{WearExhibitsAreDetermined, WearLogsAreDetermined, WearRepliesAreDetermined};
+ghost use Rattle.wear_session.specs.Determined.{NewWearIsDetermined, WearLogsAreDetermined, WearRepliesAreDetermined};
 ghost use Rattle.wear_session.specs.Guarantees.{IsWearKept, IsWearSpent};
 
 use pmem_base::Geo;
@@ -17,14 +17,15 @@ pub fn sessions_keep_lines<S: Suite>(geo: &Geo, suite: &S)
     let _ = suite;
 }
 
-/// A law: a command has one answer in each state, and leaves one state, wherever power is cut, want of memory and
-/// exhibits apart; and it shows one exhibit at most. So power is cut exactly where a step meets a fuse of 0, a cut keeps
-/// exactly what was written, and which of several twins is shown is settled. A log that isn't lost has the same accesses
-/// of the device, in the same order.
+/// A law: unless memory runs out, a command has one reply in each state, an answer or an exhibit, and leaves one state,
+/// wherever power is cut. So power is cut if and only if a step meets a fuse of 0, a cut keeps exactly what was written,
+/// and which of several twins is shown is settled. A log that isn't lost has the same accesses of the device, in the same
+/// order. And two new states of one setup, whose suites had the same keys and had made as many tags and digests before, are
+/// the same.
 pub fn wear_replies_are_determined<S: Suite>(geo: &Geo, suite: &S)
     ensures replies { WearRepliesAreDetermined (record { shape = shape_of geo.now; formulas = S.formulas_of (S.keys suite.now) }) }
+    ensures begins { NewWearIsDetermined (record { shape = shape_of geo.now; formulas = S.formulas_of (S.keys suite.now) }) }
     ensures logs { WearLogsAreDetermined (record { shape = shape_of geo.now; formulas = S.formulas_of (S.keys suite.now) }) }
-    ensures exhibits { WearExhibitsAreDetermined (record { shape = shape_of geo.now; formulas = S.formulas_of (S.keys suite.now) }) }
 {
     let _ = geo.lines();
     let _ = suite;

@@ -50,7 +50,7 @@ impl<S: Counted + Drop> Talk for WearWorld<S> {
 
     ghost answers = { λ old line text new. IsWearTalkedOf (wear_setup_in S.formulas_of old) old line text new };
 
-    ghost shows = { λ old line exhibit. IsWearShownOf (wear_setup_in S.formulas_of old) old line exhibit };
+    ghost shows = { λ old line exhibit new. IsWearShownOf (wear_setup_in S.formulas_of old) old line exhibit new };
 
     ghost wants_memory = { λ old line. IsWearStarvedOf old line };
 

@@ -1,6 +1,8 @@
 //! A device whose lines are levelled, and what a session keeps of it.
 ghost use Rattle.std.specs.Prelude.{◌≡◌, ◌≤◌, IfOk};
 ghost use Rattle.pmem_base.specs.Geo.{shape_of};
+ghost use Rattle.line_session.specs.New.{IsNewByPlan};
+ghost use Rattle.wear_session.specs.Planned.{open_call};
 ghost use Rattle.wear_session.specs.State.{IsNewWear};
 
 use crate::calls::{LevelledLines, OpenLines};
@@ -30,11 +32,13 @@ impl<S: Suite + Drop> Model for WearWorld<S> {
 }
 
 impl<S: Suite + Drop> WearWorld<S> {
-    /// A formatted device with power on and its lines opened: all are zeros, and no move was made. The one error
-    /// is want of memory.
+    /// A formatted device with power on and its lines opened: all are zeros, and no move was made. Formatting and the
+    /// opening follow their plans. The one error is want of memory.
     pub fn new(alloc: Global, geo: Geo, suite: S, every: u32) -> Result<WearWorld<S>, MemFault>
         requires { 1 ≤ every }
         ensures new { IfOk result (λ world. IsNewWear (record { shape = shape_of geo; formulas = S.formulas_of (S.keys suite) }) every world) }
+        ensures opened { IfOk result (λ world. IsNewByPlan (record { shape = shape_of geo; formulas = S.formulas_of (S.keys suite) })
+            (open_call (record { shape = shape_of geo; formulas = S.formulas_of (S.keys suite) })) (S.tags suite) (S.digests suite) world.session) }
         ensures keys { IfOk result (λ world. world.session.keys ≡ S.keys suite) }
     {
         match LineSession::new(alloc, geo, suite, &OpenLines { every }) {

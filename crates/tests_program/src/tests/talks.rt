@@ -24,7 +24,7 @@ impl Talk for Echo {
 
     ghost answers = { λ old line text new. (text ≡ line ++ (48 + old.said % 10) ∷ []) × (new.said ≡ (old.said + 1) % 256) };
 
-    ghost shows = { λ old line exhibit. ⊤ };
+    ghost shows = { λ old line exhibit new. ⊤ };
 
     ghost wants_memory = { λ old line. line ≡ codes "m" };
 

@@ -1,8 +1,10 @@
 -- A new session: the device is formatted, and its store opened.
-use Rattle.std.proofs.Common.{◌≡◌, Option, Some, None, Result, Ok, Err, refl, ap, subst, ◌∙◌}
+use Rattle.std.proofs.Common.{ℕ, ◌≡◌, Option, Some, None, Result, Ok, Err, refl, ap, subst, subst₂, ◌∙◌}
 use Rattle.std.specs.Prelude.{is_none}
 use Rattle.std.proofs.lemmas.Bool.{and_parts}
 use Rattle.line_session.proofs.Common.{shape_of, memory_of, ledger_of, device_of, BoardMemory, LedgerState, Setup, EngineState, ChipState, on_chip, setup_under, parts_of, Parts, OpeningRelation, HasFormatted, LineSession}
+use Rattle.board.specs.Memory.{new_memory}
+use Rattle.pmem_base.specs.Layout.{device_lines}
 use Rattle.line_session.specs.World.{StoreSession, session_of, IsLineWorld}
 use Rattle.line_session.specs.Kept.{IsOpenedOn, OpensLines}
 use Rattle.line_session.specs.New.{HasOpenedNew}
@@ -21,7 +23,7 @@ module _ (g : Over) (c : After-open g) where
   middle = memory_of c.format.new.board
 
   abbrev ledger : LedgerState
-  ledger = ledger_of c.format.new.audit
+  ledger = ledger_of c.format.new.ledger
 
   abbrev engine : EngineState
   engine = c.in-Ok-format.engine
@@ -36,6 +38,10 @@ module _ (g : Over) (c : After-open g) where
   now later =
       parts_of later (device_of (memory_of c.open.new.board)) (ledger_of c.open.new.ledger) (g.S.Suite.tags c.open.new.suite)
       (g.S.Suite.digests c.open.new.suite)
+
+  -- the device that was formatted
+  blank : memory_of c.in-Ok.board ≡ new_memory (device_lines (shape_of c.args.geo))
+  blank = c.in-Ok.ensures ∙ ap new_memory c.size.ensures.value
 
   -- of the geometry, the keys and the marks that formatting leaves
   here : (opens : Setup → OpeningRelation g.row.O-Opened.Denot g.row.O-Fault.Denot)
@@ -62,23 +68,22 @@ module _ (g : Over) (c : After-open g) where
       }
 
   has_opened : (chip : Option ChipState) (answer : Result g.row.O-Opened.Denot g.row.O-Fault.Denot) → c.open.result ≡ answer
-      → HasOpenedNew setup (g.O.StoreOpening.relation c.args.opening.now setup) answer (left chip)
+      → HasOpenedNew setup (g.O.StoreOpening.relation c.args.opening.now setup) (g.S.Suite.tags c.args.suite) (g.S.Suite.digests c.args.suite) answer
+      (left chip)
   has_opened chip answer is =
       record {
         whole = c.layout_is_one_to_one.ensures.ranges;
-        start = device_of (memory_of c.in-Ok.board);
-        no_writes = ap (λ (m : BoardMemory). m.writes) c.in-Ok.ensures;
-        no_latches = ap (λ (m : BoardMemory). m.latches) c.in-Ok.ensures;
-        no_cuts = ap (λ (m : BoardMemory). m.cuts) c.in-Ok.ensures;
         middle = middle;
         ledger = ledger;
         engine = engine;
-        tags = g.S.Suite.tags c.format.new.suite;
-        digests = g.S.Suite.digests c.format.new.suite;
-        formatted = formatted;
+        formatted = subst (λ (m : BoardMemory). HasFormatted setup ledger (device_of m) (device_of middle) engine) blank formatted;
         opened =
-            subst (g.O.StoreOpening.relation c.args.opening.now setup engine (from ledger) now) is
-            (here (g.O.StoreOpening.relation c.args.opening.now) c.open.ensures.opened);
+            subst₂ (λ (tags digests : ℕ).
+            g.O.StoreOpening.relation c.args.opening.now setup engine (parts_of engine (device_of middle) ledger tags digests) now answer)
+            c.in-Ok-format.ensures.counts.its_tags c.in-Ok-format.ensures.counts.its_digests
+            (subst (g.O.StoreOpening.relation c.args.opening.now setup engine (from ledger) now) is
+            (here (g.O.StoreOpening.relation c.args.opening.now) c.open.ensures.opened));
+        unsnapped = c.open.ensures.none;
       }
 
   abbrev engine_in : g.row.O-Opened.Denot → EngineState

@@ -8,7 +8,7 @@ pub returns-in-Some-clause-answered : goal.returns-in-Some-clause-answered
 returns-in-Some-clause-answered g c =
     exhibit_untold g.T.Talk.sort_of g.T.Talk.answers g.T.Talk.shows g.T.Talk.wants_memory g.T.Talk.logs g.T.Talk.work c.args.line.now c.args.number c.args.self.now c.talk.new.self c.talk.new.log c.in-Err-Shown.exhibit _ _
     (rw c.in-Err-Shown.field-0-is at c.in-Err-Shown.ensures.sort)
-    (subst (λ (old : g.row.T.Denot). g.T.Talk.shows old c.args.line.now c.in-Err-Shown.exhibit) c.self.view_is
+    (subst (λ (old : g.row.T.Denot). g.T.Talk.shows old c.args.line.now c.in-Err-Shown.exhibit c.talk.new.self) c.self.view_is
     (rw c.in-Err-Shown.field-0-is at c.in-Err-Shown.ensures.shown))
     (subst (λ (old : g.row.T.Denot). g.T.Talk.logs old c.args.line.now (Some []) c.talk.new.log c.talk.new.self) c.self.view_is
     (subst (λ (l : Option (List Access)). g.T.Talk.logs c.self.inside.session c.args.line.now l c.talk.new.log c.talk.new.self) c.empty-log.ensures c.talk.ensures.logged))
@@ -20,7 +20,7 @@ pub returns-in-Err-Shown-clause-answered : goal.returns-in-Err-Shown-clause-answ
 returns-in-Err-Shown-clause-answered g c =
     exhibited g.T.Talk.sort_of g.T.Talk.answers g.T.Talk.shows g.T.Talk.wants_memory g.T.Talk.logs g.T.Talk.work c.args.line.now c.args.number c.args.self.now c.talk.new.self c.talk.new.log c.in-Err-Shown.exhibit _ _
     (rw c.in-Err-Shown.field-0-is at c.in-Err-Shown.ensures.sort)
-    (subst (λ (old : g.row.T.Denot). g.T.Talk.shows old c.args.line.now c.in-Err-Shown.exhibit) c.self.view_is
+    (subst (λ (old : g.row.T.Denot). g.T.Talk.shows old c.args.line.now c.in-Err-Shown.exhibit c.talk.new.self) c.self.view_is
     (rw c.in-Err-Shown.field-0-is at c.in-Err-Shown.ensures.shown))
     (subst (λ (old : g.row.T.Denot). g.T.Talk.logs old c.args.line.now (Some []) c.talk.new.log c.talk.new.self) c.self.view_is
     (subst (λ (l : Option (List Access)). g.T.Talk.logs c.self.inside.session c.args.line.now l c.talk.new.log c.talk.new.self) c.empty-log.ensures c.talk.ensures.logged))

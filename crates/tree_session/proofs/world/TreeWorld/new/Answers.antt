@@ -1,7 +1,7 @@
 -- The first state of a session.
 use Rattle.std.proofs.Common.{ap, false, ◌∙◌}
 use Rattle.tree_session.proofs.Common.{replicate, shape_of, memory_of, watch_of}
-use Rattle.tree_session.proofs.NewCalls.{NewTreeCall, held, is_new}
+use Rattle.tree_session.proofs.NewCalls.{NewTreeCall, held, is_new, is_formatted}
 use Rattle.tree_session.proofs.world.TreeWorld.new.Given.{Over}
 use Rattle.tree_session.proofs.world.TreeWorld.new.Goals.{In_ok-engine}
 use Rattle.tree_session.proofs.world.TreeWorld.new.Goals as goal
@@ -46,3 +46,8 @@ invariant_of-result g c = held (call g (goal.at.invariant_of-result g c).In_ok-e
 
 pub returns-clause-new : goal.returns-clause-new
 returns-clause-new g c = is_new (call g (goal.at.returns-clause-new g c).In_ok-engine)
+
+pub returns-clause-formatted : goal.returns-clause-formatted
+returns-clause-formatted g c =
+    let counts = c.in_ok-engine.ensures.counts in
+    is_formatted (call g (goal.at.returns-clause-formatted g c).In_ok-engine) _ _ _ counts.its_pads counts.its_tags counts.its_digests

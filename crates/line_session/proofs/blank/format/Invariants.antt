@@ -1,0 +1,6 @@
+-- The board as the call finds it, and the reference to it.
+use Rattle.line_session.proofs.Common.{memory_of}
+use Rattle.line_session.proofs.blank.format.Given as goal
+
+abbrev pub ghosts-format_kept : goal.ghosts-format_kept
+ghosts-format_kept g a = record { start = memory_of a.board.now; name = a.board.ghost_name }
