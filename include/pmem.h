@@ -19,13 +19,14 @@
  * answers.
  *
  * Two builds have this header. The native build links the machine code that the toolchain proved and compiled. The portable build is C,
- * translated from the WebAssembly module of the same proved program. They answer alike, byte for byte, except where a call below names
- * the build. `pmem_build` tells which one is linked.
+ * translated from the WebAssembly module of the same proved program. They answer alike, byte for byte, unless a call below names the
+ * build. `pmem_build` tells which one is linked.
  *
  * Pointers and lengths. Each pointer is to as many bytes as the length behind it says. If that length is 0, the pointer is not used and
- * may be NULL. Blocks given to one call must not overlap. No call keeps a pointer, except what a handle owns.
+ * may be NULL. The block that a call writes must not overlap another one that it is given: such a call answers PMEM_OVERLAP, and does
+ * nothing. No call keeps a pointer, except what a handle owns.
  *
- * Threads. The library has no state of its own. One thread at a time may use a handle. Different threads may use different handles, and
+ * Threads. The library keeps no state outside its handles. One thread at a time may use a handle. Different threads may use different handles, and
  * `pmem_answer`, at the same time.
  *
  * Stack. A call needs at most PMEM_STACK_BYTES of stack. Some coroutines and threads have less (musl's threads have 128 kB): give them
@@ -91,7 +92,8 @@ typedef enum pmem_status {
     PMEM_IS_OPEN = 65,       /* the handle is open already */
     PMEM_OVER = 66,          /* an exhibit ended the session; it can only be copied or closed */
     PMEM_FORGOTTEN = 67,     /* pmem_copy, native build: the session's lines were forgotten */
-    PMEM_NULL = 68           /* a pointer is NULL that must not be: a handle, or `whole` */
+    PMEM_NULL = 68,          /* a pointer is NULL that must not be: a handle, or `whole` */
+    PMEM_OVERLAP = 69        /* `out` or `whole` overlaps another block of the call */
 } pmem_status;
 
 /* ---- which library this is */
@@ -111,8 +113,8 @@ PMEM_API const char *pmem_build(void);
  *   out     receives the output, as far as there is room. Bytes behind it are unchanged.
  *   whole   receives the length of the whole output. If that is more than `room`, call again with more room.
  * PMEM_NO_MEMORY: the last line is `stop memory`, or there is no output. PMEM_REPLY_LOST: the output is a prefix of what it would have
- * been. PMEM_BAD_WORDS: the output is `stop words`, or empty if an argument is not UTF-8. PMEM_NULL: `whole` is NULL.
- * Each call makes a new memory and keeps no state. */
+ * been. PMEM_BAD_WORDS: the output is `stop words`, also if an argument is not UTF-8. PMEM_NULL: `whole` is NULL.
+ * PMEM_OVERLAP: `out` or `whole` overlaps another block, and nothing was written. Each call makes a new memory and keeps no state. */
 PMEM_API uint8_t pmem_answer(const uint8_t *words, size_t words_len, const uint8_t *trace, size_t trace_len, uint8_t *out, size_t room,
                     size_t *whole);
 
@@ -144,6 +146,7 @@ PMEM_API uint8_t pmem_open(pmem *handle, const uint8_t *words, size_t words_len)
  * line was answered, but there was no memory for the reply's text; the session goes on, or is over if the answer was an exhibit.
  * PMEM_NO_MEMORY, PMEM_LINE_WORD to PMEM_LINE_LONG, PMEM_NOT_OPEN, PMEM_OVER: nothing was done. Unless the status is PMEM_OK or
  * PMEM_SHOWN, `whole` receives 0. PMEM_NULL: `handle` or `whole` is NULL; nothing was written either.
+ * PMEM_OVERLAP: `out` or `whole` overlaps another block; nothing was written either.
  * A session has no limit on the number of lines. It keeps the marks of its writes; the native build also keeps the lines that it
  * answered, for pmem_copy. */
 PMEM_API uint8_t pmem_tell(pmem *handle, const uint8_t *line, size_t line_len, uint8_t *out, size_t room, size_t *whole);
@@ -591,7 +594,7 @@ static inline bool pmem_is_digits(pmem_words word) {
     return true;
 }
 
-/* Reads the words of a seal behind its first one. Answers whether they are a seal's: a line, MAJOR.MINOR and a tag. */
+/* Reads the words of a seal after its first one. Answers whether they are a seal's: a line, MAJOR.MINOR and a tag. */
 static inline bool pmem_read_seal(pmem_words words, pmem_mark *mark) {
     pmem_words line = pmem_next_word(&words), major = pmem_next_word(&words), minor = major, tag = pmem_next_word(&words);
     while (minor.at != minor.end && *minor.at != '.') minor.at++;
@@ -661,10 +664,10 @@ static inline pmem_result pmem_part(pmem *handle, unsigned port, uint64_t at, un
     return pmem_command(handle, "part", numbers, 3, bytes, len <= PMEM_LINE_BYTES ? len : PMEM_LINE_BYTES + 1);
 }
 
-/* Does the port's oldest waiting write. */
+/* Performs the port's oldest waiting write. */
 static inline pmem_result pmem_drain(pmem *handle, unsigned port) { return pmem_numbers(handle, "drain", 1, port, 0); }
 
-/* Does all writes that wait at the port, the oldest first, until the queue is empty or a write fails. */
+/* Performs all writes that wait at the port, the oldest first, until the queue is empty or a write fails. */
 static inline pmem_result pmem_fence(pmem *handle, unsigned port) { return pmem_numbers(handle, "fence", 1, port, 0); }
 
 /* Reads a data line as the port sees it: the memory's line, with the port's waiting bytes over it. */

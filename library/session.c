@@ -7,10 +7,29 @@ const char *pmem_version(void) { return PMEM_VERSION; }
 
 const char *pmem_build(void) { return pmem_build_name; }
 
+/* Whether two blocks have a byte in common. The proved code takes blocks that have none. */
+static bool overlap(const void *one, size_t one_len, const void *other, size_t other_len) {
+    uintptr_t first = (uintptr_t)one, second = (uintptr_t)other;
+    if (one_len == 0 || other_len == 0) return false;
+    return first <= second ? second - first < one_len : first - second < other_len;
+}
+
+/* The proved code refuses arguments that are not UTF-8 without a line. They get the line of all invalid arguments. */
+static void refuse_words(uint8_t *out, size_t room, size_t *whole) {
+    static const char line[] = "stop words\n";
+    *whole = sizeof line - 1;
+    if (room != 0) memcpy(out, line, room < *whole ? room : *whole);
+}
+
 uint8_t pmem_answer(const uint8_t *words, size_t words_len, const uint8_t *trace, size_t trace_len, uint8_t *out, size_t room,
                     size_t *whole) {
+    uint8_t status;
     if (whole == NULL) return PMEM_NULL;
-    return pmem_proved_answer(words, words_len, trace, trace_len, out, room, whole);
+    if (overlap(out, room, words, words_len) || overlap(out, room, trace, trace_len) || overlap(whole, sizeof *whole, words, words_len) ||
+        overlap(whole, sizeof *whole, trace, trace_len) || overlap(whole, sizeof *whole, out, room)) return PMEM_OVERLAP;
+    status = pmem_proved_answer(words, words_len, trace, trace_len, out, room, whole);
+    if (status == PMEM_BAD_WORDS && *whole == 0) refuse_words(out, room, whole);
+    return status;
 }
 
 static void end_session(session *its) {
@@ -48,6 +67,8 @@ uint8_t pmem_tell(pmem *handle, const uint8_t *line, size_t line_len, uint8_t *o
     session *its;
     uint8_t status;
     if (handle == NULL || whole == NULL) return PMEM_NULL;
+    if (overlap(out, room, line, line_len) || overlap(whole, sizeof *whole, line, line_len) || overlap(whole, sizeof *whole, out, room))
+        return PMEM_OVERLAP;
     *whole = 0;
     if (!handle->is_open) return PMEM_NOT_OPEN;
     its = (session *)handle->session;

@@ -83,7 +83,7 @@ class Compiling:
                 continue
             self.running.remove(process)
             if status:
-                raise PortableError(f"{os.path.basename(self.words[0])} can't compile the program: {self.first_line() or f'status {status}'}")
+                raise PortableError(f"{os.path.basename(self.words[0])} cannot compile the program: {self.first_line() or f'status {status}'}")
             return True
         return False
 
@@ -108,21 +108,21 @@ class Compiling:
 
 
 def compile_parts(source: str, folder: str, flags: Sequence[str] = FLAGS, told: Optional[Callable[[int, int], None]] = None,
-                  compiler: Optional[str] = None) -> List[str]:
-    """Compiles the C in parts, side by side on all processors, and answers the object files. `told` hears how many parts of how many are done.
-    Errors: PortableError."""
+                  compiler: Optional[str] = None, parts: Sequence[int] = range(PARTS)) -> List[str]:
+    """Compiles the C in parts, side by side on all processors, and answers the object files: all parts, or some. `told` hears how many parts of
+    how many are done. Errors: PortableError."""
     work = Compiling([compiler or find_compiler(), *flags], folder)
-    objects, done = [f"{folder}/part{number}.o" for number in range(PARTS)], 0
-    waiting = list(range(PARTS))
+    objects, done = [f"{folder}/part{number}.o" for number in parts], 0
+    waiting = list(parts)
     try:
         while waiting or work.running:
             while waiting and len(work.running) < processors():
                 number = waiting.pop(0)
-                work.start([f"-DPMEM_PART={number}", "-c", source, "-o", objects[number]])
+                work.start([f"-DPMEM_PART={number}", "-c", source, "-o", f"{folder}/part{number}.o"])
             work.wait()
             done += 1
             if told:
-                told(done, PARTS)
+                told(done, len(objects))
     finally:
         work.end()
     return objects

@@ -58,7 +58,7 @@ def made_of(data: bytes) -> Dict[str, str]:
     """What a module says that it was made of: `sources`, their digest, and `toolchain`."""
     text = Module(data).customs.get(SECTION)
     if text is None:
-        raise WasmError("the module doesn't say of which sources it was made")
+        raise WasmError("the module does not say of which sources it was made")
     made: Dict[str, str] = json.loads(text)
     return made
 

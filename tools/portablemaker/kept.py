@@ -71,7 +71,7 @@ def folder_for(key: str) -> str:
                 return folder
         except OSError:
             continue
-    raise PortableError(f"no program can be kept: {TOP}/out can't be written to, and neither can the folder of XDG_CACHE_HOME")
+    raise PortableError(f"no program can be kept: {TOP}/out cannot be written to, and neither can the folder of XDG_CACHE_HOME")
 
 
 def is_kept(folder: str, key: str) -> bool:

@@ -178,7 +178,7 @@ def lowered(data: bytes, roots: Sequence[str]) -> bytes:
     """The 32-bit form of what these exports of a module reach."""
     module = Module(data)
     if not module.is_long:
-        raise WasmError("the module's memory isn't of 64 bits")
+        raise WasmError("the module's memory is not of 64 bits")
     places = module.reached([module.exports[name] for name in roots])
     imported = [place for place in places if place < len(module.imports)]
     own = [place for place in places if place >= len(module.imports)]

@@ -58,7 +58,7 @@ def library(name: str) -> str:
     """Where a crate's library is kept once it is proved. Errors: PortableError."""
     folder = f"{TOP}/crates/{name}/out/rlib"
     if not os.path.isfile(f"{folder}/{name}.rlib/format"):
-        raise PortableError(f"the library {name} isn't proved and built yet: run ./pmem --prove and tools/library, or rt ci, first")
+        raise PortableError(f"the library {name} is not proved and built yet: run ./pmem --prove and tools/library, or rt ci, first")
     return folder
 
 
@@ -117,9 +117,9 @@ def proved_bitcode(top: str, room: str, crate: str) -> str:
     words = [f"{top}/bin/rattle", "build", *build_words(top, crate), "--toolchain", stand_in(top, made), "-o", f"{made}/made"]
     said = run(words, cwd=f"{TOP}/crates/{crate}")
     if "logic=proved" not in said:
-        raise PortableError(f"the crate {crate} isn't said to be proved:\n{said[-1500:]}")
+        raise PortableError(f"the crate {crate} is not said to be proved:\n{said[-1500:]}")
     if not os.path.isfile(f"{made}/bitcode.bc"):
-        raise PortableError("the toolchain's clang wasn't given a file of bitcode (.bc)")
+        raise PortableError("the toolchain's clang was not given a file of bitcode (.bc)")
     return f"{made}/bitcode.bc"
 
 

@@ -1,6 +1,7 @@
 /* ---- The program: standard input, standard output and the arguments. */
 #if defined __unix__ || defined __APPLE__
 #include <errno.h>
+#include <signal.h>
 #include <unistd.h>
 
 OF_MODULE u64 host_read(u8 *m, u32 file, u64 to, u64 room) {
@@ -17,7 +18,8 @@ OF_MODULE u64 host_write(u8 *m, u32 file, u64 from, u64 len) {
     return (u64)(i64)count;
 }
 
-static void begin_streams(void) {}
+/* A pipe that nobody reads is a write that fails: status 4, as in the native program. */
+static void begin_streams(void) { signal(SIGPIPE, SIG_IGN); }
 #else
 #ifdef _WIN32
 #include <fcntl.h>
@@ -58,10 +60,28 @@ OF_MODULE u64 host_arg(u8 *m, u64 place, u64 to, u64 room) {
     return len;
 }
 
+/* Ends the output with the line of a stop. As in the program, a line that could not be written is status 4, unless the arguments are invalid. */
+static int stopped(const char *line, int status) {
+    int is_written = fputs(line, stdout) >= 0 && fflush(stdout) == 0;
+    return is_written || status == 2 ? status : 4;
+}
+
+/* Whether an argument is not ASCII. The program refuses every such argument. One that is not UTF-8 would not reach it: the module's start ends
+ * with status 1 and prints nothing, as the native program does. */
+static int is_foreign(const char *word) {
+    while (*word != '\0' && ((unsigned)*word & 128u) == 0) word++;
+    return *word != '\0';
+}
+
 int main(int count, char **words) {
-    u8 *m = new_instance(PMEM_INSTANCE_BYTES);
-    if (m == NULL) return 1;
+    static char name[] = "pmem"; /* its file's name may be anything */
+    u8 *m;
     begin_streams();
+    for (int i = 1; i < count; i++)
+        if (is_foreign(words[i])) return stopped("stop words\n", 2);
+    m = new_instance(PMEM_INSTANCE_BYTES);
+    if (m == NULL) return stopped("stop memory\n", 1);
+    if (count > 0) words[0] = name;
     argument_count = count;
     arguments = words;
     return (int)in_run_main(m);

@@ -503,7 +503,7 @@ class Translation(NamedTuple):
 def stack_bytes(module: Module) -> int:
     """The bytes of the stack, which stands first in the memory: so a stack that is too deep has an address below 0."""
     if not module.globals or not module.is_long:
-        raise WasmError("a module without a stack's pointer, or whose memory isn't of 64 bits")
+        raise WasmError("a module without a stack's pointer, or whose memory is not of 64 bits")
     top = module.globals[0][1]
     if any(start < top for start, _ in module.data):
         raise WasmError("data in front of the stack's end")

@@ -159,7 +159,7 @@ class Section(NamedTuple):
 def sections(data: bytes) -> Iterator[Section]:
     """The sections of a module in order."""
     if data[:8] != MAGIC:
-        raise WasmError("this isn't a WebAssembly module of version 1")
+        raise WasmError("this is not a WebAssembly module of version 1")
     its = Reader(data, 8)
     while not its.is_at_end:
         kind = its.byte()
@@ -178,10 +178,10 @@ def constant(its: Reader) -> int:
     """A constant expression: i32.const or i64.const, and end."""
     code = its.byte()
     if code not in (0x41, 0x42):
-        raise WasmError("a start value that isn't a constant")
+        raise WasmError("a start value that is not a constant")
     value = its.signed()
     if its.byte() != 0x0B:
-        raise WasmError("a start value that isn't a constant")
+        raise WasmError("a start value that is not a constant")
     return value
 
 
@@ -245,7 +245,7 @@ class Module:
     def read_type(self, its: Reader) -> None:
         """A signature."""
         if its.byte() != 0x60:
-            raise WasmError("a type that isn't a function's")
+            raise WasmError("a type that is not a function's")
         takes, gives = [tuple(type_of(its) for _ in range(its.unsigned())) for _ in range(2)]
         if len(gives) > 1:
             raise WasmError("a function with several results")
@@ -255,7 +255,7 @@ class Module:
         """An imported function."""
         module, name, what = its.name(), its.name(), its.byte()
         if what != 0:
-            raise WasmError(f"an import {module}.{name} that isn't a function")
+            raise WasmError(f"an import {module}.{name} that is not a function")
         self.imports.append(Import(module, name, its.unsigned()))
 
     def read_function(self, its: Reader) -> None:

@@ -184,7 +184,56 @@ static void answers(void) {
     IS(pmem_answer(NULL, 0, NULL, 0, NULL, 0, &whole) == PMEM_BAD_WORDS && whole == 11);
     IS(pmem_answer(bytes("run"), 3, NULL, 0, NULL, 0, &whole) == PMEM_OK && whole == 0);
     IS(pmem_answer(bytes("run"), 3, bytes("drain 0\n"), 8, out, sizeof out, &whole) == PMEM_OK && whole == 6 && memcmp(out, "empty\n", 6) == 0);
-    IS(pmem_answer(bytes("\xc3\0run"), 5, NULL, 0, out, sizeof out, &whole) == PMEM_BAD_WORDS && whole == 0);
+}
+
+/* An argument that is not UTF-8 is refused with the line of all invalid arguments, as far as there is room. */
+static void not_text(void) {
+    static const char *const words[] = {"\xc3\0run", "run\0\xff", "run\0--suite\0\xed\xa0\x80", "run\0\xc0\xaf"};
+    static const size_t lens[] = {5, 5, 15, 6};
+    size_t whole = 77;
+    for (int i = 0; i < 4; i++)
+        for (size_t room = 0; room <= 12; room++) {
+            uint8_t out[12];
+            memset(out, 0xee, sizeof out);
+            IS(pmem_answer(bytes(words[i]), lens[i], bytes("stat\n"), 5, out, room, &whole) == PMEM_BAD_WORDS && whole == 11);
+            size_t put = room < whole ? room : whole;
+            IS(memcmp(out, "stop words\n", put) == 0 && (put == sizeof out || out[put] == 0xee));
+        }
+}
+
+/* Blocks that overlap: the call does nothing, and nothing of it is written. Blocks side by side are fine. */
+static void overlapping(void) {
+    union {
+        uint8_t bytes[64];
+        size_t numbers[8];
+    } it;
+    pmem handle = PMEM_CLOSED, copy = PMEM_CLOSED;
+    size_t whole = 77;
+    IS(pmem_open_text(&handle, "run --suite weak") == PMEM_OK);
+    for (size_t from = 0; from <= 40; from++) {
+        bool is_apart = from + 8 <= 16 || from >= 16 + 8;
+        memset(&it, 0xee, sizeof it);
+        memcpy(it.bytes + 16, "read 0 3", 8);
+        IS(pmem_tell(&handle, it.bytes + 16, 8, it.bytes + from, 8, &whole) == (is_apart ? PMEM_OK : PMEM_OVERLAP));
+        IS(whole == (is_apart ? 136 : 77) && memcmp(it.bytes + 16, "read 0 3", 8) == 0);
+        IS(it.bytes[from] == (is_apart ? 'l' : from < 16 ? 0xee : "read 0 3"[from - 16]));
+        whole = 77;
+        IS(pmem_answer(bytes("check"), 5, it.bytes + 16, 8, it.bytes + from, 8, &whole) == (is_apart ? PMEM_BAD_LINE : PMEM_OVERLAP));
+        IS(whole == (is_apart ? 14 : 77));
+        whole = 77;
+        memcpy(it.bytes + 16, "run\0run\0", 8);
+        IS(pmem_answer(it.bytes + 16, 8, NULL, 0, it.bytes + from, 8, &whole) == (is_apart ? PMEM_BAD_WORDS : PMEM_OVERLAP));
+        whole = 77;
+    }
+    it.numbers[2] = 7;
+    IS(pmem_tell(&handle, bytes("stat"), 4, it.bytes, 17, &it.numbers[2]) == PMEM_OVERLAP && it.numbers[2] == 7);
+    IS(pmem_tell(&handle, it.bytes + 20, 4, NULL, 0, &it.numbers[2]) == PMEM_OVERLAP && it.numbers[2] == 7);
+    IS(pmem_answer(bytes("run"), 3, bytes("stat"), 4, it.bytes, 17, &it.numbers[2]) == PMEM_OVERLAP && it.numbers[2] == 7);
+    IS(pmem_answer(bytes("run"), 3, it.bytes, 17, NULL, 0, &it.numbers[2]) == PMEM_OVERLAP && it.numbers[2] == 7);
+    IS(pmem_answer(it.bytes, 17, NULL, 0, NULL, 0, &it.numbers[2]) == PMEM_OVERLAP && it.numbers[2] == 7);
+    IS(pmem_tell(&handle, bytes("stat"), 4, it.bytes, 16, &it.numbers[2]) == PMEM_OK && it.numbers[2] > 8);
+    IS(pmem_tell(&handle, it.bytes, 0, it.bytes, 16, &whole) == PMEM_OK && pmem_copy(&handle, &copy) == PMEM_OK);
+    IS(pmem_close(&copy) == PMEM_OK && pmem_close(&handle) == PMEM_OK);
 }
 
 int main(void) {
@@ -199,5 +248,7 @@ int main(void) {
     logs();
     over();
     answers();
+    not_text();
+    overlapping();
     return failures != 0;
 }

@@ -1,0 +1,1 @@
+"""tools/fuzz: builds the drivers of this folder with sanitizers, and runs them."""
