@@ -32,7 +32,7 @@ def logs_of(recording: Recording, data: bytes) -> Iterator[Log]:
         stop = data.find(b"\n", end) + 1
         reply = recording.output[recording.output_ends[index]:recording.output_ends[index + 1]]
         if end < 0 or not stop or not data.startswith(reply, stop):
-            raise ExploreError(f"{recording.program.path} doesn't answer the same with --log and without")
+            raise ExploreError(f"{recording.program.path} does not answer the same with --log and without")
         yield log_of(recording, data[at:end], data[end:stop - 1])
         at = stop + len(reply)
     if at != len(data):
@@ -47,9 +47,9 @@ def log_of(recording: Recording, accesses: bytes, work: bytes) -> Log:
         _, tags, digests = work.split(b" ")
         log = Log(found, int(tags), int(digests), len(accesses) + len(work) + 1)
     except ValueError as error:
-        raise ExploreError(f"{recording.program.path} doesn't tell its accesses as docs/FORMATS.md says") from error
+        raise ExploreError(f"{recording.program.path} does not tell its accesses as docs/FORMATS.md says") from error
     if any(word not in (LOOK, LINE, LATCHED) for word, _ in found):
-        raise ExploreError(f"{recording.program.path} doesn't tell its accesses as docs/FORMATS.md says")
+        raise ExploreError(f"{recording.program.path} does not tell its accesses as docs/FORMATS.md says")
     return log
 
 
@@ -107,7 +107,7 @@ class Teller:
         """A device line's name, made once."""
         if line not in self.places:
             if line >= self.layout.size:
-                raise ExploreError(f"{self.recording.program.path} tells of line {line}: its device hasn't the "
+                raise ExploreError(f"{self.recording.program.path} names line {line}: its device does not have the "
                                    f"{self.layout.size} lines that docs/MACHINE.md lists")
             self.places[line] = self.layout.place(line)
         return self.places[line]

@@ -7,12 +7,16 @@ from .compare import NUMBERS, RECOVERY
 from .draw import (BLACK, BLUE, DARK_GREY, GREEN, GREY, ORANGE, PURPLE, SKY, VERMILION, label_of, load_matplotlib, picture)
 from .errors import WRONG_WORDS, ExploreError
 from .labels import add_labels
+from .units import time_text
 
 Row = Dict[str, Any]
 
 PART_COLOURS = dict(zip(PART_WORDS, (BLUE, SKY, ORANGE, GREEN, PURPLE)))
-DESIGN_MARKS = {"run": (BLUE, "o"), "wear": (ORANGE, "s"), "txn": (GREEN, "^"), "tree": (VERMILION, "D")}
+DESIGN_MARKS = {"run": (BLUE, "o"), "wear": (ORANGE, "s"), "txn": (GREEN, "^"), "tree": (VERMILION, "D"), "plain": (DARK_GREY, "P")}
+# What can tell designs of one machine apart: their numbers, and the figures that their times are made with.
+VARIED = (*NUMBERS, "figures")
 MOST_MOMENTS = 8
+TIME = "time"
 
 # The panels of small multiples: what is shown, what it is called, and whether it is by parts of the device.
 PANELS: Tuple[Tuple[str, str, bool], ...] = (
@@ -25,9 +29,9 @@ PANELS: Tuple[Tuple[str, str, bool], ...] = (
     ("recovery_tags", "tags of a recovery", False),
     ("recovery_steps", "persist steps of a recovery", False),
     ("chip_bytes", "bytes on the chip", False),
-    ("write_ns", "ns a line written", False),
-    ("read_ns_mean", "ns a line read", False),
-    ("recovery_ns", "ns of a recovery", False),
+    ("write_ns", "time of a line written", False),
+    ("read_ns_mean", "time of a line read", False),
+    ("recovery_ns", "time of a recovery", False),
     ("write_nj", "nJ a line written", False),
     ("read_nj", "nJ a line read", False),
     ("recovery_nj", "nJ of a recovery", False),
@@ -49,8 +53,8 @@ def shown_rows(value: Dict[str, Any]) -> List[Row]:
 def varied(rows: Sequence[Row]) -> List[str]:
     """The numbers that tell the designs of one machine apart."""
     machines = {row["design"] for row in rows}
-    return [name for name in NUMBERS
-            if any(len({row[name] for row in rows if row["design"] == machine}) > 1 for machine in machines)]
+    return [name for name in VARIED
+            if any(len({row.get(name) for row in rows if row["design"] == machine}) > 1 for machine in machines)]
 
 
 def name_of(row: Row, names: Sequence[str]) -> str:
@@ -83,13 +87,18 @@ def draw_bars(axes: Any, rows: Sequence[Row], name: str, by_parts: bool) -> None
         if name.startswith("recovery_") and any(value is not None for value in greatest):
             axes.plot(places, greatest, linestyle="", marker="_", markersize=9, color=BLACK)
             highest = max(highest, *(value for value in greatest if value is not None))
-    limit(axes, highest)
+    limit(axes, highest, "_ns" in name)
 
 
-def limit(axes: Any, highest: float) -> None:
-    """The axis of values from 0 to a little above the highest, its numbers with commas."""
+def limit(axes: Any, highest: float, is_time: bool = False) -> None:
+    """The axis of values from 0 to a little above the highest, its numbers with commas, or times with their units."""
     axes.set_ylim(0, 1.08 * highest or 1)
-    axes.yaxis.set_major_formatter(lambda value, _: f"{value:,.10g}")
+    axes.yaxis.set_major_formatter(time_mark if is_time else lambda value, _: f"{value:,.10g}")
+
+
+def time_mark(value: float, _: object) -> str:
+    """A mark of an axis of times."""
+    return time_text(value) if value > 0 else "0"
 
 
 def has_values(rows: Sequence[Row], name: str, by_parts: bool) -> bool:
@@ -131,8 +140,8 @@ def multiples(value: Dict[str, Any], title: str, kind: str) -> bytes:
 
 
 def trade_off(value: Dict[str, Any], title: str, kind: str) -> bytes:
-    """A point for each design: what a write takes against what a recovery takes, in ns where there are times, else in persist
-    steps against tags and digests. A line goes through those that no other one is better than in both."""
+    """A point for each design: what a write takes against what a recovery takes, as times if there are some, otherwise as persist steps
+    against tags and digests. A line goes through those that no other one is better than in both."""
     pyplot = load_matplotlib()
     from matplotlib.lines import Line2D
     rows = shown_rows(value)
@@ -155,8 +164,11 @@ def trade_off(value: Dict[str, Any], title: str, kind: str) -> bytes:
                   fontsize=7.5, color=DARK_GREY)
     axes.set_yscale("log")
     axes.set_xlim(left=0)
-    axes.set_xlabel("ns a line written, mean" if timed else "persist steps a line written, mean")
-    axes.set_ylabel("ns of a recovery, mean" if timed else "tags and digests of a recovery, mean")
+    axes.set_xlabel("time of a line written, mean" if timed else "persist steps a line written, mean")
+    axes.set_ylabel("time of a recovery, mean" if timed else "tags and digests of a recovery, mean")
+    if timed:
+        axes.xaxis.set_major_formatter(time_mark)
+        axes.yaxis.set_major_formatter(time_mark)
     axes.grid(color=GREY, linewidth=0.5, which="both")
     axes.margins(x=0.15, y=0.12)
     handles = [Line2D([], [], color=colour, marker=marker, linestyle="", label=design) for design, (colour, marker) in
@@ -200,7 +212,7 @@ def moments(value: Dict[str, Any], title: str, kind: str) -> bytes:
     panels = [("tags", places["tags"]), ("digests", places["digests"]), ("persist steps", places["steps"]),
               ("line reads", places["line_reads"])]
     if value["heads"]:
-        panels.append(("ns", len(RECOVERY) + 1))
+        panels.append((TIME, len(RECOVERY) + 1))
     columns = [[[point[0] for point in points]] + [[point[place] for point in points] for _, place in panels]
                for points in value["recoveries"]]
     return moment_panels(list(zip(names, columns)), [name for name, _ in panels], title_of(rows, title), value["heads"], kind)
@@ -231,7 +243,7 @@ def moment_panels(columns: Sequence[Tuple[str, Sequence[Sequence[float]]]], name
         grid[-1][column].set_xlabel("persist steps before the cut", fontsize=8)
     for place, text in enumerate(names):
         grid[place][0].set_ylabel(text, fontsize=8)
-        limit(grid[place][0], max(value for _, (_, *values) in columns for value in values[place]))
+        limit(grid[place][0], max(value for _, (_, *values) in columns for value in values[place]), text == TIME)
     figure.text(0.02, 1 - 0.08 / height, plain(title), ha="left", va="top", fontsize=10.5, fontweight="bold")
     for place, head in enumerate(heads):
         figure.text(0.02, 1 - (0.34 + 0.16 * place) / height, head, ha="left", va="top", fontsize=7, color=DARK_GREY)
@@ -283,7 +295,10 @@ def worn(value: Dict[str, Any], title: str, kind: str) -> bytes:
 def picture_of(value: Any, title: str, kind: str, is_trade_off: bool, is_moments: bool) -> Optional[bytes]:
     """The picture of what one of these commands wrote; None of any other value."""
     if isinstance(value, list) and value and all(isinstance(each, dict) and "steps_before" in each for each in value):
-        return cut_moments(value, title, kind)
+        try:
+            return cut_moments(value, title, kind)
+        except (KeyError, TypeError, IndexError, AttributeError, ValueError) as error:
+            raise ExploreError(f"this is not what explore cuts --json wrote: {error!r}") from error
     if not isinstance(value, dict):
         return None
     try:
@@ -292,5 +307,5 @@ def picture_of(value: Any, title: str, kind: str, is_trade_off: bool, is_moments
         if "endurance" in value:
             return worn(value, title, kind)
     except (KeyError, TypeError, IndexError, AttributeError, ValueError) as error:
-        raise ExploreError(f"this isn't what explore {'compare' if 'compare' in value else 'endurance'} --json wrote: {error!r}") from error
+        raise ExploreError(f"this is not what explore {'compare' if 'compare' in value else 'endurance'} --json wrote: {error!r}") from error
     return None

@@ -36,7 +36,7 @@ def verdict_of(status: int, said: bytes) -> Verdict:
     if status < 0:
         return Verdict(False, f"the check was ended by signal {-status} ({signal_name(-status)})", True)
     if status in CANNOT_RUN:
-        return Verdict(False, f"the check couldn't be run, status {status}" + (f": {last}" if last else ""), True)
+        return Verdict(False, f"the check could not be run, status {status}" + (f": {last}" if last else ""), True)
     return Verdict(status == 0, last or f"status {status}")
 
 

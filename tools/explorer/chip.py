@@ -12,15 +12,22 @@ CHIP_PARTS = ("cache", "shadow", "registers", "waiting")
 
 def chip_bytes(settings: Settings) -> Dict[str, int]:
     """The bytes of the metadata cache, of the copy of the shadow, of the registers, and of what waits to be written."""
-    levels, entry = settings.levels, LINE + POSITION
+    levels, position = settings.levels, position_bytes(settings)
+    entry = LINE + position
     if settings.machine_name == "tree":
         slots = 1 + levels * settings.sets
         height = 1
         while 4 ** height < slots:
             height += 1
-        return {"cache": slots * (4 * COUNTER + POSITION), "shadow": (4 ** (height + 1) - 1) // 3 * LINE,
+        return {"cache": slots * (4 * COUNTER + position), "shadow": (4 ** (height + 1) - 1) // 3 * LINE,
                 "registers": DIGEST + (levels + 3) * entry, "waiting": 0}
     slots = settings.sets * settings.ways
-    waiting = {"run": PORTS * QUEUE * entry, "wear": 2 * POSITION, "txn": TRANSACTION * entry}
+    waiting = {"run": PORTS * QUEUE * entry, "wear": 2 * position, "txn": TRANSACTION * entry}
     return {"cache": (levels + 1) * slots * entry, "shadow": ((slots + 15) // 16 + (levels * slots + 15) // 16) * LINE,
             "registers": DIGEST + 3 * entry + PAGES_OPEN * (entry + COUNTER) + 1, "waiting": waiting[settings.machine_name]}
+
+
+def position_bytes(settings: Settings) -> int:
+    """How many bytes the number of a device line takes: 4 in all memories that the program has."""
+    device_lines = 4 * settings.data_lines
+    return max(POSITION, (device_lines.bit_length() + 7) // 8)

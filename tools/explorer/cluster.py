@@ -3,22 +3,24 @@ program, this package, the trace) is put there once, by its digest; runs go seve
 the same as here."""
 import hashlib
 import importlib
+import json
 import logging
 import os
-import pickle
+import random
 import re
 import subprocess
 import sys
 from collections import deque
 from dataclasses import asdict
 from pathlib import Path
-from typing import Any, Callable, Deque, Dict, Iterable, Iterator, List, Optional, Sequence, Tuple, Type, TypeVar
+from typing import Any, Callable, Deque, Dict, Iterable, Iterator, List, Optional, Sequence, Set, Tuple, Type, TypeVar
 
-from .errors import WRONG_WORDS, ExploreError, reason_of
+from .errors import FAILURES, WRONG_WORDS, ExploreError, reason_of
 from .logged import LoggedProgram
 from .program import Output, Program, Question, Recording, Run
-from .remote import PROGRAM
+from .remote import PROGRAM, bytes_of_text, text_of_bytes
 from .together import Progress, Together
+from .trace import printable, read_bytes, shown_path
 
 PACKAGE = Path(__file__).resolve().parent
 PACKAGE_NAME = PACKAGE.name
@@ -29,7 +31,17 @@ LEAST_RUNS, LEAST_QUESTIONS = 4, 64
 UNDER_WAY = 3
 RETRIES = 3
 SECONDS_TO_CONNECT = 20
-ADDRESS = re.compile(r"(?:tcp|tls|ws|wss|ucx)://[^/\s]+:[0-9]{1,5}")
+# How long a first worker may take to join, if the command line doesn't say it.
+SECONDS_TO_JOIN = 60.0
+# How many answers of each search are compared with runs here.
+COMPARED = 2
+# A host's name, or its number in brackets; dask.distributed hangs for a while at anything else.
+ADDRESS = re.compile(r"(?:tcp|tls|ws|wss|ucx)://(?:(?:[\w-]{1,63}\.)*[\w-]{1,63}|\[[0-9A-Fa-f:.]{2,45}\]):([0-9]{1,5})", re.ASCII)
+LAST_PORT = 65535
+LARGEST_SCHEDULER_FILE = 1 << 20
+# What a worker may say: the statuses of a run, and how long a message is.
+RUN_STATUSES = range(-64, 256)
+LONGEST_MESSAGE = 1000
 # Those of dask.distributed: what is wrong is told here in one line.
 LOGGERS = ("distributed", "tornado", "asyncio")
 INSTALL = "Debian: python3-distributed; else: pip install distributed"
@@ -44,7 +56,42 @@ def load_distributed() -> Any:
         importlib.import_module("distributed.diagnostics.plugin")
         return importlib.import_module("distributed")
     except ImportError as error:
-        raise ExploreError(f"a cluster needs dask.distributed, which {sys.executable} hasn't ({INSTALL})") from error
+        raise ExploreError(f"a cluster needs dask.distributed, which {sys.executable} lacks ({INSTALL})") from error
+
+
+def is_address(text: str) -> bool:
+    """Whether a text is the address of a scheduler."""
+    found = ADDRESS.fullmatch(text)
+    return found is not None and 1 <= int(found[1]) <= LAST_PORT
+
+
+def scheduler_at(text: str) -> str:
+    """The scheduler's address: the text itself, or what the scheduler wrote into the file of this name (--scheduler-file)."""
+    if is_address(text):
+        return text
+    wrong = ExploreError(f"{shown_path(text)} is not the address of a scheduler, such as tcp://127.0.0.1:8786 or tls://127.0.0.1:8786, "
+                         "nor a file that a scheduler wrote", WRONG_WORDS)
+    try:
+        value = json.loads(read_bytes(text, LARGEST_SCHEDULER_FILE))
+    except (ExploreError, ValueError, RecursionError) as error:
+        raise wrong from error
+    address = value.get("address") if isinstance(value, dict) else None
+    if not isinstance(address, str) or not is_address(address):
+        raise wrong
+    return address
+
+
+def check_tls(distributed: Any, address: str) -> None:
+    """That there are certificates for an address that needs them."""
+    if not address.startswith(("tls://", "wss://")):
+        return
+    try:
+        found = distributed.Security().get_connection_args("client").get("ssl_context")
+    except (OSError, ValueError) as error:
+        raise ExploreError(f"the certificates for {address} cannot be read: {error}") from error
+    if found is None:
+        raise ExploreError(f"{address} needs certificates: set DASK_DISTRIBUTED__COMM__TLS__CA_FILE, and __TLS__CLIENT__CERT and "
+                           "__TLS__CLIENT__KEY likewise (docs/CLUSTER.md)")
 
 
 def digest_of(data: bytes) -> str:
@@ -95,11 +142,11 @@ def plugin_of(distributed: Any, folder: str, files: Files) -> Any:
 class Cluster:
     """A cluster by the address of its scheduler, and the files that were put at its workers."""
 
-    def __init__(self, address: str, program: str) -> None:
-        if not ADDRESS.fullmatch(address):
-            raise ExploreError(f"{address} is no address of a scheduler, such as tcp://127.0.0.1:8786", WRONG_WORDS)
-        self.address = address
+    def __init__(self, address: str, program: str, wait: float = SECONDS_TO_JOIN) -> None:
+        self.address = scheduler_at(address)
+        self.wait = wait
         self.distributed = load_distributed()
+        check_tls(self.distributed, self.address)
         for name in LOGGERS:
             logging.getLogger(name).setLevel(logging.CRITICAL)
         importlib.import_module("cloudpickle").register_pickle_by_value(sys.modules[__name__])
@@ -115,8 +162,16 @@ class Cluster:
 
     def connected(self) -> Any:
         """The client, once a worker is there."""
-        client = self.distributed.Client(self.address, timeout=SECONDS_TO_CONNECT, set_as_default=False)
-        client.wait_for_workers(1, timeout=SECONDS_TO_CONNECT)
+        # Here, as the other commands don't need it.
+        import asyncio
+        try:
+            client = self.distributed.Client(self.address, timeout=SECONDS_TO_CONNECT, set_as_default=False)
+        except ImportError as error:
+            raise ExploreError(f"dask.distributed of {sys.executable} cannot reach {self.address}: {printable(str(error))}") from error
+        try:
+            client.wait_for_workers(1, timeout=self.wait)
+        except (asyncio.TimeoutError, TimeoutError) as error:
+            raise ExploreError(f"the cluster at {self.address} has no workers after {self.wait:g} s (--cluster-wait)") from error
         return client
 
     def asked(self, what: Callable[[], Item]) -> Item:
@@ -132,7 +187,7 @@ class Cluster:
         except self.distributed.KilledWorker as error:
             raise ExploreError(f"the cluster at {self.address} has lost the workers of a task, one after the other") from error
         except lost as error:
-            raise ExploreError(f"the cluster at {self.address} doesn't answer, or is gone") from error
+            raise ExploreError(f"the cluster at {self.address} does not answer, or is gone") from error
 
     def put(self, files: Files) -> None:
         """Puts files at all workers, but for those that are there."""
@@ -162,7 +217,7 @@ class Cluster:
         under_way: Deque[Any] = deque()
         try:
             for batch in batches:
-                under_way.append(self.client.submit(do_batch, self.folder, pickle.dumps(batch, protocol=4), pure=False,
+                under_way.append(self.client.submit(do_batch, self.folder, json.dumps(batch).encode("ascii"), pure=False,
                                                     retries=RETRIES))
                 if len(under_way) >= most:
                     yield self.result(under_way[0])
@@ -177,12 +232,45 @@ class Cluster:
     def result(self, future: Any) -> Any:
         """What one batch gives."""
         try:
-            kind, value = pickle.loads(self.asked(future.result))
+            answer = self.asked(future.result)
         except RuntimeError as error:
             raise ExploreError(f"a worker of the cluster at {self.address} failed: {error}") from error
-        if kind == "wrong":
-            raise ExploreError(*value)
-        return value
+        return answer_of(answer, self.address)
+
+
+def answer_of(answer: Any, address: str) -> List[Any]:
+    """What a worker's answer says, which is JSON: what was done, or what is wrong."""
+    try:
+        value = json.loads(answer) if isinstance(answer, bytes) else None
+    except (ValueError, RecursionError):
+        value = None
+    if isinstance(value, dict) and isinstance(value.get("done"), list):
+        done: List[Any] = value["done"]
+        return done
+    wrong = value.get("wrong") if isinstance(value, dict) else None
+    if isinstance(wrong, list) and list(map(type, wrong)) == [str, int] and wrong[1] in FAILURES:
+        raise ExploreError(printable(wrong[0][:LONGEST_MESSAGE]), wrong[1])
+    raise not_as_asked(address)
+
+
+def not_as_asked(address: str) -> ExploreError:
+    """What is reported of a worker that answers something else than what it was asked."""
+    return ExploreError(f"a worker of the cluster at {address} does not answer what it was asked")
+
+
+def checked_texts(found: Sequence[Any], asked: int, address: str) -> List[bytes]:
+    """Answers that are texts of bytes, as many as were asked for."""
+    if len(found) != asked or not all(isinstance(text, str) and text.isascii() for text in found):
+        raise not_as_asked(address)
+    return list(map(bytes_of_text, found))
+
+
+def checked_outputs(found: Sequence[Any], asked: int, address: str) -> List[Output]:
+    """Answers that are outputs: each a text of bytes and a status, as many as were asked for."""
+    if not all(isinstance(each, list) and len(each) == 2 and type(each[1]) is int and each[1] in RUN_STATUSES for each in found):
+        raise not_as_asked(address)
+    texts = checked_texts([text for text, _ in found], asked, address)
+    return [Output(text, status) for text, (_, status) in zip(texts, found)]
 
 
 class ClusterTogether(Together):
@@ -196,12 +284,19 @@ class ClusterTogether(Together):
     def runs(self, tasks: Sequence[Run], what: str) -> Iterator[Output]:
         named = [(self.cluster.named(run.script), asdict(run.settings)) for run in tasks]
         common: Dict[str, Any] = {"program": f"./{PROGRAM}", "logged": isinstance(self.program, LoggedProgram)}
-        batches = ({**common, "runs": some} for some in pieces(named, self.batch_size(len(tasks), LEAST_RUNS)))
-        progress, done = Progress(what, len(tasks)), 0
+        sizes: Deque[int] = deque()
+
+        def batches() -> Iterator[Dict[str, Any]]:
+            for some in pieces(named, self.batch_size(len(tasks), LEAST_RUNS)):
+                sizes.append(len(some))
+                yield {**common, "runs": some}
+
+        progress, done, compared = Progress(what, len(tasks)), 0, some_places(len(tasks))
         try:
-            for outputs in self.cluster.results(batches):
-                for data, status in outputs:
-                    output = Output(data, status)
+            for found in self.cluster.results(batches()):
+                for output in checked_outputs(found, sizes.popleft(), self.cluster.address):
+                    if done in compared and output != self.program.output(tasks[done]):
+                        raise self.differs()
                     self.program.check(output, tasks[done].settings)
                     done += 1
                     progress.reach(done)
@@ -215,27 +310,39 @@ class ClusterTogether(Together):
                   "settings": asdict(recording.settings), "name": recording.trace.name,
                   "trace": self.cluster.named(recording.trace.data), "output": self.cluster.named(recording.output),
                   "status": recording.status, "from_start": self.from_start}
-        asked: Deque[Question] = deque()
+        asked: Deque[List[Question]] = deque()
 
         def batches() -> Iterator[Dict[str, Any]]:
             for some in pieces(questions, self.batch_size(total, LEAST_QUESTIONS)):
-                asked.extend(some)
-                yield {**common, "questions": [(each.index, each.script, each.tail) for each in some]}
+                asked.append(some)
+                yield {**common, "questions": [(each.index, list(map(text_of_bytes, each.script)), text_of_bytes(each.tail)) for each in some]}
 
-        progress, done = Progress(what, total), 0
+        progress, done, compared = Progress(what, total), 0, some_places(total)
         try:
             for found in self.cluster.results(batches()):
-                for data in found:
+                some = asked.popleft()
+                for question, data in zip(some, checked_texts(found, len(some), self.cluster.address)):
+                    if done in compared and data != recording.answer(question, recording.program.output(recording.run_of(question))):
+                        raise self.differs()
                     done += 1
                     progress.reach(done)
-                    yield asked.popleft(), data
+                    yield question, data
         finally:
             progress.end()
+
+    def differs(self) -> ExploreError:
+        """What is reported of an answer that isn't the one here."""
+        return ExploreError(f"the cluster at {self.cluster.address} answers otherwise than the program here")
 
     def batch_size(self, total: int, least: int) -> int:
         """How many runs go to a task: enough that it is no matter of milliseconds, where all workers have some then."""
         slots = self.cluster.slots
         return min(LARGEST_BATCH, max(1, min(least, total // slots), total // (BATCHES_OF_SLOT * slots)))
+
+
+def some_places(total: int) -> Set[int]:
+    """Which of that many answers are compared with runs here; nobody can know them beforehand."""
+    return set(random.SystemRandom().sample(range(total), min(COMPARED, total)))
 
 
 def pieces(items: Iterable[Item], size: int) -> Iterator[List[Item]]:

@@ -6,11 +6,12 @@ from collections import Counter
 from dataclasses import dataclass, field
 from typing import Any, Dict, Iterator, List, Mapping, Optional, Sequence, Tuple
 
-from .accounts import COUNTS, PART_WORDS, Account, Accountant, added
+from .accounts import COUNTS, DATA_PART, PART_WORDS, Account, Accountant, added
 from .chip import CHIP_PARTS, chip_bytes
-from .convert import Converted, converted, levels_for
-from .costs import Costs, Spent
+from .convert import Converted, converted, levels_for, outside_text
+from .costs import SPLIT, Costs, Spent, heads_of
 from .errors import WRONG_WORDS, ExploreError
+from .layout import layout_of
 from .logged import LoggedProgram, LoggedRecording, entries_of
 from .output import csv_text, json_text, latex_text, table_text
 from .program import Question, Run, first_word, text_of
@@ -19,11 +20,18 @@ from .together import Together
 from .trace import Trace, trace_of
 
 CUTS = 200
+LINE_BYTES = 64
 COLUMNS = 6
 NUMBERS = ("levels", "sets", "ways", "loss", "every")
 RECOVERY = ("tags", "digests", "steps", "line_reads", "line_writes")
 RECOVERY_TEXTS = {"tags": "tags (trials)", "digests": "digests", "steps": "persist steps", "line_reads": "line reads",
                   "line_writes": "line writes"}
+# The baseline: a memory without ciphers, tags, counters, trees and logs, which takes one line write a write and one line read a read.
+# It isn't a machine of the program: what it takes follows from the workload.
+PLAIN = "plain"
+# What is told of each design in units of the baseline, and the row that it is made of.
+OVER_PLAIN = {"over_plain_line_writes": "write_line_writes", "over_plain_ns": "write_ns", "over_plain_nj": "write_nj",
+              "over_plain_device_bytes": "device_bytes"}
 DONE = ("ok", "line", "on", "off", "already", "stat")
 END = (b"off", b"on")
 
@@ -106,13 +114,12 @@ class Comparison:
         name = f"{least.settings.machine_name} with {least.settings.levels} levels"
         told = []
         if self.folded:
-            told.append(f"each line is the one with its remainder modulo {self.lines}, the lines of {name}")
+            told.append(f"each line is put onto the line with its remainder modulo {self.lines}, the lines of {name}")
         for note in made.notes:
             if not note.startswith("left out, as run") and not note.startswith(f"left out, as {made.machine_name} "):
                 told.append(note)
         if made.outside:
-            told.insert(0, f"left out of all, as {name} has the lines 0 to {self.lines - 1} alone: writes and reads of others: "
-                           f"{sum(made.outside.values())}, of so many lines: {len(made.outside)}")
+            told.insert(0, f"left out of all, as {name} has only {outside_text(self.lines, made.outside)}")
         split = max(found.made.split for found in workloads)
         if split and not made.split:
             told.append(f"fences of more than 15 lines, which are several transactions of txn each: {split}")
@@ -156,7 +163,7 @@ class Comparison:
         for (index, number, before), (_, data) in zip(some, self.together.answers(recording, questions, len(questions), what)):
             entries = entries_of(data, self.program.path)
             if len(entries) < 3 or not entries[1].reply.is_cut:
-                raise ExploreError(f"{recording.trace.name}: {recording.commands[index].short} of {found.settings.machine_name} isn't "
+                raise ExploreError(f"{recording.trace.name}: {recording.commands[index].short} of {found.settings.machine_name} is not "
                                    f"cut after {number} steps")
             yield Recovered(before, entries[2].reply.answer, accountant.account("on", entries[2]))
 
@@ -185,7 +192,7 @@ def rounded(value: Any) -> Any:
 def row_of(found: Found, trace_name: str, costs: Optional[Costs]) -> Row:
     """What a workload took on a design, by name. What a design hasn't, or what there is no figure of, is None."""
     settings = found.settings
-    row: Row = {"trace": trace_name, "design": settings.machine_name}
+    row: Row = {"trace": trace_name, "design": settings.machine_name, "figures": costs.name if costs else None}
     row.update((name, getattr(settings, name) if name in settings.machine.options else None) for name in NUMBERS)
     row.update({"memory_lines": settings.data_lines, "writes": found.count("write"), "reads": found.count("read"),
                 "fences": len(found.of("write")), "power_cycles": len(found.of("on"))})
@@ -195,6 +202,9 @@ def row_of(found: Found, trace_name: str, costs: Optional[Costs]) -> Row:
         row.update((f"{kind}_{name}", numbers[name] / count if count else None) for name in COUNTS)
     row.update((f"chip_{name}", number) for name, number in chip_bytes(settings).items())
     row["chip_bytes"] = sum(chip_bytes(settings).values())
+    row["chip_same_basis"] = row["chip_bytes"] - row["chip_waiting"]
+    device = layout_of(settings)
+    row.update(device_bytes=LINE_BYTES * device.size, device_bytes_of_line=device.size / device.data_lines * LINE_BYTES)
     done = [each for each in found.recoveries if each.is_done]
     row.update({"recoveries": len(found.recoveries), "recoveries_of": found.cuts,
                 "recoveries_refused": len(found.recoveries) - len(done)})
@@ -215,7 +225,10 @@ def times_of(found: Found, done: Sequence[Recovered], costs: Costs) -> Row:
             ("recovery", len(done), [costs.spent(each.account, True) for each in done])):
         row.update((f"{kind}_ns_{name}", value) for name, value in summary([spent.ns for spent in all_spent]).items())
         total = together_spent(all_spent)
-        row[f"{'write' if kind == 'fence' else kind}_nj"] = total.nj / lines if lines else None
+        line = "write" if kind == "fence" else kind
+        row[f"{line}_nj"] = total.nj / lines if lines else None
+        for unit, split in (("ns", total.ns_split), ("nj", total.nj_split)):
+            row.update((f"{line}_{unit}_{word}", amount / lines if lines else None) for word, amount in zip(SPLIT, split))
         row[f"{kind}_dominant"] = total.dominant if all_spent else None
         row[f"{kind}_shares"] = [rounded(share / total.ns) if total.ns else 0.0 for share in total.shares] if all_spent else None
         if kind == "fence":
@@ -227,8 +240,42 @@ def times_of(found: Found, done: Sequence[Recovered], costs: Costs) -> Row:
 
 def together_spent(all_spent: Sequence[Spent]) -> Spent:
     """What several took, one after the other."""
-    shares = tuple(map(sum, zip(*(spent.shares for spent in all_spent)))) if all_spent else (0.0,)
-    return Spent(sum(spent.ns for spent in all_spent), sum(spent.nj for spent in all_spent), shares)
+    if not all_spent:
+        return Spent(0.0, 0.0, (0.0,))
+    shares, ns_split, nj_split = (tuple(map(sum, zip(*some))) for some in zip(*((each.shares, each.ns_split, each.nj_split) for each in all_spent)))
+    return Spent(sum(spent.ns for spent in all_spent), sum(spent.nj for spent in all_spent), shares, ns_split, nj_split)
+
+
+def plain_of(found: Found, lines: int) -> Found:
+    """What the baseline takes for a design's workload, over a memory of that many lines."""
+    plain = Found(found.settings, found.levels, found.made)
+    for unit in found.made.units:
+        account = Account()
+        if unit.kind == "write":
+            account.writes[DATA_PART] = account.single_writes = unit.lines
+        elif unit.kind == "read":
+            account.reads[DATA_PART] = unit.lines
+            account.read_runs[unit.lines] += 1
+        plain.units.append((unit.kind, unit.lines, account))
+    plain.total = added([account for _, _, account in plain.units])
+    return plain
+
+
+def plain_row(found: Found, trace_name: str, costs: Optional[Costs], lines: int) -> Row:
+    """The row of the baseline. It has nothing on the chip, and no recovery."""
+    row = row_of(plain_of(found, lines), trace_name, costs)
+    row.update({name: None for name in (*NUMBERS, "recoveries", "recoveries_of", "recoveries_refused", "recovery_dominant")})
+    row.update({name: 0 for name in row if name.startswith("chip_")})
+    row.update(design=PLAIN, memory_lines=lines, device_bytes=LINE_BYTES * lines, device_bytes_of_line=LINE_BYTES)
+    return row
+
+
+def with_baseline(rows: Sequence[Row], plain: Row) -> List[Row]:
+    """The baseline, and rows with what they are in units of it."""
+    def over(row: Row, name: str) -> Optional[float]:
+        return None if row.get(name) is None or not plain.get(name) else rounded(row[name] / plain[name])
+
+    return [{**row, **{name: over(row, of) for name, of in OVER_PLAIN.items()}} for row in [plain, *rows]]
 
 
 def mean_rows(rows_of_traces: Sequence[Sequence[Row]]) -> List[Row]:
@@ -238,7 +285,7 @@ def mean_rows(rows_of_traces: Sequence[Sequence[Row]]) -> List[Row]:
         mean: Row = {}
         for name, first in rows[0].items():
             values = [row[name] for row in rows if row[name] is not None]
-            if name in ("trace", *NUMBERS, "design") or not all(isinstance(value, (int, float)) for value in values):
+            if name in ("trace", *NUMBERS, "design", "figures") or not all(isinstance(value, (int, float)) for value in values):
                 mean[name] = first if all(value == first for value in values) else None
             elif name.endswith("_greatest"):
                 mean[name] = max(values, default=None)
@@ -248,10 +295,11 @@ def mean_rows(rows_of_traces: Sequence[Sequence[Row]]) -> List[Row]:
     return means
 
 
+SPLIT_TEXTS = {"chip": "latches, pads, tags, digests"}
 # The lines of the table: a heading, or a name and what it is called.
 SECTIONS: Tuple[Tuple[str, Tuple[Tuple[str, str], ...]], ...] = (
     ("design", (("levels", "levels"), ("sets", "sets"), ("ways", "ways"), ("loss", "stop-loss number"),
-                ("every", "writes between moves"), ("memory_lines", "lines of memory"))),
+                ("every", "writes between moves"), ("memory_lines", "lines of memory"), ("figures", "figures"))),
     ("workload", (("writes", "lines written"), ("fences", "drains and fences of them"), ("reads", "lines read"))),
     ("a line written", (("write_steps", "persist steps"), ("write_line_writes", "line writes"),
                         *((f"write_writes_{word}", f"  {word}") for word in PART_WORDS),
@@ -266,7 +314,11 @@ SECTIONS: Tuple[Tuple[str, Tuple[Tuple[str, str], ...]], ...] = (
     *((f"a recovery, {of}", tuple((f"recovery_{name}_{of}", RECOVERY_TEXTS[name]) for name in RECOVERY))
       for of in ("mean", "greatest")),
     ("bytes on the chip", (("chip_bytes", "all"), *((f"chip_{name}", f"  {what}") for name, what in zip(
-        CHIP_PARTS, ("metadata cache", "copy of the shadow", "registers", "what waits"))))),
+        CHIP_PARTS, ("metadata cache", "copy of the shadow", "registers", "what waits"))),
+                           ("chip_same_basis", "all but what waits"))),
+    ("bytes on the device", (("device_bytes", "all"), ("device_bytes_of_line", "for a line of 64 bytes"))),
+    ("times those of plain", (("over_plain_line_writes", "line writes, a line written"), ("over_plain_ns", "ns, a line written"),
+                              ("over_plain_nj", "nJ, a line written"), ("over_plain_device_bytes", "bytes on the device"))),
     ("ns of a drain or fence", (("fence_ns_mean", "mean"), ("fence_ns_median", "median"), ("fence_ns_p99", "99th percentile"),
                                 ("fence_ns_greatest", "greatest"), ("fence_dominant", "most of it"),
                                 ("write_ns", "a line written"), ("write_nj", "nJ a line written"))),
@@ -274,6 +326,8 @@ SECTIONS: Tuple[Tuple[str, Tuple[Tuple[str, str], ...]], ...] = (
                       ("read_ns_greatest", "greatest"), ("read_dominant", "most of it"), ("read_nj", "nJ"))),
     ("ns of a recovery", (("recovery_ns_mean", "mean"), ("recovery_ns_median", "median"), ("recovery_ns_p99", "99th percentile"),
                           ("recovery_ns_greatest", "greatest"), ("recovery_dominant", "most of it"), ("recovery_nj", "nJ"))),
+    *((f"{unit} of {what}, by part", tuple((f"{kind}_{unit.lower()}_{word}", f"  {SPLIT_TEXTS.get(word, word)}") for word in SPLIT))
+      for unit in ("ns", "nJ") for kind, what in (("write", "a line written"), ("read", "a line read"), ("recovery", "a recovery"))),
 )
 
 
@@ -292,12 +346,33 @@ def lines_of(rows: Sequence[Row]) -> List[List[str]]:
     lines: List[List[str]] = []
     for heading, names in SECTIONS:
         some = [[f"  {text}", *(cell(row.get(name)) for row in rows)] for name, text in names
-                if any(row.get(name) is not None for row in rows) and (text[0] != " " or any(row.get(name) for row in rows))]
+                if is_shown(rows, name, text)]
         if some and heading == "design":
             lines += some
         elif some:
             lines += [[heading, *("" for _ in rows)], *some]
     return lines
+
+
+def is_shown(rows: Sequence[Row], name: str, text: str) -> bool:
+    """Whether any of the rows has such a number; parts that are 0 for all aren't shown, and neither is the one file of figures, which
+    stands above."""
+    values = [row.get(name) for row in rows]
+    if name == "figures":
+        return len(set(values)) > 1
+    return any(value is not None for value in values) and (text[0] != " " or any(values))
+
+
+# Each row that a table may have: its name, as in CSV and JSON, and what it is called by itself.
+ROW_TEXTS: Dict[str, str] = {name: f"{heading}: {text.strip()}" for heading, names in SECTIONS for name, text in names}
+
+
+def chosen_lines(rows: Sequence[Row], names: Sequence[str]) -> List[List[str]]:
+    """The lines of these names, in this order. What there is no figure of is an error."""
+    missing = [name for name in names if all(row.get(name) is None for row in rows)]
+    if missing:
+        raise ExploreError(f"--rows: there is nothing named {missing[0]} here", WRONG_WORDS)
+    return [[ROW_TEXTS[name], *(cell(row.get(name)) for row in rows)] for name in names]
 
 
 def table_of(rows: Sequence[Row]) -> str:
@@ -333,11 +408,13 @@ class Compared:
             parts.append(("\n" if parts else "") + title + table_of(rows))
         return "".join(parts) + "\n" + "".join(f"{note}\n" for note in self.notes)
 
-    def latex(self) -> str:
-        """The last table, of the means where there are several traces, for LaTeX; heads and notes are comments."""
+    def latex(self, names: Sequence[str] = ()) -> str:
+        """The last table, of the means if there are several traces, for LaTeX, or the rows of these names; heads and notes are
+        comments."""
         rows = self.means or self.rows[-1]
         table = latex_text(["", *(row["design"] for row in rows)], [
-            [line[0].strip() if line[0][:4] != " " * 4 else f"of them {line[0].strip()}", *line[1:]] for line in lines_of(rows)], left=(0,))
+            [line[0].strip() if line[0][:4] != " " * 4 else f"of them {line[0].strip()}", *line[1:]] for line in
+            (chosen_lines(rows, names) if names else lines_of(rows))], left=(0,))
         return table + "".join(f"% {note}\n" for note in [*self.heads, *self.notes])
 
     def csv(self) -> str:
@@ -351,8 +428,9 @@ class Compared:
                           "designs": self.every, "recoveries": self.moments})
 
 
-def compare(traces: Sequence[Trace], comparison: Comparison, costs: Optional[Costs]) -> Compared:
-    """Compares designs on traces. What isn't in a workload is told on standard error before anything runs."""
+def compare(traces: Sequence[Trace], comparison: Comparison, costs: Sequence[Costs], has_plain: bool = False) -> Compared:
+    """Compares designs on traces, with the figures of each file, and with the baseline. What isn't in a workload is told on standard error
+    before anything runs."""
     workloads = [comparison.workloads(trace) for trace in traces]
     notes = [note for trace, some in zip(traces, workloads) for note in comparison.notes(trace, some)]
     for note in notes:
@@ -361,13 +439,32 @@ def compare(traces: Sequence[Trace], comparison: Comparison, costs: Optional[Cos
         if not some[0].made.units:
             raise ExploreError(f"{trace.name} has no write, read or power cycle that all these designs can do", WRONG_WORDS)
     comparison.run(traces, workloads)
-    rows = [[row_of(found, trace.name, costs) for found in some] for trace, some in zip(traces, workloads)]
+    rows = [rows_of(trace, some, costs, comparison.lines if has_plain else 0) for trace, some in zip(traces, workloads)]
     notes += [note for trace, some in zip(traces, workloads) for found in some for note in notes_of(trace, found)]
     notes += cuts_note([found for some in workloads for found in some])
-    moments = [[[each.steps, *(each.account.numbers()[name] for name in RECOVERY),
-                 *([rounded(costs.spent(each.account, True).ns)] if costs else [])]
-                for each in sorted(found.recoveries, key=lambda each: each.steps) if each.is_done] for some in workloads for found in some]
-    return Compared(rows, mean_rows(rows) if len(rows) > 1 else [], costs.heads() if costs else [], notes, moments)
+    moments = [moments_of(found, each) for some in workloads for each in each_or_none(costs) for found in some]
+    return Compared(rows, mean_rows(rows) if len(rows) > 1 else [], heads_of(costs), notes, moments)
+
+
+def rows_of(trace: Trace, workloads: Sequence[Found], costs: Sequence[Costs], plain_lines: int) -> List[Row]:
+    """The rows of a trace: the designs with the figures of each file, the baseline first if its memory has lines."""
+    every: List[Row] = []
+    for each in each_or_none(costs):
+        rows = [row_of(found, trace.name, each) for found in workloads]
+        every += with_baseline(rows, plain_row(workloads[0], trace.name, each, plain_lines)) if plain_lines else rows
+    return every
+
+
+def each_or_none(costs: Sequence[Costs]) -> List[Optional[Costs]]:
+    """Each file of figures, or None if there are none."""
+    return list(costs) or [None]
+
+
+def moments_of(found: Found, costs: Optional[Costs]) -> List[List[Any]]:
+    """What each recovery took, by the steps before its cut."""
+    done = [each for each in sorted(found.recoveries, key=lambda each: each.steps) if each.is_done]
+    return [[each.steps, *(each.account.numbers()[name] for name in RECOVERY),
+             *([rounded(costs.spent(each.account, True).ns)] if costs else [])] for each in done]
 
 
 def notes_of(trace: Trace, found: Found) -> List[str]:

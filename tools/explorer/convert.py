@@ -36,7 +36,9 @@ def levels_for(machine_name: str, levels: int) -> int:
     """The levels by which a machine has the memory that `run` has with so many, but for the lines of its own."""
     wanted = levels + LEVELS_OF_TREE if machine_name == "tree" else levels
     if wanted not in LEVELS:
-        raise ExploreError(f"{machine_name} has no memory as large as that of run with {levels} levels", WRONG_WORDS)
+        most = MACHINES[machine_name].data_lines(LEVELS[-1])
+        raise ExploreError(f"{machine_name} has no memory as large as that of run with {levels} levels: at most {most:,} lines, as run with "
+                           f"{LEVELS[-1] - LEVELS_OF_TREE} levels (explore bounds prints what larger ones would take)", WRONG_WORDS)
     return wanted
 
 
@@ -71,12 +73,11 @@ class Converted:
         """What a reader should know before it is run."""
         told = []
         if self.outside:
-            told.append(f"left out, as {self.machine_name} has the lines 0 to {self.data_lines - 1} alone: writes and reads of others: "
-                        f"{sum(self.outside.values())}, of so many lines: {len(self.outside)}")
+            told.append(f"left out, as {self.machine_name} has only {outside_text(self.data_lines, self.outside)}")
         if self.left_out:
             told.append("left out: " + ", ".join(f"{count} {word}" for word, count in sorted(self.left_out.items())))
         if self.whole:
-            told.append(f"writes of a part of a line, which are of the whole line here: {self.whole}")
+            told.append(f"writes of a part of a line, which write the whole line here: {self.whole}")
         if self.split:
             told.append(f"fences of more than {LINES_OF_TRANSACTION} lines, which are several transactions each: {self.split}")
         if self.read_past_queue:
@@ -86,8 +87,13 @@ class Converted:
         return told
 
 
+def outside_text(data_lines: int, outside: Dict[int, int]) -> str:
+    """Which lines there are, and how many others the trace names."""
+    return f"the lines 0 to {data_lines - 1}: other lines: {len(outside)}, writes and reads of them: {sum(outside.values())}"
+
+
 def wrong(command: Command, why: str) -> ExploreError:
-    """What is told of a line that is no command."""
+    """The error for a line that is not a command."""
     return ExploreError(f"line {command.number} of the trace {why}: {shown_line(command.text)}")
 
 
@@ -113,7 +119,7 @@ class Converter:
         """The workload of these commands."""
         for command in commands:
             if len(command.words) != WORDS.get(command.word):
-                raise wrong(command, "is no command of pmem run")
+                raise wrong(command, "is not a command of pmem run")
             self.add(command)
         self.made.never_written += sum(map(len, self.queues)) if not self.as_they_are else 0
         self.made.left_out, self.made.outside = dict(self.left_out), dict(self.outside)
@@ -145,7 +151,7 @@ class Converter:
         """A number of a command."""
         number = number_of(word)
         if number is None or number >= above:
-            raise wrong(command, f"has {word} in place of a number below {above}")
+            raise wrong(command, f"has {word} instead of a number below {above}")
         return number
 
     def power(self, word: str) -> None:

@@ -7,14 +7,20 @@ from dataclasses import dataclass
 from pathlib import Path
 from typing import Any, Dict, List, Sequence, Tuple
 
-from .accounts import Account
+from .accounts import PART_WORDS, Account
 from .errors import ExploreError
-from .trace import read_bytes
+from .trace import printable, read_bytes, shown_path
 
 FOLDER = Path(__file__).resolve().parent / "costs"
 # What takes time, in the order in which it is told.
 RESOURCES = ("line reads", "line writes", "latches", "pads", "tags", "digests")
+# The most letters of an unknown key that a message shows.
+LONGEST_KEY = 80
+# The most bytes of a file of costs.
+LARGEST_TOML = 1 << 20
 ASSUMED = "assumed"
+NOT_MODELLED = ("not modelled: banks, row buffers, queues, refresh, contention, the processor and its caches, power at rest; "
+                "commands come one after the other")
 # The tables of a file, and the entries of each with their fields: a field is a number, or one that may be left out.
 TABLES: Dict[str, Dict[str, Tuple[str, ...]]] = {
     "device": {"read": ("ns", "nj"), "write": ("ns", "nj"), "endurance": ("writes",)},
@@ -23,6 +29,8 @@ TABLES: Dict[str, Dict[str, Tuple[str, ...]]] = {
                 "recovery_digests": ("every_ns",), "pad_beside_read": ("holds",)},
 }
 SOURCE = "source"
+# What time and energy are split into: the parts of the device, read and written, and what is done on the chip.
+SPLIT = (*PART_WORDS, "chip")
 
 
 @dataclass(frozen=True)
@@ -45,6 +53,8 @@ class Spent:
     ns: float
     nj: float
     shares: Tuple[float, ...]
+    ns_split: Tuple[float, ...] = (0.0,) * len(SPLIT)
+    nj_split: Tuple[float, ...] = (0.0,) * len(SPLIT)
 
     @property
     def dominant(self) -> str:
@@ -84,10 +94,14 @@ class Costs:
             pad * account.pads - hidden * account.pads_opening,
             self.many("tag", account.tags, is_recovery),
             self.many("digest", account.digests, is_recovery))
-        energy = sum(self.of(f"{figure}.nj") * count for figure, count in (
-            ("device.read", sum(account.reads)), ("device.write", sum(account.writes)), ("chip.latch", account.latches),
-            ("chip.pad", account.pads), ("chip.tag", account.tags), ("chip.digest", account.digests)))
-        return Spent(sum(shares), energy, shares)
+        return Spent(sum(shares), sum(self.energies(account)), shares, split_ns(account, shares), self.energies(account))
+
+    def energies(self, account: Account) -> Tuple[float, ...]:
+        """The energy, split as `SPLIT` says."""
+        read, write = self.of("device.read.nj"), self.of("device.write.nj")
+        chip = sum(self.of(f"chip.{unit}.nj") * count for unit, count in (
+            ("latch", account.latches), ("pad", account.pads), ("tag", account.tags), ("digest", account.digests)))
+        return (*(read * reads + write * writes for reads, writes in zip(account.reads, account.writes)), chip)
 
     def many(self, what: str, count: int, is_recovery: bool) -> float:
         """The time of so many tags or digests: one after the other, but in a recovery begun at the unit's pace."""
@@ -102,8 +116,18 @@ class Costs:
         return [
             f"times and energy: {self.title}",
             f"figures: {self.name}, {assumed} of {len(self.figures)} assumed",
-            "not modelled: banks, row buffers, queues, refresh, contention, the processor and its caches, power at rest; "
-            "commands come one after the other"]
+            NOT_MODELLED]
+
+
+def heads_of(every: Sequence[Costs]) -> List[str]:
+    """The same of several files."""
+    return [*(head for costs in every for head in costs.heads() if head != NOT_MODELLED), *([NOT_MODELLED] if every else [])]
+
+
+def split_ns(account: Account, shares: Sequence[float]) -> Tuple[float, ...]:
+    """The time of what `shares` has by resource, split as `SPLIT` says. Accesses that go side by side have equal parts of the time."""
+    of_read, of_write = (share / (sum(counts) or 1) for share, counts in zip(shares, (account.reads, account.writes)))
+    return (*(of_read * reads + of_write * writes for reads, writes in zip(account.reads, account.writes)), sum(shares[2:]))
 
 
 def turns(runs: Dict[int, int], at_once: float) -> int:
@@ -116,7 +140,7 @@ def file_of(name: str) -> str:
     if "/" not in name and not name.endswith(".toml"):
         path = FOLDER / f"{name}.toml"
         if not path.is_file():
-            raise ExploreError(f"there are no figures named {name}: {', '.join(bundled())}, or the path of a file in .toml")
+            raise ExploreError(f"there are no figures named {shown_path(name)}: {', '.join(bundled())}, or the path of a file in .toml")
         return str(path)
     return name
 
@@ -140,23 +164,24 @@ def read_costs(name: str) -> Costs:
     toml = load_toml()
     path = file_of(name)
     try:
-        value = toml.loads(read_bytes(path).decode("utf-8"))
+        value = toml.loads(read_bytes(path, LARGEST_TOML).decode("utf-8"))
     except (ValueError, RecursionError) as error:
-        raise ExploreError(f"{path} is no TOML: {error}") from error
+        raise ExploreError(f"{shown_path(path)} is not valid TOML: {error}") from error
+    path = shown_path(path)
     title = value.pop("title", None)
     if not isinstance(title, str) or not title.strip() or not title.isprintable():
-        raise ExploreError(f"{path}: title is to be a line of text that says which device this is")
+        raise ExploreError(f"{path}: title must be one line of text that names the device")
     figures: Dict[str, Figure] = {}
     unknown = sorted(set(value) - set(TABLES))
     if unknown:
-        raise ExploreError(f"{path}: there is no table {unknown[0]}: {', '.join(TABLES)}")
+        raise ExploreError(f"{path}: there is no table {printable(unknown[0][:LONGEST_KEY])}: {', '.join(TABLES)}")
     for table, entries in TABLES.items():
         found = value.get(table)
         if not isinstance(found, dict):
             raise ExploreError(f"{path}: the table {table} is missing")
         unknown = sorted(set(found) - set(entries))
         if unknown:
-            raise ExploreError(f"{path}: {table} has no entry {unknown[0]}: {', '.join(entries)}")
+            raise ExploreError(f"{path}: {table} has no entry {printable(unknown[0][:LONGEST_KEY])}: {', '.join(entries)}")
         for entry, fields in entries.items():
             figures.update(figures_of(path, f"{table}.{entry}", found.get(entry), fields))
     return Costs(Path(path).name, title.strip(), figures)
@@ -166,23 +191,25 @@ def figures_of(path: str, name: str, entry: Any, fields: Sequence[str]) -> Dict[
     """The figures of one entry."""
     if not isinstance(entry, dict):
         raise ExploreError(f"{path}: {name} is missing: {{ {', '.join(f'{field} = ..' for field in (*fields, SOURCE))} }}")
-    unknown = sorted(set(entry) - {*fields, SOURCE})
+    own = [f"{field}_{SOURCE}" for field in fields if len(fields) > 1]
+    unknown = sorted(set(entry) - {*fields, SOURCE, *own})
     if unknown:
-        raise ExploreError(f"{path}: {name} has no field {unknown[0]}: {', '.join((*fields, SOURCE))}")
-    source = entry.get(SOURCE)
-    if not isinstance(source, str) or not source.strip():
-        raise ExploreError(f"{path}: {name} doesn't say where it is from: source = \"..\", or \"{ASSUMED}\"")
-    return {f"{name}.{field}": Figure(number_of(path, f"{name}.{field}", field, entry.get(field)), source) for field in fields}
+        raise ExploreError(f"{path}: {name} has no field {printable(unknown[0][:LONGEST_KEY])}: {', '.join((*fields, SOURCE, *own))}")
+    for key in (SOURCE, *(key for key in own if key in entry)):
+        if not isinstance(entry.get(key), str) or not entry[key].strip():
+            raise ExploreError(f"{path}: {name} has no source: add {key} = \"..\", or \"{ASSUMED}\"")
+    return {f"{name}.{field}": Figure(number_of(path, f"{name}.{field}", field, entry.get(field)), entry.get(f"{field}_{SOURCE}", entry[SOURCE]))
+            for field in fields}
 
 
 def number_of(path: str, name: str, field: str, value: Any) -> float:
     """The number of a field, in its range."""
     if field == "holds":
         if not isinstance(value, bool):
-            raise ExploreError(f"{path}: {name} is to be true or false")
+            raise ExploreError(f"{path}: {name} must be true or false")
         return float(value)
     is_count = field in ("at_once", "writes")
     right = isinstance(value, (int,) if is_count else (int, float)) and not isinstance(value, bool)
     if not right or not (1 if is_count else 0) <= value <= sys.float_info.max:
-        raise ExploreError(f"{path}: {name} is to be a {'whole number from 1 on' if is_count else 'number that is not negative'}")
+        raise ExploreError(f"{path}: {name} must be a {'whole number from 1 on' if is_count else 'number that is not negative'}")
     return float(value)

@@ -9,7 +9,7 @@ from typing import Any, Callable, Dict, FrozenSet, Iterable, Iterator, List, Opt
 from .errors import ExploreError
 from .layout import DATA, TAGS, Layout
 from .moments import Moment
-from .output import csv_text, table_text
+from .output import csv_text, plural, table_text
 from .program import MARKS, Question, Recording, text_of
 from .rows import Event, Rows
 from .second_cuts import Seconds
@@ -117,7 +117,7 @@ class Cut:
         if len(self.others) > MOST_NAMED:
             texts.append(f"and {len(self.others) - MOST_NAMED} more")
         if self.unread:
-            texts.append(f"{len(self.unread)} can't be read")
+            texts.append(f"{len(self.unread)} cannot be read")
         return ", ".join(texts) or "none"
 
 
@@ -369,7 +369,7 @@ class CutFinder:
             Moment("before", cut.index), Moment("cut" if cut.command else "end", cut.index, cut.number, cut.steps, cut.recovery_steps))]
         for cut, other in zip(cuts, finder.cuts(moments, "rows compared")):
             if cut != other:
-                raise ExploreError(f"{self.recording.trace.name}: a cut after {cut.steps} steps isn't answered the same by a "
+                raise ExploreError(f"{self.recording.trace.name}: a cut after {cut.steps} steps is not answered the same by a "
                                    "run that is asked there and by a run from the start: use --from-start")
 
     def sample(self, cuts: Sequence[Cut], count: int) -> List[Cut]:
@@ -516,7 +516,7 @@ def summary_lines(cuts: Sequence[Cut], names: Sequence[str]) -> List[str]:
     """How many cuts there are, and the greatest and the mean recovery, except for where lines lie."""
     every = all_cuts(cuts)
     found = [cut.recovery.numbers for cut in every if cut.recovery.numbers]
-    lines = [f"{len(every)} cuts, {len(found)} recovered"]
+    lines = [f"{plural(len(every), 'cut')}, {len(found)} recovered"]
     if found:
         columns = [(name, [numbers[place] for numbers in found]) for place, name in enumerate(names)
                    if name not in ("start", "gap")]

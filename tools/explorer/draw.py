@@ -88,10 +88,11 @@ def load_matplotlib() -> Any:
         matplotlib.use("Agg")
         from matplotlib import pyplot
     except ImportError as error:
-        raise ExploreError(f"pictures need the package matplotlib, which {sys.executable} hasn't (Debian's own python3: "
-                           f"apt-get install python3-matplotlib; else: {sys.executable} -m pip install matplotlib): "
+        raise ExploreError(f"pictures need the package matplotlib, which {sys.executable} lacks (Debian's own python3: "
+                           f"apt-get install python3-matplotlib; elsewhere: {sys.executable} -m pip install matplotlib): "
                            f"{error}") from error
-    matplotlib.rcParams.update({"svg.hashsalt": "pmem", "font.size": 9, "font.family": "DejaVu Sans",
+    # Type 42 is TrueType, which IEEE and ACM take; they refuse matplotlib's default, Type 3.
+    matplotlib.rcParams.update({"svg.hashsalt": "pmem", "pdf.fonttype": 42, "ps.fonttype": 42, "font.size": 9, "font.family": "DejaVu Sans",
                                 "axes.spines.top": False, "axes.spines.right": False})
     return pyplot
 
@@ -411,7 +412,7 @@ def legend_handles(drawn: Sequence[str], tampered: bool) -> List[Any]:
         handles.append(Line2D([], [], marker="o", markerfacecolor="white", markeredgecolor=BLACK, linestyle="",
                               label="the same bytes written again"))
     if UNSEEN in drawn:
-        handles.append(Line2D([], [], marker="$?$", color=DARK_GREY, linestyle="", label="can't be seen"))
+        handles.append(Line2D([], [], marker="$?$", color=DARK_GREY, linestyle="", label="cannot be seen"))
     if tampered:
         handles.append(Line2D([], [], marker="x", color=VERMILION, linestyle="", markeredgewidth=2,
                               label="the attacker changes the line"))
@@ -622,7 +623,7 @@ def dropped_notes(records: Sequence[Dict[str, Any]]) -> List[str]:
     for levels, some in dropped.items():
         most = max(record["out_of_range"] for record in some)
         total = some[0].get("commands")
-        notes.append(f"levels {levels} (hollow): {most}{f' of {total}' if total else ''} commands name a place that isn't "
+        notes.append(f"levels {levels} (hollow): {most}{f' of {total}' if total else ''} commands name a place that is not "
                      "there and are left out")
     return notes
 

@@ -187,7 +187,7 @@ class Lifetimes:
     def histogram(self, rows: Sequence[Dict[str, Any]]) -> str:
         """How many lines of each part have so many writes."""
         names = max((list(row["histogram"]) for row in rows), key=len)
-        return table_text([["lines with so many writes", *names]], [
+        return table_text([["lines by number of writes", *names]], [
             [row["part"], *(f"{row['histogram'].get(name, 0):,}" for name in names)] for row in rows], left=(0,))
 
     def by_design(self) -> List[Tuple[Worn, List[Dict[str, Any]]]]:

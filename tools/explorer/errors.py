@@ -6,6 +6,8 @@ WRONG_WORDS = 2
 CHECK_FAILED = 3
 CHECK_BROKEN = 4
 INTERRUPTED = 130
+# How a command ends that names what is wrong.
+FAILURES = (FAILURE, WRONG_WORDS, CHECK_FAILED, CHECK_BROKEN)
 
 
 class ExploreError(Exception):

@@ -38,5 +38,5 @@ def told(recording: LoggedRecording) -> str:
     """What isn't in the trace."""
     kinds = [writes for writes, _ in accesses_of(recording)]
     latches = sum(word not in (LOOK, LINE) for entry in recording.entries for word, _ in entry.accesses)
-    return (f"{len(kinds):,} accesses, {sum(kinds):,} of them writes; left out, as they aren't of the device: {latches:,} latches, "
+    return (f"{len(kinds):,} accesses, {sum(kinds):,} of them writes; left out, as they are not of the device: {latches:,} latches, "
             f"{sum(entry.tags for entry in recording.entries):,} tags, {sum(entry.digests for entry in recording.entries):,} digests")

@@ -32,7 +32,7 @@ def cache_folder() -> Path:
 def library() -> Tuple[Optional[str], str]:
     """The library's path, or None and why there is none."""
     if not sys.platform.startswith("linux"):
-        return None, f"on {sys.platform} a program can't be forked so"
+        return None, f"on {sys.platform} a program cannot be forked so"
     path = compiler()
     if path is None:
         return None, f"there is no C compiler ({', '.join(COMPILERS)})"
@@ -43,7 +43,7 @@ def library() -> Tuple[Optional[str], str]:
             compile_to(path, kept)
         return str(kept), ""
     except (OSError, RuntimeError) as error:
-        return None, f"fork_server.c can't be compiled: {error}"
+        return None, f"fork_server.c cannot be compiled: {error}"
 
 
 def is_private(folder: Path) -> bool:

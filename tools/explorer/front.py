@@ -151,4 +151,4 @@ class WriteBackCache(Held):
     def told(self) -> List[str]:
         by = "by its flush" if self.has_flushes else "by the next fence"
         return [f"A cache of {self.size} bytes and {self.ways} ways stands in front: a line is written {by} or when it "
-                "gives way, and read when it isn't there.", *super().told()]
+                "is evicted, and read when it is not there.", *super().told()]

@@ -10,14 +10,14 @@ from typing import BinaryIO, Dict, Iterable, Iterator, List, Optional, Sequence,
 from .convert import converted
 from .errors import ExploreError, reason_of
 from .front import Combining, Front, Reaching, Straight, WriteBackCache
-from .output import table_text
-from .readers import (CHANGED, FENCE, FLUSH, INSTRUCTION, KINDS, LOAD, MARK, NTSTORE, STORE, WRITES, Access, Chunks, Wanted,
-                      check_lackey_file, lackey_head, lackey_pages, whole_number as whole_number)
+from .output import plural, table_text
+from .readers import (CHANGED, CHUNK_BYTES, FENCE, FLUSH, INSTRUCTION, KINDS, LOAD, MARK, NTSTORE, STORE, WRITES, Access, Chunks, Wanted,
+                      check_lackey_file, lackey_head, lackey_pages)
 from .rows import clean, row_text
 from .settings import LEVELS
 from .symbols import LINE_BYTES, lines_at
 from .together import Progress
-from .trace import commands_of, shown_name
+from .trace import commands_of, read_whole, shown_name
 
 QUEUE = 16
 PAGE_LINES = 64
@@ -25,7 +25,7 @@ PAGE_BYTES = LINE_BYTES * PAGE_LINES
 MOST_LINES = 900_000
 MOST_NAMED = 5
 TOP_BYTES = 4096
-DECIMAL = "(an address that doesn't begin with 0x is decimal)"
+DECIMAL = "(an address that does not begin with 0x is decimal)"
 # A fence after which all stores are sure, of a file that has no flushes.
 PERSIST = "persist"
 X86_FENCES = ("sfence", "mfence")
@@ -149,11 +149,6 @@ class Findings:
 def place_of(access: Access) -> str:
     """The row of an access, with its place in the source."""
     return f"row {access.row}" + (f", {clean(access.source)}" if access.source else "")
-
-
-def plural(count: int, one: str, many: str = "") -> str:
-    """A number of things."""
-    return f"{count} {one}" if count == 1 else f"{count} {many or one + 's'}"
 
 
 def some(texts: Sequence[str]) -> str:
@@ -408,7 +403,7 @@ def import_trace(name: str, kind: str, rules: Rules) -> str:
     with opened(name) as file:
         try:
             if kind == "csv" and not file.seekable():
-                file = io.BytesIO(file.read())
+                file = io.BytesIO(read_whole(file, name))
             maker = Maker(rules, has_flushes(name, kind, file, rules), kind != "lackey")
             commands = list(made_commands(accesses_in(name, kind, file, rules), rules, maker))
         except OSError as error:
@@ -444,7 +439,7 @@ def heading(name: str, kind: str, rules: Rules, maker: Maker, commands: Sequence
                     if rules.machine_name != "run" else
                     f"# It goes on after these {sum(words.values())} commands, which are as many as were asked for.")
     if kind == "lackey":
-        told.append("# The bytes stored are made up, since lackey doesn't print them: store n writes its number n.")
+        told.append("# The bytes stored are made up, since lackey does not print them: store n writes its number n.")
     if maker.fence_every and not maker.has_flushes:
         told.append(f"# Fences: the program's own, and one after each {plural(maker.fence_every, 'store')} (--fence-every).")
     told += [f"# {line}" for line in maker.front.told()]
@@ -489,7 +484,7 @@ def hottest(name: str, kind: str, rules: Rules, count: int) -> str:
 
 def count_lackey_pages(name: str, file: BinaryIO, stores: "Counter[int]", loads: "Counter[int]") -> None:
     """Counts the stores and loads of each page of a whole log of lackey, which takes a third of the time of reading each of them."""
-    lackey_head(file.readline(), shown_name(name), 0)
+    lackey_head(file.readline(CHUNK_BYTES), shown_name(name), 0)
     check_lackey_file(file, shown_name(name))
     progress = Progress(f"bytes of {shown_name(name)}")
     for (kind, page), number in lackey_pages(Chunks(file, progress.reach)).items():

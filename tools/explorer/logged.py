@@ -40,7 +40,7 @@ class LoggedProgram(Program):
 
     def check(self, output: Output, settings: Settings) -> None:
         if (output.status, output.data) == REFUSED:
-            raise ExploreError(f"{self.path} doesn't tell what the commands of {settings.machine_name} do to the device: it "
+            raise ExploreError(f"{self.path} does not tell what the commands of {settings.machine_name} do to the device: it "
                                f"refuses {' '.join([*settings.words(), '--log'])}")
         super().check(output, settings)
 
@@ -89,7 +89,7 @@ def counted(data: bytes, count: int, path: str) -> Tuple["Counter[int]", "Counte
 
 def wrong(path: str) -> ExploreError:
     """What is told where a log isn't as it should be."""
-    return ExploreError(f"{path} doesn't tell its accesses as docs/FORMATS.md says")
+    return ExploreError(f"{path} does not tell its accesses as docs/FORMATS.md says")
 
 
 class LoggedRecording(Recording):

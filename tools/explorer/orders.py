@@ -19,7 +19,7 @@ from .waiting import PORTS, Write, port_of, write_of
 
 Item = TypeVar("Item")
 NOT_MODELLED = ("not modelled: the order of several processors' stores, and whether a store of more than 8 bytes reaches memory whole "
-                "(--torn: it doesn't)")
+                "(--torn: it does not)")
 # Far apart, so that no two moments have the same numbers under neighbouring seeds.
 SEEDS = 1_000_003
 MOST_SHOWN = 10 ** 12
@@ -344,6 +344,6 @@ def orders_text(tried: Sequence[Tried], orders: Orders, outcome_of: Callable[[Cu
     total = sum(asked.states.total for asked in orders.moments)
     notes = orders.kind.notes(sum(len(each.cuts) for each in tried), total)
     if orders.changed:
-        notes.append(f"{orders.changed} fences aren't tried: the attacker comes in between")
+        notes.append(f"{orders.changed} fences are not tried: the attacker comes in between")
     left = (1,) if isinstance(orders.kind, StoreOrders) else ()
     return table_text(orders.kind.heads, rows, left=left) + "\n" + "".join(f"{note}\n" for note in notes)

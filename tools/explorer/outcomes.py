@@ -6,7 +6,7 @@ from typing import Any, Dict, List, Optional, Sequence, Tuple
 
 from .cuts import Cut, Readings, Stored, all_cuts, cut_record, flat_record, heads_of, row_of
 from .checks import reasons
-from .output import csv_text, table_text
+from .output import csv_text, plural, table_text
 from .program import Recording
 from .rows import Event
 from .symbols import LINE_BYTES, Names
@@ -142,17 +142,17 @@ def verdict_text(outcome: Outcome) -> str:
 def notes_of(outcomes: Outcomes) -> List[str]:
     """How many outcomes there are, and which aren't all right."""
     count = sum(len(outcome.cuts) for outcome in outcomes.all)
-    notes = [f"{count} cuts, {len(outcomes.all)} outcomes"]
+    notes = [f"{plural(count, 'cut')}, {plural(len(outcomes.all), 'outcome')}"]
     wrong = outcomes.wrong()
     broken = outcomes.broken()
     if any(outcome.verdict for outcome in outcomes.all):
         cuts = sum(len(outcome.cuts) for outcome in wrong)
         left = sum(outcome.verdict is None for outcome in outcomes.all)
-        notes.append(f"{len(wrong)} outcomes of {cuts} cuts fail the check" if wrong else
+        notes.append(f"{plural(len(wrong), 'outcome')} of {plural(cuts, 'cut')} fail{'s' * (len(wrong) == 1)} the check" if wrong else
                      "all pass the check" if not (broken or left) else "none fails the check")
         if left:
-            notes.append(f"{left} outcomes aren't checked: the budget is exhausted")
-        notes += [f"{count} outcomes couldn't be checked: {reason}" for reason, count in reasons(broken).items()]
+            notes.append(f"{plural(left, 'outcome')} not checked: the budget is exhausted")
+        notes += [f"{plural(count, 'outcome')} could not be checked: {reason}" for reason, count in reasons(broken).items()]
     shortest = outcomes.shortest_wrong()
     if shortest is not None and shortest.verdict is not None:
         notes.append(f"the first: {moment_text(shortest.first)}: {shortest.verdict.reason}")

@@ -71,7 +71,7 @@ def check_writable(name: Optional[str]) -> None:
     if not os.path.isdir(folder):
         raise ExploreError(f"cannot write {name}: there is no directory {folder}")
     if not os.access(folder, os.W_OK):
-        raise ExploreError(f"cannot write {name}: its directory can't be written")
+        raise ExploreError(f"cannot write {name}: its directory cannot be written")
 
 
 def put(text: str, name: Optional[str]) -> None:
@@ -121,6 +121,11 @@ def markdown_text(heads: Sequence[str], rows: Sequence[Sequence[str]], left: Seq
 
     return line(heads) + "|" + "".join("---|" if column in left else "---:|" for column in range(len(heads))) + "\n" \
         + "".join(map(line, rows))
+
+
+def plural(count: int, one: str, many: str = "") -> str:
+    """A number with its noun, for example `1 line` or `2 lines`. `many` is the plural if it isn't `one` with an s."""
+    return f"{count} {one if count == 1 else many or one + 's'}"
 
 
 def table_text(heads: Sequence[Sequence[str]], rows: Sequence[Sequence[str]], left: Sequence[int]) -> str:

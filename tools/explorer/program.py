@@ -1,14 +1,14 @@
 """Running the program and reading what it answers."""
 import signal
 import subprocess
-from dataclasses import dataclass
+from dataclasses import dataclass, fields
 from typing import Dict, List, Optional, Sequence, Tuple
 
 from .errors import INTERRUPTED, WRONG_WORDS, ExploreError, reason_of
 from .processes import start, talk
 from .settings import Settings
 from .stops import line_text
-from .trace import Trace, shown_line
+from .trace import Trace, number_of, shown_line
 
 MARKS = ("seal", "begin")
 EXHIBITS = ("clash", "forged", "twin")
@@ -59,8 +59,12 @@ class Reply:
     @property
     def has_steps(self) -> bool:
         """Whether the answer is one to a command that may take steps."""
-        last = self.answer.rsplit(" ", 1)[-1]
-        return self.is_exhibit or first_word(self.answer) in WITHOUT_STEPS or last.isascii() and last.isdigit()
+        return self.is_exhibit or first_word(self.answer) in WITHOUT_STEPS or number_of(self.answer.rsplit(" ", 1)[-1]) is not None
+
+    @property
+    def has_marks(self) -> bool:
+        """Whether each mark names a line or a page."""
+        return all(number_of(mark.partition(" ")[2].partition(" ")[0]) is not None for mark in self.marks)
 
     @property
     def lines(self) -> List[str]:
@@ -101,7 +105,10 @@ def first_word(text: str) -> str:
 
 def counts_of(answer: str) -> Counts:
     """The counts that the answer to `stat` tells."""
-    return Counts(*(int(word) for word in answer.split(" ")[1:]))
+    counts = [count for count in map(number_of, answer.split(" ")[1:]) if count is not None]
+    if first_word(answer) != "stat" or len(counts) != len(fields(Counts)) or answer.count(" ") != len(counts):
+        raise ExploreError(f"the program does not answer as pmem does: {shown_line(answer.encode())!r} to 'stat'")
+    return Counts(*counts)
 
 
 def replies_in(data: bytes) -> List[Reply]:
@@ -201,11 +208,12 @@ class Program:
         last = data.rstrip(b"\n").rsplit(b"\n", 1)[-1].decode("ascii", "replace")
         words = last.split(" ")
         if status == 1 and last == "stop memory":
-            raise ExploreError("the program had too little memory")
+            raise ExploreError("the program ran out of memory")
         if status == 2 and last == "stop words":
             raise ExploreError(f"the program refuses its options: {' '.join(settings.words())}", WRONG_WORDS)
-        if status == 5 and words[:2] == ["stop", "line"] and len(words) == 4:
-            raise StopLine(int(words[2]), words[3])
+        number = number_of(words[2]) if status == 5 and words[:2] == ["stop", "line"] and len(words) == 4 else None
+        if number is not None:
+            raise StopLine(number, words[3])
         if status == 7:
             raise ExploreError("a trace has more than 1,000,000 lines, with what is asked after it")
         if status < 0:
@@ -253,12 +261,13 @@ class Recording:
         shown = output.status == STATUS_EXHIBIT
         whole = len(self.replies) == len(self.commands) or shown and len(self.replies) <= len(self.commands)
         if not whole or shown != bool(self.replies and self.replies[-1].is_exhibit):
-            raise ExploreError(f"{self.program.path} doesn't answer as pmem does: "
+            raise ExploreError(f"{self.program.path} does not answer as pmem does: "
                                f"{len(self.replies)} answers to {len(self.commands)} commands")
         for index, command in enumerate(self.commands[:len(self.replies)]):
-            if command.word in self.settings.machine.stepping and not self.replies[index].has_steps:
-                raise ExploreError(f"{self.program.path} doesn't answer as pmem does: "
-                                   f"{shown_line(self.replies[index].answer.encode())!r} to {command.short!r}")
+            reply = self.replies[index]
+            if not reply.has_marks or command.word in self.settings.machine.stepping and not reply.has_steps:
+                raise ExploreError(f"{self.program.path} does not answer as pmem does: "
+                                   f"{shown_line(' '.join(reply.lines).encode())!r} to {command.short!r}")
 
     def run_of(self, question: Question) -> Run:
         """The run from the trace's start that comes to a question's answer."""
@@ -273,12 +282,12 @@ class Recording:
         try:
             self.program.check(output, self.settings)
         except StopLine as stop:
-            raise ExploreError(f"{self.program.path} doesn't take a command that it should: {stop}") from stop
+            raise ExploreError(f"{self.program.path} does not take a command that it should: {stop}") from stop
         if not is_whole:
             return output.data
         before = self.output[:self.output_ends[question.index]]
         if not output.data.startswith(before):
-            raise ExploreError(f"{self.program.path} doesn't answer the same in two runs of {self.trace.name}")
+            raise ExploreError(f"{self.program.path} does not answer the same in two runs of {self.trace.name}")
         return output.data[len(before):]
 
     def ask(self, index: int, script: Sequence[bytes]) -> List[Reply]:

@@ -4,7 +4,7 @@ from typing import Any, Callable, Dict, List, Optional, Sequence, Tuple
 
 from .accesses import told_steps
 from .cuts import Cut
-from .output import json_text, markdown_text, table_text
+from .output import json_text, markdown_text, plural, table_text
 from .program import Recording
 from .trace import short_text
 from .traced import ARMS, LATCH, Step, Traced
@@ -130,7 +130,7 @@ def ranges_text(found: Sequence[Range], names: Sequence[str], is_markdown: bool)
     if is_markdown:
         return markdown_text(heads, rows, left)
     count = sum(len(each.cuts) for each in found)
-    return table_text([heads], rows, left) + f"\n{count} cuts in {len(found)} ranges that leave the same\n"
+    return table_text([heads], rows, left) + f"\n{plural(count, 'cut')} in {plural(len(found), 'range')} that leave the same\n"
 
 
 def ranges_json(found: Sequence[Range]) -> str:

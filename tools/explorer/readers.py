@@ -3,7 +3,7 @@ import csv
 import os
 import re
 from collections import Counter
-from typing import BinaryIO, Callable, Dict, Iterator, NamedTuple, Optional, Sequence, Tuple
+from typing import BinaryIO, Callable, Dict, Iterator, List, NamedTuple, Optional, Sequence, Tuple
 
 from .errors import ExploreError
 from .trace import printable, shown_line
@@ -172,7 +172,7 @@ def check_lackey_file(file: BinaryIO, name: str) -> None:
     head = file.read(TAIL_BYTES)
     size = file.seek(0, os.SEEK_END)
     file.seek(max(0, size - TAIL_BYTES))
-    tail = file.read()
+    tail = file.read(TAIL_BYTES)
     file.seek(0)
     if BANNER.search(head) and BEGUN.search(head):
         check_lackey_end(tail, name)
@@ -208,12 +208,22 @@ def csv_accesses(chunks: Chunks, name: str, wanted: Wanted) -> Iterator[Access]:
                 continue
             if len(text) > LARGEST_FIELD:
                 raise ExploreError(f"{name}, line {number}: a row has at most {LARGEST_FIELD} characters")
-            row = [field.strip() for field in (next(csv.reader([text])) if '"' in text else text.split(","))]
+            row = csv_fields(text, name, number)
             if number == 1 and row[0].lower() == "op":
                 continue
             access = csv_access(row, name, number)
             if access.kind not in (STORE, NTSTORE, CHANGED, LOAD) or wanted.has(access.address, access.size):
                 yield access
+
+
+def csv_fields(text: str, name: str, number: int) -> List[str]:
+    """The fields of a row of a CSV."""
+    if '"' not in text:
+        return [field.strip() for field in text.split(",")]
+    try:
+        return [field.strip() for field in next(csv.reader([text]))]
+    except csv.Error as error:
+        raise ExploreError(f"{name}, line {number}: not a row of a CSV: {error}") from error
 
 
 def csv_access(row: Sequence[str], name: str, number: int) -> Access:
@@ -258,7 +268,7 @@ def pmemcheck_accesses(chunks: Chunks, name: str, wanted: Wanted) -> Iterator[Ac
             fields = word.strip().split(b";")
             if fields[0] in (b"STORE", b"FLUSH", b"FENCE"):
                 if not seen:
-                    raise ExploreError(f"{name}, line {number}: the log doesn't begin with START, as valgrind "
+                    raise ExploreError(f"{name}, line {number}: the log does not begin with START, as valgrind "
                                        "--tool=pmemcheck --log-stores=yes writes it")
                 access = pmemcheck_access(fields, name, number, row)
                 if access.kind != STORE or wanted.has(access.address, access.size):
@@ -282,7 +292,7 @@ def pmemcheck_access(fields: Sequence[bytes], name: str, number: int, row: int) 
         return Access(FLUSH, values[0], values[1], row=row, word="clwb")
     check_size(values[2], name, number)
     if values[1] >> 8 * values[2]:
-        raise ExploreError(f"{name}, line {number}: {shown_line(fields[2])} doesn't fit into {values[2]} bytes")
+        raise ExploreError(f"{name}, line {number}: {shown_line(fields[2])} does not fit into {values[2]} bytes")
     return Access(STORE, values[0], values[2], values[1].to_bytes(values[2], "little"), row, word="store")
 
 

@@ -1,8 +1,8 @@
 """What a worker of a cluster runs: a batch of runs or of questions, in a process of its own that the worker's task starts in
-the folder where this package was put. The batch comes on standard input, and the answers go to standard output, both
-pickled: they are plain values, between this process and one of the same Python."""
+the folder where this package was put. The batch comes on standard input, and the answers go to standard output, both as
+JSON; bytes are texts whose letters are the bytes."""
+import json
 import os
-import pickle
 import sys
 import threading
 import time
@@ -31,7 +31,7 @@ def runs(batch: Batch) -> List[Any]:
     """The outputs of runs: each its data and its status, which the one who asked judges."""
     scripts = {name: read(name) for name, _ in batch["runs"]}
     tasks = [Run(scripts[name], Settings(**fields)) for name, fields in batch["runs"]]
-    return [(output.data, output.status) for output in in_order_from_start(program_of(batch), tasks, 1)]
+    return [(text_of_bytes(output.data), output.status) for output in in_order_from_start(program_of(batch), tasks, 1)]
 
 
 def answers(batch: Batch) -> List[Any]:
@@ -41,9 +41,19 @@ def answers(batch: Batch) -> List[Any]:
     known = Output(read(batch["output"]), batch["status"])
     recording = LoggedRecording(program, settings, trace, known) if isinstance(program, LoggedProgram) else \
         Recording(program, settings, trace, known)
-    questions = [Question(*fields) for fields in batch["questions"]]
+    questions = [Question(index, tuple(map(bytes_of_text, script)), bytes_of_text(tail)) for index, script, tail in batch["questions"]]
     together = Together(program, 1, batch["from_start"])
-    return [data for _, data in together.answers(recording, questions, len(questions), "")]
+    return [text_of_bytes(data) for _, data in together.answers(recording, questions, len(questions), "")]
+
+
+def text_of_bytes(data: bytes) -> str:
+    """Bytes as JSON has them."""
+    return data.decode("latin-1")
+
+
+def bytes_of_text(text: str) -> bytes:
+    """The bytes of such a text."""
+    return text.encode("latin-1")
 
 
 def read(name: str) -> bytes:
@@ -63,14 +73,14 @@ def end_with(parent: int) -> None:
 def main() -> int:
     """Does one batch."""
     threading.Thread(target=end_with, args=(os.getppid(),), daemon=True).start()
-    batch = pickle.load(sys.stdin.buffer)
+    batch = json.load(sys.stdin)
     try:
-        result: Any = ("done", runs(batch) if "runs" in batch else answers(batch))
+        result: Any = {"done": runs(batch) if "runs" in batch else answers(batch)}
     except ExploreError as error:
-        result = ("wrong", (str(error), error.status))
+        result = {"wrong": [str(error), error.status]}
     finally:
         end_all()
-    pickle.dump(result, sys.stdout.buffer, protocol=4)
+    json.dump(result, sys.stdout)
     return 0
 
 

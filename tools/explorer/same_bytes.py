@@ -90,7 +90,7 @@ def shown_in(data: bytes, at: int, count: int) -> List[bytes]:
     """So many lines that are shown from a place in the output on."""
     lines = [data[start:start + SHOWN_BYTES] for start in range(at, at + SHOWN_BYTES * count, SHOWN_BYTES)]
     if any(len(line) != SHOWN_BYTES or not line.startswith(b"raw ") or line.find(b"\n") != SHOWN_BYTES - 1 for line in lines):
-        raise ExploreError("the program doesn't show each device line that it writes")
+        raise ExploreError("the program does not show each device line that it writes")
     return lines
 
 
@@ -135,7 +135,7 @@ class SameBytes:
         ends = self.recording.output_ends
         replies = self.recording.output[ends[first]:ends[last]]
         if not data.startswith(replies, at):
-            raise ExploreError(f"{self.recording.program.path} doesn't answer the same where lines are shown between")
+            raise ExploreError(f"{self.recording.program.path} does not answer the same when lines are shown in between")
         return at + len(replies)
 
     def between(self) -> Dict[Tuple[int, int], Dict[int, bytes]]:

@@ -19,16 +19,16 @@ from .traced import Traced
 PROMPT = "pmem> "
 HELP = """\
 A line is a command of the machine (docs/FORMATS.md, WEAR.md, TXN.md, TREE_MACHINE.md), or one of these words:
-  cut here [N]      the last command again, with power cut after N of its steps, or before the step of a break
-  undo [N], redo    take back the last N commands, or what `cut here` or `load` did; do it again
-  break LINE        stop at a command that writes a device line; without LINE: show all; `break off` takes them away
-  load FILE         go on with the commands of a trace, up to a break; `go` goes on behind it
-  show LINE         a device line's 64 bytes
-  list, save FILE   the trace so far; write it to a file, whole or not at all
+  cut here [N]      repeats the last command, with power cut after N of its steps, or before the step of a break
+  undo [N], redo    takes back the last N commands, or what `cut here` or `load` did; does it again
+  break LINE        stops at a command that writes a device line; without LINE: shows all; `break off` removes them
+  load FILE         runs the commands of a trace, up to a break; `go` continues
+  show LINE         shows a device line's 64 bytes
+  list, save FILE   shows the trace so far; writes it to a file, whole or not at all
   steps on|off      whether each command's persist steps are looked for (on)
-  help, quit        this; end the session (Ctrl-D does so too)
+  help, quit        shows this; ends the session, as Ctrl-D does
 A LINE is a device line's number, or: data A, tag A (of data line A), counter PAGE, node X, shadow counters N,
-shadow nodes N; of tree: data A, tag A, node X, slot N. A line that is wrong is told, and changes nothing."""
+shadow nodes N; for tree: data A, tag A, node X, slot N. A wrong line is reported and changes nothing."""
 
 
 class Session:
@@ -72,7 +72,7 @@ class Session:
             raise ExploreError(line_text(stop.kind, line.decode("ascii", "replace"), shown_line(line))) from stop
         recording = Recording(self.together.program, self.settings, trace)
         if recording.ends_in_exhibit and len(recording.replies) < len(recording.commands):
-            raise ExploreError("the run ended with the exhibit, which shows a break; `undo` takes its command back")
+            raise ExploreError("the run ended with the exhibit, which proves that a cipher was broken; `undo` takes its command back")
         return recording
 
     def add(self, lines: Tuple[bytes, ...]) -> None:
@@ -205,7 +205,7 @@ class Session:
     def show(self, words: List[str]) -> None:
         """Shows a device line."""
         if not self.settings.machine.has_counts:
-            raise ExploreError(f"pmem {self.settings.machine_name} doesn't show its device")
+            raise ExploreError(f"pmem {self.settings.machine_name} does not show its device")
         line = self.line_named(words)
         recording = self.recording(self.lines)
         if recording.ends_in_exhibit:
@@ -266,7 +266,7 @@ def no_more(words: List[str]) -> None:
 def number_in(words: List[str]) -> int:
     """The one number that these words are."""
     if len(words) != 1 or not (words[0].isascii() and words[0].isdigit() and len(words[0]) < 10):
-        raise ExploreError(f"a number should stand there: {shown_line(' '.join(words).encode('utf-8', 'replace'))}")
+        raise ExploreError(f"expected a number: {shown_line(' '.join(words).encode('utf-8', 'replace'))}")
     return int(words[0])
 
 

@@ -10,7 +10,7 @@ from .accesses import told_last, told_steps
 from .errors import WRONG_WORDS, ExploreError
 from .layout import Layout, Place
 from .machines import LINES_OF_PAGE
-from .output import csv_text
+from .output import csv_text, plural
 from .program import Counts, Question, Recording, counts_of, replies_in, text_of
 from .same_bytes import SHOWN_BYTES, SameBytes, peeks
 from .together import Together
@@ -83,7 +83,7 @@ def state_in(data: bytes, count: int) -> State:
     start = len(data) - SHOWN_BYTES * count
     before = data[:max(0, start)].rsplit(b"\n", 2)
     if start < 0 or data.count(b"raw ", start) != count or len(before) < 2 or not before[-2].startswith(b"stat "):
-        raise ExploreError("the program doesn't show the counts and each device line: is the device laid out as "
+        raise ExploreError("the program does not show the counts and each device line: is the device laid out as "
                            "docs/MACHINE.md says?")
     return State(counts_of(before[-2].decode()), data[start:])
 
@@ -139,7 +139,7 @@ def check_layout(recording: Recording) -> None:
     size = Layout(recording.settings).size
     replies = recording.ask(0, [b"peek %d" % (size - 1), b"peek %d" % size])
     if [reply.answer.split(" ")[0] for reply in replies] != ["raw", "range"]:
-        raise ExploreError(f"{recording.program.path} doesn't answer as pmem does: its device hasn't the {size} lines that "
+        raise ExploreError(f"{recording.program.path} does not answer as pmem does: its device does not have the {size} lines that "
                            "docs/MACHINE.md lists")
 
 
@@ -340,11 +340,11 @@ def tell_no_log(recording: Recording, together: Together, with_work: bool) -> No
     """Tells, once, that the program has no log of this machine."""
     name = recording.settings.machine_name
     if with_work:
-        raise ExploreError(f"{recording.program.path} doesn't tell what its commands read: its {name} has no option --log")
+        raise ExploreError(f"{recording.program.path} does not tell what its commands read: its {name} has no option --log")
     if not together.is_log_missed:
         together.is_log_missed = True
-        why = "each step is found by a cut, and what a latch does isn't told" if recording.settings.machine.has_counts else \
-            "which device line a step writes isn't told"
+        why = "each step is found by a cut, and what a latch does is not known" if recording.settings.machine.has_counts else \
+            "which device line a step writes is not known"
         sys.stderr.write(f"explore: {recording.program.path} has no option --log of {name}, so {why}\n")
 
 
@@ -408,9 +408,9 @@ def steps_text(traced: Sequence[Traced], whole: bool) -> str:
         for fate in entry.fates:
             lines.append(f"{indent}  cut after {fate.text}")
     taken = sum(len(entry.steps) for entry in traced)
-    lines.append(f"{len(traced)} commands, {taken} persist steps" + work_text(traced))
+    lines.append(f"{plural(len(traced), 'command')}, {plural(taken, 'persist step')}{work_text(traced)}")
     if any(entry.fates for entry in traced):
-        lines.append("which device line a step writes isn't told: this program has no --log of its machine")
+        lines.append("which device line a step writes is not known: this program has no --log of its machine")
     return "\n".join(lines) + "\n"
 
 

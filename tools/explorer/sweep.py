@@ -237,7 +237,7 @@ def notes_of(costs: Sequence[Cost]) -> List[str]:
     for cost in costs:
         numbers = ", ".join(f"{name} {value}" for name, value in cost.settings.geometry().items())
         if cost.out_of_range:
-            notes.append(f"{numbers}: {cost.out_of_range} commands name a place that isn't there (range)")
+            notes.append(f"{numbers}: {cost.out_of_range} commands name a place that is not there (range)")
         if cost.end != "end":
             notes.append(f"{numbers}: the run ends with an exhibit ({cost.end})")
         elif cost.recovery is not None and cost.recovery.numbers is None:

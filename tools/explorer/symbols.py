@@ -6,15 +6,19 @@ from dataclasses import dataclass
 from typing import List, Optional, Sequence, Tuple
 
 from .errors import ExploreError
-from .trace import Trace, read_bytes
+from .trace import Trace, read_bytes, shown_name
 
 LINE_BYTES = 64
 LINES_AT = re.compile(rb"# lines? ([0-9]{1,9})(?: to ([0-9]{1,9}))? (?:is|are) at (0x[0-9a-f]{1,16})")
 
 # Names of C++ are longer than those of C.
 LONGEST_NAME = 300
+LARGEST_ELF = 1 << 31
+# Of a file of 64 bits, lowest byte first.
+ELF_HEAD = b"\x7fELF\x02\x01"
 SYMBOL_TABLE = 2
 OBJECT = 1
+SECTION, SYMBOL = struct.Struct("<IIQQQQIIQQ"), struct.Struct("<IBBHQQ")
 
 
 @dataclass(frozen=True)
@@ -76,27 +80,33 @@ def read_lines_at(text: bytes) -> Tuple[int, int, int]:
 
 def elf_symbols(name: str, base: int) -> List[Symbol]:
     """The variables that an ELF file's symbol table lists, `base` being where it was loaded."""
-    data = read_bytes(name)
-    if data[:4] != b"\x7fELF" or data[4:5] != b"\x02" or data[5:6] != b"\x01":
-        raise ExploreError(f"{name} is no ELF file of 64 bits, lowest byte first")
+    data = read_bytes(name, LARGEST_ELF, ELF_HEAD)
+    if not data.startswith(ELF_HEAD):
+        raise ExploreError(f"{shown_name(name)} is not a little-endian ELF file of 64 bits")
     try:
         return list(symbols_in(data, base))
     except (struct.error, ValueError, IndexError, OverflowError) as error:
-        raise ExploreError(f"{name}: its symbol table can't be read") from error
+        raise ExploreError(f"{shown_name(name)}: its symbol table cannot be read") from error
 
 
 def symbols_in(data: bytes, base: int) -> List[Symbol]:
     """The same, of the file's bytes."""
     (start,) = struct.unpack_from("<Q", data, 0x28)
     size, count = struct.unpack_from("<HH", data, 0x3A)
-    sections = [struct.unpack_from("<IIQQQQIIQQ", data, start + size * number) for number in range(count)]
-    symbols = []
+    if count and size < SECTION.size:
+        raise ValueError("the headers of sections overlap")
+    sections = [SECTION.unpack_from(data, start + size * number) for number in range(count)]
+    symbols, left = [], len(data)
     for _, kind, _, _, offset, length, link, _, _, entry in sections:
-        if kind != SYMBOL_TABLE or not entry or length > len(data):
+        if kind != SYMBOL_TABLE or not length:
             continue
+        # Tables that overlap, and symbols that do, could name a small file's bytes any number of times.
+        left -= length
+        if entry < SYMBOL.size or left < 0:
+            raise ValueError("the symbols overlap")
         names = sections[link][4]
         for place in range(offset, offset + length, entry):
-            name, info, _, _, value, extent = struct.unpack_from("<IBBHQQ", data, place)
+            name, info, _, _, value, extent = SYMBOL.unpack_from(data, place)
             if info & 15 == OBJECT and extent and value:
                 symbols.append(Symbol(base + value, extent, name_at(data, names + name)))
     return symbols
@@ -107,7 +117,7 @@ def name_at(data: bytes, place: int) -> str:
     that a terminal would act on."""
     text = data[place:place + LONGEST_NAME + 1].split(b"\0", 1)[0][:LONGEST_NAME]
     if place >= len(data):
-        raise ValueError("a name isn't in the file")
+        raise ValueError("a name is not in the file")
     return "".join(letter if letter.isprintable() and letter != "," else "?" for letter in text.decode("utf-8", "replace"))
 
 

@@ -205,7 +205,7 @@ class Forked(Worker[Question]):
             del self.received[:len(BEGUN)]
             self.has_begun = True
         if not self.take():
-            self.begin_anew(f"{self.recording.program.path} doesn't answer the same in two runs of {self.recording.trace.name}")
+            self.begin_anew(f"{self.recording.program.path} does not answer the same in two runs of {self.recording.trace.name}")
         elif not data:
             status = channel.finish()
             self.begin_anew(f"{self.recording.program.path} ended with status {status} while it was asked")
@@ -357,5 +357,5 @@ def trial(recording: Recording, library: str) -> str:
         finally:
             worker.close()
     if not done:
-        return f"{recording.program.path} isn't asked so within {SECONDS_TO_ANSWER:.0f} s"
-    return "" if done[0] == Output(recording.plain_ok, 0) else f"{recording.program.path} doesn't answer a fork of it"
+        return f"{recording.program.path} is not asked so within {SECONDS_TO_ANSWER:.0f} s"
+    return "" if done[0] == Output(recording.plain_ok, 0) else f"{recording.program.path} does not answer a fork of it"

@@ -2,12 +2,15 @@
 import sys
 from dataclasses import dataclass
 from functools import cached_property, lru_cache
-from typing import List, Optional, Tuple
+from typing import BinaryIO, List, Optional, Tuple
 
 from .errors import ExploreError, reason_of
 
 TAMPERING_WORDS = frozenset(("poke", "flip", "move", "back"))
 LONGEST_WORD = 16
+# What the program reads of a trace: 1,000,000 lines of at most 1,025 bytes.
+LARGEST_FILE = 1_000_000 * 1_025
+PIECE = 1 << 20
 
 
 @dataclass(frozen=True)
@@ -108,15 +111,27 @@ def commands_of(data: bytes) -> List[Command]:
     return commands
 
 
-def read_bytes(name: str) -> bytes:
-    """The bytes of a file, or of standard input if the name is `-`."""
+def read_bytes(name: str, most: int = LARGEST_FILE, head: bytes = b"") -> bytes:
+    """The bytes of a file, or of standard input if the name is `-`; an error if there are more than `most`. Of a file that doesn't begin with
+    `head` the first ones."""
     try:
         if name == "-":
-            return sys.stdin.buffer.read()
+            return read_whole(sys.stdin.buffer, name, most, head)
         with open(name, "rb") as file:
-            return file.read()
+            return read_whole(file, name, most, head)
     except OSError as error:
         raise ExploreError(f"cannot read {shown_name(name)}: {reason_of(error)}") from error
+
+
+def read_whole(file: BinaryIO, name: str, most: int = LARGEST_FILE, head: bytes = b"") -> bytes:
+    """The same, for a file that is open. It is read in pieces, since it may have no end."""
+    parts, left = [file.read(PIECE)], most
+    while parts[-1] and parts[0].startswith(head):
+        left -= len(parts[-1])
+        if left < 0:
+            raise ExploreError(f"{shown_name(name)} has more than {most} bytes")
+        parts.append(file.read(PIECE))
+    return b"".join(parts)
 
 
 def shown_name(name: str) -> str:

@@ -3,6 +3,7 @@ from dataclasses import dataclass
 from typing import Optional, Tuple
 
 from .layout import CHIP, Place
+from .output import plural
 from .program import Reply
 from .trace import Command, short_text
 
@@ -76,7 +77,7 @@ class Work:
     @property
     def text(self) -> str:
         """It in words."""
-        return f"{len(self.reads)} reads, {self.tags} tags, {self.digests} digests"
+        return ", ".join((plural(len(self.reads), "read"), plural(self.tags, "tag"), plural(self.digests, "digest")))
 
 
 @dataclass(frozen=True)

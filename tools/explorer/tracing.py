@@ -62,14 +62,15 @@ def compare_designs(traces: Sequence[Union[str, "os.PathLike[str]", bytes]], des
                     cost: Optional[str] = None, program: Optional[str] = None, jobs: Optional[int] = None, fold: bool = False,
                     recoveries: int = compare.CUTS, suite: str = "aes", **numbers: Sequence[int]) -> List[Dict[str, Any]]:
     """What workloads take on several designs, as `explore compare` finds it: a row for each trace and each design, and those of
-    the means if there are several traces. `numbers` are lists: `levels`, `sets`, `ways`, `loss`, `every`; `cost` a file of
-    figures; `recoveries` after how many cuts recovery is looked at."""
+    the means if there are several traces. `designs` may have `plain` besides machines. `numbers` are lists: `levels`, `sets`, `ways`,
+    `loss`, `every`; `cost` is a file of figures; `recoveries` after how many cuts recovery is looked at."""
     base = Settings(suite=suite)
     wrong = sorted(set(numbers) - set(compare.NUMBERS))
     if wrong:
         raise TypeError(f"there is no number {wrong[0]}: {', '.join(compare.NUMBERS)}")
     values = {name: list(numbers.get(name, [getattr(base, name)])) for name in compare.NUMBERS}
     together = Together(LoggedProgram(found_program(program or default_program())), jobs)
-    comparison = compare.Comparison(compare.designs_of(designs, base, values), together, fold, recoveries)
+    machines = [name for name in designs if name != compare.PLAIN]
+    comparison = compare.Comparison(compare.designs_of(machines, base, values), together, fold, recoveries)
     read = [trace_of("the trace", trace) if isinstance(trace, bytes) else read_trace(os.fspath(trace)) for trace in traces]
-    return compare.compare(read, comparison, read_costs(cost) if cost else None).every
+    return compare.compare(read, comparison, [read_costs(cost)] if cost else [], compare.PLAIN in designs).every

@@ -27,17 +27,16 @@ EPILOG = """\
   tools/explore import csv store.csv -o store.trace
   tools/explore cuts store.trace --check ./check --orders 100
 
-Stores into a mapping can't be seen one by one. Each flush and fence compares the mappings with
+Stores into a mapping cannot be seen one by one. Each flush and fence compares the mappings with
 what was recorded before: rows `changed` have bytes that differ, stored in an order that nobody
-knows. A value that is stored and overwritten between two such calls isn't seen, nor are clwb and
-sfence that the program has in its own code: for these see include/pmem_record.h.
+knows. A value that is stored and overwritten between two such calls is not seen, nor are clwb and
+sfence in the program's own code: for these see include/pmem_record.h.
 
-Only the first process that touches such a file is recorded. It needs Linux, glibc and a C
-compiler; for lines of the source the program has to be compiled with -g, and addr2line
-(Debian: binutils) is needed.
+Only the first process that touches such a file is recorded. It needs Linux, glibc and a C compiler.
+For lines of the source, compile the program with -g, and install addr2line (Debian: binutils).
 
-The exit status is that of the program, 128 and the number of the signal that ended it, or 1 if
-it couldn't be recorded, 2 if the arguments are wrong."""
+The exit status is that of the program, 128 plus the number of the signal that ended it, 1 if it
+could not be recorded, or 2 if the arguments are invalid."""
 
 
 class RecordError(Exception):
@@ -67,7 +66,7 @@ def make_parser() -> Parser:
 def compiled(folder: str) -> str:
     """Compiles the library that is loaded before the program."""
     if not sys.platform.startswith("linux"):
-        raise RecordError(f"a program can't be recorded on {sys.platform}: Linux is needed")
+        raise RecordError(f"a program cannot be recorded on {sys.platform}: Linux is needed")
     names = [os.environ["CC"]] if os.environ.get("CC") else list(COMPILERS)
     compiler = next((path for path in map(shutil.which, names) if path), None)
     if compiler is None:
@@ -76,7 +75,7 @@ def compiled(folder: str) -> str:
     ran = subprocess.run([compiler, *FLAGS, "-o", made, str(SOURCE), "-ldl", "-lpthread"], stdout=subprocess.PIPE, stderr=subprocess.STDOUT,
                          check=False)
     if ran.returncode:
-        raise RecordError(f"record.c can't be compiled: {ran.stdout.decode('utf-8', 'replace').strip().splitlines()[:1]}")
+        raise RecordError(f"record.c cannot be compiled: {ran.stdout.decode('utf-8', 'replace').strip().splitlines()[:1]}")
     return made
 
 
@@ -149,7 +148,7 @@ def told(lines: Sequence[str], words: argparse.Namespace, log: str) -> None:
     rows = [line for line in lines if not line.startswith("#")]
     if not rows:
         sys.stderr.write("record: the program stored nothing to these files: --files names them (default: the current folder); a program that "
-                         "is linked statically can't be recorded\n")
+                         "is linked statically cannot be recorded\n")
     sys.stderr.write(f"record: {words.output}: {len(rows)} rows\n")
     for line in lines:
         found = re.fullmatch(r"# file ([0-9]+) at (0x[0-9a-f]+): (.*)\n?", line)
@@ -159,9 +158,9 @@ def told(lines: Sequence[str], words: argparse.Namespace, log: str) -> None:
             if os.path.exists(image):
                 kept = f"{words.output}.image{found[1]}"
                 shutil.copyfile(image, kept)
-                sys.stderr.write(f"record: it wasn't empty: import with --image {found[2]}={kept}\n")
+                sys.stderr.write(f"record: it was not empty: import with --image {found[2]}={kept}\n")
         if line.startswith("# outside: "):
-            sys.stderr.write(f"record: flushes of memory outside these files, which aren't recorded: {line.split()[-1]}\n")
+            sys.stderr.write(f"record: flushes of memory outside these files, which are not recorded: {line.split()[-1]}\n")
     try:
         others = Path(f"{log}.others").read_text(encoding="utf-8", errors="replace").splitlines()
     except OSError:

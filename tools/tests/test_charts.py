@@ -41,21 +41,21 @@ class ChartTest(ExploreTest):
     def test_a_panel_for_each_measure(self) -> None:
         found = self.compared("--loss", "1,4", "times")
         drawn = self.texts(self.draw("all.svg", found))
-        for text in ("persist steps a line written", "line writes a line written", "bytes on the chip", "ns of a recovery", "nJ a line read",
+        for text in ("persist steps a line written", "line writes a line written", "bytes on the chip", "time of a recovery", "nJ a line read",
                      "run, loss 1", "run, loss 4", "times and energy: a device for tests", "standard input"):
             self.assertIn(text, drawn)
         without = self.texts(self.draw("less.svg", self.compared(), "--title", "a $ title"))
-        self.assertNotIn("ns of a recovery", without)
+        self.assertNotIn("time of a recovery", without)
         self.assertIn("a $ title", without)
 
     def test_trade_off_and_moments(self) -> None:
         timed = self.compared("--loss", "1,4", "times")
-        self.assertIn("ns a line written, mean", self.texts(self.draw("a.svg", timed, "--trade-off")))
+        self.assertIn("time of a line written, mean", self.texts(self.draw("a.svg", timed, "--trade-off")))
         drawn = self.texts(self.draw("b.svg", self.compared("--loss", "1,4"), "--trade-off"))
         self.assertIn("tags and digests of a recovery, mean", drawn)
         self.assertIn("at each point: stop-loss number", drawn)
         drawn = self.texts(self.draw("c.svg", timed, "--moments"))
-        for text in ("persist steps before the cut", "digests", "line reads", "ns", "run, loss 4"):
+        for text in ("persist steps before the cut", "digests", "line reads", "time", "run, loss 4"):
             self.assertIn(text, drawn)
 
     def test_kinds_of_pictures(self) -> None:
@@ -85,8 +85,8 @@ class ChartTest(ExploreTest):
 
     def test_what_is_wrong(self) -> None:
         for text, words, told in (
-                (json.dumps({"compare": []}), (), "this isn't what explore compare --json wrote"),
-                (json.dumps({"endurance": [], "parts": [{}]}), (), "this isn't what explore endurance --json wrote"),
+                (json.dumps({"compare": []}), (), "this is not what explore compare --json wrote"),
+                (json.dumps({"endurance": [], "parts": [{}]}), (), "this is not what explore endurance --json wrote"),
                 ("[1]", (), "is neither a trace nor what explore sweep --json"),
                 (WRITE, ("--moments",), "--moments is for a comparison's JSON alone"),
                 (self.compared(), ("--along", "sets"), "--along is for a sweep's JSON alone")):

@@ -48,11 +48,11 @@ class ChecksTest(ExploreTest):
 
     def test_a_check_that_cannot_be_run_is_an_error(self) -> None:
         for check, told in ((self.check("import os; os.kill(os.getpid(), 11)"), "ended by signal 11 (SIGSEGV)"),
-                            ("sh -c 'exit 127'", "couldn't be run, status 127"), ("sh -c 'exec /etc/passwd'", "status 126")):
+                            ("sh -c 'exit 127'", "could not be run, status 127"), ("sh -c 'exec /etc/passwd'", "status 126")):
             with self.subTest(told):
                 result = self.cuts(check, "--junit", self.path("junit.xml"), "--failing", self.path("failing.trace"))
                 self.assertEqual((result.returncode, result.stderr), (4, ""))
-                self.assertIn(" outcomes couldn't be checked: ", result.stdout)
+                self.assertIn(" could not be checked: ", result.stdout)
                 self.assertIn(told, result.stdout)
                 self.assertIn("none fails the check\n", result.stdout)
                 suite = xml.etree.ElementTree.parse(self.path("junit.xml")).getroot()
@@ -65,7 +65,7 @@ class ChecksTest(ExploreTest):
         check = self.check("import os, sys\nif any(open(sys.argv[1], 'rb').read()): sys.exit('not zero')\nos.abort()")
         result = self.cuts(check)
         self.assertEqual((result.returncode, result.stderr), (3, ""))
-        self.assertIn("1 outcomes of 5 cuts fail the check\n1 outcomes couldn't be checked: the check was ended by signal 6 (SIGABRT)\n",
+        self.assertIn("1 outcome of 5 cuts fails the check\n1 outcome could not be checked: the check was ended by signal 6 (SIGABRT)\n",
                       result.stdout)
         self.assertEqual([row["check"] for row in json.loads(self.cuts(check, "--json").stdout)], ["error", "fails"])
 
@@ -117,7 +117,7 @@ class ChecksTest(ExploreTest):
         self.assertEqual(ends.returncode, 0, ends.stdout)  # it is started again for the second outcome
         silent = self.cuts(self.check("import sys\nsys.stdin.readline()\n"), "--check-batch", "--jobs", "1")
         self.assertEqual(silent.returncode, 4)
-        self.assertIn("2 outcomes couldn't be checked: the check ended with status 0 before it answered\n", silent.stdout)
+        self.assertIn("2 outcomes could not be checked: the check ended with status 0 before it answered\n", silent.stdout)
         hangs = self.cuts(self.check("import sys, time\nsys.stdin.readline()\ntime.sleep(600)\n"), "--check-batch", "--check-timeout", "0.5")
         self.assertEqual(hangs.returncode, 4)
         self.assertIn("took longer than 0.5 s", hangs.stdout)

@@ -3,6 +3,7 @@ import csv
 import io
 import json
 import math
+import re
 from pathlib import Path
 from typing import Any, Dict, List
 
@@ -143,15 +144,15 @@ class WorkloadTest(CompareCase):
         (row,) = found["designs"]
         self.assertEqual((row["writes"], row["fences"], row["reads"], row["total_reads_data"]), (2, 2, 1, 1))
         self.assertEqual(found["notes"][:3], [
-            "standard input: writes of a part of a line, which are of the whole line here: 1",
+            "standard input: writes of a part of a line, which write the whole line here: 1",
             "standard input: reads of a line that waits, which read what is in memory here: 1",
             "standard input: left out, as no drain or fence makes sure of them: writes: 1"])
 
     def test_what_the_smallest_memory_has_not_is_told_before_anything_runs(self) -> None:
         text = f"post 0 300 {ONES}\nfence 0\nread 0 300\n{ONE}"
         result = self.explore("compare", "-", "--designs", "run", "--levels", "1,2", "--program", self.path("none"), text=text)
-        self.assert_fails(result, 1, "left out of all, as run with 1 levels has the lines 0 to 255 alone: writes and reads of others: 2, "
-                          "of so many lines: 1", "cannot run the program")
+        self.assert_fails(result, 1, "left out of all, as run with 1 levels has only the lines 0 to 255: other lines: 1, "
+                          "writes and reads of them: 2", "cannot run the program")
         rows = self.rows(text, "--designs", "run", "--levels", "1,2", "--cuts", "1")
         self.assertEqual([(row["writes"], row["reads"]) for row in rows], [(1, 0), (1, 0)])
         rows = self.rows(text, "--designs", "run", "--levels", "1,2", "--cuts", "1", "--fold")
@@ -166,7 +167,8 @@ class WorkloadTest(CompareCase):
         self.assertEqual([(levels, each.machine_name, each.levels, each.sets, each.loss) for levels, each in designs], [
             (levels, "run", levels, sets, loss) for levels in (1, 2) for sets in (1, 4) for loss in (1, 4)] + [
             (levels, "tree", levels + 2, sets, 4) for levels in (1, 2) for sets in (1, 4)])
-        with self.assertRaisesRegex(ExploreError, "tree has no memory as large as that of run with 5 levels"):
+        told = "tree has no memory as large as that of run with 5 levels: at most 16,384 lines, as run with 4 levels "
+        with self.assertRaisesRegex(ExploreError, told):
             compare.designs_of(["tree"], Settings(), {**values, "levels": [5]})
         self.assert_fails(self.explore("compare", "-", "--designs", "run,x", text=ONE), 2, "'x' is not one of run, wear, txn, tree")
 
@@ -202,7 +204,7 @@ class WorkloadTest(CompareCase):
 
     def test_a_program_that_has_no_log(self) -> None:
         result = self.explore("compare", "-", "--designs", "run", "--program", self.older_program(), text=ONE)
-        self.assert_fails(result, 1, "doesn't tell what the commands of run do to the device")
+        self.assert_fails(result, 1, "does not tell what the commands of run do to the device")
 
     def test_forks_and_runs_from_the_start_agree(self) -> None:
         words = ("compare", "-", "--designs", "run", "--cuts", "0")
@@ -213,7 +215,7 @@ class WorkloadTest(CompareCase):
         trace = str(EXAMPLES / "database.trace")
         result = self.explore("compare", trace, "--json", "--cuts", "2", *words_of(QUICK))
         self.assertEqual(result.returncode, 0, result.stderr)
-        self.assertIn("left out of all, as txn with 2 levels has the lines 0 to 1007 alone", result.stderr)
+        self.assertIn("left out of all, as txn with 2 levels has only the lines 0 to 1007", result.stderr)
         rows = json.loads(result.stdout)["designs"]
         self.assertEqual([(row["design"], row["writes"], row["fences"], row["reads"]) for row in rows],
                          [(design, 2421, 457, 465) for design in ("run", "wear", "txn", "tree")])
@@ -240,11 +242,11 @@ class LogTest(ExploreTest):
 
     def test_a_log_that_is_not_as_it_should_be(self) -> None:
         for text in (b"look x\nwork 0 0\nok\n", b"look 0\n", b"work 0 0\n", b"work 0\nok\n", b"peep 0\nwork 0 0\nok\n", b"ok\n"):
-            with self.assertRaisesRegex(ExploreError, "pmem doesn't tell its accesses as docs/FORMATS.md says"):
+            with self.assertRaisesRegex(ExploreError, "pmem does not tell its accesses as docs/FORMATS.md says"):
                 entries_of(text, "pmem")
         text = b"look 5\nline 5\nwork 0 0\nseal 5 0.1 00\nok 7\nline 1024\nwork 0 0\nline 00 1\n"
         self.assertEqual(counted(text, 2, "pmem"), ({5: 1, 1024: 1}, {"ok": 1, "line": 1}))
-        with self.assertRaisesRegex(ExploreError, "doesn't tell its accesses"):
+        with self.assertRaisesRegex(ExploreError, "does not tell its accesses"):
             counted(text, 3, "pmem")
 
 
@@ -269,6 +271,26 @@ class ChipTest(ExploreTest):
             "cache": 2 * 512 * 68, "shadow": 64 * 64, "registers": 525, "waiting": 15 * 68})
         self.assertEqual(chip_bytes(Settings(machine_name="tree", levels=4)), {
             "cache": 17 * 36, "shadow": 85 * 64, "registers": 16 + 7 * 68, "waiting": 0})
+
+
+class RowsTest(CompareCase):
+    def test_chosen_rows(self) -> None:
+        """The device and the chip by the tables of docs/MACHINE.md, TREE.md and COSTS.md."""
+        words = ("--designs", "run,tree", "--levels", "1", "--cuts", "1", "--latex")
+        latex = self.output("compare", "-", *words, "--rows", "device_bytes,chip_same_basis,write_steps", text=ONE)
+        lines = [line for line in latex.split("\n") if " & " in line]
+        # run at 1 level: 256 data, 64 tag and 5 metadata lines, two shadow lines; tree at 3: 256 twice, 85 nodes, 13 slots.
+        self.assertEqual(lines[1], f"bytes on the device: all & {64 * 327:,} & {64 * (512 + 85 + 13):,} \\\\")
+        run, tree = 2 * 8 * 68 + 2 * 64 + 525, 13 * 36 + 21 * 64 + 16 + 6 * 68
+        self.assertEqual(lines[2], f"bytes on the chip: all but what waits & {run:,} & {tree:,} \\\\")
+        self.assertEqual((len(lines), lines[3].split(" & ")[0]), (4, "a line written: persist steps"))
+
+    def test_wrong_rows(self) -> None:
+        for words, told in ((("--latex", "--rows", "speed"), "'speed' is not a row"), (("--rows", "write_steps"), "--rows needs --latex"),
+                            (("--latex", "--rows", "write_ns"), "--rows: there is nothing named write_ns here")):
+            result = self.explore("compare", "-", "--designs", "run", "--levels", "1", "--cuts", "1", *words, text=ONE)
+            self.assertEqual((result.returncode, result.stdout), (2, ""))
+            self.assertIn(told, result.stderr)
 
 
 class CostTest(CompareCase):
@@ -312,40 +334,95 @@ class CostTest(CompareCase):
         self.assertTrue(lines[2].startswith("not modelled: banks, row buffers, queues"))
 
     def test_those_that_come_with_it(self) -> None:
-        self.assertEqual(bundled(), ["flash", "optane", "stt-mram"])
+        self.assertEqual(bundled(), ["flash", "optane", "optane-cited", "stt-mram"])
         for name in bundled():
             costs = read_costs(name)
-            self.assertTrue(all(figure.is_assumed for figure in costs.figures.values()), name)
+            cited = {key: figure.value for key, figure in costs.figures.items() if not figure.is_assumed}
+            # Yang and others, FAST 2020: a random read, and a non-temporal store with a fence.
+            self.assertEqual(cited, {"device.read.ns": 305.0, "device.write.ns": 90.0} if name == "optane-cited" else {}, name)
             self.assertGreater(costs.spent(Account(reads=[1, 1, 0, 0, 0])).nj, 0)
         self.assertIn("--cost", self.output("compare", "--help"))
-        self.assertIn("flash, optane, stt-mram", self.output("compare", "--help").replace("\n" + " " * 24, " "))
+        self.assertIn("flash, optane, optane-cited, stt-mram", " ".join(self.output("compare", "--help").split()))
+
+    def test_the_baseline(self) -> None:
+        """A memory without security: a line write a write, a line read a read, nothing on the chip and no recovery."""
+        plain, run = self.rows(SMALL, "--designs", "plain,run", "--levels", "1", "--cuts", "0", "--cost", self.file("f.toml", FIGURES))
+        self.assertEqual((plain["design"], plain["memory_lines"], plain["device_bytes"], plain["chip_bytes"]), ("plain", 256, 64 * 256, 0))
+        self.assert_counts(plain, "write", steps=1, line_writes=1, writes_data=1)
+        self.assert_counts(plain, "read", line_reads=1, reads_data=1)
+        self.assertEqual((plain["write_ns"], plain["write_nj"], plain["read_ns_mean"], plain["read_nj"]), (100, 2, 10, 1))
+        self.assertEqual({plain[name] for name in plain if name.startswith("recover")}, {None})
+        # 256 data, 64 tag and 5 metadata lines and two shadow lines.
+        self.assertEqual((run["over_plain_device_bytes"], run["over_plain_line_writes"]), (round(327 / 256, 3), run["write_line_writes"]))
+        self.assertEqual((run["over_plain_ns"], plain["over_plain_ns"]), (round(run["write_ns"] / 100, 3), 1.0))
+        result = self.explore("compare", "-", "--designs", "plain", text=SMALL)
+        self.assertEqual((result.returncode, result.stdout), (2, ""))
+        self.assertIn("plain is a baseline; name a design to compare with it", result.stderr)
+
+    def test_time_and_energy_by_part(self) -> None:
+        """A first write reads the path's blocks and a tag line, writes names, cipher and tag, and makes a tag, a pad and digests."""
+        (row,) = self.rows(ONE, "--designs", "run", "--cost", self.file("f.toml", FIGURES), "--cuts", "0")
+        times = {"data": 100, "tags": 10 + 100, "counters": 10, "tree": 2 * 10, "shadow": 3 * 100, "chip": 2 * 1000 + 3 + 20 + 6 * 7}
+        self.assertEqual({name: row[f"write_ns_{name}"] for name in times}, times)
+        energies = {"data": 2, "tags": 1 + 2, "counters": 1, "tree": 2, "shadow": 3 * 2, "chip": 2 * 4 + 8 + 16 + 6 * 32}
+        self.assertEqual({name: row[f"write_nj_{name}"] for name in energies}, energies)
+        for kind in ("write", "recovery"):
+            total = row["write_ns"] if kind == "write" else row["recovery_ns_mean"]
+            self.assertAlmostEqual(sum(row[f"{kind}_ns_{name}"] for name in times), total, places=1)
+
+    def test_several_files_of_figures(self) -> None:
+        slow = self.file("slow.toml", FIGURES.replace("write = { ns = 100", "write = { ns = 500"))
+        found = self.found(ONE, "--designs", "run,tree", "--levels", "1", "--cuts", "2", "--cost", f"{self.file('f.toml', FIGURES)},{slow}")
+        rows = found["designs"]
+        self.assertEqual([(row["design"], row["figures"]) for row in rows],
+                         [("run", "f.toml"), ("tree", "f.toml"), ("run", "slow.toml"), ("tree", "slow.toml")])
+        self.assertEqual([more["write_ns"] - less["write_ns"] for less, more in zip(rows, rows[2:])],
+                         [400 * row["write_line_writes"] for row in rows[:2]])
+        self.assertEqual([head.split(":")[0] for head in found["heads"]], ["times and energy", "figures"] * 2 + ["not modelled"])
+        self.assertEqual(len(found["recoveries"]), 4)
+
+    def test_a_source_of_its_own(self) -> None:
+        """A field may have another source than its entry."""
+        cited = FIGURES.replace('nj = 1, source = "assumed"', 'nj = 1, source = "a paper", nj_source = "assumed"')
+        costs = read_costs(self.file("f.toml", cited))
+        self.assertEqual([costs.figures[f"device.read.{name}"].is_assumed for name in ("ns", "nj")], [False, True])
+
+    def test_a_folder_of_traces(self) -> None:
+        for name, text in (("b.trace", ONE), ("a.trace", SMALL), ("notes.txt", "none\n")):
+            self.file(name, text)
+        found = self.json("compare", str(self.directory), "--designs", "run", "--levels", "1", "--cuts", "1")
+        self.assertEqual([row["trace"].rsplit("/", 1)[-1] for row in found["designs"]], ["a.trace", "b.trace", "mean of 2 traces"])
+        empty = self.directory / "empty"
+        empty.mkdir()
+        self.assert_fails(self.explore("compare", str(empty)), 1, "has no file whose name ends in .trace")
 
     def test_bad_files(self) -> None:
         for old, new, told in (
                 ("[device]", "[devise]", "no table devise"),
                 ("read = { ns", "red = { ns", "device has no entry red"),
                 ("ns = 10,", "ms = 10,", "device.read has no field ms"),
-                ("ns = 10,", "", "device.read.ns is to be a number that is not negative"),
-                ("ns = 10,", "ns = -1,", "device.read.ns is to be a number that is not negative"),
-                ("ns = 10,", "ns = nan,", "device.read.ns is to be a number that is not negative"),
-                ("ns = 10,", "ns = inf,", "device.read.ns is to be a number that is not negative"),
-                ("ns = 10,", "ns = true,", "device.read.ns is to be a number that is not negative"),
-                ("ns = 10,", 'ns = "10",', "device.read.ns is to be a number that is not negative"),
-                ("writes = 1000", "writes = 0", "device.endurance.writes is to be a whole number from 1 on"),
-                ("at_once = 1", "at_once = 1.5", "overlap.reads.at_once is to be a whole number from 1 on"),
-                ("holds = false", "holds = 0", "overlap.pad_beside_read.holds is to be true or false"),
-                (', source = "measured on paper"', "", "device.write doesn't say where it is from"),
-                ('"measured on paper"', '" "', "device.write doesn't say where it is from"),
-                ('title = "a device for tests"', "", "title is to be a line of text"),
+                ("ns = 10,", "", "device.read.ns must be a number that is not negative"),
+                ("ns = 10,", "ns = -1,", "device.read.ns must be a number that is not negative"),
+                ("ns = 10,", "ns = nan,", "device.read.ns must be a number that is not negative"),
+                ("ns = 10,", "ns = inf,", "device.read.ns must be a number that is not negative"),
+                ("ns = 10,", "ns = true,", "device.read.ns must be a number that is not negative"),
+                ("ns = 10,", 'ns = "10",', "device.read.ns must be a number that is not negative"),
+                ("writes = 1000", "writes = 0", "device.endurance.writes must be a whole number from 1 on"),
+                ("at_once = 1", "at_once = 1.5", "overlap.reads.at_once must be a whole number from 1 on"),
+                ("holds = false", "holds = 0", "overlap.pad_beside_read.holds must be true or false"),
+                (', source = "measured on paper"', "", "device.write has no source"),
+                ('"measured on paper"', '"a paper", nj_source = 3', "device.write has no source: add nj_source"),
+                ('"measured on paper"', '" "', "device.write has no source"),
+                ('title = "a device for tests"', "", "title must be one line of text"),
                 ("[overlap]", "[chip.more]", "chip has no entry more"),
-                ("[device]", "[device", "is no TOML"),
+                ("[device]", "[device", "is not valid TOML"),
                 ("pad = {", "pad = 3 # {", "chip.pad is missing")):
             with self.subTest(new or old):
                 self.assertIn(old, FIGURES)
                 bad = self.file("bad.toml", FIGURES.replace(old, new, 1))
                 result = self.explore("compare", "-", "--designs", "run", "--cost", bad, text=ONE)
                 self.assert_fails(result, 1, "bad.toml", told)
-        self.assert_fails(self.explore("compare", "-", "--cost", "dram", text=ONE), 1, "no figures named dram: flash, optane, stt-mram")
+        self.assert_fails(self.explore("compare", "-", "--cost", "dram", text=ONE), 1, "no figures named dram: flash, optane, optane-cited, stt-mram")
         self.assert_fails(self.explore("compare", "-", "--cost", self.path("no.toml"), text=ONE), 1, "cannot read", "No such file")
 
     def test_python_that_reads_no_toml(self) -> None:
@@ -356,5 +433,5 @@ class CostTest(CompareCase):
     def test_each_figure_says_where_it_is_from(self) -> None:
         for path in sorted(Path(TOOLS / "explorer" / "costs").glob("*.toml")):
             text = path.read_text()
-            self.assertEqual(text.count("source = "), text.count(" = {"), path.name)
+            self.assertEqual(len(re.findall("(?<!_)source = ", text)), text.count(" = {"), path.name)
         self.assertFalse(math.isnan(read_costs("optane").endurance))

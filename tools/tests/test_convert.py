@@ -46,7 +46,7 @@ class ConvertTest(ExploreTest):
         for machine in ("wear", "tree"):
             result = self.converted(machine, SMALL)
             self.assertEqual(self.commands(result.stdout), ["read 70", *written])
-            self.assertEqual(result.stderr, "explore: writes of a part of a line, which are of the whole line here: 1\n"
+            self.assertEqual(result.stderr, "explore: writes of a part of a line, which write the whole line here: 1\n"
                                             "explore: reads of a line that waits, which read what is in memory here: 2\n"
                                             "explore: left out, as no drain or fence makes sure of them: writes: 1\n")
         self.assertEqual(self.commands(self.converted("txn", SMALL).stdout), [
@@ -60,16 +60,16 @@ class ConvertTest(ExploreTest):
 
     def test_lines_that_a_smaller_memory_has_not(self) -> None:
         text = f"post 0 1022 {ONES}\nread 0 1023\npost 0 1007 {ONES}\nread 0 1010\nfence 0\n"
-        for machine, told, lines in (("wear", "wear has the lines 0 to 1021 alone: writes and reads of others: 2, of so many lines: 2",
+        for machine, told, lines in (("wear", "wear has only the lines 0 to 1021: other lines: 2, writes and reads of them: 2",
                                       ["1010", "1007"]),
-                                     ("txn", "txn has the lines 0 to 1007 alone: writes and reads of others: 3, of so many lines: 3",
+                                     ("txn", "txn has only the lines 0 to 1007: other lines: 3, writes and reads of them: 3",
                                       ["1007"]),
                                      ("tree", "", ["1023", "1010", "1022", "1007"])):
             result = self.converted(machine, text)
             self.assertEqual(result.stderr, f"explore: left out, as {told}\n" if told else "")
             self.assertEqual([line.split()[1] for line in self.commands(result.stdout) if " " in line], lines)
             self.assertNotIn("range", self.answers(machine, result.stdout))
-        self.assertIn("tree has the lines 0 to 15 alone: writes and reads of others: 4, of so many lines: 4",
+        self.assertIn("tree has only the lines 0 to 15: other lines: 4, writes and reads of them: 4",
                       self.converted("tree", text, "--levels", "1").stderr)
 
     def test_each_machine_has_the_same_memory_after_each_fence(self) -> None:
@@ -94,7 +94,7 @@ class ConvertTest(ExploreTest):
                                         "explore: fences of more than 15 lines, which are several transactions each: 1\n")
 
     def test_lines_that_are_no_commands(self) -> None:
-        for line, told in (("write 0 11", "is no command of pmem run"), ("read 0", "is no command"), ("read 9 0", "below 8"),
+        for line, told in (("write 0 11", "is not a command of pmem run"), ("read 0", "is not a command"), ("read 9 0", "below 8"),
                            ("read 0 x", "below 18446744073709551616"), (f"post 0 0 {ONES[2:]}", "hex digits"),
                            ("part 0 0 64 11", "below 64"), ("part 0 0 0 1", "hex digits")):
             with self.subTest(line):

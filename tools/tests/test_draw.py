@@ -30,6 +30,12 @@ class PictureTest(ExploreTest):
     def test_the_same_picture_each_time(self) -> None:
         self.assertEqual(self.draw("first.svg", text=WRITE), self.draw("second.svg", text=WRITE))
 
+    def test_the_fonts_of_a_pdf(self) -> None:
+        """They are TrueType, as IEEE and ACM ask for, and not Type 3."""
+        drawn = self.draw("picture.pdf", "--suite", "weak", text=WRITE)
+        self.assertNotIn(b"/Subtype /Type3", drawn)
+        self.assertIn(b"/CIDFontType2", drawn)
+
     def test_the_examples(self) -> None:
         for name in ("power_cut", "attack"):
             self.draw(f"{name}.svg", "--title", "$ a title $", text=(EXAMPLES / f"{name}.trace").read_text())

@@ -72,7 +72,7 @@ class EnduranceTest(ExploreTest):
         lines = [line.split() for line in text.splitlines()]
         self.assertIn("tags 256 1 4 4.0 4 tag line of 4 to 7 50 seconds".split(), lines)
         self.assertIn("1025 4 tag line of 4 to 7".split(), lines)
-        self.assertIn("lines with so many writes 0 1 2-3 4-7".split(), lines)
+        self.assertIn("lines by number of writes 0 1 2-3 4-7".split(), lines)
         rows = list(csv.DictReader(io.StringIO(self.output(*words, "--csv", text=FOUR))))
         self.assertEqual([row["greatest"] for row in rows], ["3", "4", "0", "0", "2"])
         latex = self.output(*words, "--latex", text=FOUR)
@@ -119,7 +119,7 @@ class ExportTest(ExploreTest):
     def test_what_is_no_access_is_told(self) -> None:
         result = self.explore("export", "-", "--to", "ramulator", "-o", self.path("a.txt"), text=WRITE)
         self.assertEqual((result.returncode, result.stdout), (0, ""))
-        self.assertEqual(result.stderr, "explore: 9 accesses, 5 of them writes; left out, as they aren't of the device: 2 latches, "
+        self.assertEqual(result.stderr, "explore: 9 accesses, 5 of them writes; left out, as they are not of the device: 2 latches, "
                                         "1 tags, 6 digests\n")
 
     def test_other_machines(self) -> None:

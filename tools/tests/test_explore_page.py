@@ -39,6 +39,16 @@ class PageTest(ExploreTest):
             ran.stdout = ""
         return ran
 
+    def assert_shows(self, shown: str, printed: str) -> None:
+        """The page shows what was printed; a line `..` stands for any lines, blanks between columns for any number of blanks then."""
+        if "\n..\n" not in f"\n{shown}":
+            self.assertEqual(printed, shown)
+            return
+        lines = iter([" ".join(line.split()) for line in printed.splitlines()])
+        for line in shown.splitlines():
+            if line != "..":
+                self.assertIn(" ".join(line.split()), lines, f"not printed, or not in this order: {line}")
+
     def test_examples(self) -> None:
         os.symlink(EXAMPLES, self.path("examples"))
         count = 0
@@ -49,14 +59,15 @@ class PageTest(ExploreTest):
                 count += 1
                 with self.subTest(command):
                     ran = self.run_in(command)
-                    self.assertEqual((ran.stdout, ran.stderr), (output, ""))
+                    self.assertEqual(ran.stderr, "")
+                    self.assert_shows(output, ran.stdout)
                     self.assertEqual(ran.returncode, 3 if " fails " in output else 0)
         self.assertGreater(count, 13)
 
     def test_each_option_of_the_page_is_one_of_a_command(self) -> None:
         text = PAGE.read_text(encoding="utf-8")
         known = set()
-        names = ("steps", "cuts", "sweep", "compare", "endurance", "draw", "export", "convert", "shell")
+        names = ("steps", "cuts", "sweep", "compare", "endurance", "attacks", "bounds", "figure", "draw", "export", "convert", "shell")
         for words in (["--help"], *([name, "--help"] for name in names),
                       *(["import", kind, "--help"] for kind in ("csv", "lackey", "pmemcheck"))):
             known |= set(re.findall(r"--[a-z][a-z-]*", self.output(*words)))

@@ -69,7 +69,7 @@ class LackeyTest(ExploreTest):
     def test_an_address_where_no_fence_can_be_is_told(self) -> None:
         ran = self.explore("import", "lackey", "-", "--fence-at", "0x401003,401010", "--fence-at", "0x401011", text=LACKEY)
         self.assertEqual((ran.returncode, ran.stderr), (0, "".join(
-            f"explore: no fence at {address}, as nothing that is looked at begins there (an address that doesn't begin with 0x "
+            f"explore: no fence at {address}, as nothing that is looked at begins there (an address that does not begin with 0x "
             "is decimal)\n" for address in ("0x61e72", "0x401011"))))
         ran = self.explore("import", "lackey", "-", "--fence-at", "0x602000", "--commands", "3", text=LACKEY)
         self.assertIn("no fence at 0x602000, as nothing that is looked at begins there up to the trace's end", ran.stderr)
@@ -271,7 +271,7 @@ class PmemcheckTest(ExploreTest):
 
     def test_what_is_no_log(self) -> None:
         for text, told in (("", "no START"), ("STORE;0x1;0x1;0x1\n", "begin with START"), ("START|STORE;1;2;3\n", "in hex after 0x"),
-                           ("START|STORE;0x1;0x100;0x1\n", "doesn't fit"), ("START|STOP\n", "no store or load"),
+                           ("START|STORE;0x1;0x100;0x1\n", "does not fit"), ("START|STOP\n", "no store or load"),
                            ("START|FLUSH;0x1\n", "in hex after 0x")):
             with self.subTest(text):
                 self.assert_fails(self.explore("import", "pmemcheck", "-", text=text), 1, told)

@@ -71,9 +71,9 @@ class MachinesTest(ExploreTest):
         self.assertTrue(text.endswith("8 cuts in 3 ranges that leave the same\n"), text)
 
     def test_words_of_ranges(self) -> None:
-        self.assert_fails(self.explore("cuts", "-", "--markdown", text=""), 2, "--markdown goes with --ranges")
+        self.assert_fails(self.explore("cuts", "-", "--markdown", text=""), 2, "--markdown needs --ranges")
         for word, *more in (("--twice",), ("--orders", "9")):
-            self.assert_fails(self.explore("cuts", "-", "--ranges", word, *more, text=""), 2, f"--ranges goes without {word}")
+            self.assert_fails(self.explore("cuts", "-", "--ranges", word, *more, text=""), 2, f"--ranges and {word} exclude each other")
         for words in (("--ranges", "--distinct"), ("--ranges", "--json", "--markdown")):
             self.assert_fails(self.explore("cuts", "-", *words, text=""), 2, "not allowed with")
 
@@ -113,9 +113,9 @@ class MachinesTest(ExploreTest):
         self.assertIn("4  commit\n   > ok 30\n     cut after 0 to 11 of its steps: cut lost, then on 0\n"
                       "     cut after 12 to 26 of its steps: cut kept, then on 2\n"
                       "     cut after 27 to 29 of its steps: cut kept, then on 0\n4 commands, 30 persist steps\n", result.stdout)
-        self.assertIn("which device line a step writes isn't told", result.stdout)
+        self.assertIn("which device line a step writes is not known", result.stdout)
         self.assertEqual((result.returncode, result.stderr.count("\n")), (0, 1))
-        self.assertIn("has no option --log of txn, so which device line a step writes isn't told\n", result.stderr)
+        self.assertIn("has no option --log of txn, so which device line a step writes is not known\n", result.stderr)
         commands = json.loads(self.explore("steps", "-", *words, "--json", text=text).stdout)
         self.assertEqual([step["cut_before"] for step in commands[3]["steps"]], ["lost"] * 12 + ["kept"] * 18)
 

@@ -195,7 +195,6 @@ class ChainTest(unittest.TestCase):
         counts = [sum(each[place] for number in range(40) for each in states.some(60, random.Random(number))[18:]) for place in range(8)]
         self.assertTrue(all(700 < count < 980 for count in counts), counts)
 
-
     def test_numbers_of_states(self) -> None:
         for count, text in ((0, "0"), (10 ** 12 - 1, "9" * 12), (10 ** 12, "1.0e12"), (1 << 64, "1.8e19"), (45938119534 * 10 ** 29, "4.5e39"),
                             (10 ** 40 - 1, "9.9e39"), (3 ** 20_000, "2.6e9542")):

@@ -156,7 +156,7 @@ class OutcomesTest(ExploreTest):
     def test_wrong_words(self) -> None:
         for words, status, told in ((("--junit", self.path("a")), 2, "--check"), (("--orders", "1"), 2, "--orders"),
                                     (("--check", self.path("none")), 4, "cannot run"),
-                                    (("--check", "true", "--elf", __file__), 1, "no ELF file")):
+                                    (("--check", "true", "--elf", __file__), 1, "is not a little-endian ELF file")):
             self.assert_fails(self.explore("cuts", "-", *words, text=WRITE), status, told)
         self.assert_fails(self.explore("cuts", "-", "--as", "wear", "--orders", "9", text=""), 2, "--orders")
 

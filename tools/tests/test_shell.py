@@ -32,11 +32,11 @@ class PipesTest(ExploreTest):
 
     def test_a_wrong_line_ends_nothing(self) -> None:
         for line, told in (("read 0", "too few or too many words: read 0"), ("READ 0 0", "no such command: READ 0 0"),
-                           ("read 0 0 # so", "a comment has a line of its own"), ("undo", "nothing is left to take back"),
+                           ("read 0 0 # so", "a comment needs its own line"), ("undo", "nothing is left to take back"),
                            ("redo", "nothing was taken back"), ("cut here", "no command yet"), ("go", "nothing waits"),
                            ("show tag 5000", "no such line: tag 5000; the last is 1023"), ("show thing 1", "no such line"),
                            ("load", "which file?"), (f"load {self.path('none')}", "No such file"), ("load 'x", "quotation"),
-                           ("undo x", "a number should stand there"), ("list all", "too many words"),
+                           ("undo x", "expected a number"), ("list all", "too many words"),
                            (f"save {self.path('none/a')}", "no directory"), ("steps maybe", "steps on, or steps off?"),
                            ("\x80\x1b[2J", "no such command")):
             with self.subTest(line):
@@ -99,7 +99,7 @@ class PipesTest(ExploreTest):
                 wanted = (EXAMPLES / f"{name}.out").read_text().splitlines()
                 self.assertEqual(answers, [short_text(line) for line in wanted])
         result = self.explore("shell", "--as", "tree", text="show 1\n")
-        self.assertEqual(result.stderr.count("doesn't show its device"), 1)
+        self.assertEqual(result.stderr.count("does not show its device"), 1)
 
     def test_the_other_machines_by_a_program_without_a_log(self) -> None:
         result = self.explore("shell", "--as", "tree", "--program", self.older_program(), text=f"write 0 {ONES}\nbreak 1\n")

@@ -11,7 +11,7 @@ from explorer.trace import TAMPERING_WORDS
 TWO_PAGES = f"post 0 324 {'f0' * 64}\npost 1 372 {'eb' * 64}\ndrain 1\ndrain 0\n"
 SAME_BYTES = TWO_PAGES + "read 0 0\nread 0 256\nread 0 512\nread 0 768\n"
 COUNTS = ("reads", "writes", "latches", "tags", "digests")
-NO_LOG = "has no option --log of run, so each step is found by a cut, and what a latch does isn't told\n"
+NO_LOG = "has no option --log of run, so each step is found by a cut, and what a latch does is not known\n"
 
 
 def lines_of(command: Dict[str, Any]) -> List[Optional[int]]:
@@ -224,7 +224,7 @@ class LogTest(ExploreTest):
                       "     read    line 1024: tag line of 0 to 3\n"
                       "     step 4  latch: arms a group of 2 lines\n", text)
         self.assertIn("3  read 0 4\n   > line 00..00 0\n     read    line 4: data line 4\n"
-                      "     read    line 1025: tag line of 4 to 7\n     2 reads, 1 tags, 0 digests\n", text)
+                      "     read    line 1025: tag line of 4 to 7\n     2 reads, 1 tag, 0 digests\n", text)
         self.assertTrue(text.endswith("3 commands, 7 persist steps, 6 reads, 2 tags, 6 digests\n"))
         self.assertNotIn("read ", self.output("steps", "-", text=WRITE))
         drain, read = self.json("steps", "-", "--reads", text=WRITE + "read 0 4\n")[1:]
@@ -236,7 +236,7 @@ class LogTest(ExploreTest):
     def test_reads_that_are_not_told(self) -> None:
         for name, text in (("run", WRITE), ("txn", "begin\n")):
             result = self.explore("steps", "-", "--reads", "--as", name, "--program", self.older_program(), text=text)
-            self.assert_fails(result, 1, f"older doesn't tell what its commands read: its {name} has no option --log")
+            self.assert_fails(result, 1, f"older does not tell what its commands read: its {name} has no option --log")
 
     def test_an_older_program(self) -> None:
         result = self.explore("steps", "-", "--program", self.older_program(), text=TWO_WRITES)
@@ -274,10 +274,10 @@ os.execv({os.path.abspath(program_path())!r}, [{program_path()!r}, *sys.argv[1:]
         self.assertEqual([" --log" in run for run in runs], [False, True, False, False])
 
     def test_a_log_that_does_not_fit_the_replies(self) -> None:
-        for old, new, told in (("ok 7", "ok 8", "doesn't answer the same with --log"), ("work.*", "", "with --log"),
-                               ("look 1280", "look x", "doesn't tell its accesses"), ("look 1280", "gaze 1280", "accesses"),
+        for old, new, told in (("ok 7", "ok 8", "does not answer the same with --log"), ("work.*", "", "with --log"),
+                               ("look 1280", "look x", "does not tell its accesses"), ("look 1280", "gaze 1280", "accesses"),
                                ("latch 2\\n", "", "the answer tells 7 steps, and the log 6"),
-                               ("line 0\\n", "line 5000\\n", "tells of line 5000"), ("\\Z", "ok\\n", "answers more")):
+                               ("line 0\\n", "line 5000\\n", "names line 5000"), ("\\Z", "ok\\n", "answers more")):
             with self.subTest(told):
                 program = self.script("other", f"""
 import os, re, subprocess, sys

@@ -62,7 +62,7 @@ class SweepTest(ExploreTest):
 
     def test_places_out_of_range_are_told(self) -> None:
         text = self.output("sweep", "-", "--levels", "1,2", text=f"post 0 300 {ONES}\nread 0 300\n")
-        self.assertIn("levels 1, sets 4, ways 2, loss 4: 2 commands name a place that isn't there (range)\n", text)
+        self.assertIn("levels 1, sets 4, ways 2, loss 4: 2 commands name a place that is not there (range)\n", text)
         self.assertNotIn("levels 2, sets", text)
 
     def test_exhibits_and_refusals_are_told(self) -> None:

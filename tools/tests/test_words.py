@@ -72,7 +72,7 @@ class FilesTest(ExploreTest):
 
     def test_a_malformed_line_is_named(self) -> None:
         for line, told in (("READ 0 0", "no such command"), ("read 0", "too few or too many words"),
-                           ("read x 0", "a number"), ("read 9 0", "a port above 7"), (f"post 0 0 {ONES[1:]}", "hex"),
+                           ("read x 0", "a number"), ("read 9 0", "a port is above 7"), (f"post 0 0 {ONES[1:]}", "hex"),
                            ("#" * 1025, "1,024 bytes")):
             with self.subTest(told):
                 trace = self.file("bad.trace", f"# a comment\r\nstat\n{line}\nstat\n")
@@ -130,7 +130,7 @@ class ProgramsTest(ExploreTest):
 
     def test_a_program_that_fails(self) -> None:
         for text, told in (("import sys; sys.exit(9)", "ended with status 9"),
-                           ("import sys; print('stop memory'); sys.exit(1)", "too little memory"),
+                           ("import sys; print('stop memory'); sys.exit(1)", "ran out of memory"),
                            ("import sys; print('stop lines'); sys.exit(7)", "1,000,000 lines"),
                            ("import os; os.kill(os.getpid(), 9)", "signal 9")):
             with self.subTest(told):
