@@ -66,6 +66,7 @@ export async function traceAddress(lines) {
 export function addressOf(state, trace) {
   const parts = [];
   if (state.lesson) parts.push(`lesson=${state.lesson}`);
+  if (state.lesson && state.seed !== null) parts.push(`seed=${state.seed}`);
   if (trace !== null || !state.lesson) {
     const words = wordsFor(state.machine, state.options).join('_');
     parts.push(`machine=${state.machine}`, ...(words ? [`options=${words}`] : []), ...(trace ? [trace] : []));
@@ -114,7 +115,7 @@ export async function readAddress(hash, most) {
   faults.push(...chosen.faults);
   const line = said.get('line') ?? null;
   if (line !== null && !isNumber(line)) faults.push(`there is no line ${line}`);
-  return {lesson: said.get('lesson') ?? null, machine, options: chosen.options, faults,
+  return {lesson: said.get('lesson') ?? null, seed: said.get('seed') ?? null, machine, options: chosen.options, faults,
     at: {command: Number(moment?.[1] ?? 0), step: Number(moment?.[2] ?? 0)},
     lines: await linesIn(said, most, faults), line: line !== null && isNumber(line) ? Number(line) : null,
     stops: (said.get('stops') ?? '').split('.').filter(isNumber).map(Number), compared: comparedIn(said.get('compare'), faults)};

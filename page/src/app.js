@@ -5,7 +5,7 @@ import {comparePanel, markCompared, optionField, otherModel, translated} from '.
 import {TookTooLong} from './bounded.js';
 import {chip} from './chip.js';
 import {byId, element, fill} from './dom.js';
-import {blankState, isAsGiven, lessonNamed, showLesson, stateOf} from './lessons.js';
+import {blankState, isAsGiven, lessonNamed, seedIn, showLesson, stateOf} from './lessons.js';
 import {goalOf, missing} from './goal.js';
 import {device} from './map.js';
 import {faultText, Model} from './model.js';
@@ -63,7 +63,7 @@ export class App {
     if (how === 'redo') this.past.push(before);
     this.state = state;
     this.load();
-    if (before.lesson !== state.lesson || !this.isShown) showLesson(this, this.lesson);
+    if (before.lesson !== state.lesson || before.seed !== state.seed || !this.isShown) showLesson(this, this.lesson);
     else if (byId('verdict')) byId('verdict').textContent = '';
     if (before.machine !== state.machine || !this.isShown) fill('reference', referencePanel(this.reference, state.machine));
     const isNew = this.isShown && how !== 'link';
@@ -107,8 +107,9 @@ export class App {
     return {command: to, step: to < end ? Math.max(0, Math.min(step, this.model.total(to) - 1)) : 0};
   }
 
-  open(id) {
-    this.take(stateOf(this.lessons.find(lesson => lesson.id === id)));
+  open(id, seed = null) {
+    const lesson = this.lessons.find(it => it.id === id);
+    this.take(stateOf(lesson, lesson, seed));
   }
 
   go(command, step) {
@@ -298,6 +299,12 @@ export class App {
     view.explain(this, index);
   }
 
+  // Explains the command that is under way, or else the last one that was done.
+  explainHere() {
+    const {command, step} = this.state.at;
+    this.explain(Math.max(0, command - (step ? 0 : 1)));
+  }
+
   tell(text) {
     const notice = byId('notice');
     notice.hidden = !text;
@@ -311,7 +318,7 @@ export class App {
     this.round += 1;
     view.markRows(this);
     view.exhibit(this);
-    this.explain(Math.max(0, this.state.at.command - (this.state.at.step ? 0 : 1)));
+    this.explainHere();
     this.showButtons();
     byId('said').textContent = view.spoken(this);
     if (!this.inTime(() => [view.now(this), device(this)], null)) this.tell(SLOW_PART);
@@ -451,9 +458,11 @@ export class App {
     const said = await readAddress(location.hash, MOST_LETTERS);
     const lesson = said.lesson === null ? null : lessonNamed(this.lessons, said.lesson);
     if (said.lesson !== null && !lesson) said.faults.push(`there is no lesson ${said.lesson}`);
-    let state = stateOf(lesson ?? this.lessons[0]);
+    const seed = said.seed === null ? null : seedIn(said.seed, lesson);
+    if (said.seed !== null && seed === null) said.faults.push(`there is no variant ${said.seed} of this trace`);
+    let state = stateOf(lesson ?? this.lessons[0], lesson ?? this.lessons[0], seed);
     if (said.lines !== null) {
-      state = {...blankState(), machine: said.machine, options: said.options, lines: said.lines, lesson: lesson?.id ?? null};
+      state = {...blankState(), machine: said.machine, options: said.options, lines: said.lines, lesson: lesson?.id ?? null, seed};
     }
     const whole = {...state, at: said.at, line: said.line, stops: said.stops, compared: said.compared};
     let why = this.take(whole, how) ? null : byId('notice').textContent;

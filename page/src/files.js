@@ -29,7 +29,8 @@ export function readFile(text, state) {
 }
 
 function save(app) {
-  const name = app.state.lesson ? `lesson-${app.state.lesson}.trace` : 'mine.trace';
+  const {lesson} = app.state;
+  const name = lesson ? `${/^[0-9]/.test(lesson) ? 'lesson-' : ''}${lesson}.trace` : 'mine.trace';
   const address = URL.createObjectURL(new Blob([fileText(app.state)], {type: 'text/plain'}));
   const link = element('a', {href: address, download: name});
   document.body.append(link);

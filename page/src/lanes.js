@@ -40,6 +40,12 @@ function label(model, index, x, isDue) {
     whole.length > 16 ? whole.slice(0, 15) + '…' : whole);
 }
 
+// The strokes that tell power off from a recovery without colour.
+function strokes(x, width, height) {
+  const starts = Array.from({length: Math.max(1, Math.floor((height - width) / 10))}, (_, i) => TOP + width + 10 * i);
+  return drawn('path', {class: 'strokes', d: starts.map(y => `M${x} ${y}l${width} ${-width}`).join(''), stroke: 'var(--edge)', fill: 'none'});
+}
+
 // One command's columns, and how wide they are.
 function columns(model, index, x, at, parts, go) {
   const total = model.total(index);
@@ -48,6 +54,7 @@ function columns(model, index, x, at, parts, go) {
   const group = drawn('g');
   const fill = model.chip(index).isOn ? null : model.commands[index].word === 'on' ? 'var(--on)' : 'var(--off)';
   if (fill) group.append(drawn('rect', {x, y: TOP, width, height, fill}));
+  if (fill === 'var(--off)') group.append(strokes(x, width, height));
   group.append(label(model, index, x + Math.min(width, STEP) / 2 + 2, index === at.command));
   group.append(drawn('line', {x1: x, x2: x, y1: TOP - 4, y2: TOP + height, stroke: 'var(--line)'}));
   const attack = model.tampered(index);

@@ -53,8 +53,11 @@ function listenToButtons(app) {
   on('copy', () => copyText(app.state.lines.join('\n') + '\n').then(isDone => isDone && app.tell('The trace is copied.')));
   on('link', async () => {
     await app.settled();
-    if (await copyText(location.href)) app.tell('The link to this moment is copied.');
+    if (!await copyText(location.href)) return;
+    app.tell(location.protocol === 'file:' ? 'The link is copied. It opens on this computer; on another one, put its part from # on behind the '
+      + 'address of the page there.' : 'The link to this moment is copied.');
   });
+  byId('rows').addEventListener('mouseleave', () => app.explainHere());
   on('theme', () => setTheme(document.documentElement.dataset.theme === 'dark' ? 'light' : 'dark', true));
   byId('letters').checked = kept('letters') !== 'off';
   byId('letters').addEventListener('change', event => kept('letters', event.target.checked ? 'on' : 'off'));
@@ -183,7 +186,7 @@ async function programHere() {
 async function start() {
   setTheme(kept('theme') ?? (window.matchMedia?.('(prefers-color-scheme: dark)').matches ? 'dark' : 'light'));
   const lessons = lessonsOf(document);
-  const groups = [['lesson', 'Lessons'], ['exercise', 'Exercises'], ['example', 'Examples']];
+  const groups = [['first step', 'First steps'], ['lesson', 'Lessons'], ['exercise', 'Exercises'], ['example', 'Examples']];
   fill('chosen', element('option', {value: '', hidden: true}, 'a trace of your own'), groups.map(([kind, label]) =>
     element('optgroup', {label}, lessons.filter(lesson => lesson.kind === kind).map(lesson => element('option', {value: lesson.id},
       lesson.title)))));

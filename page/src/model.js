@@ -10,8 +10,8 @@ export const MACHINES = {
   run: 'the controller', wear: 'wear levelling', txn: 'transactions', tree: 'a counter tree',
 };
 
-export const FAULTS = {1: 'there is no such command', 2: 'too few or too many words', 3: 'a word isn\'t a number', 4: 'a port is above 7',
-  5: 'wrong hex: a line has 128 digits', 6: 'the line has more than 1,024 bytes'};
+export const FAULTS = {1: 'no such command', 2: 'too few or too many words', 3: 'a word is not a number', 4: 'a port is above 7',
+  5: 'a word has the wrong hex digits: a line has 128', 6: 'more than 1,024 bytes'};
 
 const HIDDEN_LINES = {run: 0, wear: 2, txn: 16, tree: 0};
 

@@ -1,6 +1,6 @@
 // What the page shows of a model at a moment: the rows of the trace, the step that is due, the lanes, the cuts, evidence.
 
-import {byId, element, fill} from './dom.js';
+import {byId, copyText, element, fill} from './dom.js';
 import {lanes} from './lanes.js';
 import {faultText} from './model.js';
 import {EXHIBITS, firstWord, isCut, short} from './trace.js';
@@ -27,12 +27,20 @@ export function rows(app) {
   }));
 }
 
+// A button that copies the 64 bytes of a reply, which is shown in short; null if it has none.
+function copyButton(app, answer) {
+  const bytes = /^(?:raw|line) ([0-9a-f]{128})\b/.exec(answer)?.[1];
+  const copy = () => copyText(bytes).then(isDone => isDone && app.tell('The 64 bytes are copied.'));
+  return bytes ? element('button', {class: 'copy', type: 'button', tabindex: -1, title: 'copy these 64 bytes', 'aria-label': 'copy these 64 bytes',
+    onclick: copy}, 'copy') : null;
+}
+
 function row(app, index, line) {
   const {model} = app;
   const reply = model.replies[index];
   const text = short(model.texts[index].trim());
   const said = reply ? [...reply.marks.map(mark => element('span', {class: 'reply mark'}, short(mark))),
-    element('span', {class: `reply ${classOf(reply.answer)}`}, sign(reply.answer) + short(reply.answer))] : [];
+    element('span', {class: `reply ${classOf(reply.answer)}`}, sign(reply.answer) + short(reply.answer), copyButton(app, reply.answer))] : [];
   const fault = !reply && model.fault && index === model.replies.length
     ? element('span', {class: 'reply fault'}, faultText(model.fault)) : null;
   const isStop = app.state.stops.includes(line);

@@ -36,9 +36,15 @@ def policy(script: str) -> str:
             "base-uri 'none'; form-action 'none'")
 
 
+def without_answer(lesson: Dict[str, Any]) -> Dict[str, Any]:
+    """A lesson for students: without its answer, and without what its goal says to teachers."""
+    goal = {name: entry for name, entry in json.loads(lesson["goal"] or "{}").items() if name != "about"}
+    return {**lesson, "answer": None, "goal": json.dumps(goal) if goal else ""}
+
+
 def assembled(module: str, made: Dict[str, str], suffix: str = ".md", has_answers: bool = True) -> str:
     """The whole page. `module` is packed; `made` says of what it was made; pages in docs/ are linked with this suffix."""
-    lessons = [lesson if has_answers else {**lesson, "answer": None} for lesson in sources.lessons(suffix)]
+    lessons = [lesson if has_answers else without_answer(lesson) for lesson in sources.lessons(suffix)]
     page = sources.read(f"{sources.SOURCES}/page.html")
     script = "\n" + sources.script().rstrip() + "\n"
     reference = json.loads(sources.read(f"{sources.SOURCES}/reference.json"))

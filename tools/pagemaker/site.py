@@ -9,7 +9,7 @@ from typing import Dict, List, Optional, Set, Tuple
 
 from .assemble import PageError
 from .markdown import How, html_of
-from .sources import SOURCES, TOP, read
+from .sources import PREFIXES, SOURCES, TOP, read
 
 START = "README.md"
 PAGE = "page/pmem.html"
@@ -96,10 +96,10 @@ class Site:
 
     def lead(self, path: str) -> str:
         """Above a lesson's text: a link that opens its trace in the page."""
-        found = re.fullmatch(r"lessons/(exercises/)?(\d+)-[^/]*/README\.md", path)
+        found = re.fullmatch(r"lessons/(exercises/|first/|)(\d+)-[^/]*/README\.md", path)
         if not found:
             return ""
-        name = f"exercise-{found[2]}" if found[1] else found[2]
+        name = PREFIXES[found[1]] + found[2]
         return f'<p class="lead"><a href="{relative(PAGE, path)}#lesson={name}">Open this lesson in the page that runs it</a></p>'
 
     def listed(self, path: str) -> str:
@@ -133,7 +133,7 @@ class Site:
         path = posixpath.normpath(posixpath.join(posixpath.dirname(source), name))
         if path.startswith("..") or not os.path.exists(f"{TOP}/{path}"):
             return None
-        if not self.has_answers and "/answer" in f"/{path}":
+        if not self.has_answers and f"{path}/".startswith("lessons/answers/"):
             return None
         return self.address(path, address_of(source)) + (f"#{anchor}" if anchor else "")
 

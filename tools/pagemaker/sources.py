@@ -10,10 +10,12 @@ TOP = os.path.dirname(os.path.dirname(os.path.dirname(os.path.realpath(__file__)
 PAGE = f"{TOP}/page/pmem.html"
 SOURCES = f"{TOP}/page/src"
 
-MODULES = ("dom", "trace", "options", "layout", "address", "goal", "engine", "bounded", "program", "device", "model", "reference",
+MODULES = ("dom", "trace", "options", "layout", "address", "variants", "goal", "engine", "bounded", "program", "device", "model", "reference",
            "lanes", "view", "chip", "map", "compare", "lessons", "files", "app", "main")
 DEFAULTS = {"--levels": "2", "--sets": "4", "--ways": "2", "--loss": "4", "--major": "0", "--suite": "aes", "--key": "", "--tag-key": "",
             "--every": "100"}
+# The folders of lessons, and what the ids of their lessons begin with.
+PREFIXES = {"first/": "first-", "": "", "exercises/": "exercise-"}
 EXAMPLES = (("first", "run", "A write waits until it is drained"), ("power_cut", "run", "Power cuts"), ("attack", "run", "An attack"),
             ("forged_tag", "run", "A forged tag"), ("wear", "wear", "Lines that move"), ("txn", "txn", "A transaction, and cuts in it"),
             ("tree", "tree", "The counter tree"))
@@ -65,7 +67,7 @@ def html_in_page(text: str, folder: str, suffix: str) -> str:
     links to lessons that open them, and links to other pages, which have this suffix."""
     text = re.sub(r"^# .*\n", "", text, count=1)
     text = re.sub(r"(?m)^    (?:\./pmem|lessons/|tools/)[^\n]*\n(?:    [^\n]*\n)*", "", text)
-    text = re.sub(r"\s*(?:One to begin with is in\s+\[trace\]\(trace\);\s+)?\[an\s+answer\]\(answer/README\.md\)\.?", "", text, flags=re.I)
+    text = re.sub(r"\s*(?:Begin with \[trace\]\(trace\)|The traces are `next-[^`]*` in this folder|Back to \[the lesson\]\([^)]*\))\.", "", text)
     text = re.sub(r"`lessons/grade[^`]*`", "*check my trace* below", text)
     return html_of(text, How(lambda address: link_in_page(address, folder, suffix), picture_in_page))
 
@@ -81,9 +83,9 @@ def link_in_page(address: str, folder: str, suffix: str) -> Optional[str]:
         return address
     path, _, anchor = address.partition("#")
     target = os.path.normpath(os.path.join(folder, path))
-    lesson = re.fullmatch(r"lessons/(?:exercises/)?(\d+)-[^/]*(?:/README\.md)?", os.path.relpath(target, TOP))
+    lesson = re.fullmatch(r"lessons/(exercises/|first/|)(\d+)-[^/]*(?:/README\.md)?", os.path.relpath(target, TOP))
     if lesson:
-        return f"#lesson={'exercise-' if '/exercises/' in target else ''}{lesson[1]}"
+        return f"#lesson={PREFIXES[lesson[1]]}{lesson[2]}"
     if not path.endswith(".md") or not os.path.isfile(target):
         return None
     name = os.path.relpath(target, os.path.dirname(PAGE))
@@ -99,10 +101,10 @@ def lesson_of(folder: str, kind: str, name: str, suffix: str = ".md") -> Dict[st
     """A lesson or an exercise. Links to pages have this suffix."""
     lesson: Dict[str, Any] = {"id": name, "kind": kind, "title": title_of(folder), **part_of(folder, "run", suffix)}
     lesson.update({"goal": read_or(f"{folder}/goal", ""), "answer": None})
-    if os.path.isdir(f"{folder}/answer"):
-        lesson["answer"] = part_of(f"{folder}/answer", lesson["machine"], suffix)
-    aim = lesson["answer"] or lesson
-    lesson.update({"goalMachine": aim["machine"], "goalWords": aim["words"], "isFixed": True})
+    answer = f"{TOP}/lessons/answers/{os.path.relpath(folder, f'{TOP}/lessons')}"
+    if os.path.isdir(answer):
+        lesson["answer"] = part_of(answer, lesson["machine"], suffix)
+    lesson["goalMachine"] = lesson["machine"]
     return lesson
 
 
@@ -113,9 +115,10 @@ def numbered(folder: str) -> List[str]:
 
 def lessons(suffix: str = ".md") -> List[Dict[str, Any]]:
     """All that can be opened in the page. Links to pages have this suffix."""
-    found = [lesson_of(f"{TOP}/lessons/{name}", "lesson", name.split("-")[0], suffix) for name in numbered(f"{TOP}/lessons")]
-    exercises = f"{TOP}/lessons/exercises"
-    found += [lesson_of(f"{exercises}/{name}", "exercise", f"exercise-{name.split('-')[0]}", suffix) for name in numbered(exercises)]
+    found: List[Dict[str, Any]] = []
+    for folder, kind in (("first/", "first step"), ("", "lesson"), ("exercises/", "exercise")):
+        for name in numbered(f"{TOP}/lessons/{folder}"):
+            found.append(lesson_of(f"{TOP}/lessons/{folder}{name}", kind, PREFIXES[folder] + name.split("-")[0], suffix))
     for name, machine, title in EXAMPLES:
         found.append({"id": name, "kind": "example", "title": title, "machine": machine, "words": EXAMPLE_WORDS.get(name, []),
                       "trace": read(f"{TOP}/examples/{name}.trace"), "text": "", "goal": "", "answer": None})

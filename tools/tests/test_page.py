@@ -2,9 +2,12 @@
 import re
 import subprocess
 import sys
+import tempfile
+import time
 import unittest
 from functools import lru_cache
-from typing import Any, List, Tuple
+from pathlib import Path
+from typing import List, Tuple
 from unittest import mock
 
 from . import browser
@@ -82,48 +85,31 @@ class SourcesTest(unittest.TestCase):
         self.assertEqual(sorted(names), sorted(set(names)))
         self.assertEqual({f"{name}.js" for name in sources.MODULES}, {it.name for it in (TOP / "page" / "src").glob("*.js")})
 
+    def test_each_lesson_has_its_own_name(self) -> None:
+        names = [lesson["id"] for lesson in sources.lessons()]
+        self.assertEqual(len(set(names)), len(names))
+        with tempfile.TemporaryDirectory() as folder:
+            for number in (1, 10, 11):
+                place = Path(folder, "lessons", "exercises", f"{number}-x")
+                place.mkdir(parents=True)
+                (place / "README.md").write_text(f"# Exercise {number}. X\n")
+                (place / "trace").write_text("stat\n")
+            with mock.patch.object(sources, "TOP", folder), mock.patch.object(sources, "EXAMPLES", ()):
+                self.assertEqual([lesson["id"] for lesson in sources.lessons()], ["exercise-1", "exercise-10", "exercise-11"])
+
     def test_pages_become_html(self) -> None:
         self.assertEqual(html_of("# A\n\nb `<c>` **d**\n\n| e | f |\n|---|---|\n| g | h |\n\n- i\n  j\n- k\n\nm\n\n    l\n"),
                          "<h2>A</h2><p>b <code>&lt;c&gt;</code> <b>d</b></p>"
                          '<table><thead><tr><th scope="col">e</th><th scope="col">f</th></tr></thead><tbody><tr><td>g</td><td>h</td></tr>'
                          "</tbody></table><ul><li>i j</li><li>k</li></ul><p>m</p><pre>l</pre>")
 
-
-class GoalsTest(unittest.TestCase):
-    """What a goal says."""
-
-    RUN = [("post 0 05 AA", "ok"), ("cut 3", "ok"), ("drain 0", "cut lost 3"), ("read 0 5", f"line {goals.ZEROS} 0")]
-
-    def missing(self, text: str) -> Any:
-        return goals.missing(goals.goal_of(text), self.RUN)
-
-    def test_what_is_reached(self) -> None:
-        for text in ("", "# nothing\n", "post * 5 aa -> ok", "cut $n -> ok\ndrain * -> cut lost $n",
-                     "post * $a * -> ok\nread * $a -> line zeros *", "drain ... -> cut ...", "at most 1 cut",
-                     "cut $n -> ok\nread * $n+2 -> line ...", "post * $a $x -> ok\ndifferent $a $x zeros"):
-            with self.subTest(text):
-                self.assertIsNone(self.missing(text))
-
-    def test_what_is_not(self) -> None:
-        for text, why in (("drain * -> cut kept *", "nothing fits"), ("drain * -> *\npost * * * -> ok", "nothing fits"),
-                          ("at most 0 cut", "the goal allows 0"), ("post 0 5 -> ok", "nothing fits"),
-                          ("post * 5 * -> ok\nread * $a -> line $x *\ndifferent $x zeros", "are the same"),
-                          ("read $a 5 -> line ...\nread $a 5 -> line ...", "nothing fits")):
-            with self.subTest(text):
-                self.assertIn(why, self.missing(text))
-
-    def test_grade(self) -> None:
-        grade = str(TOP / "lessons" / "grade")
-        for name in sources.numbered(str(TOP / "lessons" / "exercises")):
-            folder = TOP / "lessons" / "exercises" / name
-            for trace, status in ((folder / "answer" / "trace", 0), (folder / "trace", 1)):
-                with self.subTest(trace):
-                    ran = subprocess.run([sys.executable, grade, name[0], str(trace)], stdout=subprocess.PIPE, check=False)
-                    self.assertEqual(ran.returncode, status, ran.stdout)
-        wrong: List[List[str]] = [[], ["9", "x"], ["1", "/nowhere"], ["x", "y"]]
-        for words in wrong:
-            ran = subprocess.run([sys.executable, grade, *words], stdout=subprocess.PIPE, stderr=subprocess.PIPE, check=False)
-            self.assertEqual(ran.returncode, 2)
+    def test_nothing_of_a_page_becomes_an_attribute_or_a_script(self) -> None:
+        self.assertEqual(html_of('[x](https://a"onmouseover="b)'), '<p><a href="https://a&quot;onmouseover=&quot;b">x</a></p>')
+        self.assertEqual(html_of("[x](javascript:b) <script>c</script>"), "<p>x &lt;script&gt;c&lt;/script&gt;</p>")
+        began = time.process_time()
+        for text in ("[", "`", "*", "[a]("):
+            html_of(text * 20_000)
+        self.assertLess(time.process_time() - began, 10)
 
 
 @unittest.skipUnless(browser.is_here(), "chromium or chromedriver isn't there")
@@ -207,7 +193,7 @@ class BrowserTest(unittest.TestCase):
     def test_answer_by_clicks(self) -> None:
         page = self.open("#lesson=01")
         page.click("#judge")
-        self.assertIn("Not yet: nothing fits", page.text("#verdict"))
+        self.assertIn("Not yet. Power doesn't fail in the second write after three steps.", page.text("#verdict"))
         page.click("#edit")
         page.run("const t = document.querySelector('#text'); t.value = t.value.replace('cut 2', 'cut 3')")
         page.click("#editing button")
@@ -261,7 +247,7 @@ class BrowserTest(unittest.TestCase):
 
     def test_faults_of_a_trace_are_told(self) -> None:
         page = self.open("#machine=run&trace=post_0_0_11x64~red_0_0&at=2.0")
-        self.assertIn("stop line 2 1: there is no such command", page.text("#rows"))
+        self.assertIn("stop line 2 1: no such command", page.text("#rows"))
 
 
 @unittest.skipUnless(browser.has_firefox(), "firefox-esr isn't there")

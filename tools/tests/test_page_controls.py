@@ -13,6 +13,8 @@ from . import browser
 from .helpers import TOOLS
 from .test_page import PAGE, TOP, program
 
+import grading  # noqa: E402  (lessons/ is in the path by test_page)
+
 RULES = (TOOLS / "tests" / "accessibility.js").read_text(encoding="utf-8")
 LINE = {byte: byte * 64 for byte in ("11", "22", "33", "77", "88")}
 IDLE = "return document.body.dataset.idle === String(pmem.round)"
@@ -115,6 +117,7 @@ class ChangesTest(PageTest):
         kept = ["# one: a ~ and a _", "", f"post 0 0 {LINE['11']}", "# two & three = 4%", "drain 0"]
         self.assertEqual(self.lines(), kept)
         page.wait("return location.hash.includes('trace=')", 120)
+        self.assertEqual(grading.trace_of_link(page.run("return location.href")), "\n".join(["# pmem: run", *kept]) + "\n")
         page.of_session("/refresh", {})
         page.wait("return document.body.dataset.ready", 240)
         self.assertEqual(self.lines(), kept)
@@ -129,6 +132,7 @@ class ChangesTest(PageTest):
         page.wait("return location.hash.includes('z=')", 120)
         address = page.run("return location.hash")
         self.assertLess(len(address), 9000)
+        self.assertEqual(grading.trace_of_link(address), f"# pmem: run\n{text}")
         self.open(address)
         self.assertEqual("\n".join(self.lines()) + "\n", text)
         self.use(text + "stat\n")
@@ -136,18 +140,18 @@ class ChangesTest(PageTest):
 
     def test_faults_while_typing(self) -> None:
         page = self.open("#lesson=01")
-        for text, says in (("posd 0 0 11*64", "there is no such command"), ("post 0 0", "too few or too many words"),
-                           ("post 9 0 11*64", "a port is above 7"), ("post 0 0 11", "wrong hex")):
+        for text, says in (("posd 0 0 11*64", "no such command"), ("post 0 0", "too few or too many words"),
+                           ("post 9 0 11*64", "a port is above 7"), ("post 0 0 11", "wrong hex digits")):
             page.run("const t = document.querySelector('#typed'); t.value = arguments[0]; t.dispatchEvent(new Event('input'))", text)
             page.wait(f"return document.querySelector('#typed-fault').innerText.includes({says!r})", 120)
         given = self.lines()
         self.type("posd 0 0 11*64")
         self.assertEqual(self.lines(), given)
         self.assertEqual(page.run("return document.querySelector('#typed').value"), "posd 0 0 11*64")
-        self.assertIn("there is no such command", page.text("#notice"))
+        self.assertIn("no such command", page.text("#notice"))
         page.click("#edit")
         self.edit("post 0 0 11*64\n\nred 0 0\n")
-        page.wait("return document.querySelector('#text-fault').innerText.includes('line 3: there is no such command')", 120)
+        page.wait("return document.querySelector('#text-fault').innerText.includes('line 3: no such command')", 120)
 
     def test_text_is_kept_where_it_cannot_be_put_in(self) -> None:
         page = self.open("#lesson=01&at=1.4")
@@ -159,6 +163,19 @@ class ChangesTest(PageTest):
         self.type("stat")
         self.assertIn("ended with an exhibit", page.text("#notice"))
         self.assertEqual(len(self.lines()), count)
+
+    def test_bytes_of_a_reply_can_be_copied_and_written(self) -> None:
+        """As the question of the second first step needs it: the cipher of zeros is the pad."""
+        page = self.open("#lesson=first-2")
+        page.run("navigator.clipboard.writeText = async text => { window.copied = text; }")
+        self.use("post 0 0 00*64\ndrain 0\npeek 0\n")
+        page.press("End")
+        page.click("#rows li[data-index='2'] .copy")
+        pad = page.wait("return window.copied", 60)
+        self.assertEqual(f"raw {pad}\n", program(["run"], f"post 0 0 {'00' * 64}\ndrain 0\npeek 0\n")[0].split("\n", 3)[3])
+        self.use(f"post 0 0 {pad}\ndrain 0\npeek 0\n")
+        page.click("#judge")
+        self.assertIn("Yes", page.text("#verdict"))
 
     def test_comment_stays_where_it_is_put(self) -> None:
         page = self.open("#lesson=04&at=2.0")
@@ -265,6 +282,19 @@ class ShownTest(PageTest):
             with self.subTest(lesson):
                 counts = page.run("return pmem.model.commands.map((_, index) => pmem.model.total(index))")
                 self.assertEqual(counts, [len(log) for log in logs[:len(counts)]])
+
+    def test_power_off_is_told_from_recovery_without_colour(self) -> None:
+        page = self.open("#machine=run&trace=post_0_5_77x64~drain_0~off~peek_5~flip_5_0~on&at=3.0")
+        self.assertEqual(page.run("return document.querySelectorAll('#time .strokes').length"), 2)
+        self.assertIn("power is off", page.text("#time .legend"))
+
+    def test_states_of_the_device_are_bounded(self) -> None:
+        trace = "~".join(f"post_0_{64 * at}_11x64~drain_0" for at in range(12))
+        page = self.open(f"#machine=run&options=--levels_3&trace={trace}")
+        kept = page.run("for (let i = 0; i < 70; i++) pmem.forward(); for (const [c, s] of [[1, 2], [9, 1], [17, 3]]) pmem.go(c, s);"
+                        "return pmem.model.device.states.size * pmem.model.layout.size")
+        self.assertGreater(page.run("return pmem.model.layout.size"), 5000)
+        self.assertLessEqual(kept, 120000)
 
     def test_cached_blocks(self) -> None:
         page = self.open("#machine=run&trace=read_0_0&at=1.0")
@@ -374,6 +404,32 @@ class ReadingTest(PageTest):
         self.assertGreater(page.run("return document.querySelectorAll('#lesson figure svg').length"), 0)
         self.assertNotIn("lessons/grade", page.text("#lesson"))
         self.assertNotIn("./pmem", page.text("#lesson"))
+
+    def test_variants_of_a_question(self) -> None:
+        line = 64 + 7 * 617 % 960
+        page = self.open("#lesson=00&seed=7")
+        self.assertIn(f"Line {line} is written", page.text("#lesson"))
+        self.assertIn("Variant 7.", page.text("#lesson .variant"))
+        self.use(f"post 0 {line} 11*64\ndrain 0\npeek {1024 + line // 4}\noff\non\npeek {1285 + line // 64}\n")
+        page.click("#judge")
+        self.assertIn("Yes", page.text("#verdict"))
+        page.wait("return location.hash.includes('seed=7')", 120)
+        page.of_session("/refresh", {})
+        page.wait("return document.body.dataset.ready", 240)
+        self.assertIn(f"Line {line} is written", page.text("#lesson"))
+        page.run("const box = document.querySelector('#variant'); box.value = '8'; box.dispatchEvent(new Event('change'))")
+        self.assertNotIn(f"Line {line} is written", page.text("#lesson"))
+        self.use(f"post 0 {line} 11*64\ndrain 0\npeek {1024 + line // 4}\noff\non\npeek {1285 + line // 64}\n")
+        page.click("#judge")
+        self.assertIn("Not yet", page.text("#verdict"))
+        page.run("const box = document.querySelector('#variant'); box.value = ''; box.dispatchEvent(new Event('change'))")
+        self.assertIn("Line 200 is written", page.text("#lesson"))
+        self.open("#lesson=exercise-1&seed=2")
+        self.assertIn(f"The three lines are {2 * 617 % 320}, {320 + 2 * 401 % 320} and {640 + 2 * 229 % 384}", page.text("#lesson"))
+        self.assertEqual(self.lines()[1].split(" ")[:3], ["post", "0", str(2 * 617 % 320)])
+        for moment in ("#lesson=00&seed=0", "#lesson=00&seed=99999", "#lesson=first&seed=1", "#lesson=00&seed=1e3"):
+            self.open(moment)
+            self.assertIn("there is no variant", page.text("#notice"))
 
     def test_links_of_lessons(self) -> None:
         page = self.open("#lesson=00")

@@ -22,6 +22,12 @@ NAME = re.compile(r"^([A-Za-z_]\w*)((::|\.)[A-Za-z_]\w*)*(\(\))?$")
 CODE_WORD = re.compile(r"^[A-Z][a-z0-9]+[A-Z]\w*$|^[A-Za-z]\w*_\w+$")
 # Names of other programs that pages speak of.
 ELSEWHERE = {"SimObject", "MemoryRegionOps", "meson", "build", "ctypes", "c_bool", "c_void_p"}
+# How a page says for whom it is, and what to read before.
+FOR_WHOM = re.compile(r"\b[Ff]or (?:every|any|those|readers|architects|students|teachers|people|newcomers|users)"
+                      r"|(?:students|people|anyone|everyone|everybody) (?:and|who)")
+BEFORE = re.compile(r"\b[Rr]ead\b|\bnothing (?:must|has to) be read|[Nn]othing must be read")
+# A part of a name that stands for others, for example in `write_X`.
+HOLE = re.compile(r"_[A-Z](?:_|$)")
 PLACEHOLDERS = {"NAME", "FILE", "FUNCTION", "TYPE", "PATH", "TRACE", "CMD", "TEXT", "FOLDER"}
 
 
@@ -171,7 +177,7 @@ def unknown_names(text: str) -> Iterator[Tuple[int, str]]:
     """The quoted names of the code that the sources don't have, with their lines."""
     for found in SPAN.finditer(text):
         span = found[1]
-        if not NAME.match(span) or PLACEHOLDERS & set(re.split(r"\W+", span)) or PATH.match(span):
+        if not NAME.match(span) or PLACEHOLDERS & set(re.split(r"\W+", span)) or HOLE.search(span) or PATH.match(span):
             continue
         parts = re.findall(r"\w+", span)
         if len(parts) == 1 and not CODE_WORD.match(span):
@@ -213,6 +219,19 @@ class PagesTest(unittest.TestCase):
         """A page begins with its title and a paragraph, before any table, list, code or further heading; parts of page/pmem.html don't."""
         self.told([f"{name}: no paragraph after the title" for _, name, text in self.each_page()
                    if not name.startswith("page/src/") and not re.match(r"# [^\n]+\n+(?:!?\[|\*\*|`|[A-Za-z(])", text)])
+
+    def test_each_page_says_for_whom_it_is_and_what_to_read_before(self) -> None:
+        wrong = []
+        for page in [*TOP.glob("*.md"), *TOP.glob("docs/*.md"), *(TOP / name / "README.md" for name in ("lessons", "python", "examples"))]:
+            text = page.read_text(encoding="utf-8")
+            if page.name == "CHANGELOG.md" or text.startswith("# Changes"):
+                continue
+            head = " ".join(text.split("\n## ")[0][:1500].split())
+            if not FOR_WHOM.search(head):
+                wrong.append(f"{page.relative_to(TOP)}: it doesn't say for whom it is")
+            if page.name != "README.md" and not BEFORE.search(head):
+                wrong.append(f"{page.relative_to(TOP)}: it doesn't say what to read before")
+        self.told(wrong)
 
     def test_every_page_is_in_the_contents(self) -> None:
         contents = TOP / "docs" / "README.md"
