@@ -32,8 +32,11 @@ def rule(name: str, pattern: str, instead: str) -> Rule:
     return Rule(name, re.compile(pattern), instead)
 
 
+# Words before a `where` that asks for a place: `says where`, `from where`, and the head of a table's column.
+PLACE = "".join(f"(?<!{word} )" for word in ("says", "say", "state", "states", "show", "shows", "lists", "find", "[Ff]rom", "by", r"\|", "address"))
 RULES = (
-    rule("where = if", r"\b(?:exactly |only |also )?[Ww]here (?!to\b|is\b|it is said|k\b|h\b|n\b|each (?:line|mechanism)|does\b)", "if, when"),
+    rule("where = if", PLACE + r"\b(?:exactly |only |also )?[Ww]here (?!to\b|is\b|it is said|k\b|h\b|n\b|each (?:line|mechanism)|does\b)",
+         "if, when"),
     rule("want of memory", r"[Ww]ant of (?:memory|it)|[Mm]emory (?:may be |is |was )wanted|wants? memory|could(?:n't)? be had|can(?:'t)? be had",
          "out of memory, allocation fails"),
     rule("front = prefix", r"\ba front\b|\bat (?:the|its) front\b", "prefix"),

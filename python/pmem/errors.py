@@ -109,9 +109,9 @@ UNSUITED: Dict[str, Type[Unsuited]] = {
 KINDS: Dict[int, str] = {
     1: "no such command",
     2: "too few or too many words",
-    3: "a word that should be a number isn't one",
-    4: "a port above 7",
-    5: "a word with the wrong hex digits",
+    3: "a word is not a number",
+    4: "a port is above 7",
+    5: "a word has the wrong hex digits",
     6: "more than 1,024 bytes",
 }
 

@@ -66,7 +66,7 @@ class Trace:
 
     @classmethod
     def sample(cls, seed: int, count: int, through: Through = None) -> "Trace":
-        """The sample trace of so many commands that the program makes of a seed."""
+        """The sample trace of `count` commands that the program makes of `seed`."""
         status, output = way_of(through).run(["make", str(seed), str(count)], b"")
         if status == Status.BAD_WORDS:
             raise BadWords(f"no sample trace has the seed {seed} and {count} commands")

@@ -25,7 +25,7 @@ def _parser() -> argparse.ArgumentParser:
     parser.add_argument("folder", metavar="FOLDER", nargs="?", type=Path, default=TOP / "out" / "release", help="the new folder (out/release)")
     parser.add_argument("--program", metavar="PATH", help="the program for the bundle and the Debian package")
     parser.add_argument("--uncommitted", action="store_true", help="go on although there are changes that are not committed: only to try it out")
-    parser.add_argument("--no-deb", action="store_true", help="leave the Debian package out, where dpkg-deb is not there")
+    parser.add_argument("--no-deb", action="store_true", help="leave out the Debian package, for example if dpkg-deb is not there")
     return parser
 
 

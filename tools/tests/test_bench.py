@@ -85,7 +85,7 @@ class BenchTest(ExploreTest):
     def test_failures(self) -> None:
         for script, text in (
             ("import sys\nsys.exit(3)\n", "ended with status 3\n"),
-            ("import sys\nprint('ok')\n", "doesn't answer as pmem does"),
+            ("import sys\nprint('ok')\n", "does not answer as pmem does"),
         ):
             result = self.bench("--program", self.script("program", script), *SMALL)
             self.assertEqual((result.returncode, result.stdout), (1, ""))
@@ -93,7 +93,7 @@ class BenchTest(ExploreTest):
             self.assertIn(text, result.stderr)
         result = self.bench("--program", self.path("none"))
         self.assertEqual((result.returncode, result.stdout), (1, ""))
-        self.assertIn("can't be run: No such file or directory\n", result.stderr)
+        self.assertIn("cannot be run: No such file or directory\n", result.stderr)
 
     def test_words(self) -> None:
         for words in (["--pages", "513"], ["--levels", "7"], ["--commands", "x"], ["--repeat"], ["--repeat", "0"], ["all"]):

@@ -52,6 +52,8 @@ class BundleTest(unittest.TestCase):
         checked = self.here("lessons/check")
         self.assertEqual((checked.returncode, checked.stderr), (0, ""), checked.stdout)
         self.assertRegex(checked.stdout, r"\n[1-9][0-9]+ passed, 0 failed\n$")
+        handed = self.here("lessons/handout", str(self.directory / "lab"))
+        self.assertEqual((handed.returncode, handed.stdout.count("\n")), (0, 4), handed.stderr)
         explored = self.here("tools/explore", "steps", "examples/first.trace")
         self.assertEqual((explored.returncode, explored.stderr), (0, ""))
         self.assertTrue(explored.stdout.endswith("persist steps\n"))

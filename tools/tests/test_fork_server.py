@@ -240,6 +240,10 @@ class ForkServerTest(ExploreTest):
                 library, why = fork_server.library()
                 assert library, why
                 self.assertEqual(library.startswith(self.path(f"cache{mode}")), is_used)
+                with mock.patch.object(os, "geteuid", lambda user=os.geteuid() + 1: user):
+                    library, why = fork_server.library()
+                    assert library, why
+                    self.assertFalse(library.startswith(self.path(f"cache{mode}")))
 
     def answers(self, questions: Sequence[str]) -> List[Output]:
         """What a worker gets to questions, each after one more of the trace's commands."""
@@ -274,7 +278,7 @@ class ForkServerTest(ExploreTest):
         recording = SumRecording(SumProgram(self.program), Settings(), trace, Output(b"sum 1\nsum 4\n", 0))
         with self.assertRaises(ExploreError) as caught:
             list(Together(recording.program, 1).answers(recording, [Question(2, (b"add 1",))], 1, ""))
-        self.assertIn("doesn't answer", str(caught.exception))
+        self.assertIn("does not answer", str(caught.exception))
 
 
 if __name__ == "__main__":

@@ -59,7 +59,7 @@ class TypesTest(unittest.TestCase):
         if not shutil.which("mypy"):
             self.skipTest("mypy isn't there")
         folders = ["tools/explorer", "tools/tests", "tools/pagemaker", "tools/portablemaker", "tools/librarymaker", "tools/releasemaker",
-                   "tools/calls.py", "lessons/goals.py"]
+                   "tools/calls.py", "lessons/goals.py", "lessons/grading.py"]
         result = subprocess.run(["mypy", "--cache-dir", os.devnull, *folders, *scripts()], cwd=ROOT, stdout=subprocess.PIPE,
                                 stderr=subprocess.STDOUT, universal_newlines=True, check=False)
         self.assertEqual(result.returncode, 0, result.stdout)

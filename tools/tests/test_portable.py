@@ -154,7 +154,7 @@ class ModuleTest(unittest.TestCase):
     def test_a_replaced_one_is_seen(self) -> None:
         self.assertEqual(self.difference(), "")
         with mock.patch.object(self, "changed", lambda data: data.replace(b"refused", b"welcome")):
-            self.assertIn("isn't what the toolchain makes of the sources: they differ from byte", self.difference())
+            self.assertIn("is not what the toolchain makes of the sources: they differ from byte", self.difference())
         self.assertIn("was made of other sources", self.difference(sources="0" * 64))
 
     def test_another_toolchain_is_named(self) -> None:
@@ -267,6 +267,14 @@ class AnswersTest(unittest.TestCase):
         with open("/dev/full", "wb") as full:
             self.assertEqual(subprocess.run([compiled(("-O1",)), "make", "1", "5"], stdout=full, check=False).returncode, 4)
 
+    def test_output_that_nobody_reads(self) -> None:
+        """It is a sink that fails, and no signal ends the program."""
+        with subprocess.Popen([compiled(("-O1",)), "make", "1", "200000"], stdout=subprocess.PIPE) as made:
+            assert made.stdout
+            self.assertTrue(made.stdout.readline())
+            made.stdout.close()
+            self.assertEqual(made.wait(), 4)
+
     def test_little_memory(self) -> None:
         """Where the system reserves little, a smaller memory is taken; where it doesn't suffice, the run ends as the program ends."""
         import resource
@@ -277,6 +285,48 @@ class AnswersTest(unittest.TestCase):
             said.append((ran.stdout, ran.returncode))
         self.assertEqual(said[0], (b"stat 0 0 0 0 0\n", 0))
         self.assertEqual(said[-1], (b"stop memory\n", 1))
+
+    def test_no_memory_at_the_start(self) -> None:
+        """The system's own loader ends a program that has still less. Where the program's main begins, it has a line for each end."""
+        import resource
+        said: List[Tuple[List[bytes], int]] = []
+        for kilobytes in range(2500, 9000, 100):
+            limit = 1024 * kilobytes
+            ran = subprocess.run([compiled(("-O1",)), "make", "7", "1"], stdout=subprocess.PIPE, stderr=subprocess.DEVNULL, check=False,
+                                 preexec_fn=lambda size=limit: resource.setrlimit(resource.RLIMIT_AS, (size, size)))  # type: ignore[misc]
+            if ran.returncode not in (127, -signal.SIGSEGV, -signal.SIGKILL) or said:
+                said.append((ran.stdout.splitlines()[-1:], ran.returncode))
+        first = said.index(([b"stat"], 0))
+        self.assertGreater(first, 0)
+        self.assertEqual(set(map(repr, said[:first])), {repr(([b"stop memory"], 1))})
+        self.assertEqual(set(map(repr, said[first:])), {repr(([b"stat"], 0))})
+
+    def test_arguments_that_are_not_text(self) -> None:
+        """They are refused like every other invalid argument, also if nothing can be written."""
+        program = compiled(("-O1",))
+        for word in (b"\xff", b"--suite=\xc3", b"\xed\xa0\x80", b"\xc0\xaf", "\u00e9".encode()):
+            for words in ([b"run", word], [word]):
+                ran = subprocess.run([program.encode(), *words], input=b"stat\n", stdout=subprocess.PIPE, check=False)
+                self.assertEqual((ran.returncode, ran.stdout), (2, b"stop words\n"))
+        with open("/dev/full" if os.path.exists("/dev/full") else os.devnull, "wb") as full:
+            self.assertEqual(subprocess.run([program.encode(), b"run", b"\xff"], stdout=full, check=False).returncode, 2)
+
+    def test_a_place_whose_name_is_not_text(self) -> None:
+        with tempfile.TemporaryDirectory() as folder:
+            place = os.path.join(folder.encode(), b"\xff")
+            shutil.copy(compiled(("-O1",)).encode(), place)
+            ran = subprocess.run([place, b"make", b"7", b"1"], stdout=subprocess.PIPE, check=False)
+            self.assertEqual((ran.returncode, ran.stdout.splitlines()[-1:]), (0, [b"stat"]))
+
+    def test_little_stack(self) -> None:
+        """Its stack is in its memory: 64 kB of the system's stack are enough."""
+        import resource
+        trace = (TOP / "examples" / "power_cut.trace").read_bytes()
+        for words, given in ((["run"], trace), (["run", "--log", "--levels", "6"], trace), (["sample", "7", "500"], b"")):
+            due = subprocess.run([program_path(), *words], input=given, stdout=subprocess.PIPE, check=False)
+            ran = subprocess.run([compiled(("-O1",)), *words], input=given, stdout=subprocess.PIPE, check=False,
+                                 preexec_fn=lambda: resource.setrlimit(resource.RLIMIT_STACK, (65536, 65536)))
+            self.assertEqual((ran.returncode, ran.stdout), (due.returncode, due.stdout))
 
 
 class ArgumentsTest(unittest.TestCase):
@@ -415,7 +465,7 @@ class CloneTest(unittest.TestCase):
         self.environment["CC"] = str(compiler)
         found = self.run_here("./pmem", "run")
         self.assertEqual((found.stdout, found.returncode), ("", 126))
-        self.assertIn("pmem: broken can't compile the program: pmem.c:1:1: error: too old\n", found.stderr)
+        self.assertIn("pmem: broken cannot compile the program: pmem.c:1:1: error: too old\n", found.stderr)
         self.assertEqual(sorted(path.name for path in (self.root / "out").iterdir()), ["pmem.c", "pmem.lock"])
 
     def stub_compiler(self) -> None:

@@ -70,6 +70,7 @@ class RulesTest(unittest.TestCase):
                          [("crates/x/src/lib.rt", 2, "where = if")])
         self.assertEqual(self.found(tools__explorer__a_py="\"so many\"\nso_many = 1\n\n\ndef a():\n    'so many'\n    raise Error(f'so many {a}')\n"),
                          [("tools/explorer/a.py", 7, "so many")])
+        self.assertEqual(self.found(a_md="It says where a line is.\n\n| From where it goes | Where it is |\n"), [])
 
     def test_long_sentences(self) -> None:
         long = "word " * 20 + "\n" + "word " * 21 + "end."

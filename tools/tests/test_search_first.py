@@ -244,7 +244,7 @@ class SearchFirstTest(unittest.TestCase):
         self.write("crates/low/proofs/Laws.antt", text)
         result = self.ran("low")
         self.assertEqual((result.returncode, self.laws()), (1, text))
-        self.assertIn("low: left as it was: proofs/Laws.antt: the trial is refused where no call is tried", result.stdout)
+        self.assertIn("low: left as it was: proofs/Laws.antt: the trial is refused although no call is tried", result.stdout)
         self.write("crates/low/proofs/Laws.antt", LAWS)
         self.accept("yes", name="silent")
         result = self.ran("low")

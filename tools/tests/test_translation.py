@@ -127,13 +127,13 @@ class TranslationTest(unittest.TestCase):
         float_ = '(module (memory i64 1) (global (mut i64) (i64.const 0)) (func (export "f") (drop (f32.const 1))))'
         with self.assertRaisesRegex(WasmError, "an unknown instruction 0x43"):
             amalgamated(self.module(float_), "/* A sample.", ["f"], "")
-        with self.assertRaisesRegex(WasmError, "isn't of 64 bits"):
+        with self.assertRaisesRegex(WasmError, "is not of 64 bits"):
             amalgamated(self.module('(module (memory 1) (func (export "f")))'), "/* A sample.", ["f"], "")
         with self.assertRaisesRegex(WasmError, "has no export g"):
             amalgamated(self.module('(module (memory i64 1) (func (export "f")))'), "/* A sample.", ["g"], "")
         with self.assertRaisesRegex(WasmError, "ends too early"):
             Module(self.module(DEEP)[:40])
-        with self.assertRaisesRegex(WasmError, "isn't a WebAssembly module"):
+        with self.assertRaisesRegex(WasmError, "is not a WebAssembly module"):
             Module(b"MZ" + bytes(20))
 
 
