@@ -39,7 +39,7 @@ export async function deflated(text) {
   return btoa(Array.from(bytes, byte => String.fromCharCode(byte)).join('')).replace(/\+/g, '-').replace(/\//g, '_').replace(/=+$/, '');
 }
 
-// A deflated text again; at most so many bytes are taken.
+// A deflated text again; at most `most` bytes are taken.
 export async function inflated(text, most) {
   const packed = Uint8Array.from(atob(text.replace(/-/g, '+').replace(/_/g, '/')), letter => letter.charCodeAt(0));
   const reader = new Blob([packed]).stream().pipeThrough(new DecompressionStream('deflate-raw')).getReader();

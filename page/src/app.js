@@ -396,7 +396,7 @@ export class App {
         if (how === 'push') history.pushState(kept, '', address);
         else history.replaceState(kept, '', address);
       } catch (fault) {
-        // A frame may forbid an address of its own, and a browser too many of them: the page goes on without.
+        // A frame may forbid changes of its address, and a browser too many of them: the page goes on without.
         if (fault.name !== 'SecurityError') throw fault;
       }
     });

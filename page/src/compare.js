@@ -19,7 +19,7 @@ class Waiting {
     this.open = [];
   }
 
-  // Adds a write, which is no command of the other machine yet.
+  // Adds a write, which isn't a command of the other machine yet.
   add(queue, at, line) {
     queue.push([at, line]);
     return [];

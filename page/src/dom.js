@@ -30,14 +30,14 @@ export function fill(id, ...children) {
   focused?.reduce((at, i) => at?.children[i], box)?.focus?.({preventScroll: true});
 }
 
-// Where an element stands in another one, as the numbers of children.
+// The place of an element in another one, as the numbers of children.
 function placeOf(inner, outer) {
   const place = [];
   for (let at = inner; at !== outer; at = at.parentElement) place.unshift([...at.parentElement.children].indexOf(at));
   return place;
 }
 
-// Copies a text; where the browser doesn't allow it, the text is shown for copying by hand.
+// Copies a text; if the browser doesn't allow it, the text is shown for copying by hand.
 export async function copyText(text) {
   try {
     await navigator.clipboard.writeText(text);

@@ -122,7 +122,7 @@ export class Model {
     return loss;
   }
 
-  // How often each device line was written before a moment, and where it was written last.
+  // How often each device line was written before a moment, and at which step it was written last.
   written(index, step) {
     const found = new Map();
     const add = (line, place) => found.set(line, {count: (found.get(line)?.count ?? 0) + 1, last: place});
@@ -195,7 +195,7 @@ export class Model {
     return this.machine === 'run' ? `read ${freePort(this.commands)} ${line}` : `read ${line}`;
   }
 
-  // The replies to a script in place of the trace's rest, and what lines read as after it.
+  // The replies to a script instead of the trace's rest, and what lines read as after it.
   readings(index, script, lines) {
     const replies = this.ask(index, [...script, ...lines.map(line => this.readOf(line))]).slice(index);
     return {replies: replies.slice(0, script.length), lines: lines.map((line, at) => readingOf(replies[script.length + at]))};
@@ -230,7 +230,7 @@ export class Model {
     return {replies: step ? replies.slice(1) : [], runs};
   }
 
-  // Where each logical line lies, of a levelled memory with power on.
+  // The place of each logical line of a levelled memory, if power is on.
   places(index) {
     if (this.machine !== 'wear' || !this.chip(index).isOn) return null;
     return this.once(`places ${index}`, () => {

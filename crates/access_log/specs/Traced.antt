@@ -55,8 +55,8 @@ abbrev pub after_accesses : Traced → List Access → Traced
 after_accesses traced [] = traced
 after_accesses traced (access ∷ later) = after_accesses (after_access traced access) later
 
--- The accesses of the log, where one is kept, make of the board that it began with the board as it is. So they are just
--- those that the board answered since, in their order.
+-- The accesses of the log, if one is kept, make of the board that it began with the board as it is. So they are just those that the board
+-- answered since, in their order.
 abbrev pub LeadsTo : Traced → Option (List Access) → BoardMemory → Type 0
 LeadsTo first log board = IfSome log (λ accesses. after_accesses first accesses ≡ traced_of board)
 
@@ -64,7 +64,7 @@ LeadsTo first log board = IfSome log (λ accesses. after_accesses first accesses
 abbrev pub GoesOn : Option (List Access) → BoardMemory → Option (List Access) → BoardMemory → Type 0
 GoesOn log_old old log_new new = (first : Traced) → LeadsTo first log_old old → LeadsTo first log_new new
 
--- one more access was noted, or the log was lost for want of memory
+-- one more access was noted, or the log was lost because memory ran out
 abbrev pub IsNoted : Option (List Access) → Access → Option (List Access) → Type 0
 IsNoted old access new = (new ≡ noted old access) ⊎ (new ≡ None)
 

@@ -6,8 +6,8 @@ use board::Access;
 use std::alloc::Global;
 use std::marker::Model;
 
-/// The accesses of a board since the log was begun, in their order; or none, where no log was asked for, or where
-/// memory for it could not be had.
+/// The accesses of a board since the log was begun, in order. There is no log if none was asked for, or if memory for
+/// it ran out.
 #[derive(Drop)]
 pub struct AccessLog {
     accesses: Option<Vec<Access>>,
@@ -40,7 +40,7 @@ impl AccessLog {
         }
     }
 
-    /// Notes one more access, where a log is kept. Where memory for it can't be had, the log is lost.
+    /// Notes one more access, if a log is kept. If memory for the access runs out, the log is lost.
     pub fn note(&mut self, access: Access)
         ensures { IsNoted self.old access self.new }
     {
@@ -68,7 +68,7 @@ impl AccessLog {
         *self = log;
     }
 
-    /// The accesses, where a log is kept.
+    /// The accesses, if a log is kept.
     pub fn accesses(&self) -> Option<&[Access]>
         ensures { option_map (λ accesses. accesses.now) result ≡ self.now }
     {

@@ -24,8 +24,8 @@ impl Entry for Brand {
     ghost log = { None };
 }
 
-/// A watched board within one call, whose accesses are logged where a log is kept. Its type keeps that the log goes
-/// on from the board as the call found it to the board as it is.
+/// A watched board within one call, whose accesses are logged if a log is kept. Its type keeps the invariant that the
+/// log goes on from the board as the call found it to the board as it is.
 #[derive(Drop)]
 pub struct Logged<'a, K: Start + Entry> {
     watched: Watched<'a, K>,

@@ -1,4 +1,4 @@
--- A session of any kind, and what came of a line that it was told.
+-- A session of any kind, and what became of a line that it was given.
 use Rattle.std.specs.Prelude.{ℕ, ◌≡◌, List}
 use Rattle.any_suite.specs.Kinds.{any_formulas}
 use Rattle.trace_text.specs.Conversations.{talk_protocol}

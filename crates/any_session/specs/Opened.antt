@@ -28,8 +28,8 @@ keys_named Name.Blur keys = 1 ∷ keys ++ blur_flag true ∷ []
 abbrev pub keys_chosen : Choices → List ℕ
 keys_chosen c = keys_named (unwrap_or c.suite Name.Aes) (chosen_key c ++ chosen_tag_key c)
 
--- A new session: it is in a state that the program begins with, its answers are those under the chosen setup, it tells its
--- log where that is asked for, and no exhibit ended it.
+-- A new session: it is in a state that the program begins with, its answers are those under the chosen setup, it prints its log if that is
+-- asked for, and no exhibit ended it.
 pub record IsBegun {S : Type 0} (begins : S → Type 0) (c : Choices) (logged : Bool) (state : S) (its_setup : Setup) (its_logged over : Bool) : Type 0 where
   pub new : begins state
   pub setup : its_setup ≡ setup_chosen c

@@ -1,4 +1,4 @@
--- What came of a line that a session was told.
+-- What became of a line that a session was given.
 use Rattle.std.specs.Prelude.{ℕ, ◌≡◌, ◌++◌, Bool, true, false, List, [], Option, Some, None}
 use Rattle.board.specs.declared.access.Access.{Access}
 use Rattle.trace_text.specs.declared.talk.Talk.{Ghosts}
@@ -31,8 +31,8 @@ abbrev pub IsReplyGoingOn : {S X : Type 0} → Protocol S X → Bool → S → L
 IsReplyGoingOn protocol false old line reply new = protocol.answers old line reply new
 IsReplyGoingOn protocol true old line reply new = protocol.shows old line reply new
 
--- Whether the log is told, whether the text is kept, and that text: the reply's, which the program prints, where the log is
--- told with the command's log before it.
+-- Whether the log is printed, whether the text is kept, and that text: the reply's, as the program prints it, with the command's log before
+-- it if the log is printed.
 abbrev pub IsKept : {S X : Type 0} → Lines S X → Bool → Bool → S → List ℕ → X → S → List ℕ → Type 0
 IsKept lines logged false old line reply new text = text ≡ []
 IsKept lines false true old line reply new text = text ≡ lines.protocol.text_of reply
@@ -62,13 +62,13 @@ abbrev pub begun_log : Bool → Option (List Access)
 begun_log true = Some []
 begun_log false = None
 
--- the text of a log that may be told and may be lost, and of the tags and digests that were made
+-- the text of a log that may be printed and may be lost, and of the tags and digests that were made
 abbrev pub log_before : Bool → Option (List Access) → ℕ → ℕ → List ℕ
 log_before false log tags digests = []
 log_before true None tags digests = []
 log_before true (Some accesses) tags digests = log_text accesses tags digests
 
--- Whether a reply is kept, and what is: its text, with the log before it if logs are told. A reply whose log was lost isn't.
+-- Whether a reply is kept, and what is: its text, with the log before it if logs are printed. A reply whose log was lost isn't.
 abbrev pub IsTextKept : Bool → Option (List Access) → ℕ → ℕ → List ℕ → Bool → List ℕ → Type 0
 IsTextKept logged log tags digests text false kept = kept ≡ []
 IsTextKept false log tags digests text true kept = kept ≡ text

@@ -18,7 +18,7 @@ pub record IsStepAt (formulas_of : List ℕ → Formulas) (old : WorldState) (li
   pub reading : reading_of line ≡ Ok (Some step.command)
   pub stepped : IsWorldStep (setup_of_world formulas_of old) old step new
 
--- the line asks for a command for whose answer memory may be wanted
+-- the line asks for a command for whose answer memory may be needed
 pub record IsWorldStarvedOf (old : WorldState) (line : List ℕ) : Type 0 where
   pub command : Command
   pub reading : reading_of line ≡ Ok (Some command)

@@ -17,7 +17,7 @@ use pmem_base::Kind;
 pub use talks::TalkSession;
 pub use world::WorldSession;
 
-/// What came of a line that a session was told.
+/// What became of a line that a session was given.
 #[derive(Clone, Copy, Debug, PartialEq, Eq)]
 pub enum Told {
     /// It is blank or a comment, and nothing was done.

@@ -77,7 +77,7 @@ fn new_txn(alloc: Global, choices: &Choices) -> Result<AnySession, Unopened>
     }
 }
 
-/// A new memory over a counter tree, as `tree` begins with it. Its watch has a suite of its own.
+/// A new memory over a counter tree, as `tree` begins with it. Its watch has its own suite.
 fn new_tree(alloc: Global, choices: &Choices) -> Result<AnySession, Unopened>
     requires { AreChosen choices.now }
     ensures opened { IfOk result (IsOpened (Tree choices.now)) }
@@ -91,7 +91,8 @@ fn new_tree(alloc: Global, choices: &Choices) -> Result<AnySession, Unopened>
 }
 
 impl AnySession {
-    /// The session that the program begins with for a task, on which nothing was done.
+    /// The session that the program begins with for a task, on which nothing was done. Errors: `NoSession` only if the
+    /// task isn't a run or a session; `NoMemory`.
     pub fn open(alloc: Global, task: Task) -> Result<AnySession, Unopened>
         requires { HasChosen task }
         ensures opened { IfOk result (IsOpened task) }

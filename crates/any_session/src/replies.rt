@@ -13,8 +13,8 @@ use pmem_cli::{push_access, push_work};
 use std::alloc::Global;
 use trace_text::{push_answer, write_mark};
 
-/// Puts a text and its LF at the end of a reply, or empties the reply where there is no memory for them. Tells
-/// whether it is kept.
+/// Appends a text and its LF to a reply, or empties the reply if there is no memory for them. Answers whether the reply
+/// is kept.
 fn push_line(reply: &mut Vec<u8>, text: &[u8]) -> bool
     ensures { reply.new.items ≡ kept_text result (reply.old.items ++ as_line text.now) }
 {
@@ -68,7 +68,7 @@ fn push_accesses(reply: &mut Vec<u8>, accesses: &[Access]) -> bool
     true
 }
 
-/// Puts the text of so many tags and digests and its LF at the end of a reply, as `push_line` does.
+/// Appends the line of `work` with these numbers of tags and digests, and its LF, to a reply, as `push_line` does.
 fn push_work_line(reply: &mut Vec<u8>, tags: u64, digests: u64) -> bool
     ensures { reply.new.items ≡ kept_text result (reply.old.items ++ as_line (work_text tags digests)) }
 {
@@ -77,7 +77,7 @@ fn push_work_line(reply: &mut Vec<u8>, tags: u64, digests: u64) -> bool
     push_line(reply, text.as_slice())
 }
 
-/// A log for the next command, if logs are told.
+/// A log for the next command, if the session prints logs.
 pub(crate) fn begin_log(alloc: Global, logged: bool) -> AccessLog
     ensures { result ≡ begun_log logged }
 {
@@ -88,8 +88,8 @@ pub(crate) fn begin_log(alloc: Global, logged: bool) -> AccessLog
     }
 }
 
-/// Keeps the log of a command, if logs are told, with the tags and digests that were made since these numbers.
-/// Tells whether it is kept: it isn't if the log was lost, or there is no memory for its text.
+/// Keeps the log of a command, if the session prints logs, with the tags and digests that were made since these
+/// numbers. Answers whether it is kept: it isn't if the log was lost, or if there is no memory for its text.
 fn keep_log(
     reply: &mut Vec<u8>,
     logged: bool,
@@ -112,7 +112,8 @@ fn keep_log(
     push_accesses(reply, accesses) && push_work_line(reply, tags, digests)
 }
 
-/// Keeps a reply of one line, with the log of its command before it if logs are told. Tells whether it is kept.
+/// Keeps a reply of one line, with the log of its command before it if the session prints logs. Answers whether it is
+/// kept.
 #[tactic(auto, using(crate::proofs::Kept::text_kept))]
 pub(crate) fn keep_line(
     reply: &mut Vec<u8>,
@@ -128,8 +129,8 @@ pub(crate) fn keep_line(
     keep_log(reply, logged, log, before, after) && push_line(reply, text)
 }
 
-/// Keeps a reply of the world: its marks in the order made, and its answer, with the log of its command before them
-/// if logs are told. Tells whether it is kept.
+/// Keeps a reply of the world: its marks in the order made, and its answer, with the log of its command before them if
+/// the session prints logs. Answers whether it is kept.
 #[tactic(auto, using(crate::proofs::Kept::text_kept))]
 pub(crate) fn keep_reply(
     reply: &mut Vec<u8>,

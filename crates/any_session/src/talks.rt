@@ -1,4 +1,4 @@
-//! A session in a language of its own, which an exhibit ends.
+//! A session in its own language, which an exhibit ends.
 ghost use Rattle.std.specs.Prelude.{◌≡◌, ◌-◌, [], false};
 ghost use Rattle.plain_model.specs.Texts.{as_line};
 ghost use Rattle.any_session.specs.Told.{HasTold, IsTextKept, lines_of};
@@ -10,7 +10,7 @@ use collision_witness::shown_text;
 use std::alloc::Global;
 use trace_text::{Halt, Talk};
 
-/// A session, whether its log is told before each reply, and whether an exhibit ended it.
+/// A session, whether it prints a log before each reply, and whether an exhibit ended it.
 #[derive(Drop)]
 pub struct TalkSession<T: Talk + Drop> {
     session: T,
@@ -63,7 +63,7 @@ impl<T: Talk + Drop> TalkSession<T> {
         }
     }
 
-    /// Keeps a text as the reply, with the log of its command before it if logs are told.
+    /// Keeps a text as the reply, with the log of its command before it if the session prints logs.
     fn keep(&self, before: (u64, u64), log: &AccessLog, text: &[u8], reply: &mut Vec<u8>) -> bool
         requires empty { reply.old.items ≡ [] }
         ensures { IsTextKept self.now.logged log.now ((T.work self.now.session).0 - before.0)

@@ -20,7 +20,7 @@ fn is_shown(answer: &Answer) -> bool
     matches!(answer, Answer::Shown(_))
 }
 
-/// A world, whether its log is told before each reply, and whether an exhibit ended it.
+/// A world, whether it prints a log before each reply, and whether an exhibit ended it.
 #[derive(Drop)]
 pub struct WorldSession {
     world: World<AnySuite>,

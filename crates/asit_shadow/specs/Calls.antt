@@ -56,7 +56,7 @@ IsTreeRefusal (Ok value) = ⊥
 IsTreeRefusal (Err Fail.Cut) = ⊥
 IsTreeRefusal (Err fault) = ⊤
 
--- what a read answers at all: never Spent, and Tag of its own line alone
+-- what a read answers at all: never Spent, and Tag only of its own line
 abbrev pub IsTreeReadAnswer : ℕ → Result Line TreeFault → Type 0
 IsTreeReadAnswer a (Err Fail.Spent) = ⊥
 IsTreeReadAnswer a (Err (Fail.Tag b)) = b ≡ a
@@ -208,7 +208,7 @@ AnswersTreeRead setup a old new (Err Fail.Spent) = ⊥
 AnswersTreeRead setup a old new (Err Fail.Shown) =
     IsNodeShown setup a old new ⊎ (IsPathAccepted setup a old new × IsLineShown setup a old new)
 
--- the watch knows what it knew; an exhibit comes exactly where it stopped the engine
+-- the watch knows what it knew; an exhibit comes if and only if it stopped the engine
 pub record KeepsWatch (outcome : Outcome) (old new : WatchState) : Type 0 where
   pub setup : new.setup ≡ old.setup
   pub seals : new.seals ≡ old.seals
@@ -224,7 +224,7 @@ pub record IsLineRead (setup : Setup) (a : ℕ) (old new : TreeEngineParts) (ans
   pub effect : TreeCallEffect setup (tree_outcome_of answer) old new
   pub watch : KeepsWatch (tree_outcome_of answer) old.watch new.watch
   pub regs : new.device.regs ≡ old.device.regs
-  -- exactly what it did, whatever the board and the chip: a cut comes only where a step is due
+  -- exactly what it did, whatever the board and the chip: a cut comes only if a step is due
   pub work : WorksOfRead setup a old new answer
   pub answered : AreTreeTrusted setup old → AnswersTreeRead setup a old new answer
   pub unrefused : AreTreeSound setup old → IsTreeUnrefused answer
@@ -239,8 +239,8 @@ pub record HasReadTreeLine (setup : Setup) (a : ℕ) (old new : TreeEngineParts)
 
 -- ---- writes
 
--- the arming latch was done: this seal of the plain line is the line's last one, its path is raised, and
--- the slots of the path are named anew
+-- the arming latch was done: this seal of the plain line is the line's last one, its path is raised, and the slots of the path are named
+-- again
 pub record IsWriteArmed (setup : Setup) (a : ℕ) (plain : Line) (seal : LineSeal) (regs : Regs) (old new : TreeEngineParts) : Type 0 where
   pub armed : IsTreeArmed setup a seal old.device.regs regs old.watch new.watch
   pub sealed : seal.cipher ≡ cipher_of setup.formulas a (version_counter seal.counter) plain
@@ -288,7 +288,7 @@ AnswersTreeWrite setup a plain old new (Err Fail.Shown) = (IsUsedUp old → ⊥)
 pub record IsLineWritten (setup : Setup) (a : ℕ) (plain : Line) (old new : TreeEngineParts) (answer : Result ℕ TreeFault) : Type 0 where
   pub kind : IsWriteAnswer answer
   pub up : IsTreeDownAnswer answer → ⊥
-  -- Spent comes exactly where the version of the engine's top is the greatest number
+  -- Spent comes if and only if the version of the engine's top is the greatest number
   pub spent : IsTreeSpentAnswer answer ↔ (total (top_node old.engine.cache) ≡ 2 ^ 64 - 1)
   pub effect : TreeCallEffect setup (tree_outcome_of answer) old new
   pub work : WorksOfWrite setup a old new answer

@@ -26,7 +26,7 @@ use Rattle.asit_shadow.specs.Calls.{TreeCallEffect, IsNodeRead, IsNodeRefused, I
 
 -- ---- one level
 
--- the line was written where that is asked, and else nothing was done
+-- the line was written if that is asked, and else nothing was done
 abbrev pub WritesWhere : Bool → Device → ℕ → Line → Device → Type 0
 WritesWhere true old at line new = HasWritten old at line new
 WritesWhere false old at line new = new ≡ old
@@ -67,7 +67,7 @@ HasFetchedNode setup x version old new node =
 -- a cut before node x, which isn't cached, took its slot: no more than a line was read
 pub record IsNodeCutOff (g : Shape) (x : ℕ) (old new : TreeEngineParts) : Type 0 where
   pub uncached : IsCached g old.engine.cache x → ⊥
-  -- where power was on, it is cut as a dirty node has to give way
+  -- if power was on, it is cut as a dirty node must be evicted
   pub victim : old.device.live ≡ true → holds_dirty (cache_at old.engine.cache (slot_of g x)) ≡ true
   pub one_read : old.device.live ≡ true → RisesBy 1 old.device.reads new.device.reads
   pub between : Device
@@ -143,7 +143,7 @@ IsFetchFault (Fail.Node x) = ⊤
 IsFetchFault Fail.Shown = ⊤
 IsFetchFault fault = ⊥
 
--- the watch is as it was, but for an exhibit
+-- the watch is as it was, except for an exhibit
 abbrev pub LeavesWatch : TreeFault → WatchState → WatchState → Type 0
 LeavesWatch Fail.Shown old new = ⊤
 LeavesWatch fault old new = new ≡ old

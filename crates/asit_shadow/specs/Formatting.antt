@@ -70,7 +70,7 @@ pub record AreLinesFormatted (setup : Setup) (lines : List Line) : Type 0 where
       (i : ℕ) → i < tree_slots setup.shape
       → line_at lines (line_of_slot setup.shape i) ≡ line_at (first_slots setup.shape) i
 
--- the watch is told of all of it
+-- all of it is reported to the watch
 pub record IsFormatTold (setup : Setup) (old new : WatchState) : Type 0 where
   pub its_setup : new.setup ≡ old.setup
   pub seal_count : length new.seals ≡ length old.seals
@@ -164,8 +164,7 @@ pub record HasDeviceFormatted (setup : Setup) (old new : Rest) (tree : ChipTree)
   pub cuts : new.device.cuts ≡ old.device.cuts
   pub plan : Follows (tree_format_plan setup) old.device new.device (Ok tt)
 
--- a formatted device and its engine: trusted, and sound where the lines are told, with a watch of the setup
--- that had no exhibit
+-- a formatted device and its engine: trusted, and sound if the lines are exposed, with a watch of the setup that had no exhibit
 pub record HasTreeFormatted (setup : Setup) (old new : Rest) (engine : TreeState) : Type 0 where
   pub engine_new : IsFirstEngine setup engine
   pub device : HasDeviceFormatted setup old new engine.tree
@@ -183,7 +182,7 @@ abbrev pub set_first : {X : Type 0} → (ℕ → ℕ) → (ℕ → X) → ℕ �
 set_first place value zero list = list
 set_first place value (suc n) list = slice_set (set_first place value n list) (place n) (value n)
 
--- data line a sealed, with its tag line, where the lines are told
+-- data line a sealed, with its tag line, if the lines are exposed
 abbrev pub first_sealed : Formulas → Shape → ℕ → Option (List Line) → Option (List Line)
 first_sealed f g a lines =
     with_line (with_line lines a (first_tree_seal f a).cipher) (line_of_tag g a) (tag_only (first_tree_seal f a).tag)

@@ -54,8 +54,7 @@ pub record IsTreeAnchored (setup : Setup) (regs : Regs) (watch : WatchState) : T
 
 -- ---- trusted
 
--- the node in slot i of the cache is the true one, and stands in its slot; where it is dirty, the
--- slot's true line names it
+-- the node in slot i of the cache is the true one, and stands in its slot; if it is dirty, the slot's true line names it
 pub record IsTrueCached (g : Shape) (watch : WatchState) (i : ℕ) (held : CachedNode) : Type 0 where
   pub on_tree : held.x < meta_lines g
   pub its_slot : slot_of g held.x ≡ i

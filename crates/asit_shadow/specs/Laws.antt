@@ -99,7 +99,7 @@ GroupLinesKeepDurable =
     → Writes at regs.group.items → IsLine line → IsTreeDurable setup lines regs watch
     → IsTreeDurable setup (slice_set lines at line) regs watch
 
--- a cut amid the group leaves lines that it makes the same of
+-- a cut during the group leaves lines that it makes the same of
 abbrev pub InterruptionsKeepDurable : Type 0
 InterruptionsKeepDurable =
     (setup : Setup) (old new : List Line) (regs : Regs) (watch : WatchState)

@@ -16,7 +16,7 @@ use Rattle.asit_shadow.specs.State.{TreeState}
 use Rattle.asit_shadow.specs.Invariants.{IsTreeAnchored, IsTreeTrusted, IsTreeDurable, IsTreeSound, IsTreeSealStored, IsSlotStored}
 use Rattle.asit_shadow.specs.Places.{IsNodeHeld, IsNodeHeldBy}
 
--- what is on the chip, the device with its registers, and the watch that is told
+-- what is on the chip, the device with its registers, and the watch that it reports to
 pub record TreeEngineParts : Type 0 where
   pub engine : TreeState
   pub device : Device
@@ -32,7 +32,7 @@ tree_parts_at board watch engine b w = tree_parts_of engine (board.device b) (wa
 abbrev pub tree_setup_at : {S : Type 0} → SuiteOf S → TreeState → S → Setup
 tree_setup_at suite engine s = record { shape = engine.shape; formulas = suite.formulas_of (suite.keys s) }
 
--- the device's lines with the armed group redone, where they are told
+-- the device's lines with the armed group redone, if they are exposed
 abbrev pub tree_lines_redone : TreeEngineParts → Option (List Line)
 tree_lines_redone parts = redone_told parts.device.regs.group.items parts.device.lines
 
@@ -64,17 +64,17 @@ AreAnchored setup parts = IsTreeAnchored setup parts.device.regs parts.watch
 abbrev pub AreTreeTrusted : Setup → TreeEngineParts → Type 0
 AreTreeTrusted setup parts = IsTreeTrusted setup parts.engine parts.device.regs parts.watch
 
--- the lines are told, and durable
+-- the lines are exposed, and durable
 abbrev pub AreTreeDurable : Setup → TreeEngineParts → Type 0
 AreTreeDurable setup parts =
     MatchOption parts.device.lines ⊥ (λ lines. IsTreeDurable setup lines parts.device.regs parts.watch)
 
--- the lines are told, and sound
+-- the lines are exposed, and sound
 abbrev pub AreTreeSound : Setup → TreeEngineParts → Type 0
 AreTreeSound setup parts =
     MatchOption parts.device.lines ⊥ (λ lines. IsTreeSound setup parts.engine lines parts.device.regs parts.watch)
 
--- ---- place by place, where the lines are told: what the device holds once the armed group is redone
+-- ---- place by place, if the lines are exposed: what the device holds once the armed group is redone
 
 -- the last seal of data line a
 abbrev pub HoldsTreeSeal : Shape → TreeEngineParts → ℕ → Type 0
@@ -88,7 +88,7 @@ HoldsSlot g parts i = IfSome (tree_lines_redone parts) (λ lines. IsSlotStored g
 abbrev pub HoldsNode : Setup → TreeEngineParts → ℕ → Type 0
 HoldsNode setup parts x = IfSome (tree_lines_redone parts) (λ lines. IsNodeHeldBy setup parts.engine lines parts.watch x)
 
--- where the lines are told, it is neither
+-- if the lines are exposed, it is neither
 abbrev pub IsNodeUnheld : Setup → TreeEngineParts → ℕ → Type 0
 IsNodeUnheld setup parts x =
     (lines : List Line) → tree_lines_redone parts ≡ Some lines

@@ -68,8 +68,7 @@ RecoveryKeepsNodes =
     → IsShape setup.shape → IsTreeAnchored setup regs watch → IsTreeRecovered setup watch.slots engine
     → x < meta_lines setup.shape → IsNodeHeld setup lines watch x → IsNodeHeldBy setup engine lines watch x
 
--- a held node that isn't cached is read as the true one: so a refusal or an exhibit of node x comes
--- only where its line was tampered with
+-- a held node that isn't cached is read as the true one: so a refusal or an exhibit of node x comes only if its line was tampered with
 abbrev pub HeldNodesAreRead : Type 0
 HeldNodesAreRead =
     (setup : Setup) (engine : TreeState) (lines : List Line) (regs : Regs) (watch : WatchState) (x : ℕ)

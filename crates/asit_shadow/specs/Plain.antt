@@ -122,8 +122,8 @@ is_hurt plain a = slice_index_or plain.hurt a false
 abbrev pub named_at : List (Option ℕ) → ℕ → Option ℕ
 named_at named i = slice_index_or named i None
 
--- memory is the plain lines of the last seals, the counts are the lines' counters, and the true slot
--- lines name the nodes that are said to be named
+-- memory is the plain lines of the last seals, the counts are the lines' counters, and the true slot lines name the nodes that the state
+-- has as named
 pub record IsPlainOf (setup : Setup) (plain : PlainTree) (watch : WatchState) : Type 0 where
   pub memory_count : length plain.memory ≡ tree_lines setup.shape
   pub count_count : length plain.counts ≡ tree_lines setup.shape

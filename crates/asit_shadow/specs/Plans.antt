@@ -1,4 +1,4 @@
--- What the engine's calls do of the board, as plans: functions of the state beside it, and of the registers.
+-- What the engine's calls do of the board, as plans: functions of the state next to it, and of the registers.
 use Rattle.std.specs.Prelude.{ℕ, suc, ◌%◌, ◌==◌, ◌||◌, not, false, slice_set, Option, Some, None, if◌then◌else◌}
 use Rattle.pmem_base.specs.declared.faults.Cut.{Cut}
 use Rattle.pmem_base.specs.declared.lines.Line.{Line}
@@ -24,7 +24,7 @@ use Rattle.asit_shadow.specs.State.{TreeState, cache_at, top_node}
 use Rattle.asit_shadow.specs.Calls.{outcome_of_tree_fault}
 use Rattle.asit_shadow.specs.Paths.{path_node}
 
--- ---- the state beside the board
+-- ---- the state next to the board
 
 -- the engine, the watch, and the suite's counts of pads, tags and digests
 pub record TreeChip : Type 0 where
@@ -72,7 +72,7 @@ fault_of_line a Missed.Shown = Fail.Shown
 
 -- ---- a node
 
--- the node of a slot is written to its place with its tag, where it is dirty
+-- the node of a slot is written to its place with its tag, if it is dirty
 unfoldable pub room_plan : Setup → Option CachedNode → ℕ → Plan (ℕ × Cut) (ℕ × Unit {0})
 room_plan setup None tags = done (tags, tt)
 room_plan setup (Some held) tags =
@@ -93,7 +93,7 @@ place_plan setup x at =
     (λ end. (with_engine (with_tags at.0 end.0) (with_clean at.0.engine x at.1), at.1))
     (room_plan setup (cache_at at.0.engine.cache (slot_of at.0.engine.shape x)) at.0.tags)
 
--- node x, where a slot holds it
+-- node x, if a slot holds it
 abbrev pub node_in : Option CachedNode → ℕ → Option Node
 node_in None x = None
 node_in (Some held) x = if held.x == x then Some held.node else None

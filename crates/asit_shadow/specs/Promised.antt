@@ -114,7 +114,7 @@ module _ {B S : Type 0} (board : BoardOf B) (suite : SuiteOf S) (engine : TreeSt
       Follows (room_plan (tree_setup_at suite engine s) (cache_at engine.cache i) (suite.tags s)) (board.device b)
       (board.device later_b) (ended answer (suite.tags later_s))
 
--- where there is no engine: a read of a node, recovery, formatting
+-- if there is no engine: a read of a node, recovery, formatting
 module _ {B S W : Type 0} (board : BoardOf B) (suite : SuiteOf S) (watch : WatchOf W) (geo : Geo) (b : B) (s : S) (w : W)
     (later_b : B) (later_s : S) (later_w : W) where
   abbrev of_geo : Setup
@@ -142,7 +142,7 @@ module _ {B S W : Type 0} (board : BoardOf B) (suite : SuiteOf S) (watch : Watch
   abbrev pub Recovers : Result (TreeState × Work) TreeRec → Type 0
   Recovers answer = HasTreeRecovered of_geo rest later_rest (suite.digests s) (suite.digests later_s) answer
 
-  -- every answer but want of memory
+  -- every answer except running out of memory
   abbrev pub FollowsRecovery : Result (TreeState × Work) TreeRec → Type 0
   FollowsRecovery answer =
       answer ≢ Err Stop.Memory

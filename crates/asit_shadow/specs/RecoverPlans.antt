@@ -1,5 +1,5 @@
--- What recovery does of the board, as a plan over the watch and the suite's count of digests. Every answer but want of
--- memory is told by it.
+-- What recovery does of the board, as a plan over the watch and the suite's count of digests. Every answer except running out of memory is
+-- told by it.
 use Rattle.std.specs.Prelude.{ℕ, ◌^◌, nat_lt, ◌&&◌, Bool, true, false, List, [], ◌∷◌, map, replicate, slice_set, Option, Some, None, Result, Ok, Err, if◌then◌else◌}
 use Rattle.pmem_base.specs.declared.faults.Cut.{Cut}
 use Rattle.pmem_base.specs.declared.lines.Line.{Line}
@@ -25,7 +25,7 @@ use Rattle.asit_shadow.specs.declared.recovery.TreeRec.{TreeRec}
 use Rattle.asit_shadow.specs.declared.recovery.TreeRec.TheVariants as Fail
 use Rattle.asit_shadow.specs.State.{TreeState}
 
--- what a recovery works on beside the board
+-- what a recovery works on next to the board
 pub record RecoverParts : Type 0 where
   pub watch : WatchState
   pub digests : ℕ
@@ -53,7 +53,7 @@ slots_end at (Err fault) slots = Err (at, Fail.Cut)
 
 -- ---- the engine
 
--- a named node, dirty; none where it stands off the tree, or has no version
+-- a named node, dirty; none if it stands off the tree, or has no version
 abbrev pub cached_named : Shape → Option NamedNode → Option CachedNode
 cached_named g None = None
 cached_named g (Some named) =

@@ -46,14 +46,14 @@ pub record IsRestUsable (g : Shape) (rest : Rest) : Type 0 where
   pub watch : IsWatchReady g rest.watch
   pub board : IsBoardReady g rest.device
 
--- the device's lines with the armed group redone, where they are told
+-- the device's lines with the armed group redone, if they are exposed
 abbrev pub rest_redone : Rest → Option (List Line)
 rest_redone rest = redone_told rest.device.regs.group.items rest.device.lines
 
 abbrev pub IsRestAnchored : Setup → Rest → Type 0
 IsRestAnchored setup rest = IsTreeAnchored setup rest.device.regs rest.watch
 
--- the lines are told, and durable
+-- the lines are exposed, and durable
 abbrev pub IsRestDurable : Setup → Rest → Type 0
 IsRestDurable setup rest =
     MatchOption rest.device.lines ⊥ (λ lines. IsTreeDurable setup lines rest.device.regs rest.watch)
@@ -148,7 +148,7 @@ pub record HasSlotsRead (g : Shape) (old new : Device) (before after : ℕ) : Ty
   pub reads : RisesBy (tree_slots g) old.reads new.reads
   pub digests : after ≡ risen_times (shadow_digests g) before
 
--- power was cut before a digest was made: where it was on, amid a group that was armed
+-- power was cut before a digest was made: if it was on, during a group that was armed
 pub record IsRecoveryCut (old new : Device) (before after : ℕ) : Type 0 where
   pub no_digests : after ≡ before
   pub due : old.live ≡ true → old.regs.group.items ≢ []

@@ -56,7 +56,7 @@ pub record IsTreeEngine (engine : TreeState) : Type 0 where
   pub tree_whole : IsChipTree engine.tree
   pub tree_height : engine.tree.height ≡ shadow_height engine.shape
 
--- the node in slot 0: the top, where it is cached
+-- the node in slot 0: the top, if it is cached
 abbrev pub top_of : Option CachedNode → Node
 top_of None = zero_node
 top_of (Some held) = held.node

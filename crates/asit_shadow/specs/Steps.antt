@@ -24,7 +24,7 @@ use Rattle.asit_shadow.specs.Invariants.{IsNodeStored, IsTreeOver}
 abbrev pub KeepsOtherRegisters : Regs → Regs → Type 0
 KeepsOtherRegisters old new = new ≡ record old { root = new.root; group = new.group }
 
--- ---- a write of data line a is armed: one latch, and the watch is told
+-- ---- a write of data line a is armed: one latch, and a report to the watch
 
 pub record IsTreeArmed (setup : Setup) (a : ℕ) (seal : LineSeal) (old_regs new_regs : Regs) (old new : WatchState) : Type 0 where
   pub its_line : a < tree_lines setup.shape

@@ -92,7 +92,7 @@ pub record HasFetchedNodes (setup : Setup) (a n : ℕ) (old new : TreeEnginePart
 
 -- ---- how far a fetch came
 
--- the whole path was fetched, and so many lines were read after it
+-- the whole path was fetched, and that many lines were read after it
 pub record HasFetchedPath (setup : Setup) (a more : ℕ) (old new : TreeEngineParts) : Type 0 where
   pub fetched : HasFetchedNodes setup a setup.shape.levels old new
   pub reads :
@@ -122,7 +122,7 @@ pub record IsNodeWriteBackDue (g : Shape) (a levels : ℕ) (old new : TreeEngine
   pub victim : holds_dirty (cache_at old.engine.cache (slot_of g (path_node g a (suc levels)))) ≡ true
   pub reads : RisesBy (absent_nodes g old.engine.cache a levels + 1) old.device.reads new.device.reads
 
--- power was cut: where it was on, before such a write-back alone
+-- power was cut: if it was on, before such a write-back alone
 pub record IsCutInNodeFetch (setup : Setup) (a : ℕ) (old new : TreeEngineParts) : Type 0 where
   pub levels : ℕ
   pub fetched : HasFetchedNodes setup a levels old new
@@ -151,8 +151,8 @@ WorksOfRead setup a old new (Err Fail.Shown) = IsNodeShownAt setup a old new ⊎
 
 -- ---- writes
 
--- the path is fetched, and so many latches were done after it: each node of the path is dirty in its slot,
--- with its new counters, and the line has a new last seal
+-- the path is fetched, and that many latches were done after it: each node of the path is dirty in its slot, with its new counters, and the
+-- line has a new last seal
 pub record HasArmedPath (setup : Setup) (a latches : ℕ) (seal : LineSeal) (old new : TreeEngineParts) : Type 0 where
   pub last : last_seal_of new.watch a ≡ Some seal
   pub cache : HasPathCached setup.shape a new.watch.nodes old.engine.cache new.engine.cache

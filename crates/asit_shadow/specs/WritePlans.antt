@@ -32,7 +32,7 @@ use Rattle.asit_shadow.specs.Plans.{TreeChip, tree_chip_of, node_in, fetch_plan,
 abbrev pub raised_node : Node → ℕ → Node
 raised_node node slot = if total node == 2 ^ 64 - 1 then node else raised node slot
 
--- node x as its slot holds it, and zeros where another one stands there
+-- node x as its slot holds it, and zeros if another one stands there
 abbrev pub cached_node : Shape → List (Option CachedNode) → ℕ → Node
 cached_node g cache x = unwrap_or (node_in (cache_at cache (slot_of g x)) x) zero_node
 
@@ -73,7 +73,7 @@ named_all f g (pair ∷ later) at = named_all f g later (named_one f g pair at)
 abbrev pub write_armed : Shape → ℕ → LineSeal → List (ℕ × Node) → List ℕ → Regs → Regs
 write_armed g a seal pairs root regs = record regs { root = root; group = record { items = armed_lines g a seal pairs } }
 
--- the watch once it is told of a write
+-- the watch after a write was reported to it
 abbrev pub told_write : Shape → ℕ → LineSeal → List (ℕ × Node) → WatchState → WatchState
 told_write g a seal pairs watch =
     record watch {
@@ -97,7 +97,7 @@ named_chip setup pairs regs chip =
     tree_chip_of (with_tree chip.engine (named_all setup.formulas setup.shape pairs (chip.engine.tree, regs.root)).0) chip.watch
     (risen chip.pads) (risen chip.tags) (risen_times (length pairs * suc chip.engine.tree.height) chip.digests)
 
--- and once it is: the watch is told, and the path is stored
+-- and once it is: the write is reported to the watch, and the path is stored
 abbrev pub stored_chip : Shape → ℕ → LineSeal → List (ℕ × Node) → TreeChip → TreeChip
 stored_chip g a seal pairs chip =
     tree_chip_of (with_stored pairs chip.engine) (told_write g a seal pairs chip.watch) chip.pads chip.tags chip.digests

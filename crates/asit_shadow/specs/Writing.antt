@@ -1,4 +1,4 @@
--- A write's parts: the path's nodes with their new counters, what is told of them, and what is stored.
+-- A write's parts: the path's nodes with their new counters, what is reported of them, and what is stored.
 use Rattle.std.specs.Prelude.{ℕ, ◌≡◌, ◌<◌, ◌≤◌, ◌+◌, ◌-◌, ◌%◌, ◌^◌, ◌==◌, true, List, [], ◌∷◌, Option, Some, Result, length, map, take, slice_index_or, slice_set, All, if◌then◌else◌}
 use Rattle.pmem_base.specs.declared.lines.Line.{Line}
 use Rattle.pmem_base.specs.declared.registers.Regs.{Regs}
@@ -75,7 +75,7 @@ pub record IsTreeNamed (f : Formulas) (g : Shape) (pairs : List (ℕ × Node)) (
   pub tree : IsShadowTree f old.height (put_lines (slot_entries g (λ i. i) pairs) slots) new.lines
   pub its_root : root ≡ root_of f old.height (put_lines (slot_entries g (λ i. i) pairs) slots)
 
--- what a watch is told of a write
+-- what is reported to a watch of a write
 pub record IsWriteTold (g : Shape) (a : ℕ) (seal : LineSeal) (pairs : List (ℕ × Node)) (old new : WatchState) : Type 0 where
   pub setup : new.setup ≡ old.setup
   pub seals : new.seals ≡ slice_set old.seals a (Some seal)

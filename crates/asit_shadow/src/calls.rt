@@ -14,8 +14,10 @@ use pmem_base::Line;
 use suite::Suite;
 
 impl TreeEngine {
-    /// Reads data line `at`: fetches its path, and then its cipher and tag. At most one persist step for
-    /// each level.
+    /// Reads data line `at`: fetches its path, and then its cipher and tag. Errors: `Down` if an earlier call was cut
+    /// or shown; `Cut`; `Node { x }` if node x of the path isn't of the version that its parent has for it; `Tag { at
+    /// }` if the tag doesn't fit the cipher; `Shown` if what was read is forged; never `Spent`. Cost: at most one
+    /// persist step for each level.
     pub fn read<B: Board, S: Suite, W: Watch>(
         &mut self,
         board: &mut B,
@@ -46,8 +48,10 @@ impl TreeEngine {
         }
     }
 
-    /// Writes data line `at`, and answers its new counter. At most one persist step for each level, then
-    /// a latch, the lines of the group, and a latch.
+    /// Writes data line `at`, and answers its new counter. Errors: `Spent` if and only if the version of the top is
+    /// 2^64 - 1, and then nothing is done; `Down` if an earlier call was cut or shown; `Cut`; `Node { x }` if node x of
+    /// the path isn't of the version that its parent has for it; `Shown` if a node that was read is forged. Cost: at
+    /// most one persist step for each level, then a latch, the lines of the group, and a latch.
     pub fn write<B: Board, S: Suite, W: Watch>(
         &mut self,
         board: &mut B,

@@ -102,7 +102,7 @@ impl TreeEngine {
         Ok(node)
     }
 
-    /// Node `x`, where it is in its slot.
+    /// Node `x`, if it is in its slot.
     pub(crate) fn cached(&self, x: u32) -> Option<Node>
         requires { x < meta_lines self.now.shape }
         ensures some { IfSome result (IsCachedAs self.now.shape self.now.cache x) }
@@ -115,7 +115,7 @@ impl TreeEngine {
         }
     }
 
-    /// Writes the node of slot `i` to the board with its tag, where the board may have an older one.
+    /// Writes the node of slot `i` to the board with its tag, if the board may have an older one.
     fn make_room<B: Board, S: Suite>(&self, board: &mut B, suite: &mut S, i: u32) -> Result<(), Cut>
         requires slot { i < tree_slots self.now.shape }
         requires size { (B.device board.old).size ≡ tree_size self.now.shape }

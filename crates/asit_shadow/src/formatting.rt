@@ -31,9 +31,9 @@ use pmem_base::{Geo, Line, MemFault, Regs, Tag};
 use std::alloc::Global;
 use suite::Suite;
 
-/// Makes a device new: each data line is sealed as zeros under counter 0, with its tag; the nodes have
-/// zero counters; slot 0 names the top, and the other slots are empty. The answer is an engine with the
-/// top cached. The one error is want of memory.
+/// Makes a device new: each data line is sealed as zeros under counter 0, with its tag; the nodes have zero counters;
+/// slot 0 names the top, and the other slots are empty. The answer is an engine with the top cached. Errors: running
+/// out of memory.
 pub fn tree_format<B: Board, S: Suite, W: Watch>(
     alloc: Global,
     geo: &Geo,
@@ -69,8 +69,8 @@ pub fn tree_format<B: Board, S: Suite, W: Watch>(
     Ok(TreeEngine::new(*geo, room.cache, room.tree))
 }
 
-/// The same in memory that was taken: writes and tells all lines, makes the tree over the slot lines, and
-/// latches its root.
+/// Makes a device new, in memory that was taken: writes all lines and reports them to the watch, makes the tree over
+/// the slot lines, and latches its root.
 fn fill_device<B: Board, S: Suite, W: Watch>(
     geo: &Geo,
     board: &mut B,

@@ -9,14 +9,18 @@ pub fn slots_are_apart()
     ensures apart { PathSlotsAreApart }
 {}
 
-/// A law: what naming a path and a write's group make.
+/// A law: naming a path's nodes names each of them in the slots and leaves the other slots as they were; storing them
+/// leaves a cache that holds each of them dirty; and a write's group can be armed, as its places are distinct and on
+/// the device.
 pub fn paths_are_named()
     ensures named { PathsAreNamed }
     ensures cached { PathsAreCached }
     ensures groups { WritesMakeGroups }
 {}
 
-/// A law: what stays as a write is armed, written and emptied.
+/// A law: arming a write keeps the chip anchored; once its group is written and emptied, a trusted engine is trusted
+/// again. Over a sound engine with the path cached, the device is durable from the latch on, and the engine is sound
+/// once the group is written and emptied.
 pub fn writes_are_atomic()
     ensures anchored { ArmingKeepsAnchored }
     ensures trusted { WritingKeepsTrusted }
@@ -24,14 +28,18 @@ pub fn writes_are_atomic()
     ensures sound { WritingKeepsSound }
 {}
 
-/// A law: what stays as the armed group is written and emptied.
+/// A law: a device stays durable while its armed group is written: after a write of any of the group's lines, after a
+/// cut that leaves lines of which redoing the group makes the same, and once the group is written and emptied.
 pub fn groups_are_durable()
     ensures lines { GroupLinesKeepDurable }
     ensures interrupted { InterruptionsKeepDurable }
     ensures finished { FinishingKeepsDurable }
 {}
 
-/// A law: what a fetched node is, and what stays as it takes its slot.
+/// A law: a node that is accepted under its version and isn't the true one gives an exhibit that holds; an engine stays
+/// trusted as a fetched node takes its slot. Over a sound engine, a node that isn't cached is read as the true one,
+/// writing a true node back keeps the engine sound, and so does fetching a node into a slot whose own node is clean or
+/// true on the device.
 pub fn fetches_are_true()
     ensures forged { ForgedNodesHold }
     ensures trusted { FetchingKeepsTrusted }
@@ -40,14 +48,17 @@ pub fn fetches_are_true()
     ensures sound { FetchingKeepsSound }
 {}
 
-/// A law: how many nodes of a path come in, and how many give way to them.
+/// A law: of a path, at most as many nodes are evicted as come in, at most one comes in for each level, and none if the
+/// path is cached.
 pub fn fetches_are_few()
     ensures spilled { SpillsAreFew }
     ensures absent { AbsentAreFew }
     ensures cached { CachedPathsAreFree }
 {}
 
-/// A law: what reads give, and what writes make of memory.
+/// A law: on an anchored chip, the cipher of a line's last seal decrypts to memory's line, and another cipher with the
+/// right tag gives an exhibit that holds. Over a sound engine the tag fits, and the cipher is that of the last seal. An
+/// armed write changes its own line of memory and no other, and no line is sealed twice under one counter.
 pub fn reads_are_plain()
     ensures plain { ReadsArePlain }
     ensures forged { ForgedLinesHold }
@@ -56,7 +67,9 @@ pub fn reads_are_plain()
     ensures fresh { WritesAreFresh }
 {}
 
-/// A law: what recovery gives.
+/// A law: on an anchored chip, slot lines that have the register's root and aren't the true ones give a clash that
+/// holds, and the true ones make a trusted engine if no group is armed. On a durable device without an armed group, the
+/// slot lines read are the true ones and have the register's root, and the engine made from them is sound.
 pub fn recovery_restores()
     ensures clash { ClashesHold }
     ensures trusted { RecoveryIsTrusted }
@@ -69,7 +82,9 @@ pub fn formatting_is_sound()
     ensures { FormattingIsSound }
 {}
 
-/// A law: what each place of the device keeps through the steps of an engine.
+/// A law: a stored seal, a stored slot line and a held node stay so through the steps of an engine: arming a write,
+/// storing its nodes, writing a node back, fetching one, power off, and recovery. A line changed past the controller
+/// changes no other line, also once an armed group is redone.
 pub fn places_are_kept()
     ensures armed { ArmingKeepsPlaces }
     ensures written { WritingKeepsNodes }
@@ -80,14 +95,17 @@ pub fn places_are_kept()
     ensures tampered { TamperingKeepsOthers }
 {}
 
-/// A law: what is read of a place that nobody tampered with.
+/// A law: a held node that isn't cached is read as the true node, a line whose seal is stored is read with the cipher
+/// and the tag of its last seal, and stored slot lines are read as the true ones. So a refusal or an exhibit of a place
+/// comes only if its line was tampered with.
 pub fn kept_places_are_read()
     ensures nodes { HeldNodesAreRead }
     ensures lines { StoredLinesAreRead }
     ensures slots { StoredSlotsAreRead }
 {}
 
-/// A law: the plain machine of a session goes with the watch.
+/// A law: the true nodes of a session's plain machine are those of the watch, an armed write is a write of the plain
+/// machine, and the version of the top is the number of all writes made.
 pub fn plain_machine_goes_along()
     ensures nodes { PlainNodesAreTrue }
     ensures writes { ArmingIsAWrite }

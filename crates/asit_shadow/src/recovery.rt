@@ -67,8 +67,9 @@ impl From<MemFault> for TreeRec {
     }
 }
 
-/// Recovers an engine over a device that power was cut from. The answer is the engine, and the digests
-/// that were made. Memory is taken first.
+/// Recovers an engine over a device that power was cut from. The answer is the engine, and the digests that were made.
+/// Errors: `Memory`, and nothing has changed, since memory is taken first; `Cut`; `Shadow { kept, found }` if the root
+/// over the slot lines isn't the root register; `Shown` if the roots are equal and the slot lines aren't the true ones.
 pub fn tree_recover<B: Board, S: Suite, W: Watch>(
     alloc: Global,
     geo: &Geo,
@@ -205,7 +206,7 @@ fn put_named(geo: &Geo, slots: &[Line], cache: &mut [Option<CachedNode>])
     }
 }
 
-/// The node that a slot line names; none where that can't be cached, which no true slot line names.
+/// The node that a slot line names. `None` if that node can't be cached, which no true slot line names.
 fn named(geo: &Geo, line: &Line) -> Option<CachedNode>
     ensures held { IfSome result (IsHeldNode (shape_of geo.now)) }
     ensures named { IsNameable (shape_of geo.now) (slot_read line.now) → result ≡ held_of (slot_read line.now) }
@@ -217,7 +218,7 @@ fn named(geo: &Geo, line: &Line) -> Option<CachedNode>
     }
 }
 
-/// A node in its slot, dirty; none where it stands off the tree, or has no version.
+/// A node in its slot, dirty. `None` if it isn't a node of the tree, or has no version.
 fn held_if_whole(geo: &Geo, x: u32, node: Node) -> Option<CachedNode>
     ensures held { IfSome result (IsHeldNode (shape_of geo.now)) }
     ensures whole { x < meta_lines (shape_of geo.now) → total node < 2 ^ 64

@@ -18,7 +18,7 @@ pub(crate) struct Room {
     pub tree: ShadowTree,
 }
 
-/// Takes the memory of an engine. The one error is want of memory.
+/// Takes the memory of an engine. Errors: running out of memory.
 pub(crate) fn take_room(alloc: Global, geo: &Geo) -> Result<Room, MemFault>
     ensures cache { IfOk result (λ room. room.cache.items ≡ replicate (tree_slots (shape_of geo.now)) None) }
     ensures slots { IfOk result (λ room. room.slots.items ≡ replicate (tree_slots (shape_of geo.now)) zero_line) }

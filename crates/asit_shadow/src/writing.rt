@@ -92,7 +92,7 @@ impl TreeEngine {
         raised
     }
 
-    /// Node `x` as its slot holds it, and zeros where another stands there.
+    /// Node `x` as its slot holds it, or zeros if the slot holds another node.
     fn node(&self, x: u32) -> Node
         requires { x < meta_lines self.now.shape }
         ensures cached { IsCached self.now.shape self.now.cache x → IsCachedAs self.now.shape self.now.cache x result }
@@ -216,8 +216,8 @@ fn position_below(geo: &Geo, path: &ArrayVec<u32, 7>, at: u32, level: u8) -> u32
     }
 }
 
-/// A node with one counter more. Where its version is the greatest number of 64 bits, it stays as it
-/// is; no node on the path of a write that isn't spent is so.
+/// A node with one counter raised by 1. If its version is 2^64 - 1, the node stays as it is; no node on the path of a
+/// write that isn't spent is in that state.
 fn raise(node: &Node, slot: u8) -> Node
     requires slot { slot < 4 }
     requires version { total node.now < 2 ^ 64 }

@@ -7,7 +7,7 @@ use Rattle.board.specs.declared.access.Access.{Access}
 
 pub record Device : Type 0 where
   pub size : ℕ
-  -- the lines, where the board tells them
+  -- the lines, if the board exposes them
   pub lines : Option (List Line)
   pub regs : Regs
   -- no call is answered by a cut
@@ -18,15 +18,15 @@ pub record Device : Type 0 where
   pub writes : ℕ
   pub latches : ℕ
   pub cuts : ℕ
-  -- the accesses that were answered and not cut, the first one first, where the board tells them
+  -- the accesses that were answered and not cut, the first one first, if the board exposes them
   pub accesses : Option (List Access)
 
--- so many lines, of 64 bytes each
+-- that many lines, of 64 bytes each
 pub record AreLinesOf (size : ℕ) (lines : List Line) : Type 0 where
   pub count : length lines ≡ size
   pub each : All IsLine lines
 
--- so many lines, where told
+-- that many lines, if exposed
 abbrev pub AreToldLines : ℕ → Option (List Line) → Type 0
 AreToldLines size None = ⊤
 AreToldLines size (Some lines) = AreLinesOf size lines

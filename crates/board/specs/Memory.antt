@@ -13,7 +13,7 @@ pub record BoardMemory : Type 0 where
   pub lines : List Line
   pub regs : Regs
   pub powered : Bool
-  -- how many more persist steps are done before power is cut, where a cut is set
+  -- how many more persist steps are done before power is cut, if a cut is set
   pub fuse : Option ℕ
   pub snapshot : Option (List Line)
   pub reads : ℕ
@@ -23,7 +23,7 @@ pub record BoardMemory : Type 0 where
   -- the accesses that were answered and not cut, the first one first
   pub accesses : List Access
 
--- so many zero lines, empty registers, power on, and neither a fuse nor a snapshot
+-- that many zero lines, empty registers, power on, and neither a fuse nor a snapshot
 abbrev pub new_memory : ℕ → BoardMemory
 new_memory size =
     record {
@@ -86,7 +86,7 @@ abbrev pub flipped_line : Line → ℕ → Line
 flipped_line line bit =
     line_of (slice_set line.0 (bit / 8) (bit_xor (slice_index line.0 (bit / 8)) (2 ^ (bit % 8))))
 
--- the lines with one taken from the snapshot, where one is kept
+-- the lines with one taken from the snapshot, if one is kept
 abbrev pub restored_lines : List Line → Option (List Line) → ℕ → List Line
 restored_lines lines None at = lines
 restored_lines lines (Some kept) at = slice_set lines at (line_at kept at)

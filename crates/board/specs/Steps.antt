@@ -8,17 +8,17 @@ use Rattle.board.specs.declared.access.Access.TheVariants as Did
 use Rattle.board.specs.Counts.{RisesOnce}
 use Rattle.board.specs.Device.{Device}
 
--- this is the line at a place, where the board tells its lines
+-- this is the line at a place, if the board exposes its lines
 abbrev pub Tells : Option (List Line) → ℕ → Line → Type 0
 Tells None at line = ⊤
 Tells (Some lines) at line = line ≡ line_at lines at
 
--- the lines after a write, where told
+-- the lines after a write, if exposed
 abbrev pub with_line : Option (List Line) → ℕ → Line → Option (List Line)
 with_line None at line = None
 with_line (Some lines) at line = Some (slice_set lines at line)
 
--- the accesses with one more, where told
+-- the accesses with one more, if exposed
 abbrev pub noted : Option (List Access) → Access → Option (List Access)
 noted told access = option_map (λ accesses. accesses ++ access ∷ []) told
 

@@ -1,4 +1,4 @@
--- What contracts see of a board that trips after so many calls, and when it answers a cut.
+-- What contracts see of a board that trips after that many calls, and when it answers a cut.
 use Rattle.std.specs.Prelude.{ℕ, ◌≡◌, ◌⊎◌}
 use Rattle.board.specs.declared.tripped.Tripped.{Tripped}
 use Rattle.board.specs.Device.{Device}

@@ -8,6 +8,6 @@ pub enum Access {
     Read { at: u32 },
     /// A line was written at a place: one persist step.
     Write { at: u32, line: GhostLine },
-    /// All registers were replaced, after which the commit group has so many lines: one persist step.
+    /// All registers were replaced, after which the commit group has `armed` lines: one persist step.
     Latch { armed: u32 },
 }

@@ -8,15 +8,15 @@ use pmem_base::{Cut, Line, Regs};
 /// An untrusted device of lines, with a register file on the chip. One line write or one latch of
 /// all registers is one persist step, and power may be cut between two of them.
 pub trait Board {
-    /// The size, the lines where told, the registers, whether it is steady and live, the counts, and the accesses
-    /// where told.
+    /// The size, the lines if the board exposes them, the registers, whether it is steady and live, the counts, and the
+    /// accesses if the board exposes them.
     ghost device: { Self → Device };
 
     /// The number of lines.
     fn size(&self) -> u32
         ensures { result ≡ (device self.now).size };
 
-    /// The line at a place. `Cut` comes only where power is off.
+    /// The line at a place. Errors: `Cut`, only if power is off.
     fn read_line(&mut self, at: u32) -> Result<Line, Cut>
         requires { at < (device self.old).size }
         ensures ok { IfOk result (λ line. HasRead (device self.old) at line (device self.new)) }
@@ -38,6 +38,6 @@ pub trait Board {
     fn regs(&self) -> &Regs
         ensures { result.now ≡ (device self.now).regs };
 
-    /// A law: where the lines are told, they are as many as the size, and each has 64 bytes.
+    /// A law: if the board exposes its lines, their number is the size, and each has 64 bytes.
     ghost whole: { (board : Self) → IsDevice (device board) };
 }

@@ -1,5 +1,5 @@
-//! A board in memory, with a fuse that cuts power after so many persist steps, and with the ways to
-//! tamper with its lines.
+//! A board in memory, with a fuse that cuts power after a number of persist steps, and with the ways to tamper with its
+//! lines.
 ghost use Rattle.std.specs.Prelude.{◌≡◌, ◌<◌, ◌≤◌, ◌^◌, ◌↔◌, true, false, Some, None, All, length, IsErr, IfOk, OnOk, OnErr};
 ghost use Rattle.std.specs.Option.{ForSome};
 ghost use Rattle.pmem_base.specs.Lines.{IsLine, line_at};
@@ -32,8 +32,7 @@ pub struct MemBoard {
 impl MemBoard {
     ghost use Rattle.board.specs.MemBoard.{memory_of};
 
-    /// Zero lines, empty registers, power on, and neither a fuse nor a snapshot. The one error is
-    /// want of memory.
+    /// Zero lines, empty registers, power on, and neither a fuse nor a snapshot. Errors: running out of memory.
     #[tactic(auto, using(crate::proofs::LineLemmas::zero_lines))]
     pub fn new(alloc: Global, size: u32) -> Result<MemBoard, MemFault>
         ensures { IfOk result (λ board. memory_of board ≡ new_memory size) }
@@ -116,8 +115,8 @@ impl MemBoard {
         self.lines[to as usize] = self.lines[from as usize];
     }
 
-    /// Keeps a copy of all lines, in place of an earlier one. The one error is want of memory, and
-    /// nothing changes then. Only the first copy takes memory.
+    /// Keeps a copy of all lines, instead of an earlier one. Errors: running out of memory, and then nothing changes.
+    /// Only the first copy takes memory.
     pub fn snap(&mut self) -> Result<(), MemFault>
         ensures ok { OnOk result
             (memory_of self.new ≡ record (memory_of self.old) { snapshot = Some (memory_of self.old).lines }) }
@@ -131,7 +130,8 @@ impl MemBoard {
         Ok(())
     }
 
-    /// Gives a line the bytes that it has in the snapshot.
+    /// Gives a line the bytes that it has in the snapshot. Errors: `NoSnap` if and only if there is no snapshot, and
+    /// then nothing changes.
     pub fn back(&mut self, at: u32) -> Result<(), NoSnap>
         requires { at < length (memory_of self.old).lines }
         ensures none { IsErr result ↔ ((memory_of self.old).snapshot ≡ None) }
@@ -161,7 +161,7 @@ impl MemBoard {
         (self.reads, self.writes, self.latches)
     }
 
-    /// Takes one off the fuse, or cuts power where no persist step can be done.
+    /// Takes one off the fuse, or cuts power if no persist step is left.
     fn step(&mut self) -> Result<(), Cut>
         ensures cut { IsErr result ↔ IsSpent (memory_of self.old) }
         ensures ok { OnOk result

@@ -1,4 +1,4 @@
-//! A board that answers `Cut` after so many calls, reads included.
+//! A board that answers `Cut` after a number of calls, reads included.
 ghost use Rattle.std.specs.Prelude.{◌≡◌, ◌<◌, ◌≤◌, ◌-◌, ◌↔◌, IsErr, IfOk, OnOk, OnErr};
 ghost use Rattle.pmem_base.specs.Counts.{risen};
 ghost use Rattle.board.specs.Steps.{HasRead, HasWritten, HasLatched};
@@ -7,8 +7,8 @@ ghost use Rattle.board.specs.Tripped.{IsDue, cuts_of, inner_of, left_of};
 use crate::Board;
 use pmem_base::{Cut, Line, Regs};
 
-/// A board that passes so many calls of `read_line`, `write_line` and `latch` to the inner board, and
-/// then answers `Cut` to each of them. It is never steady and never live, and counts its own cuts.
+/// A board that passes a number of calls of `read_line`, `write_line` and `latch` to the inner board, and then answers
+/// `Cut` to each of them. It is never steady and never live, and counts its own cuts.
 #[derive(Drop)]
 pub struct Tripped<B> {
     inner: B,
@@ -42,7 +42,7 @@ impl<B> Tripped<B> {
         inner
     }
 
-    /// Takes one off the calls that are passed, or counts a cut where none is left.
+    /// Takes one off the calls that are passed, or counts a cut if none is left.
     fn pass(&mut self) -> Result<(), Cut>
         ensures trips { IsErr result ↔ (left_of self.old ≡ 0) }
         ensures inner { inner_of self.new ≡ inner_of self.old }

@@ -3,7 +3,7 @@ use Rattle.std.specs.Prelude.{ℕ, ◌≡◌, true, is_some}
 use Rattle.board.specs.Counts.{RisesBy}
 use Rattle.board.specs.Device.{Device}
 
--- so many lines are written; a steady device stays steady, with its registers
+-- that many lines are written; a steady device stays steady, with its registers
 pub record StaysSteady (n : ℕ) (old new : Device) : Type 0 where
   pub size : new.size ≡ old.size
   pub regs : new.regs ≡ old.regs

@@ -30,7 +30,7 @@ module _ {S : Type 0} (suite : SuiteOf S) where
   abbrev pub setup_with : Geo → S → Setup
   setup_with geo s = setup_of geo (suite.formulas_of (suite.keys s))
 
--- so many pads, tags and digests are made
+-- that many pads, tags and digests are made
 pub record SuiteRise (pads tags digests : ℕ) (old new : SuiteState) : Type 0 where
   pub its_keys : new.keys ≡ old.keys
   pub its_pads : new.pads ≡ risen_times pads old.pads

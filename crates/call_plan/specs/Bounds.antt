@@ -36,8 +36,7 @@ writes_within place = record { reads = λ at. ⊤; writes = λ at line. place at
 
 -- ---- how many
 
--- The plan takes no more than r reads, w line writes and l latches, and where it is done as many are left
--- over as `ok` says of its end.
+-- The plan takes no more than r reads, w line writes and l latches, and if it is done as many are left over as `ok` says of its end.
 unfoldable pub Spends : {E T : Type 0} → (T → ℕ → ℕ → ℕ → Type 0) → Plan E T → ℕ → ℕ → ℕ → Type 0
 Spends ok (done t) r w l = ok t r w l
 Spends ok (stop left) r w l = ⊤
@@ -53,13 +52,12 @@ all_spent t r w l = (r ≡ 0) × (w ≡ 0) × (l ≡ 0)
 abbrev pub any_left : {T : Type 0} → T → ℕ → ℕ → ℕ → Type 0
 any_left t r w l = ⊤
 
--- what is said of the end of a plan that is done
+-- what holds for the end of a plan that is done
 abbrev pub IfDone : {E T : Type 0} → (T → Type 0) → Result T E → Type 0
 IfDone ok (Ok t) = ok t
 IfDone ok (Err left) = ⊤
 
--- So many steps of each kind were taken, and so many are left over; where power was cut, a persist step at
--- least is left.
+-- That many steps of each kind were taken, and that many are left over; if power was cut, a persist step at least is left.
 pub record HasSpent {E T : Type 0} (ok : T → ℕ → ℕ → ℕ → Type 0) (r w l : ℕ) (old new : Device) (end : Result T E) : Type 0 where
   pub reads : ℕ
   pub writes : ℕ
@@ -78,8 +76,7 @@ pub record HasSpent {E T : Type 0} (ok : T → ℕ → ℕ → ℕ → Type 0) (
 
 -- ---- what ends leave
 
--- From this device, the plan is done with `ok`, and where it stops or is cut with `err`: the weakest
--- precondition of the two.
+-- From this device, the plan is done with `ok`, and if it stops or is cut with `err`: the weakest precondition of the two.
 unfoldable pub Leaves : {E T : Type 0} → Plan E T → (T → Device → Type 0) → (E → Device → Type 0) → Device → Type 0
 Leaves (done t) ok err now = ok t now
 Leaves (stop left) ok err now = err left now

@@ -21,15 +21,15 @@ RunsAreDetermined E T =
     → old.lines ≡ Some lines → old.live ≡ true → AreBelowEnd a → AreBelowEnd b → BurnsFuse fuse old a
     → BurnsFuse fuse old b → Follows plan old a first → Follows plan old b second → (first ≡ second) × (a ≡ b)
 
--- two outcomes of one call on a watched board: the answers are the same, and so are the states beside the
--- board, the boards, and what was taken of them
+-- two outcomes of one call on a watched board: the answers are the same, and so are the states next to the board, the boards, and what was
+-- taken of them
 abbrev pub IsDetermined : {S A F : Type 0} → BoardMemory → Plan (S × F) (S × A) → Type 0
 IsDetermined {S = S} {A = A} {F = F} old plan =
     (a b : BoardMemory) (x y : Taken) (first second : Result A F) (left other : S)
     → old.powered ≡ true → IsOutcome plan old a x first left → IsOutcome plan old b y second other
     → (first ≡ second) × (left ≡ other) × (a ≡ b) × (x ≡ y)
 
--- so are those of every call that is told by a plan
+-- so are those of every call that has a plan
 abbrev pub CallsAreDetermined : Type 0 → Type 0 → Type 0 → Type 0
 CallsAreDetermined S A F = (plan : Plan (S × F) (S × A)) (old : BoardMemory) → IsDetermined old plan
 
@@ -40,7 +40,7 @@ ChainsAreDetermined X S A F =
     (first second : Option F) → old.powered ≡ true → IsChain plan calls old state a left first
     → IsChain plan calls old state b other second → (first ≡ second) × (left ≡ other) × (a ≡ b)
 
--- a plan that spends so many steps was done in as many
+-- a plan that spends that many steps was done in as many
 abbrev pub StepsAreCounted : Type 0 → Type 0 → Type 0
 StepsAreCounted E T =
     (plan : Plan E T) (r w l : ℕ) (old new : Device) (t : T) → Spends all_spent plan r w l
@@ -48,13 +48,13 @@ StepsAreCounted E T =
     → (new.reads ≡ risen_times r old.reads) × (new.writes ≡ risen_times w old.writes)
     × (new.latches ≡ risen_times l old.latches)
 
--- and one that spends so many at most took no more, and fewer persist steps where power was cut
+-- and one that spends that many at most took no more, and fewer persist steps if power was cut
 abbrev pub StepsAreBounded : Type 0 → Type 0 → Type 0
 StepsAreBounded E T =
     (plan : Plan E T) (r w l : ℕ) (old new : Device) (end : Result T E) → Spends any_left plan r w l
     → Follows plan old new end → HasSpent any_left r w l old new end
 
--- every line at another place than those that the plan writes to stays as it was, where told
+-- every line at another place than those that the plan writes to stays as it was, if exposed
 abbrev pub OtherPlacesStay : Type 0 → Type 0 → Type 0
 OtherPlacesStay E T =
     (plan : Plan E T) (places : List ℕ) (old new : Device) (end : Result T E)
@@ -67,14 +67,14 @@ abbrev pub MarksRise : {S A F : Type 0} → (S → List Mark) → S → Plan (S 
 MarksRise marks_of start plan =
     Ascends (λ s t. IsFront (marks_of s) (marks_of t)) (λ left. left.0) (λ end. end.0) start plan
 
--- the marks of before are a front of those at every end
+-- the marks of before are a prefix of those at every end
 abbrev pub MarksAreKept : Type 0 → Type 0 → Type 0 → Type 0
 MarksAreKept S A F =
     (marks_of : S → List Mark) (plan : Plan (S × F) (S × A)) (start : S) (old new : Device)
     (end : Result (S × A) (S × F)) → MarksRise marks_of start plan → Follows plan old new end
     → IsFront (marks_of start) (marks_of (state_at (λ left. left.0) (λ end. end.0) end))
 
--- the marks of a run that was cut are a front of those of the run that wasn't
+-- the marks of a run that was cut are a prefix of those of the run that wasn't
 abbrev pub CutMarksAreFront : Type 0 → Type 0 → Type 0 → Type 0
 CutMarksAreFront S A F =
     (marks_of : S → List Mark) (plan : Plan (S × F) (S × A)) (start : S) (lines : List Line) (old a b : Device)

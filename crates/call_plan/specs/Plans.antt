@@ -12,7 +12,7 @@ pub data Plan (E T : Type 0) : Type 0 where
   write : E → ℕ → Line → Plan E T → Plan E T
   latch : E → Regs → Plan E T → Plan E T
 
--- one plan, and where it is done another one, as `?` goes on
+-- one plan, and if it is done another one, as `?` goes on
 unfoldable pub bind : {E T U : Type 0} → Plan E T → (T → Plan E U) → Plan E U
 bind (done t) next = next t
 bind (stop left) next = stop left

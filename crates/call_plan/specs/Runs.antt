@@ -25,7 +25,7 @@ pub record IsRunOn (old new : BoardMemory) (taken : Taken) : Type 0 where
   pub follows : FollowsOn old new taken
   pub within : new.powered ≡ false → steps_in taken < step_limit
 
--- an outcome of such a call: its run, its answer, and the state beside the board
+-- an outcome of such a call: its run, its answer, and the state next to the board
 pub record IsOutcome {S A F : Type 0} (plan : Plan (S × F) (S × A)) (old new : BoardMemory) (taken : Taken) (answer : Result A F) (after : S) : Type 0 where
   pub run : IsRunOn old new taken
   pub follows : Follows plan (device_during old none_taken) (device_during new taken) (ended answer after)

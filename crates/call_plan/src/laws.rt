@@ -14,8 +14,7 @@ pub fn calls_are_determined<X, S, A, F>()
     ensures chain { ChainsAreDetermined X S A F }
 {}
 
-/// A law: a run takes the steps that its plan has, each counted once, and where power is cut fewer persist
-/// steps.
+/// A law: a run takes the steps of its plan, each counted once; a run that power cuts takes fewer persist steps.
 pub fn steps_are_counted<E, T>()
     ensures exact { StepsAreCounted E T }
     ensures bound { StepsAreBounded E T }
@@ -26,8 +25,8 @@ pub fn writes_stay_in_place<E, T>()
     ensures { OtherPlacesStay E T }
 {}
 
-/// A law: where the marks rise along a plan, a run keeps those of before, and one that is cut has made a front
-/// of those that it would have made.
+/// A law: if the marks rise along a plan, a run keeps the marks from before, and a run that is cut has made a prefix of
+/// the marks that it would have made.
 pub fn cut_marks_are_a_front<S, A, F>()
     ensures kept { MarksAreKept S A F }
     ensures front { CutMarksAreFront S A F }

@@ -1,14 +1,14 @@
-//! Plans: what a call of a controller does of its board, said once, as data. A contract says that the board
-//! followed the plan; what else holds of the call is a law of the plan.
+//! Plans: what a call of a controller does to its board, stated once, as data. A contract says that the board followed
+//! the plan; everything else about the call is a law about the plan.
 //!
-//! A plan reads lines, writes lines, latches registers, and is done or stops; each step says what a cut before
-//! it leaves. The state beside the board (a cache, marks, counts) isn't in the plan's type: a plan is a function
-//! of it, and its ends carry what it has become. `specs/Plans.antt` has the plans, `specs/Following.antt` what
-//! it is that a board follows one, and `specs/Bounds.antt` what a plan may do.
+//! A plan reads lines, writes lines, latches registers, and is done or stops; each step has the result of a cut before
+//! it. The state next to the board (a cache, marks, counts) isn't in the plan's type: a plan is a function of that
+//! state, and its ends carry what it has become. `specs/Plans.antt` has the plans, `specs/Following.antt` what it means
+//! that a board follows one, and `specs/Bounds.antt` what a plan may do.
 //!
-//! Laws of all plans whose statement is about plain data stand on the functions here. Laws about any predicate
-//! (what each step keeps, what each end leaves, how far a loop has come) can't be said by a clause: they are
-//! lemmas of `proofs/`, and the crates that tell their calls by plans cite them.
+//! Laws about all plans whose statement is about plain data are contracts of the functions here. Laws about any
+//! predicate (what each step keeps, what each end leaves, how far a loop has come) can't be stated by a clause: they
+//! are lemmas in `proofs/`, and the crates that specify their calls by plans cite them.
 #![tactic(auto)]
 
 mod laws;

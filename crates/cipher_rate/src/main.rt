@@ -1,5 +1,5 @@
-//! The program `cipher_rate`: makes so many compressions of SHA-256, or so many blocks of AES-128, and prints what comes of
-//! them, so that their time can be taken.
+//! The program `cipher_rate`: computes a number of compressions of SHA-256 or of blocks of AES-128, and prints the
+//! result, so that `tools/bench` can take the time.
 #![tactic(auto)]
 
 #[cfg(test)]
@@ -19,7 +19,7 @@ fn command_words(rt: &HostRuntime) -> io::Result<Vec<String>> {
     Ok(words)
 }
 
-/// Ends with 2 where the words ask for nothing, and with 1 where memory or standard output fails.
+/// Ends with status 2 if the arguments ask for nothing, and with 1 if memory or standard output fails.
 fn main(rt: HostRuntime) -> ExitCode {
     let Ok(words) = command_words(&rt) else {
         return ExitCode::from(1);

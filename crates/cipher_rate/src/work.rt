@@ -36,7 +36,7 @@ pub(crate) fn read_work(words: &[String]) -> Option<Work>
     }
 }
 
-/// The digest of so many blocks of zeros: a compression for each, and one for the padding.
+/// The digest of `blocks` blocks of zeros: a compression for each, and one for the padding.
 fn hashed(blocks: u64) -> [u8; 32]
     ensures { result ≡ sha256 (replicate (64 * blocks) 0) }
 {

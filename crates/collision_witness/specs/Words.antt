@@ -34,7 +34,7 @@ abbrev pub ◌>>=◌ : {A B : Type 0} → Result A Kind → (A → Result B Kind
 (Ok value) >>= next = next value
 (Err kind) >>= next = Err kind
 
--- ---- so many words, no fewer and no more
+-- ---- that many words, no fewer and no more
 
 abbrev pub no_word : List Word → Result (List Word) Kind
 no_word [] = Ok []

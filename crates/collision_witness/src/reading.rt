@@ -25,7 +25,7 @@ fn dot_index(word: &[u8]) -> usize
     word.len()
 }
 
-/// The parts of a word before and behind its one dot.
+/// The parts of a word before and after its one dot.
 fn parts_at_dot(word: &[u8]) -> Option<(&[u8], &[u8])>
     ensures some { IfSome result (λ parts. slice_split is_dot word.now ≡ parts.0.now ∷ parts.1.now ∷ []) }
     ensures none { IfNone result (counter_of_parts (slice_split is_dot word.now) ≡ Err Kind.Number) }
@@ -41,7 +41,7 @@ fn parts_at_dot(word: &[u8]) -> Option<(&[u8], &[u8])>
     Some((&word[..at], second))
 }
 
-/// A counter: a number, a dot and a number up to 127.
+/// A counter: a number, a dot and a number up to 127. Errors: `Kind::Number`.
 #[tactic(auto, unfolding(crate::specs::Reading::counter_of_word))]
 pub fn read_counter(word: &[u8]) -> Result<Ctr, Kind>
     ensures counter { result ≡ counter_of_word word.now }
@@ -127,7 +127,7 @@ fn read_twin(text: &[u8]) -> Result<Exhibit, Kind>
     })
 }
 
-/// A law: an exhibit is in its ranges where its minors are.
+/// A law: an exhibit whose minors are in their range is in all its ranges.
 fn is_in_range(shown: Exhibit)
     requires minors { AreSmallMinors shown }
     requires counter { HasSmallMinor shown }

@@ -67,7 +67,7 @@ pub fn before_return(line: &[u8]) -> &[u8]
     }
 }
 
-/// The word of a text that has one alone.
+/// The word of a text that has exactly one. Errors: `Kind::Count` for any other text.
 pub fn one_word(text: &[u8]) -> Result<&[u8], Kind>
     ensures { map_ok (λ word. word.now) result ≡ grammar.one_word (words_of text.now) }
 {
@@ -80,7 +80,7 @@ pub fn one_word(text: &[u8]) -> Result<&[u8], Kind>
     }
 }
 
-/// The words of a text that has two.
+/// The words of a text that has exactly two. Errors: `Kind::Count` for any other text.
 pub fn two_words(text: &[u8]) -> Result<(&[u8], &[u8]), Kind>
     ensures { map_ok (λ found. (found.0.now, found.1.now)) result ≡ grammar.two_words (words_of text.now) }
 {
@@ -96,7 +96,7 @@ pub fn two_words(text: &[u8]) -> Result<(&[u8], &[u8]), Kind>
     }
 }
 
-/// The words of a text that has three.
+/// The words of a text that has exactly three. Errors: `Kind::Count` for any other text.
 pub fn three_words(text: &[u8]) -> Result<(&[u8], &[u8], &[u8]), Kind>
     ensures { map_ok (λ found. (found.0.now, found.1.now, found.2.now)) result ≡ grammar.three_words (words_of text.now) }
 {
@@ -115,7 +115,7 @@ pub fn three_words(text: &[u8]) -> Result<(&[u8], &[u8], &[u8]), Kind>
     }
 }
 
-/// The words of a text that has four.
+/// The words of a text that has exactly four. Errors: `Kind::Count` for any other text.
 pub fn four_words(text: &[u8]) -> Result<(&[u8], &[u8], &[u8], &[u8]), Kind>
     ensures { map_ok (λ found. (found.0.now, found.1.now, found.2.now, found.3.now)) result ≡ grammar.four_words (words_of text.now) }
 {
@@ -126,7 +126,7 @@ pub fn four_words(text: &[u8]) -> Result<(&[u8], &[u8], &[u8], &[u8]), Kind>
     Ok((first, second, third, fourth))
 }
 
-/// The words of a text that has six.
+/// The words of a text that has exactly six. Errors: `Kind::Count` for any other text.
 pub fn six_words(text: &[u8]) -> Result<(&[u8], &[u8], &[u8], &[u8], &[u8], &[u8]), Kind>
     ensures { map_ok (λ found. (found.0.now, found.1.now, found.2.now, found.3.now, found.4.now, found.5.now)) result ≡ grammar.six_words (words_of text.now) }
 {

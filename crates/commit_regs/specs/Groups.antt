@@ -11,7 +11,7 @@ use Rattle.board.specs.Device.{Device}
 abbrev pub redone : List (ℕ × Line) → List Line → List Line
 redone group lines = put_lines group lines
 
--- the same, where the lines are told
+-- the same, if the lines are exposed
 abbrev pub redone_told : List (ℕ × Line) → Option (List Line) → Option (List Line)
 redone_told group None = None
 redone_told group (Some lines) = Some (redone group lines)
@@ -56,8 +56,8 @@ pub record HasFinished (old new : Device) : Type 0 where
   pub steady : old.steady ≡ true → new.steady ≡ true
   pub live : old.live ≡ true → new.live ≡ true
 
--- A cut amid a group comes on a board that isn't steady, and leaves it without power. What the group
--- makes of the lines stays the same, and so do the registers; line writes are counted.
+-- A cut during a group comes on a board that isn't steady, and leaves it without power. What the group makes of the lines stays the same,
+-- and so do the registers; line writes are counted.
 pub record IsInterrupted (group : List (ℕ × Line)) (old new : Device) : Type 0 where
   pub unsteady : old.steady ≡ false
   pub off : new.live ≡ false

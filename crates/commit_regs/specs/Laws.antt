@@ -19,7 +19,7 @@ pub record IsWrittenTo (group : List (ℕ × Line)) (old new : Device) : Type 0 
   pub lines : new.lines ≡ redone_told front old.lines
   pub regs : new.regs ≡ old.regs
 
--- a cut amid a group leaves a front of its lines written, and the group armed
+-- a cut during a group leaves a prefix of its lines written, and the group armed
 abbrev pub CutGroupsAreFronts : Type 0
 CutGroupsAreFronts =
     (armed : Regs) (old new : Device) (cut : Cut) → Follows (finish_plan armed) old new (Err cut)
@@ -38,7 +38,7 @@ GroupStepsAreCounted =
     → (new.reads ≡ old.reads) × (new.writes ≡ risen_times (length armed.group.items) old.writes)
     × (new.latches ≡ risen old.latches)
 
--- ---- an engine's act: what a group leaves of the board and of the state beside it is nothing, or all of it
+-- ---- an engine's act: what a group leaves of the board and of the state next to it is nothing, or all of it
 
 -- the group was armed, written and emptied: a line write for each line, and two latches
 pub record IsGroupDone {S : Type 0} (armed : Regs) (after : S) (old new : Device) (end : S × Regs) : Type 0 where

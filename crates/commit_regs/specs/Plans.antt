@@ -24,7 +24,7 @@ finish_plan armed = bind (lines_plan armed.group.items) (λ written. latch the_c
 
 -- ---- an engine's use of them
 
--- the end of a part after which others need the registers: where it is done, with those that it leaves
+-- the end of a part after which others need the registers: if it is done, with those that it leaves
 abbrev pub ended_with : {S F : Type 0} → Result (Unit {0}) F → S → Regs → Result (S × Regs) (S × F)
 ended_with (Ok value) state regs = Ok (state, regs)
 ended_with (Err fault) state regs = Err (state, fault)
@@ -36,7 +36,7 @@ group_plan armed before after =
     latch (before, the_cut) armed
     (mapped (λ cut. (after, cut)) (λ finished. (after, without_group armed)) (finish_plan armed))
 
--- the armed group's lines are written, and the group is emptied, where there is one
+-- the armed group's lines are written, and the group is emptied, if there is one
 unfoldable pub redo_of : Regs → List (ℕ × Line) → Plan Cut (Unit {0})
 redo_of regs [] = done tt
 redo_of regs (entry ∷ others) = finish_plan regs

@@ -25,9 +25,9 @@ pub fn arm<B: Board>(board: &mut B, next: &Regs) -> Result<(), Cut>
     board.latch(next)
 }
 
-/// Finishes the armed group: writes its lines in order, and empties it by one latch. Where no group
-/// is armed it does nothing. After `Cut` the group is still armed, and finishing it again makes of
-/// the lines what finishing it would have made of them.
+/// Finishes the armed group: writes its lines in order, and empties it by one latch. If no group is armed it does
+/// nothing. Errors: `Cut`; the group is still armed then, and finishing it again leaves the lines as finishing it once
+/// would have.
 pub fn finish<B: Board>(board: &mut B) -> Result<(), Cut>
     requires { IsGroup (B.device board.old).size (B.device board.old).regs.group.items }
     ensures ok { OnOk result (HasFinished (B.device board.old) (B.device board.new)) }
@@ -44,8 +44,8 @@ pub fn finish<B: Board>(board: &mut B) -> Result<(), Cut>
     finish_armed(board, &mut armed)
 }
 
-/// Finishes an armed group as `finish` does, by the registers that it was armed with: their group is
-/// empty afterwards.
+/// Finishes an armed group as `finish` does, by the registers that it was armed with: their group is empty afterwards.
+/// Errors: those of `finish`.
 pub fn finish_armed<B: Board>(board: &mut B, armed: &mut Regs) -> Result<(), Cut>
     requires latched { (B.device board.old).regs ≡ armed.old }
     requires armed { armed.old.group.items ≢ [] }
@@ -74,19 +74,18 @@ fn write_all<B: Board>(board: &mut B, group: &[(u32, Line)]) -> Result<(), Cut>
     Ok(())
 }
 
-/// A law: a group's lines are written in order. Where power is cut before the group is emptied, a front of them
-/// was written, and the registers are as they were; where it isn't, each line took one write, and the group one
-/// latch.
+/// A law: a group's lines are written in order. If power is cut before the group is emptied, a prefix of them was
+/// written, and the registers are unchanged; otherwise each line took one write, and the group one latch.
 pub fn groups_are_written_in_order()
     ensures cut { CutGroupsAreFronts }
     ensures done { DoneGroupsAreWritten }
     ensures steps { GroupStepsAreCounted }
 {}
 
-/// A law: an engine's group is one act, with the state beside the board that goes with it. Where power is cut before
-/// the group is armed nothing has changed; from then on the state is the next one, the registers are the armed ones,
-/// and the first of the group's lines are written, in order. A finished group has all its lines written by a line
-/// write each, and took two latches.
+/// A law: an engine's group is one act, together with the state next to the board that belongs to it. If power is cut
+/// before the group is armed nothing has changed. From then on the state is the next one, the registers are the armed
+/// ones, and the first of the group's lines are written, in order. A finished group has all its lines written by one
+/// line write each, and took two latches.
 pub fn groups_are_one_act<S>()
     ensures { GroupsAreOneAct S }
 {}

@@ -20,7 +20,7 @@ counter node i = slice_index node.0 i
 abbrev pub total : Node → ℕ
 total node = counter node 0 + counter node 1 + counter node 2 + counter node 3
 
--- the version, where it is a number of 64 bits
+-- the version, if it is a number of 64 bits
 abbrev pub version_of : Node → Option ℕ
 version_of node = if nat_lt (total node) (2 ^ 64) then Some (total node) else None
 
@@ -81,13 +81,12 @@ has_zero_bytes line = same_bytes (slice_range line.0 32 48) (replicate 16 0)
 unfoldable pub has_node_tag : Formulas → ℕ → Line → ℕ → Bool
 has_node_tag f x line version = same_bytes (node_tag_of f x version (without_tag line)) (tag_slot line 3)
 
--- a line at x is taken as a node of a version where bytes 32 to 47 are zero, its counters' sum is
--- the version, and its tag fits
+-- a line at x is taken as a node of a version if bytes 32 to 47 are zero, its counters' sum is the version, and its tag fits
 abbrev pub is_node_line : Formulas → ℕ → Line → ℕ → Bool
 is_node_line f x line version =
     has_zero_bytes line && (total (stored_node line) == version && has_node_tag f x line version)
 
--- whether a tag is made as a line is read as a node of a version: only where nothing else is wrong with it
+-- whether a tag is made as a line is read as a node of a version: only if nothing else is wrong with it
 abbrev pub makes_node_tag : Line → ℕ → Bool
 makes_node_tag line version = has_zero_bytes line && total (stored_node line) == version
 

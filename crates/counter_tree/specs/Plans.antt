@@ -22,7 +22,7 @@ use Rattle.counter_tree.specs.Shadow.{shadow_height, shadow_tree_line, up}
 use Rattle.counter_tree.specs.Trees.{node_at}
 use Rattle.counter_tree.specs.Watch.{WatchState, last_seal_of, first_shown, forged_node}
 
--- what a read works on beside the board
+-- what a read works on next to the board
 pub record ReadParts : Type 0 where
   pub watch : WatchState
   pub pads : ℕ
@@ -52,7 +52,7 @@ taken_node_plan x line at (Some node) = known_node_plan x line node at
 abbrev pub tags_of_node : Line → ℕ → ℕ → ℕ
 tags_of_node line version tags = if makes_node_tag line version then risen tags else tags
 
--- its line is read; a tag is made where the line's zero bytes and its sum are right
+-- its line is read; a tag is made if the line's zero bytes and its sum are right
 unfoldable pub node_plan : Setup → ℕ → ℕ → ReadParts → Plan (ReadParts × FetchFault) (ReadParts × Node)
 node_plan setup x version at =
     read (at, Fail.Cut) (line_of_node setup.shape x) (λ line.

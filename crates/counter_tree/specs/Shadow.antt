@@ -61,7 +61,7 @@ pub record IsShadowDifference (f : Formulas) (h : ℕ) (first second : List Line
 
 -- ---- the tree's lines, kept on the chip
 
--- a shape whose tree has height h, so that the words of hash trees can be said of the shadow tree
+-- a shape whose tree has height h, so that the definitions of hash trees apply to the shadow tree
 abbrev pub shape_of_height : ℕ → Shape
 shape_of_height h = record { levels = h; sets = 1; ways = 1; loss = 1; major = 0 }
 
@@ -101,7 +101,7 @@ abbrev pub unfilled_tree : Shape → ChipTree
 unfilled_tree g =
     record { height = shadow_height g; lines = replicate (level_start (suc (shadow_height g))) zero_line }
 
--- position x of it is so many levels below the top
+-- position x of it is that many levels below the top
 pub record IsAtLevelOf (tree : ChipTree) (level x : ℕ) : Type 0 where
   pub within : level ≤ tree.height
   pub from : level_start level ≤ x

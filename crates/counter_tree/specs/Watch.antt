@@ -83,8 +83,7 @@ pub record HasShown (old new : WatchState) (shown : Exhibit) : Type 0 where
   pub nodes : new.nodes ≡ old.nodes
   pub slots : new.slots ≡ old.slots
 
--- a cipher goes on where it is that of the line's last seal, and else it is shown as forged under
--- that seal's counter
+-- a cipher goes on if it is that of the line's last seal, and otherwise is shown as forged under that seal's counter
 abbrev pub IsLineSeen : WatchState → WatchState → ℕ → Line → List ℕ → Go → Type 0
 IsLineSeen old new at cipher tag On =
     IfSome (last_seal_of old at) (λ seal. cipher ≡ seal.cipher) × (new ≡ old)
@@ -100,7 +99,7 @@ forged_under x line node = Forged (node_place x) (version_counter (wrapped_versi
 abbrev pub forged_node : WatchState → ℕ → Line → Exhibit
 forged_node watch x line = forged_under x line (node_at watch.nodes x)
 
--- a node's line goes on where its counters are those of the true node, and else it is shown
+-- a node's line goes on if its counters are those of the true node, and otherwise is shown
 abbrev pub IsNodeSeen : WatchState → WatchState → ℕ → Line → Go → Type 0
 IsNodeSeen old new x line On = (stored_node line ≡ node_at old.nodes x) × (new ≡ old)
 IsNodeSeen old new x line Stop =
@@ -120,7 +119,7 @@ pub record IsSlotClash (watch : WatchState) (lines : List Line) (shown : Exhibit
       (shadow_tree_line watch.setup.formulas (shadow_height watch.setup.shape) lines height position)
       (shadow_tree_line watch.setup.formulas (shadow_height watch.setup.shape) watch.slots height position)
 
--- slot lines go on where they are the true ones, and else their clash is shown
+-- slot lines go on if they are the true ones, and otherwise their clash is shown
 abbrev pub AreSlotsSeen : WatchState → WatchState → List Line → Go → Type 0
 AreSlotsSeen old new lines On = (lines ≡ old.slots) × (new ≡ old)
 AreSlotsSeen old new lines Stop =

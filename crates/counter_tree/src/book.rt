@@ -1,4 +1,4 @@
-//! A watch in memory, with a suite of its own.
+//! A watch in memory, with its own suite.
 ghost use Rattle.std.specs.Prelude.{◌≡◌, ◌<◌, All, length, IfOk};
 ghost use Rattle.std.specs.Option.{option_map};
 ghost use Rattle.pmem_base.specs.Geo.{shape_of};
@@ -20,8 +20,8 @@ use seal_ledger::Go;
 use std::alloc::Global;
 use suite::Suite;
 
-/// A watch that keeps all it is told. It takes all its memory when it is made; `seen` and `kept` have
-/// room for the shadow trees of two lists of slot lines.
+/// A watch that keeps everything that is reported to it. It takes all its memory when it is made; `seen` and `kept`
+/// have room for the shadow trees of two lists of slot lines.
 #[derive(Drop)]
 pub struct WatchBook<S> {
     geo: Geo,

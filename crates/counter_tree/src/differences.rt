@@ -1,4 +1,4 @@
-//! Where two lists of slot lines, and their shadow trees, differ.
+//! The positions at which two lists of slot lines, and their shadow trees, differ.
 ghost use Rattle.std.specs.Prelude.{◌≡◌, ◌≢◌, ◌<◌, ◌≤◌, ◌+◌, ◌^◌, true, false, length, IfSome, IfNone};
 ghost use Rattle.pmem_base.specs.Layout.{level_start};
 ghost use Rattle.pmem_base.specs.Lines.{line_at};
@@ -23,8 +23,7 @@ pub(crate) fn first_difference(first: &[Line], second: &[Line]) -> Option<u32>
     None
 }
 
-/// The highest position on the path of slot `i` at which two shadow trees differ, where they differ at
-/// that slot.
+/// The highest position on the path of slot `i` at which two shadow trees differ, if they differ at that slot.
 pub(crate) fn top_difference(seen: &ShadowTree, kept: &ShadowTree, i: u32) -> u32
     requires inside { i < 4 ^ seen.now.height }
     requires height { kept.now.height ≡ seen.now.height }
@@ -43,7 +42,7 @@ pub(crate) fn top_difference(seen: &ShadowTree, kept: &ShadowTree, i: u32) -> u3
     found
 }
 
-/// Position `x` where the trees differ there, and else what was found below.
+/// Position `x` if the trees differ there, and otherwise what was found below.
 fn higher(seen: &ShadowTree, kept: &ShadowTree, x: u32, found: u32) -> u32
     requires seen { x < length seen.now.lines }
     requires kept { x < length kept.now.lines }

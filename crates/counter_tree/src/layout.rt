@@ -1,4 +1,4 @@
-//! Where the parts of a counter tree stand on a device.
+//! The place of each part of a counter tree on a device.
 ghost use Rattle.std.specs.Prelude.{◌≡◌, ◌<◌, ◌≤◌};
 ghost use Rattle.pmem_base.specs.Layout.{meta_lines};
 ghost use Rattle.pmem_base.specs.Geo.{shape_of};

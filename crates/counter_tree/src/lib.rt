@@ -1,4 +1,4 @@
-//! A counter tree: nodes of four counters and a tag, and where they stand on a device.
+//! A counter tree: nodes of four counters and a tag, and their places on a device.
 #![tactic(auto)]
 
 mod accepted;

@@ -40,8 +40,8 @@ fn are_counters(counters: &[u64])
     ensures { All (λ c. c < 2 ^ 64) counters.now }
 {}
 
-/// The version of a node: the sum of its counters, which is its parent's counter for it. `None`
-/// where the sum is above 2^64 - 1.
+/// The version of a node: the sum of its counters, which is its parent's counter for it. `None` if the sum is above
+/// 2^64 - 1.
 pub fn version(node: &Node) -> Option<u64>
     ensures value { result ≡ version_of node.now }
     ensures none { IsNone result ↔ (2 ^ 64 ≤ total node.now) }
@@ -70,9 +70,9 @@ pub fn node_line<S: Suite>(suite: &mut S, x: u32, node: &Node) -> Line
     line
 }
 
-/// The node of the line read at `x`, which its parent says to be of this version. `None` where
-/// bytes 32 to 47 aren't zero, the counters' sum isn't the version, or the tag isn't theirs. The tag is
-/// made only where the bytes and the sum are right.
+/// The node of the line read at `x`, if its version is `version`, its parent's counter for it. `None` if bytes 32 to 47
+/// aren't zero, the counters don't add up to the version, or the tag is wrong. The tag is made only if the bytes and
+/// the sum are right.
 pub fn read_node<S: Suite>(suite: &mut S, x: u32, line: &Line, version: u64) -> Option<Node>
     requires { x < 5461 }
     ensures value { result ≡ node_read (S.formulas_of (S.keys suite.old)) x line.now version }

@@ -115,8 +115,8 @@ impl ShadowTree {
         first_of_level(self.height()) + i
     }
 
-    /// Makes the whole tree anew over these slot lines. The answer is the digest of its top. It takes
-    /// a digest for each line.
+    /// Makes the whole tree again over these slot lines, and answers the digest of its top. Cost: one digest for each
+    /// line.
     pub fn fill<S: Suite>(&mut self, suite: &mut S, slots: &[Line]) -> Tag
         requires { length slots.now ≤ 4 ^ self.old.height }
         ensures tree { IsShadowTree (S.formulas_of (S.keys suite.old)) self.old.height slots.now self.new.lines }

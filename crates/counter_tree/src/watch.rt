@@ -40,18 +40,18 @@ pub trait Watch {
         ensures noted { HasSlotNoted (watched self.old) (watched self.new) i line.now }
         ensures whole { IsLine line.now };
 
-    /// Stops where a cipher, whose tag is right under the line's counter, isn't that of its last seal.
+    /// Stops if a cipher, whose tag is right under the line's counter, isn't that of its last seal.
     fn see_line(&mut self, at: u32, cipher: &Line, tag: &Tag) -> Go
         requires line { at < length (watched self.old).seals }
         requires sealed { IsSome (last_seal_of (watched self.old) at) }
         ensures { IsLineSeen (watched self.old) (watched self.new) at cipher.now tag.now result };
 
-    /// Stops where a node's line, whose tag is right under its version, isn't that of the true node.
+    /// Stops if a node's line, whose tag is right under its version, isn't that of the true node.
     fn see_node(&mut self, x: u32, line: &Line) -> Go
         requires { x < length (watched self.old).nodes }
         ensures { IsNodeSeen (watched self.old) (watched self.new) x line.now result };
 
-    /// Stops where slot lines, whose root is right, aren't the true ones.
+    /// Stops if slot lines, whose root is right, aren't the true ones.
     fn see_slots(&mut self, lines: &[Line]) -> Go
         requires { length lines.now ≡ length (watched self.old).slots }
         ensures { AreSlotsSeen (watched self.old) (watched self.new) lines.now result };

@@ -51,7 +51,7 @@ AreEdited setup (edit ∷ edits) old new answer =
 
 -- ---- the lines
 
--- of a memory of so many lines
+-- of a memory of that many lines
 abbrev pub IsEditOf : ℕ → Edit → Type 0
 IsEditOf count (Make.Put at line) = (at < count) × IsLine line
 IsEditOf count (Make.Copy from at) = (from < count) × (at < count)

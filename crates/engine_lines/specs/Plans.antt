@@ -24,7 +24,7 @@ with_regs regs (latch left next later) = latch left next (with_regs next later)
 
 -- ---- the changes
 
--- a chip with the registers is what a change begins with, and what it ends with where it is made
+-- a chip with the registers is what a change begins with, and what it ends with if it is made
 abbrev pub ChangePlan : Type 0
 ChangePlan = Plan (Chip × Fault) (Chip × Regs)
 

@@ -24,9 +24,8 @@ pub record HasMadeEdits (setup : Setup) (edits : List Edit) (old new : Parts) (a
       Follows (edits_plan setup edits (chip_in old, regs_of old)) old.device new.device
       (ended_with answer (chip_in new) (regs_of new))
 
--- An opening that the flag of its engine guards. Of an engine that is up this is promised. Of one that is down nothing is
--- done, and this is refused. The parts are then said of an engine: of the one that is kept, which is up, or of the one that
--- is dropped.
+-- An opening that the flag of its engine guards. If the engine is up, this is promised. If it is down, nothing is done, and this is
+-- refused. The parts are then those of an engine: of the one that is kept, which is up, or of the one that is dropped.
 pub record IsGuardedOpening {O F : Type 0} (engine_of : O → EngineState) (down : Bool) (old : Parts) (now : EngineState → Parts)
     (answer : Result O F) (promised refused : Type 0) : Type 0 where
   pub did : down ≡ false → promised

@@ -21,7 +21,7 @@ pub record Writing : Type 0 where
   pub done : ℕ
   pub made : List Mark
 
--- whether a mark is a write's own seal of line a: a line that is only sealed anew gets the minor 0
+-- whether a mark is a write's own seal of line a: a line that is only resealed gets the minor 0
 abbrev pub is_own_seal : ℕ → Mark → Bool
 is_own_seal a (Begin page) = false
 is_own_seal a (Seal b ctr cipher tag) = b == a && nat_lt 0 ctr.minor

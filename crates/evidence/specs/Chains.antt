@@ -9,7 +9,7 @@ use Rattle.plain_model.specs.Fits.{Fits}
 use Rattle.plain_model.specs.Shown.{IsLegal}
 use Rattle.plain_model.specs.Answers.{is_shown}
 
--- where commands follow, the reply is no exhibit
+-- if commands follow, the reply isn't an exhibit
 abbrev pub MayGoOn : Reply → List Command → Type 0
 MayGoOn reply [] = ⊤
 MayGoOn reply (command ∷ commands) = IsFalse (is_shown reply.answer)

@@ -52,7 +52,7 @@ drained_reply = record { marks = zero_seal ∷ []; answer = Say.Drained 7 }
 abbrev pub one_drained_view : DeviceView
 one_drained_view = view_after_marks formatted_view drained_reply.marks
 
--- the machine after that drain, where the path of page 0 may be dirty, and once nothing is
+-- the machine after that drain, if the path of page 0 may be dirty, and once nothing is
 abbrev pub one_drained : PlainState
 one_drained = state_after default_shape one_waiting (Do.Drain 0) drained_reply
 

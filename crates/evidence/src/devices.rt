@@ -11,7 +11,7 @@ ghost use Rattle.pmem_recovery.specs.Fixed.{fixed_line, found_root};
 ghost use Rattle.evidence.specs.Samples.{small_shape, weak, short_tag};
 ghost use Rattle.evidence.specs.Devices.{line_1_twice, three_lines, three_lines_after, small_weak, small_blur, view_sealed, device_sealed, regs_sealed, device_wrong_tag, device_unnamed};
 
-/// What recovery finds after one seal: the block and the top are named, and are made anew.
+/// What recovery finds after one seal: the block and the top are named, and are made again.
 pub fn recovered_device()
     ensures whole { length (device_sealed small_weak) ≡ layout.device_lines small_shape }
     ensures block_named { is_named small_shape (device_sealed small_weak) 1 ≡ true }
@@ -35,8 +35,8 @@ pub fn refused_devices()
     ensures two_minors { tried_minors small_blur (device_sealed small_blur) (regs_sealed small_blur) 0 ≡ 0 ∷ 1 ∷ [] }
 {}
 
-/// A group is written in its order; to write it anew, after all or the first of its lines were written, gives the
-/// same lines.
+/// A group is written in its order. Writing it again, after all or the first of its lines were written, gives the same
+/// lines.
 pub fn group_redone()
     ensures again { (group : List (ℕ × Line)) (lines : List Line) → redone group (redone group lines) ≡ redone group lines }
     ensures after_a_part { (group : List (ℕ × Line)) (n : ℕ) (lines : List Line) → redone group (redone (take n group) lines) ≡ redone group lines }

@@ -48,7 +48,7 @@ pub fn verbs_read()
     ensures moved { reading_of (codes "move 2 0") ≡ Ok (Some (Do.Move 2 0)) }
 {}
 
-/// A trace's bytes are cut at each LF, and a rest is a line where it has a byte.
+/// A trace's bytes are split at each LF, and a rest is a line if it has a byte.
 pub fn lines_cut()
     ensures none { lines_of [] ≡ [] }
     ensures blank { lines_of (10 ∷ []) ≡ [] ∷ [] }

@@ -26,7 +26,7 @@ pub fn post_ok()
     ensures fits { Fits weak_setup formatted formatted_view zero_post (plain Say.Ok) }
 {}
 
-/// So is a drain with its seal and seven steps.
+/// A drain with its seal and seven steps is legal and fits.
 pub fn drain_ok()
     ensures legal { IsLegal weak_setup one_waiting formatted_view (Do.Drain 0) drained_reply }
     ensures fits { Fits weak_setup one_waiting formatted_view (Do.Drain 0) drained_reply }

@@ -114,7 +114,7 @@ pub fn finish_refused()
     ensures { IsTraceFrom traces.nearly_done traces.finish_refused }
 {}
 
-/// The same overflow done, and the first turn after it.
+/// An overflow of a page whose finishing succeeds, and the first turn after it.
 pub fn finished()
     ensures { IsTraceFrom traces.nearly_done traces.finished }
 {}

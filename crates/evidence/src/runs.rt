@@ -23,7 +23,7 @@ pub fn cut_short_run()
     ensures { Ends weak_setup Stop.ReadFault (first_trace ++ codes "re") (Some []) first_steps }
 {}
 
-/// Memory is wanted only in place of the reply to the next line's command: a malformed line ends the run first.
+/// A run stops for memory only instead of the reply to the next line's command: a malformed line ends the run first.
 pub fn starved_run_refuted()
     ensures { ¬ Ends weak_setup Stop.Memory (first_trace ++ codes "reed 0 0\ndrain 0\n") None first_steps }
 {}

@@ -63,7 +63,7 @@ pub fn clear_peek()
     ensures { ¬ Fits weak_setup formatted formatted_view (Do.Peek 0) (plain (Say.Raw zero_line)) }
 {}
 
-/// A read that takes a step where nothing can be dirty doesn't fit.
+/// A read that takes a step although nothing can be dirty doesn't fit.
 pub fn read_step()
     ensures { ¬ Fits weak_setup formatted formatted_view (Do.Read 0 0) (plain (Say.Got zero_line 1)) }
 {}
@@ -116,7 +116,7 @@ pub fn refused_off_path()
     ensures { ¬ IsLegal weak_setup node_flipped_state formatted_view (Do.Read 0 256) (plain (Say.Refused None (Place.Meta 1) 0)) }
 {}
 
-/// A flipped line is no reason to refuse another line, or its metadata.
+/// A flipped line isn't a reason to refuse another line, or its metadata.
 pub fn refused_elsewhere()
     ensures other_line { ¬ IsLegal weak_setup flipped_state formatted_view (Do.Read 0 6) (plain (Say.Refused None (Place.Line 6) 0)) }
     ensures named_line { ¬ IsLegal weak_setup flipped_state formatted_view (Do.Read 0 6) (plain (Say.Refused None (Place.Line 5) 0)) }
@@ -133,8 +133,8 @@ pub fn too_many_trials()
     ensures { ¬ Fits weak_setup off_state formatted_view Do.On (plain (Say.Recovered 2049 1 0)) }
 {}
 
-/// A counter block that shows a minor above the true one doesn't fit, nor does a stale one where
-/// nothing is dirty: where its path may be dirty it does.
+/// A counter block that shows a minor above the true one doesn't fit, nor does a stale one if nothing is dirty; if its
+/// path may be dirty, a stale one does.
 pub fn wrong_blocks()
     ensures above { ¬ Fits weak_setup formatted formatted_view (Do.Peek 1285) (plain (Say.Raw (line_of (replicate 8 0 ++ 2 ∷ replicate 55 0)))) }
     ensures stale { ¬ Fits weak_setup all_clean one_drained_view (Do.Peek 1285) (plain (Say.Raw zero_line)) }

@@ -27,8 +27,8 @@ pub fn seal<S: Suite>(suite: &mut S, at: u32, ctr: Ctr, plain: &Line) -> (Line, 
     (cipher, tag)
 }
 
-/// The plain line of data line `at`'s cipher under a counter. `None` where `tag` isn't the cipher's
-/// tag; then no pad is made.
+/// The plain line of data line `at`'s cipher under a counter. `None` if `tag` isn't the cipher's tag; then no pad is
+/// made.
 #[inline(always)]
 pub fn unseal<S: Suite>(suite: &mut S, at: u32, ctr: Ctr, cipher: &Line, tag: &Tag) -> Option<Line>
     ensures value { result ≡ unsealed (S.formulas_of (S.keys suite.old)) at ctr cipher.now tag.now }

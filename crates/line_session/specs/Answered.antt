@@ -9,8 +9,8 @@ use Rattle.line_session.specs.State.{LineSession}
 abbrev pub CallRelation : Type 0 → Type 0 → Type 1
 CallRelation F A = ℕ → Result A F → LineSession → LineSession → Type 0
 
--- What is said after a call, and what else is kept of it, is a function of the call's steps, of its end and of the session
--- that it left.
+-- What is answered after a call, and what else is kept of it, is a function of the call's steps, of its end and of the session that it
+-- left.
 pub record IsAnsweredBy {F A W : Type 0} (calls : CallRelation F A) (says : LineSession → ℕ → Result A F → W) (said : W) (old new : LineSession) :
     Type 0 where
   pub steps : ℕ
@@ -18,7 +18,7 @@ pub record IsAnsweredBy {F A W : Type 0} (calls : CallRelation F A) (says : Line
   pub called : calls steps end old new
   pub is_said : said ≡ says new steps end
 
--- ---- words for what is said
+-- ---- words for what is answered
 
 -- what is there while power is on, and what without
 abbrev pub while_on : {X : Type 0} → LineSession → X → X → X

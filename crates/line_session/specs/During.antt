@@ -21,7 +21,7 @@ abbrev pub started_as : {O F : Type 0} → Result O F → Result O (StartFault F
 started_as (Ok opened) = Ok opened
 started_as (Err fault) = Err (Opening fault)
 
--- what follows recovery: where it is done its engine's lines are opened, else nothing
+-- what follows recovery: if it is done its engine's lines are opened, else nothing
 abbrev pub HasOpenedAfter :
     {O F : Type 0} → Result (EngineState × Work) RecFault → OpeningRelation O F → Device → Device → LedgerState → LedgerState → SuiteState
     → SuiteState → Result O (StartFault F) → Type 0

@@ -18,8 +18,8 @@ use Rattle.line_session.specs.Answered.{is_sealed_since}
 abbrev pub parts_during : EngineState → LineSession → Taken → Parts
 parts_during engine state taken = parts_of engine (device_during state.board taken) state.ledger state.tags state.digests
 
--- The session before and after a call that ended so: what the call did of the store and of the engine's parts. The store is
--- dropped where power was cut.
+-- The session before and after a call that ended so: what the call did of the store and of the engine's parts. The store is dropped if
+-- power was cut.
 pub record HasMade {L R : Type 0} (engine_of : L → EngineState) (effect : CallEffect L R) (setup : Setup) (store : L) (steps : ℕ)
     (answer : R) (old new : StoreSession L) : Type 0 where
   pub after : L
@@ -36,7 +36,7 @@ pub record HasMade {L R : Type 0} (engine_of : L → EngineState) (effect : Call
 abbrev pub HasAsked : {L : Type 0} → (L → ℕ) → Option ℕ → StoreSession L → L → Type 0
 HasAsked lines_of asked old store = (old.store ≡ Some store) × IfSome asked (λ at. at < lines_of store)
 
--- what a call comes to: without power, and where there is no such line, nothing is done
+-- what a call comes to: without power, and if there is no such line, nothing is done
 abbrev pub IsDone : {L V F : Type 0} → (L → EngineState) → (L → ℕ) → CallEffect L (Result V F) → Setup → Option ℕ → (L → ℕ) → StoreSession L → Done V F
     → StoreSession L → Type 0
 IsDone engine_of lines_of effect setup asked own old Off new = (old.store ≡ None) × (new ≡ old)
@@ -52,7 +52,7 @@ abbrev pub IsDoneUnder : {L V F : Type 0} → (List ℕ → Formulas) → (L →
 IsDoneUnder formulas_of engine_of lines_of effect asked own old done new =
     IsDone engine_of lines_of effect (setup_in formulas_of old.state) asked own old done new
 
--- memory is wanted for the marks of a call that asks for a line that is there
+-- memory is needed for the marks of a call that asks for a line that is there
 abbrev pub IsRoomWanted : {L : Type 0} → (L → ℕ) → Option ℕ → ℕ → StoreSession L → Type 0
 IsRoomWanted {L = L} lines_of asked room old = (store : L) × HasAsked lines_of asked old store × (0 < room)
 

@@ -40,7 +40,7 @@ tags_formatted g tags = risen_times (data_lines g) tags
 abbrev pub digests_formatted : Shape → ℕ → ℕ
 digests_formatted g digests = risen_times (meta_lines g) digests
 
--- The device was formatted, and then the store's opening ended so. The suite had made so many tags and digests before.
+-- The device was formatted, and then the store's opening ended so. The suite had made that many tags and digests before.
 pub record HasOpenedNew {O F : Type 0} (setup : Setup) (opens : OpeningRelation O F) (tags digests : ℕ) (answer : Result O F) (left : LineSession) :
     Type 0 where
   pub whole : IsShape setup.shape

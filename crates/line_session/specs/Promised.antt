@@ -27,7 +27,7 @@ use Rattle.line_session.specs.During.{OpeningRelation, HasStartedBy}
 use Rattle.line_session.specs.Kept.{KeepsLines, OpensLines, OpensBoth}
 use Rattle.line_session.specs.declared.starts.StartFault.{StartFault}
 
--- the engine serves a device of this geometry, as a watched board shows it after so many steps
+-- the engine serves a device of this geometry, as a watched board shows it after that many steps
 abbrev pub IsUsableDuring : Shape → EngineState → MemBoard → Taken → Ledger → Type 0
 IsUsableDuring shape engine board taken ledger =
     IsUsable shape engine (device_during (memory_of board) taken) (ledger_of ledger)

@@ -19,7 +19,7 @@ use Rattle.line_session.specs.declared.starts.StartFault.TheVariants.{Recovery, 
 use Rattle.line_session.specs.State.{LineSession, chip_in, with_power, at_rest}
 use Rattle.line_session.specs.StoreCalls.{CallPlan}
 
--- a chip with a new engine, before anything is told of it but the counts
+-- a chip with a new engine, before anything but the counts is reported of it
 abbrev pub new_chip : Setup → LedgerState → SuiteCounts → Chip
 new_chip setup ledger counts = chip_of (new_engine setup.shape) ledger counts.tags counts.digests
 
@@ -37,7 +37,7 @@ start_plan setup ledger opening regs counts =
     (mapped (λ left. (new_chip setup ledger left.0, Recovery left.1)) (λ end. end) (with_regs regs (recover_plan setup regs counts)))
     (opening_end ledger opening)
 
--- The session before and after power came on, or didn't: want of memory apart, which does nothing. A cut leaves it off.
+-- The session before and after power came on, or didn't: running out of memory apart, which does nothing. A cut leaves it off.
 pub record HasStarted {F A : Type 0} (setup : Setup) (opening : CallPlan F A) (steps : ℕ) (end : Result A (StartFault F)) (old new : LineSession) :
     Type 0 where
   pub was_off : old.engine ≡ None

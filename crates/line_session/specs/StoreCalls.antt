@@ -13,8 +13,8 @@ use Rattle.line_session.specs.State.{LineSession, chip_in}
 abbrev pub CallPlan : Type 0 → Type 0 → Type 0
 CallPlan F A = Regs → Chip → Plan (Chip × F) (Chip × A)
 
--- The session before and after a call that ended so, after so many steps: what is on the chip then is the session's, and
--- the engine is there unless power was cut.
+-- The session before and after a call that ended so, after that many steps: what is on the chip then is the session's, and the engine is
+-- there unless power was cut.
 pub record HasCalledStore {F A : Type 0} (plan : CallPlan F A) (steps : ℕ) (end : Result A F) (old new : LineSession) : Type 0 where
   pub powered : old.board.powered ≡ true
   pub engine : ChipState

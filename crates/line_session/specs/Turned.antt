@@ -103,7 +103,7 @@ pub record HasShownTwin (setup : Setup) (old : LineSession) (at major low high :
   pub twin : IsTwinOfSeal setup (places_in setup old) old.board.regs.loss (view_in old) at major low high cipher tag
   pub refused : HasRefused setup old (Rec.Twin at major low high cipher tag) new
 
--- why power on has no answer: memory is wanted, and nothing was done; or a twin is shown
+-- why power on has no answer: memory is needed, and nothing was done; or a twin is shown
 abbrev pub IsTurnHalt : {L : Type 0} → Setup → StoreSession L → Halt → StoreSession L → Type 0
 IsTurnHalt setup old Stop.Memory new = (old.store ≡ None) × (new ≡ old)
 IsTurnHalt setup old (Stop.Shown (Twin at major low high cipher tag)) new =

@@ -36,7 +36,7 @@ pub trait LineStore: Drop {
 pub trait StoreCall {
     /// The store.
     type Store: LineStore;
-    /// What the call answers where it is done.
+    /// What the call answers if it is done.
     type Value: Copy;
     /// Why it isn't.
     type Fault: Copy;
@@ -44,7 +44,7 @@ pub trait StoreCall {
     /// The line that it asks for, if it asks for one.
     ghost asked: { Self → Option ℕ };
 
-    /// The line whose own seal tells that the call stays where power is cut in it.
+    /// The line whose own seal shows that the call's change stays if power is cut in it.
     ghost own: { Self → Self.Store → ℕ };
 
     /// The most marks that it makes.
@@ -60,7 +60,7 @@ pub trait StoreCall {
     fn asked(&self) -> Option<u64>
         ensures { result ≡ asked self.now };
 
-    /// The line whose own seal tells that the call stays where power is cut in it.
+    /// The line whose own seal shows that the call's change stays if power is cut in it.
     fn own(&self, store: &Self::Store) -> u32
         requires asked { IfSome (asked self.now) (λ at. at < Self.Store.lines store.now) }
         ensures { result ≡ own self.now store.now };

@@ -1,8 +1,8 @@
 //! That the relations of a session's calls leave nothing open.
 ghost use Rattle.line_session.specs.Determined.{CallsAreDetermined, NewSessionsAreDetermined, StartsAreDetermined};
 
-/// A law: two calls of one plan from one session, which has power, end alike, after as many steps, and leave the same
-/// session. So power is cut exactly where a step meets a fuse of 0.
+/// A law: two calls of one plan from one session, which has power, end alike, after equally many steps, and leave the
+/// same session. So power is cut if and only if a step meets a fuse of 0.
 pub fn calls_are_determined<F, A>()
     ensures { CallsAreDetermined F A }
 {}
@@ -14,8 +14,8 @@ pub fn new_sessions_are_determined<F, A>()
     ensures { NewSessionsAreDetermined F A }
 {}
 
-/// A law: the same of power that comes on, with recovery and the opening of the lines. So which twin is shown is
-/// settled too.
+/// A law: two starts of one session, with recovery and the opening of the lines, end alike, after equally many steps,
+/// and leave the same session. So which twin is shown is settled too.
 pub fn starts_are_determined<F, A>()
     ensures { StartsAreDetermined F A }
 {}

@@ -18,9 +18,10 @@ use suite::Suite;
 pub enum Done<V, F> {
     /// Power is off, so nothing was done.
     Off,
-    /// There is no such line.
+    /// The line doesn't exist.
     Range,
-    /// The call took so many steps, and ended so; in a cut, whether an own seal of its line is among its marks.
+    /// The call took `steps` persist steps, and ended this way. `sealed`: in a cut, whether an own seal of its line is
+    /// among its marks.
     Ended {
         steps: u64,
         sealed: bool,
@@ -39,7 +40,7 @@ fn has_asked(asked: Option<u64>, lines: u32) -> bool
     }
 }
 
-/// Drops the store where power was cut.
+/// Drops the store if power was cut.
 fn drop_if<L: LineStore>(store: &mut Option<L>, cut: bool)
     ensures { store.new ≡ (if cut then None else store.old) }
 {
@@ -49,7 +50,7 @@ fn drop_if<L: LineStore>(store: &mut Option<L>, cut: bool)
 }
 
 impl<S: Suite + Drop, L: LineStore> LineSession<S, L> {
-    /// Makes a call of the store. The one error is want of memory for its marks, and nothing is done then.
+    /// Makes a call of the store. Errors: running out of memory for its marks, and then nothing is done.
     pub fn make<C: StoreCall<Store = L>>(
         &mut self,
         call: &C,

@@ -7,7 +7,7 @@ ghost use Rattle.engine_lines.specs.Writes.{is_own_seal};
 use pmem_base::Mark;
 use seal_ledger::{Audit, Ledger};
 
-/// Whether one of these marks is a write's own seal of line `at`: a line that is only sealed anew gets the minor 0.
+/// Whether one of these marks is a write's own seal of line `at`: a line that is only resealed gets the minor 0.
 fn has_own_seal(marks: &[Mark], at: u32) -> bool
     ensures { result ≡ list_any (is_own_seal at) marks.now }
 {

@@ -21,15 +21,15 @@ use trace_text::Halt;
 pub enum Turned<T> {
     /// Power was on.
     Already,
-    /// Power is on and the store opened, after so many steps; and what its opening tells.
+    /// Power is on and the store opened, after this number of steps; `told` is what its opening answers.
     On { steps: u64, told: T },
-    /// Power was cut in recovery or in the opening, after so many steps.
+    /// Power was cut in recovery or in the opening, after this number of steps.
     Cut { steps: u64 },
 }
 
 impl<S: Suite + Drop, L: LineStore> LineSession<S, L> {
-    /// Power comes on, with recovery, and the store is opened. It stops for want of memory, or at a twin, and power is
-    /// off then.
+    /// Switches power on, with recovery, and opens the store. Errors: running out of memory, or a twin; power is off
+    /// then.
     pub fn on<O: StoreOpening<Store = L>>(
         &mut self,
         alloc: Global,

@@ -45,14 +45,15 @@ impl<S: Suite + Drop, L: LineStore> Model for LineSession<S, L> {
 /// Why there is no new session.
 #[derive(Clone, Copy)]
 pub enum NewFault<F> {
-    /// Memory couldn't be had.
+    /// Memory ran out.
     Memory,
     /// The store wasn't opened.
     Opening(F),
 }
 
 impl<S: Suite + Drop, L: LineStore> LineSession<S, L> {
-    /// A formatted device with power on, and its store.
+    /// A formatted device with power on, and its store. Errors: `Memory` if memory runs out; `Opening(fault)` if the
+    /// store wasn't opened.
     pub fn new<O: StoreOpening<Store = L>>(
         alloc: Global,
         geo: Geo,

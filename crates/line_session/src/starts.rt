@@ -165,7 +165,7 @@ pub fn start<O: StoreOpening, S: Suite>(
     )
 }
 
-/// The same over any board.
+/// Recovers the device, and opens its store, over any board.
 fn recover_and_open<B: Board, O: StoreOpening, S: Suite>(
     alloc: Global,
     geo: &Geo,

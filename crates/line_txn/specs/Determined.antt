@@ -14,7 +14,7 @@ use Rattle.line_txn.specs.declared.store.CommitFault.{CommitFault}
 use Rattle.line_txn.specs.declared.store.TxnFault.{TxnFault}
 use Rattle.line_txn.specs.Plans.{Serving, FollowsOpening, FollowsCommit}
 
--- what is the same: the answers, what the call left beside the board, the boards, and what was taken of them
+-- what is the same: the answers, what the call left next to the board, the boards, and what was taken of them
 abbrev pub AreSameEnds : {A : Type 0} → A → A → Chip → Chip → BoardMemory → BoardMemory → Taken → Taken → Type 0
 AreSameEnds first second to there a b x y = (first ≡ second) × (to ≡ there) × (a ≡ b) × (x ≡ y)
 

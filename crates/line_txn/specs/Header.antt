@@ -26,7 +26,7 @@ pub record IsHeader (n : ℕ) (line : Line) (targets : List ℕ) : Type 0 where
   pub its_targets : AreTargets n targets
   pub its_line : line ≡ header_of targets
 
--- so many numbers of four bytes each
+-- that many numbers of four bytes each
 abbrev pub numbers_in : List ℕ → ℕ → List ℕ
 numbers_in bytes zero = []
 numbers_in bytes (suc count) = from_big_endian (take 4 bytes) ∷ numbers_in (drop 4 bytes) count

@@ -37,8 +37,7 @@ targets_of txn = map (λ entry. entry.0) txn
 abbrev pub bodies_of : List (ℕ × Line) → List Line
 bodies_of txn = map (λ entry. entry.1) txn
 
--- how far a commit has come: so many bodies were written; or the header was, and so many targets; or all, and
--- the zero header
+-- how far a commit has come: that many bodies were written; or the header was, and that many targets; or all, and the zero header
 pub data CommitStage : Type 0 where
   logged : ℕ → CommitStage
   decided : ℕ → CommitStage
@@ -71,7 +70,7 @@ IsWholeAtEachStage n =
 
 -- ---- the redo
 
--- so many of the bodies were put into their targets
+-- that many of the bodies were put into their targets
 abbrev pub redone_to : ℕ → ℕ → List ℕ → List Line → List Line
 redone_to k n targets lines = put_lines (take k (entries_in n targets lines)) lines
 
@@ -94,8 +93,8 @@ IsKeptByTarget n =
     → i < length targets → IsLogged n lines targets memory
     → IsLogged n (slice_set lines (slice_index targets i) line) targets memory
 
--- how far an opening has come, which redoes the header that it read: so many targets, at a cut or where a line
--- is spent; or all of them, and the zero header
+-- how far an opening has come, which redoes the header that it read: that many targets, at a cut or if a line is spent; or all of them, and
+-- the zero header
 pub data Opening : Type 0 where
   partly : ℕ → Opening
   through : Opening
@@ -108,8 +107,8 @@ abbrev pub targets_opened : Opening → List ℕ → List ℕ
 targets_opened (partly k) targets = targets
 targets_opened through targets = []
 
--- lines that hold a memory have a header. Whatever header an opening reads there, and wherever it ends, the lines
--- hold the same memory: under that header, or under the zero header where it is through
+-- lines that hold a memory have a header. Whatever header an opening reads there, and wherever it ends, the lines hold the same memory:
+-- under that header, or under the zero header if it is through
 abbrev pub IsKeptByOpening : ℕ → Type 0
 IsKeptByOpening n =
     (lines memory : List Line) (targets found : List ℕ) (opening : Opening)

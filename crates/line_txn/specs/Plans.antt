@@ -31,7 +31,7 @@ pub data OpeningStop : Type 0 where
   unread : TxnFault → OpeningStop
   unredone : List ℕ → Fault → OpeningStop
 
--- the transaction of a header that was read is redone; or the line is no header
+-- the transaction of a header that was read is redone; or the line isn't a header
 abbrev pub redo_end : Setup → Line → Chip → Regs → Option (List ℕ) → Plan (Chip × OpeningStop) (Chip × (List ℕ × Regs))
 redo_end setup line chip regs None = stop (chip, unread (Txn.Header line))
 redo_end setup line chip regs (Some targets) =
@@ -64,8 +64,7 @@ opened_of (Err (unredone targets fault)) = Err (Txn.Engine fault)
 abbrev pub serving_in : Store → Opened → Serving
 serving_in store opened = serving store.logged.items store.stuck opened.redone
 
--- The board went along an opening's plan. What the chip is then is said of an engine: of the one that is kept, or of the
--- one that is dropped.
+-- The board went along an opening's plan. The chip is then that of an engine: of the one that is kept, or of the one that is dropped.
 pub record FollowsOpening (setup : Setup) (regs : Regs) (chip : Chip) (before after : Device) (left : Chip) (answer : Result Serving TxnFault) : Type 0 where
   pub end : Result (List ℕ × Regs) OpeningStop
   pub follows : Follows (open_plan setup regs chip) before after (ended end left)

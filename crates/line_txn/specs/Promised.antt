@@ -68,7 +68,7 @@ abbrev pub IsStoreRead : Setup → ℕ → Store → Store → Parts → Parts �
 IsStoreRead setup a old new from to answer =
     IsEngineCall old.engine.down new.engine.down from to answer (HasReadServed setup a old from to answer)
 
--- where the engine is down, a commit without lines is done still
+-- if the engine is down, a commit without lines is done still
 abbrev pub IsCommitRefused : List (ℕ × Line) → Result Committed CommitFault → Type 0
 IsCommitRefused [] answer = answer ≡ Ok Do.Applied
 IsCommitRefused (entry ∷ txn) answer = answer ≡ Err (commit_fault false Fail.Down)

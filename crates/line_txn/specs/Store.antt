@@ -38,7 +38,7 @@ pub record IsServedAs (targets : List ℕ) (stuck : Option ℕ) (old new : Store
 
 -- ---- opening
 
--- how a store is opened by the answer of its redo; stuck where a line of it is spent
+-- how a store is opened by the answer of its redo; stuck if a line of it is spent
 abbrev pub IsOpenedBy : Result (Unit {0}) Fault → ℕ → List ℕ → Store → Opened → Type 0
 IsOpenedBy (Ok done) n targets store opened =
     (store.logged.items ≡ []) × (store.stuck ≡ None) × (opened.stuck ≡ None)
@@ -69,12 +69,12 @@ pub record HasFailedRedo (setup : Setup) (old new : Parts) (fault : Fault) : Typ
   pub was_redone : HasTargetsRedone setup targets old new (Err fault)
   pub unspent : IsUnspent fault
 
--- the line that was read is no header
+-- the line that was read isn't a header
 pub record HasFoundNone (setup : Setup) (old new : Parts) (line : Line) : Type 0 where
   pub was_read : HasReadLine setup (logged_lines setup.shape) old new (Ok line)
   pub none : (targets : List ℕ) → IsHeader (logged_lines setup.shape) line targets → ⊥
 
--- What the parts are then is said of an engine: of the one that is kept, or of the one that is dropped.
+-- The parts are then those of an engine: of the one that is kept, or of the one that is dropped.
 abbrev pub HasStoreOpened : Setup → Parts → (EngineState → Parts) → Result (Store × Opened) TxnFault → Type 0
 HasStoreOpened setup old now (Ok both) = HasStoreStarted setup old (now both.0.engine) both.0 both.1
 HasStoreOpened setup old now (Err (Txn.Engine fault)) =
@@ -84,7 +84,7 @@ HasStoreOpened setup old now (Err (Txn.Engine fault)) =
 HasStoreOpened setup old now (Err (Txn.Header line)) =
     (dropped : EngineState) × HasFoundNone setup old (now dropped) line
 
--- Where the lines hold a memory, they hold it still, under this header. They are at a stage of the opening.
+-- If the lines hold a memory, they hold it still, under this header. They are at a stage of the opening.
 pub record IsOpenedTo (setup : Setup) (lines : List Line) (now : Parts) (served : List ℕ) (opening : Opening)
     (found : List ℕ) : Type 0 where
   pub header : IsHeader (logged_lines setup.shape) (line_at lines (logged_lines setup.shape)) found
@@ -94,7 +94,7 @@ pub record IsOpenedTo (setup : Setup) (lines : List Line) (now : Parts) (served 
       (targets : List ℕ) (memory : List Line) → IsLogged (logged_lines setup.shape) lines targets memory
       → IsLogged (logged_lines setup.shape) (lines_opened opening (logged_lines setup.shape) found lines) served memory
 
--- what is left of lines that were these: after a header that is none, the lines themselves, which hold no memory
+-- what is left of lines that were these: after a header that isn't one, the lines themselves, which hold no memory
 abbrev pub HasOpenedLogged : Setup → List Line → (EngineState → Parts) → Result (Store × Opened) TxnFault → Type 0
 HasOpenedLogged setup lines now (Ok both) =
     (opening : Opening) × (found : List ℕ)
@@ -134,7 +134,7 @@ commit_answer_by (Ok done) = Ok Do.Applied
 commit_answer_by (Err (Fail.Spent page)) = Ok (Do.Stuck page)
 commit_answer_by (Err fault) = Err (record { fault = fault; committed = true })
 
--- what the store serves then: where it is stuck, the targets from the log
+-- what the store serves then: if it is stuck, the targets from the log
 abbrev pub IsServedBy : Result (Unit {0}) Fault → List (ℕ × Line) → Store → Store → Type 0
 IsServedBy (Err (Fail.Spent page)) txn old new = IsServedAs (targets_of txn) (Some page) old new
 IsServedBy answer txn old new = IsServedAs old.logged.items old.stuck old new
@@ -193,8 +193,8 @@ IsCommitEnd (Err fault) txn (decided k) =
 IsCommitEnd (Err fault) txn cleared = fault.committed ≡ true
 IsCommitEnd answer txn stage = ⊥
 
--- Where the lines were these, they are at a stage of the commit now. And where they held a memory with no
--- transaction in force, they hold it without this one or with the whole of it.
+-- If the lines were these, they are at a stage of the commit now. And if they held a memory with no transaction in force, they hold it
+-- without this one or with the whole of it.
 pub record IsLeftLogged (setup : Setup) (txn : List (ℕ × Line)) (n : ℕ) (lines : List Line) (to : Parts)
     (answer : Result Committed CommitFault) : Type 0 where
   pub stage : CommitStage

@@ -12,10 +12,10 @@ pub fn headers_name_one_list(n: u32)
     let _ = n;
 }
 
-/// A law: a commit that is cut off leaves memory without its transaction, until its header is written, and with
-/// the whole of it from then on. A redo of the header in force keeps memory however far it comes, also where it
-/// is begun again; so does a write of any line at a target, and an opening, wherever it ends. Under a header a
-/// target is read from its body, and every other line from its place.
+/// A law: a commit that is cut leaves memory without its transaction until its header is written, and with all of it
+/// from then on. A redo of the header in force keeps memory however far it comes, also if it is begun again; so does a
+/// write of any line at a target, and an opening, wherever it ends. Under a header a target is read from its body, and
+/// every other line from its place.
 pub fn transactions_are_whole(n: u32)
     ensures each { IsWholeAtEachStage n }
     ensures redo { IsKeptByRedo n }
@@ -39,7 +39,8 @@ pub fn opening_is_determined()
     ensures { OpeningIsDetermined }
 {}
 
-/// A law: the same of two commits of one transaction. How the store serves its lines then is by the answer.
+/// A law: two commits of one transaction over one watched board, which has power, that meet the same fuse have the same
+/// answer, and leave the same engine, ledger and board. How the store serves its lines then follows from the answer.
 pub fn commit_is_determined()
     ensures { CommitIsDetermined }
 {}

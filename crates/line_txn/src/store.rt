@@ -39,21 +39,21 @@ pub struct CommitFault {
 pub enum TxnFault {
     /// A call of the engine wasn't done.
     Engine(Fault),
-    /// The line of the header is no header.
+    /// The line of the header isn't a header.
     Header { line: Line },
 }
 
-/// How many lines the transaction has that was found in force, and the page of a spent line, where the redo
-/// ended at one.
+/// The number of lines of the transaction that was found in force, and the page of a spent line if the redo ended at
+/// one.
 #[derive(Clone, Copy, Debug, PartialEq, Eq)]
 pub struct Opened {
     pub redone: u8,
     pub stuck: Option<u32>,
 }
 
-/// An engine whose first n = L - 16 data lines are written by transactions. Data line n holds the header, and the
-/// next 15 hold the bodies. Where a line of a transaction in force is spent, the store is stuck: its targets are
-/// read from their bodies.
+/// An engine whose first n = L - 16 data lines are written by transactions. Data line n holds the header, and the next
+/// 15 hold the bodies. If a line of a transaction in force is spent, the store is stuck: its targets are read from
+/// their bodies.
 #[derive(Drop)]
 pub struct Store {
     engine: Engine,
@@ -71,8 +71,8 @@ impl Store {
     ghost use Rattle.line_txn.specs.Store.{IsSpentUndecided, IsServedAs, commit_outcome_by, logged_lines};
     ghost use Rattle.line_txn.specs.Promised.{OpensStore, OpensLines, FollowsOpeningLines, ReadsServed, CommitsTxn, CommitsLines, FollowsCommitting, IsCommitRefused};
 
-    /// Reads the header, and redoes the transaction in force. `Header` comes exactly where the line is no header. An engine
-    /// that is down reads nothing, and answers `Down`.
+    /// Reads the header, and redoes the transaction in force. Errors: `Header` if and only if the line isn't a header;
+    /// `Engine` with the fault of the engine's call, which is `Down` if the engine is down, and then nothing is read.
     pub fn open<B: Board, S: Suite, A: Audit>(
         engine: Engine,
         board: &mut B,
@@ -174,7 +174,8 @@ impl Store {
         self.lines
     }
 
-    /// A data line. A stuck store reads its targets from the log.
+    /// A data line. A stuck store reads its targets from the log. Errors: the fault of the engine's read, which is
+    /// `Down` if the engine is down.
     pub fn read<B: Board, S: Suite, A: Audit>(
         &mut self,
         board: &mut B,
@@ -211,10 +212,11 @@ impl Store {
         at
     }
 
-    /// Writes these lines, all of them or none: the bodies into the log, then the header, then each line to its
-    /// place, and then the zero header. Without lines nothing is done. Wherever it ends, memory is what it was
-    /// until the header is written, and has the whole transaction from then on. Where the engine is down nothing is
-    /// done, and with lines the answer is `Down`.
+    /// Writes these lines, all of them or none: the bodies into the log, then the header, then each line to its place,
+    /// and then the zero header. Without lines nothing is done. Wherever it ends, memory is what it was until the
+    /// header is written, and has the whole transaction from then on. Errors: `CommitFault` with the fault of the write
+    /// that ended it, and `committed`, whether the header's write was answered; `Down` if there are lines and the
+    /// engine is down, and then nothing is done.
     pub fn commit<B: Board, S: Suite, A: Audit>(
         &mut self,
         board: &mut B,
@@ -241,7 +243,7 @@ impl Store {
         self.commit_lines(board, suite, audit, txn)
     }
 
-    // The answer of a commit where the engine is down.
+    // The answer of a commit if the engine is down.
     fn refused(&self, txn: &ArrayVec<(u32, Line), 15>) -> Result<Committed, CommitFault>
         ensures answer { IsCommitRefused txn.now.items result }
         ensures spent { IsSpentUndecided result }

@@ -1,4 +1,4 @@
--- One element that passes a test, where no other does.
+-- One element that passes a test, if no other does.
 use Rattle.std.specs.Prelude.{ℕ, ◌≡◌, ◌+◌, ◌<◌, Bool, true, false, List, length, take, drop, slice_index_or, All}
 
 -- element i passes and no other does

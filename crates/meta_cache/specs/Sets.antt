@@ -46,7 +46,7 @@ unfoldable pub with_mark : List Slot → ℕ → Bool → List Slot
 with_mark slots x dirty =
     map (λ slot. if slot.position == x then slot_marked slot dirty else slot) slots
 
--- the slot to give way: the least recently used one, where no way is free
+-- the slot to be evicted: the least recently used one, if no way is free
 abbrev pub victim_of : ℕ → List Slot → Option Slot
 victim_of ways slots = if nat_lt (length slots) ways then None else slice_get slots (ways - 1)
 
@@ -71,7 +71,7 @@ next_way ways slots = way_over ways slots (victim_of ways slots)
 abbrev pub without_victim : ℕ → List Slot → List Slot
 without_victim ways slots = if nat_lt (length slots) ways then slots else take (ways - 1) slots
 
--- position x first, clean, in the lowest free way or in place of the victim
+-- position x first, clean, in the lowest free way or instead of the victim
 abbrev pub placed : ℕ → List Slot → ℕ → Line → List Slot
 placed ways slots x line =
     record { way = next_way ways slots; position = x; line = line; dirty = false } ∷ without_victim ways slots

@@ -75,7 +75,7 @@ impl Bank {
         set.mark(x, dirty);
     }
 
-    /// Position `x` comes first in a set, clean, in the lowest free way or in place of the victim.
+    /// Puts position `x` first in a set, clean, into the lowest free way or instead of the victim.
     pub(crate) fn place(&mut self, n: usize, ways: u8, x: u32, line: &Line)
         requires within { n < length self.old }
         requires least { 1 ≤ ways }

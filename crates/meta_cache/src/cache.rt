@@ -32,7 +32,7 @@ impl Model for Cache {
 }
 
 impl Cache {
-    /// An empty cache, which takes all the memory that it needs. An error is want of memory.
+    /// An empty cache, which takes all the memory that it needs. Errors: running out of memory.
     pub fn new(alloc: Global, geo: &Geo) -> Result<Cache, MemFault>
         ensures { IfOk result (λ cache. cache
             ≡ record { shape = shape_of geo.now; banks = empty_banks (shape_of geo.now) }) }
@@ -104,8 +104,8 @@ impl Cache {
         bank.set(n).way_of(x)
     }
 
-    /// The position that gives way to `x`, the least recently used one of its set, with its line and
-    /// whether it is dirty. None where the set has a free way.
+    /// The position that is evicted for `x`, the least recently used one of its set, with its line and whether it is
+    /// dirty. `None` if the set has a free way.
     pub fn victim(&self, bank: u8, x: u32) -> Option<(u32, &Line, bool)>
         requires { bank ≤ self.now.shape.levels }
         ensures some { IsSome result ↔ IsSome (victim_of self.now.shape.ways (slots_of self.now bank x)) }
@@ -118,8 +118,8 @@ impl Cache {
         bank.set(n).victim(ways)
     }
 
-    /// Position `x`, which isn't cached, comes first in its set, clean and with this line: in the
-    /// lowest free way, or in place of the victim, which is clean.
+    /// Puts position `x`, which isn't cached, first in its set, clean and with this line: into the lowest free way, or
+    /// instead of the victim, which is clean.
     pub fn place(&mut self, bank: u8, x: u32, line: &Line)
         requires bank { bank ≤ self.old.shape.levels }
         requires absent { is_cached self.old.shape self.old.banks bank x ≡ false }

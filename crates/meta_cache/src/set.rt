@@ -33,7 +33,7 @@ impl Set {
         }
     }
 
-    /// The place of position `x`, or the number of slots in use where it isn't there.
+    /// The place of position `x`, or the number of slots in use if it isn't there.
     fn place_of(&self, x: u32) -> usize
         ensures value { result ≡ position_or_len (λ slot. slot.position == x) self.now }
         ensures found { slot_with self.now x ≡ slice_get self.now result }
@@ -117,7 +117,7 @@ impl Set {
         slot.dirty = dirty;
     }
 
-    /// The position to give way, its line and its mark, where all ways are in use.
+    /// The position to be evicted, its line and its mark, if all ways are in use.
     pub(crate) fn victim(&self, ways: u8) -> Option<(u32, &Line, bool)>
         requires least { 1 ≤ ways }
         requires room { length self.now ≤ ways }
@@ -166,7 +166,7 @@ impl Set {
         way
     }
 
-    /// Position `x` comes first, clean, in the lowest free way or in place of the victim.
+    /// Puts position `x` first, clean, into the lowest free way or instead of the victim.
     pub(crate) fn place(&mut self, ways: u8, x: u32, line: &Line)
         requires least { 1 ≤ ways }
         requires most { ways ≤ 8 }
@@ -195,7 +195,7 @@ impl Set {
     }
 }
 
-/// The slot's position where it is dirty, else the one found before.
+/// The slot's position if it is dirty, and otherwise the one found before.
 fn newer_dirty(before: Option<u32>, slot: &Slot) -> Option<u32>
     ensures { result ≡ (if slot.now.dirty then Some slot.now.position else before) }
 {

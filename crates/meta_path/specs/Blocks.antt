@@ -17,7 +17,7 @@ path_at g page j = slice_index (path_of g page) j
 abbrev pub slots_at : Shape → Banks → ℕ → ℕ → List Slot
 slots_at g banks bank x = set_of banks bank (set_index g x)
 
--- the line that a bank has for position x, or zeros where it has none
+-- the line that a bank has for position x, or zeros if it has none
 abbrev pub line_in : Shape → Banks → ℕ → ℕ → Line
 line_in g banks bank x =
     unwrap_or (option_map (λ slot. slot.line) (slot_with (slots_at g banks bank x) x)) zero_line
@@ -26,7 +26,7 @@ line_in g banks bank x =
 abbrev pub cached_line : Shape → Banks → ℕ → Line
 cached_line g banks x = line_in g banks (level_of x) x
 
--- the number of the slot that a bank has for position x, or 0 where it has none
+-- the number of the slot that a bank has for position x, or 0 if it has none
 abbrev pub number_in : Shape → Banks → ℕ → ℕ → ℕ
 number_in g banks bank x =
     unwrap_or (option_map (slot_number g (set_index g x)) (slot_with (slots_at g banks bank x) x)) 0

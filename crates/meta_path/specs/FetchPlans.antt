@@ -19,7 +19,7 @@ use Rattle.meta_path.specs.Blocks.{path_at}
 use Rattle.meta_path.specs.Levels.{expected_digest}
 use Rattle.meta_path.specs.Plans.{room_plan}
 
--- what a fetch works on beside the board
+-- what a fetch works on next to the board
 pub record FetchParts : Type 0 where
   pub cache : CacheState
   pub ledger : LedgerState
@@ -37,7 +37,7 @@ known_plan x line at =
     else
     stop (fetch_parts at.cache (shown at.ledger (Clash x line (line_at at.ledger.truth x))) at.digests, Fault.Shown)
 
--- It is read, and a digest made. Where this isn't the one that it has to have, it is refused.
+-- It is read, and a digest made. If this isn't the one that it has to have, it is refused.
 unfoldable pub check_plan :
     Formulas → List ℕ → ℕ → ℕ → FetchParts → Plan (FetchParts × PathFault) (FetchParts × Line)
 check_plan f root bank x at =

@@ -102,7 +102,7 @@ pub record IsCutAt (g : Shape) (f : Formulas) (truth : List Line) (page : ℕ) (
   pub victim :
       old.device.live ≡ true → HasDirtyVictim g (slots_at g old.cache.banks n (path_at g page n))
 
--- the line read at level n hasn't the digest that it has to have
+-- the line read at level n doesn't have the digest that its parent says
 pub record IsRefusedAt (g : Shape) (f : Formulas) (truth : List Line) (page x : ℕ) (old new : FetchState) :
     Type 0 where
   pub n : ℕ

@@ -32,8 +32,8 @@ pub record HasComeIn (g : Shape) (truth : List Line) (page : ℕ) (old : Banks) 
   pub clean : slot.dirty ≡ false
   pub true_line : slot.line ≡ line_at truth slot.position
 
--- a slot gave way: it was the victim of its set for the path's position in this bank, which wasn't
--- cached, and where it was dirty its line stands in its place on the board
+-- a slot was evicted: it was the victim of its set for the path's position in this bank, which wasn't cached, and if it was dirty its line
+-- stands in its place on the board
 pub record HasGivenWay (g : Shape) (page : ℕ) (old new : Banks) (told : Option (List Line)) (bank set : ℕ)
     (slot : Slot) : Type 0 where
   pub on_path : bank ≤ g.levels
@@ -89,14 +89,14 @@ pub record IsUndisturbed (old new : FetchState) : Type 0 where
   pub latches : new.device.latches ≡ old.device.latches
   pub digests : new.digests ≡ old.digests
 
--- ---- where the chip is right
+-- ---- if the chip is right
 
 -- the true lines are a hash tree whose top has the root register's digest
 pub record IsTrueTree (g : Shape) (f : Formulas) (truth : List Line) (root : List ℕ) : Type 0 where
   pub tree : IsHashTree g f truth
   pub root_digest : root ≡ f.digest_of 0 (line_at truth 0)
 
--- the board's line at x hasn't the digest of the true line
+-- the board's line at x doesn't have the digest of the true line
 pub record HasFalseDigest (g : Shape) (f : Formulas) (truth : List Line) (x : ℕ) (told : Option (List Line)) :
     Type 0 where
   pub line : Line

@@ -28,13 +28,13 @@ abbrev pub HasParent : Shape → Banks → ℕ → ℕ → Type 0
 HasParent g banks zero x = ⊤
 HasParent g banks (suc above) x = (1 ≤ x) × IsTrue (is_cached g banks above (parent x))
 
--- the write that a block takes to give way: none where it is clean
+-- the write that a block takes to be evicted: none if it is clean
 abbrev pub victim_write : Shape → Option Slot → List (ℕ × Line)
 victim_write g None = []
 victim_write g (Some victim) =
     if victim.dirty then (meta_line g victim.position, victim.line) ∷ [] else []
 
--- the position of a block to give way, where it is dirty
+-- the position of a block to be evicted, if it is dirty
 abbrev pub dirty_position : Option Slot → Option ℕ
 dirty_position None = None
 dirty_position (Some victim) = if victim.dirty then Some victim.position else None
@@ -62,7 +62,7 @@ level_write g banks bank x =
 abbrev pub level_reads : Shape → Banks → ℕ → ℕ → ℕ
 level_reads g banks bank x = if is_cached g banks bank x then 0 else 1
 
--- the set of x once it is fetched: it comes first, with the true line where it wasn't cached
+-- the set of x once it is fetched: it comes first, with the true line if it wasn't cached
 abbrev pub fetched_set : Shape → List Line → Banks → ℕ → ℕ → List Slot
 fetched_set g truth banks bank x =
     if is_cached g banks bank x then touched (slots_at g banks bank x) x
@@ -77,8 +77,7 @@ pub record HasRoomMade (g : Shape) (bank x : ℕ) (old_cache new_cache : CacheSt
       (without_dirty slots (victim_of g.ways slots))
   pub work : HasWorked 0 (room_write g (slots_at g old_cache.banks bank x)) old new
 
--- position x of a bank was fetched: what was read, where it wasn't cached, is the true line and has
--- the digest that it has to have
+-- position x of a bank was fetched: what was read, if it wasn't cached, is the true line and has the digest that it has to have
 pub record IsLevelFetched (g : Shape) (f : Formulas) (truth : List Line) (bank x : ℕ) (old new : FetchState) :
     Type 0 where
   pub cache :

@@ -26,7 +26,7 @@ abbrev pub named_slot : Shape → List Line → ℕ → ℕ → ℕ → List Lin
 named_slot g shadow bank n x =
     if is_slot_named g shadow bank n x then shadow else with_named g shadow bank n x
 
--- the line write that this takes, by place and line: none where it does already
+-- the line write that this takes, by place and line: none if it does already
 abbrev pub naming_write : Shape → List Line → ℕ → ℕ → ℕ → List (ℕ × Line)
 naming_write g shadow bank n x =
     if is_slot_named g shadow bank n x then []

@@ -16,7 +16,7 @@ use Rattle.meta_path.specs.Naming.{path_number, is_slot_named}
 
 -- ---- naming
 
--- Slot n of a bank names position x. Where it doesn't yet, the copy's line is changed, and then written.
+-- Slot n of a bank names position x. If it doesn't yet, the copy's line is changed, and then written.
 unfoldable pub slot_plan : Shape → ℕ → ℕ → ℕ → List Line → Plan (List Line × Cut) (List Line × Unit {0})
 slot_plan g bank n x mirror =
     if is_slot_named g mirror bank n x then done (mirror, tt)
@@ -45,7 +45,7 @@ write_back_plan cache bank x =
     write (cache, the_cut) (meta_line cache.shape x) (line_in cache.shape cache.banks bank x)
     (done (cleaned cache bank x, tt))
 
--- the block found, where one is, is written back, and its position answered
+-- the block found, if one is, is written back, and its position answered
 unfoldable pub found_plan : CacheState → Option (ℕ × ℕ) → Plan (CacheState × Cut) (CacheState × Option ℕ)
 found_plan cache None = done (cache, None)
 found_plan cache (Some found) = bind (write_back_plan cache found.0 found.1) (λ end. done (end.0, Some found.1))
@@ -59,6 +59,6 @@ unfoldable pub room_of : CacheState → ℕ → Option ℕ → Plan (CacheState 
 room_of cache bank None = done (cache, tt)
 room_of cache bank (Some position) = write_back_plan cache bank position
 
--- that is the one that would give way to x, where it is dirty
+-- that is the one that would be evicted for x, if it is dirty
 abbrev pub room_plan : CacheState → ℕ → ℕ → Plan (CacheState × Cut) (CacheState × Unit {0})
 room_plan cache bank x = room_of cache bank (dirty_position (victim_of cache.shape.ways (slots_of cache bank x)))

@@ -68,11 +68,11 @@ module _ {B S A : Type 0} (board : BoardOf B) (suite : SuiteOf S) (audit : Audit
   abbrev pub FailsAtBlock : ℕ → PathFault → Type 0
   FailsAtBlock page = IsPathFault (shape_of geo) formulas page before after (audit.ledger a) (audit.ledger later_a)
 
-  -- where they were cached nothing was read, written or digested
+  -- if they were cached nothing was read, written or digested
   abbrev pub LeavesCachedPath : ℕ → Type 0
   LeavesCachedPath page = IsPathCached (shape_of geo) cache.banks page → IsUndisturbed before after
 
-  -- where the tree and the cached lines are true, a fault says this of the board's lines
+  -- if the tree and the cached lines are true, a fault says this of the board's lines
   abbrev pub FailsByBoard : Result (Unit {0}) PathFault → Type 0
   FailsByBoard answer =
       IsTrueTree (shape_of geo) formulas (audit.ledger a).truth device.regs.root

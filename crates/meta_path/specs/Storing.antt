@@ -33,7 +33,7 @@ pub record IsOfCachedPath (g : Shape) (banks : Banks) (lines : List (ℕ × Line
   pub path : IsPathOf g page lines
   pub cached : IsPathCached g banks page
 
--- the lines and the root digest are those of the page's path made anew over the true lines
+-- the lines and the root digest are those of the page's path made again over the true lines
 pub record IsRenewed (g : Shape) (f : Formulas) (truth : List Line) (page : ℕ) (block : Line)
     (renewed : List (ℕ × Line)) (digest : List ℕ) : Type 0 where
   pub lines : renewed ≡ path_with g f (line_at truth) page block
@@ -109,8 +109,8 @@ pub record IsCleaned (g : Shape) (bank x : ℕ) (old_cache new_cache : CacheStat
       (with_mark (slots_at g old_cache.banks bank x) x false)
   pub board : HasWritten old (meta_line g x) (line_in g old_cache.banks bank x) new
 
--- a slot of a bank, before and now, where the block at x of bank `cleaned` was written back: its slot
--- is clean, and every other one is unchanged
+-- a slot of a bank, before and now, if the block at x of bank `cleaned` was written back: its slot is clean, and every other one is
+-- unchanged
 pub record IsCleanedSlot (cleaned x bank : ℕ) (before now : Slot) : Type 0 where
   pub way : now.way ≡ before.way
   pub position : now.position ≡ before.position

@@ -7,7 +7,7 @@ use Rattle.board.specs.Device.{Device}
 use Rattle.commit_regs.specs.Groups.{redone_told}
 use Rattle.meta_cache.specs.State.{CacheState}
 
--- the line at a place, where the board tells its lines
+-- the line at a place, if the board exposes its lines
 abbrev pub told_line : Option (List Line) → ℕ → Option Line
 told_line told at = option_map (λ lines. line_at lines at) told
 

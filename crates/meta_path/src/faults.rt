@@ -3,12 +3,12 @@ ghost use Rattle.std.specs.Prelude.{◌≡◌};
 
 use pmem_base::Cut;
 
-/// What a fetch answers in place of its path.
+/// What a fetch answers instead of its path.
 #[derive(Clone, Copy, Debug, PartialEq, Eq)]
 pub enum PathFault {
     /// Power was cut.
     Cut,
-    /// The line read at position `x` hasn't the digest that it has to have.
+    /// The line read at position `x` doesn't have the digest that its parent says.
     Meta { x: u32 },
     /// The audit shows a line with the right digest that isn't the true one.
     Shown,

@@ -23,10 +23,11 @@ use pmem_base::{Cut, Geo, Line, Tag};
 use seal_ledger::{Audit, Go};
 use suite::Suite;
 
-/// Fetches the path of a page, so that each of its blocks is cached. From the top down, a block that
-/// is cached becomes the most recently used of its set. For each other one its line is read, its
-/// digest is compared with its parent's entry for it (the root register's at the top), the audit is
-/// told, a dirty block that gives way is written to its place, and the line is placed, clean.
+/// Fetches the path of a page, so that each of its blocks is cached. From the top down, a block that is cached becomes
+/// the most recently used of its set. For each other one its line is read, its digest is compared with its parent's
+/// entry for it (the root register's at the top), the audit sees the line, a dirty block that is evicted for it is
+/// written to its place, and the line is placed, clean. Errors: `Meta { x }` if the line at position x doesn't have the
+/// digest that its parent says; `Shown` if its digest is right and the audit knows another line; `Cut`.
 pub fn fetch_path<B: Board, S: Suite, A: Audit>(
     geo: &Geo,
     cache: &mut Cache,
@@ -206,7 +207,7 @@ fn make_room<B: Board>(
     Ok(())
 }
 
-/// The position that would give way to `x`, where it is dirty.
+/// The position that would be evicted for `x`, if it is dirty.
 fn dirty_victim(cache: &Cache, bank: u8, x: u32) -> Option<u32>
     requires { bank ≤ cache.now.shape.levels }
     ensures { result ≡ dirty_position (victim_of cache.now.shape.ways (slots_at cache.now.shape cache.now.banks bank x)) }

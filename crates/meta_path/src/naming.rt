@@ -17,9 +17,9 @@ use meta_cache::Cache;
 use pmem_base::{Cut, Geo};
 use shadow_tables::Mirror;
 
-/// Names the blocks of a page's path, which are cached, from the top down: where the entry of a
-/// block's slot doesn't name it, the entry is changed and its shadow line written. `Cut` comes before
-/// such a write; the mirror has that entry already.
+/// Names the blocks of a page's path, which are cached, from the top down: if the entry of a block's slot doesn't name
+/// the block, the entry is changed and its shadow line written. Errors: `Cut`, before such a write; the mirror has that
+/// entry already.
 pub fn make_dirty<B: Board>(
     geo: &Geo,
     cache: &Cache,

@@ -16,8 +16,8 @@ use board::Board;
 use meta_cache::Cache;
 use pmem_base::{Cut, Geo, Line};
 
-/// Writes the oldest dirty block back to its place, by one line write, and marks it clean. The answer
-/// is its position, or None where no block is dirty. `Cut` comes before the write, and nothing changes.
+/// Writes the oldest dirty block back to its place, by one line write, and marks it clean. The answer is its position,
+/// or `None` if no block is dirty. Errors: `Cut`, before the write, and then nothing changes.
 pub fn write_back_one<B: Board>(
     geo: &Geo,
     cache: &mut Cache,

@@ -13,8 +13,8 @@ use arrayvec::ArrayVec;
 use pmem_base::{Ctr, Progress, Spent};
 use split_counters::{Block, pack, roll, unpack};
 
-/// Begins a page: the block that follows its present one, and a register that keeps the present
-/// one's line, with no line done. `Spent` where the major is used up.
+/// Begins a page: the block that follows its present one, and a register that keeps the present one's line, with no
+/// line done. Errors: `Spent` if the major is exhausted.
 pub fn begin(block: &Block, page: u32) -> Result<(Block, Progress), Spent>
     requires { All (λ m. m ≤ 127) block.now.minors }
     ensures spent { IsErr result ↔ (block.now.major ≡ 2 ^ 64 - 1) }
@@ -33,8 +33,8 @@ pub fn begin(block: &Block, page: u32) -> Result<(Block, Progress), Spent>
     Ok((next, register))
 }
 
-/// The counter of data line `at`, where `block` is its page's: that of the old block where a register
-/// has the page and the line isn't done, else that of `block`.
+/// The counter of data line `at`, where `block` is its page's block: that of the old block if a register has the page
+/// and the line isn't done, and otherwise that of `block`.
 pub fn ctr_of(list: &ArrayVec<Progress, 4>, block: &Block, at: u32) -> Ctr
     ensures value { result ≡ counter_of list.now.items block.now at }
     ensures range { All (λ m. m ≤ 127) block.now.minors → IsCtr result }
@@ -114,7 +114,7 @@ pub fn left(progress: &Progress) -> u8
     progress.done.count_zeros() as u8
 }
 
-/// The register with line `i` done. None where then all 64 lines are done.
+/// The register with line `i` done. `None` if all 64 lines are done then.
 pub fn mark(progress: &Progress, i: u8) -> Option<Progress>
     requires { i < 64 }
     ensures value { result ≡ marked progress.now i }

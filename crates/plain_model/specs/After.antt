@@ -17,7 +17,7 @@ use Rattle.plain_model.specs.State.{PlainState, Reply, no_flags, is_flagged, has
 
 -- ---- what an answer says
 
--- the persist steps of an answer, 0 where it names none
+-- the persist steps of an answer, 0 if it names none
 abbrev pub steps_of : Answer → ℕ
 steps_of (Say.Drained steps) = steps
 steps_of (Say.Fenced drained steps) = steps

@@ -27,11 +27,11 @@ is_covered state port a =
 
 -- ---- the table
 
--- the answer, where power is on
+-- the answer, if power is on
 abbrev pub powered : PlainState → Option Answer → Option Answer
 powered state answer = if state.power then answer else Some Say.Off
 
--- the answer, where the places are on the device
+-- the answer, if the places are on the device
 abbrev pub in_range : Bool → Option Answer → Option Answer
 in_range holds answer = if holds then answer else Some Say.Range
 
@@ -44,8 +44,7 @@ posting_answer g state port at end =
 abbrev pub is_on_device : Shape → ℕ → Bool
 is_on_device g d = nat_lt d (layout.device_lines g)
 
--- the answer that the state alone decides, by the first condition that holds; none where the
--- engine decides
+-- the answer that the state alone decides, by the first condition that holds; none if the engine decides
 abbrev pub decided_answer : Shape → PlainState → Command → Option Answer
 decided_answer g state (Do.Post port at line) = posting_answer g state port at 64
 decided_answer g state (Do.Part port at from count line) = posting_answer g state port at (from + count)

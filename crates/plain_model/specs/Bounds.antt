@@ -63,7 +63,7 @@ abbrev pub IsFetchWithin : Bool → Shape → PlainState → ℕ → Type 0
 IsFetchWithin cut g state steps =
     IsTrue (is_within cut steps (path_length g)) × IsTrue (is_within cut steps (dirty_bound g state))
 
--- the marks of the port's first n writes, none where one is spent
+-- the marks of the port's first n writes, none if one is spent
 abbrev pub marks_of_first : Setup → PlainState → DeviceView → ℕ → ℕ → Option (List Mark)
 marks_of_first setup state view port n =
     marks_of_writes setup.formulas (moment_of state view) (take n (queue_of state.queues port))
@@ -93,7 +93,7 @@ abbrev pub IsSpentWithin : Shape → PlainState → Option ℕ → List Mark →
 IsSpentWithin g state None marks steps = IsFetchWithin false g state steps
 IsSpentWithin g state (Some n) marks steps = steps ≤ writing_bound g n marks + spent_bound g
 
--- A refusal, by the write after n drained ones: where that is spent, its steps are those of its path alone.
+-- A refusal, by the write after n drained ones: if that is spent, its steps are those of its path alone.
 abbrev pub IsRefusedWriteWithin : Setup → PlainState → DeviceView → ℕ → Option ℕ → List Mark → ℕ → Type 0
 IsRefusedWriteWithin setup state view port n marks steps =
     MatchBool (is_spent_in_flight setup state view port (unwrap_or n 0))

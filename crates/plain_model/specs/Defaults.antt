@@ -1,4 +1,4 @@
--- What a run has where the command line doesn't say otherwise.
+-- What a run has if the command line doesn't say otherwise.
 use Rattle.std.specs.Prelude.{ℕ, List}
 use Rattle.std.specs.List.{range_with_len}
 use Rattle.pmem_base.specs.Shape.{Shape}

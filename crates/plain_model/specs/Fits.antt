@@ -31,7 +31,7 @@ use Rattle.plain_model.specs.Bounds.{can_be_dirty, IsWithinBounds}
 abbrev pub drained_marks : Formulas → Moment → List Posted → ℕ → Option (List Mark)
 drained_marks f now queue n = marks_of_writes f now (take n queue)
 
--- the marks of the write after them, none where its counter is used up
+-- the marks of the write after them, none if its counter is exhausted
 abbrev pub next_marks : Formulas → Moment → List Posted → ℕ → Option (List Mark)
 next_marks f now queue n =
     option_and_then (marks_of_write f (moment_after_writes f now (take n queue))) (slice_get queue n)
@@ -45,8 +45,7 @@ abbrev pub marks_still_asked : Formulas → Moment → List Posted → ℕ → L
 marks_still_asked f now queue n marks =
     drop (length (marks_in_flight f now queue n marks)) (unwrap_or (next_marks f now queue n) [])
 
--- all marks of n drained writes, and then a proper part from the front of the next write's marks,
--- or nothing where it is spent
+-- all marks of n drained writes, and then a proper part from the front of the next write's marks, or nothing if it is spent
 pub record IsStopped (f : Formulas) (now : Moment) (queue : List Posted) (n : ℕ)
     (marks : List Mark) : Type 0 where
   pub one_waits : n < length queue
@@ -174,8 +173,8 @@ abbrev pub ShowsTagLine : Formulas → PlainState → DeviceView → ℕ → Lin
 ShowsTagLine f state view a shown =
     state.power ≡ true → is_any_hurt state a ≡ false → shown ≡ sealed_tags f state.memory view a
 
--- with power on and nothing loose, a counter block's line that isn't named shows a stored block of
--- its page, and where nothing is touched the true one
+-- with power on and nothing loose, a counter block's line that isn't named shows a stored block of its page, and if nothing is touched the
+-- true one
 abbrev pub ShowsCounterBlock : Shape → PlainState → DeviceView → ℕ → Line → Type 0
 ShowsCounterBlock g state view page shown =
     state.power ≡ true → state.loose ≡ false
@@ -183,7 +182,7 @@ ShowsCounterBlock g state view page shown =
     → IsStoredBlock state.loss (unpacked shown) (counter_block_of view page)
     × (has_flags state.touched ≡ false → shown ≡ packed (counter_block_of view page))
 
--- nothing is said of a tree node
+-- a tree node may be shown as anything
 abbrev pub ShowsMetaLine : Shape → PlainState → DeviceView → ℕ → Line → Type 0
 ShowsMetaLine g state view x shown =
     MatchBool (nat_le (counter_position g 0) x)

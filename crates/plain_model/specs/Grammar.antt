@@ -9,7 +9,7 @@ use Rattle.pmem_base.specs.Lines.{line_of}
 use Rattle.collision_witness.specs.Words.{Word, words_of, without_return, no_word, one_word, two_words, three_words, four_words, number_of, some_hex_bytes, hex_line, ◌>>=◌}
 use Rattle.plain_model.specs.Words.{port_of, last_port}
 
--- what a line gives: a command, nothing where it is skipped, or the kind of its fault
+-- what a line gives: a command, nothing if it is skipped, or the kind of its fault
 abbrev pub Reading : Type 0
 Reading = Result (Option Command) Kind
 
@@ -45,9 +45,9 @@ verbs =
     ∷ (codes "move", move) ∷ (codes "snap", snap) ∷ (codes "back", back) ∷ (codes "peek", peek)
     ∷ (codes "stat", stat) ∷ (codes "loss", loss) ∷ []
 
--- ---- the values that these words spell, where ports go up to a greatest one
+-- ---- the values that these words spell, if ports go up to a greatest one
 
--- the line with these bytes at the front, and zeros after them
+-- the line with these bytes first, and zeros after them
 abbrev pub padded_line : List ℕ → Line
 padded_line bytes = line_of (bytes ++ replicate (64 - length bytes) 0)
 
@@ -69,7 +69,7 @@ one_port most words = do
   word ← one_word words
   port_of most word
 
--- how many bytes the digits of a part spell, and the line that has them at its front
+-- how many bytes the digits of a part spell, and the line that has them at its beginning
 abbrev pub part_of : Word → Result (ℕ × Line) Kind
 part_of word = do
   bytes ← some_hex_bytes word

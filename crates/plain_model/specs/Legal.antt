@@ -24,7 +24,7 @@ IsWithinFuse fuse answer =
     (fuse ≡ Some (steps_of answer))
     (IfSome fuse (λ n. steps_of answer ≤ n))
 
--- the write at the front of the port's queue
+-- the first write of the port's queue
 abbrev pub front_of : PlainState → ℕ → Option Posted
 front_of state port = slice_get (queue_of state.queues port) 0
 
@@ -50,7 +50,7 @@ abbrev pub MayDiffer : Setup → PlainState → ℕ → Type 0
 MayDiffer setup state x =
     IsTrue (is_flagged state.named (layout.meta_line setup.shape x) || state.loose)
 
--- the data line that the command is about, where the state is the one at its turn
+-- the data line that the command is about, if the state is the one at its turn
 abbrev pub line_at_turn : PlainState → Command → Option ℕ
 line_at_turn state (Do.Read port at) = Some at
 line_at_turn state (Do.Drain port) = option_map (λ write. write.at) (front_of state port)
@@ -98,15 +98,14 @@ pub record IsWrongRootCaused (setup : Setup) (state : PlainState) (view : Device
   pub kept_is_true : kept ≡ setup.formulas.digest_of 0 (true_line setup view 0)
   pub found_differs : found ≢ kept
 
--- a loss that isn't the present one takes one step where it is greater, and else one for each
--- dirty block besides
+-- a loss that isn't the present one takes one step if it is greater, and else one for each dirty block besides
 abbrev pub IsLossSteps : Setup → PlainState → Command → ℕ → Type 0
 IsLossSteps setup state (Do.Loss n) steps =
     MatchBool (nat_lt state.loss n) (steps ≡ 1)
     ((1 ≤ steps) × (steps ≤ layout.slots setup.shape + 1))
 IsLossSteps setup state command steps = ⊥
 
--- what the answer needs beside the fuse
+-- what the answer needs next to the fuse
 abbrev pub IsCaused : Setup → PlainState → DeviceView → Command → Answer → Type 0
 IsCaused setup state view command (Say.Got line steps) = IsSeen state command line
 IsCaused setup state view command (Say.Refused drained place steps) =

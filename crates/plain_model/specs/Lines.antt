@@ -6,7 +6,7 @@ use Rattle.std.specs.List.{onto_first}
 abbrev pub is_line_end : ℕ → Bool
 is_line_end byte = byte == 10
 
--- A line ends with LF or with the end of the trace. What follows the last LF is a line where it has a byte.
+-- A line ends with LF or with the end of the trace. What follows the last LF is a line if it has a byte.
 unfoldable pub lines_of : List ℕ → List (List ℕ)
 lines_of [] = []
 lines_of (byte ∷ bytes) =

@@ -1,5 +1,5 @@
--- A run of the program over a trace's bytes: the replies to its commands, and what is printed of them.
--- Each definition is said from any machine on, after so many lines.
+-- A run of the program over a trace's bytes: the replies to its commands, and what is printed of them. Each definition holds from any
+-- machine on, after that many lines.
 use Rattle.std.specs.Prelude.{ℕ, ◌≡◌, ◌≤◌, ◌<◌, ◌+◌, ◌⊎◌, Bool, true, false, List, [], ◌∷◌, ◌++◌, length, map, codes, decimal, All, IsOk, Option, Some, None, Ok, Err, IsTrue}
 use Rattle.std.specs.List.{flat_map}
 use Rattle.std.specs.Io.KnownBytes.{Consumes}
@@ -130,7 +130,7 @@ stop_text TooManyLines = as_line (codes "stop lines")
 abbrev pub output_of : List Step → Stop → List ℕ
 output_of steps stop = steps_text steps ++ stop_text stop
 
--- the steps are the run of a front of these lines
+-- the steps are the run of a prefix of these lines
 pub record IsFrontFrom (setup : Setup) (machine : Machine) (lines : List (List ℕ)) (steps : List Step) :
     Type 0 where
   pub before : List (List ℕ)
@@ -183,8 +183,8 @@ pub record IsCutOffFrom (setup : Setup) (machine : Machine) (served : ℕ) (line
   pub counted : served + length front.before ≡ line_limit
   pub more : 0 < length front.behind
 
--- The whole lines that the source gave are run. What it gave of the next line decides no stop of its
--- own: it is no longer than a line may be, and nothing at the limit.
+-- The whole lines that the source gave are run. What it gave of the next line decides no stop by itself: it is no longer than a line may
+-- be, and nothing at the limit.
 pub record IsCutShortFrom (setup : Setup) (machine : Machine) (served : ℕ) (trace : List ℕ)
     (left : Option (List ℕ)) (steps : List Step) : Type 0 where
   pub before : List (List ℕ)
@@ -197,7 +197,7 @@ pub record IsCutShortFrom (setup : Setup) (machine : Machine) (served : ℕ) (tr
   pub counted : served + length before ≤ line_limit
   pub at_limit : served + length before ≡ line_limit → part ≡ []
 
--- whether the reply to the command may want memory
+-- whether the reply to the command may run out of memory
 abbrev pub takes_memory : Command → Bool
 takes_memory (Do.Drain port) = true
 takes_memory (Do.Fence port) = true
@@ -206,33 +206,31 @@ takes_memory Do.Snap = true
 takes_memory Do.On = true
 takes_memory command = false
 
--- the reply to a line that reads so may want memory
+-- the reply to a line that reads so may run out of memory
 abbrev pub WantsMemory : Reading → Type 0
 WantsMemory (Ok (Some command)) = IsTrue (takes_memory command)
 WantsMemory (Ok None) = ⊥
 WantsMemory (Err kind) = ⊥
 
--- memory was wanted for the reply to the first of these lines, which isn't past the limit
+-- memory was needed for the reply to the first of these lines, which isn't past the limit
 abbrev pub IsMemoryWanted : ℕ → List (List ℕ) → Type 0
 IsMemoryWanted served [] = ⊥
 IsMemoryWanted served (line ∷ lines) = WantsMemory (reading_of line) × (served < line_limit)
 
--- A front of the lines is run, and memory was wanted before the first line, or for the reply to the next
--- line's command.
+-- A prefix of the lines is run, and memory was needed before the first line, or for the reply to the next line's command.
 pub record IsStarvedFrom (setup : Setup) (machine : Machine) (served : ℕ) (lines : List (List ℕ))
     (steps : List Step) : Type 0 where
   pub front : IsFrontFrom setup machine lines steps
   pub wanting :
       (served + length front.before ≡ 0) ⊎ IsMemoryWanted (served + length front.before) front.behind
 
--- a front of the lines is run, of no more of them than a trace may have
+-- a prefix of the lines is run, of no more of them than a trace may have
 pub record IsLimitedFrontFrom (setup : Setup) (machine : Machine) (served : ℕ) (lines : List (List ℕ))
     (steps : List Step) : Type 0 where
   pub front : IsFrontFrom setup machine lines steps
   pub counted : served + length front.before ≤ line_limit
 
--- What a stop says of the rest of a trace, of what is left of it, and of the steps, from a machine on
--- and after so many lines.
+-- What a stop says of the rest of a trace, of what is left of it, and of the steps, from a machine on and after that many lines.
 abbrev pub EndsFrom : Setup → Machine → ℕ → Stop → List ℕ → Option (List ℕ) → List Step → Type 0
 EndsFrom setup machine served Finished trace left steps =
     IsFinishedFrom setup machine served (lines_of trace) steps

@@ -20,7 +20,7 @@ use Rattle.plain_model.specs.Answers.{decided_answer}
 use Rattle.plain_model.specs.Legal.{IsEngineLegal, state_at_turn}
 use Rattle.plain_model.specs.Fits.{Fits, sealed_line, sealed_tag}
 
--- with the same marks, a refusal of the place after so many drained writes would be legal and fit
+-- with the same marks, a refusal of the place after that many drained writes would be legal and fit
 pub record CanBeRefused (setup : Setup) (state : PlainState) (view : DeviceView)
     (command : Command) (marks : List Mark) (drained : Option ℕ) (place : Place) : Type 0 where
   pub legal : IsEngineLegal setup state view command (Say.Refused drained place 0)

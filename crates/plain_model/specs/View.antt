@@ -150,7 +150,7 @@ plain_memory setup marks =
     map (λ a. unwrap_or (plain_line setup.formulas marks a) zero_line)
     (range_with_len 0 (layout.data_lines setup.shape))
 
--- so many lines, each the plain line that it was last sealed with
+-- that many lines, each the plain line that it was last sealed with
 pub record IsMemoryOf (setup : Setup) (marks : List Mark) (memory : List Line) : Type 0 where
   pub count : length memory ≡ layout.data_lines setup.shape
   pub each :

@@ -11,7 +11,7 @@ use std::env;
 use std::env::Args;
 use std::process::ExitCode;
 
-/// The words of the command line in their order, without the program's name. Fails where there is no memory for them.
+/// The arguments of the command line in order, without the program's name. Errors: running out of memory for them.
 fn command_words(alloc: Global, args: Args) -> Result<Vec<String>, AllocError>
     ensures { IfOk result (λ words. words.items ≡ drop 1 (into_iter_items args)) }
 {
@@ -39,7 +39,7 @@ fn program<S: Source, K: Sink>(alloc: Global, args: Args, trace: &mut S, out: &m
     }
 }
 
-/// Ends with the status of the run, or with 1 where the words can't be made.
+/// Ends with the status of the run, or with 1 if memory for the arguments runs out.
 fn main(rt: HostRuntime) -> ExitCode {
     let Ok(args) = env::args(&rt) else {
         return ExitCode::from(1);

@@ -74,7 +74,7 @@ content_of g d =
     else if nat_lt d (device_lines g) then shadow (d - shadow_line g 0)
     else nothing
 
--- ---- each part has a place of its own
+-- ---- each part has its own place
 
 -- what a memory keeps on its device
 pub data Part : Type 0 where
@@ -90,7 +90,7 @@ IsPart g (tag_part a) = a < data_lines g
 IsPart g (meta_part x) = x < meta_lines g
 IsPart g (shadow_part n) = n < shadow_lines g
 
--- the device line of a part, and its slot of 16 bytes there, which is 0 where it has the line for itself
+-- the device line of a part, and its slot of 16 bytes there, which is 0 if it has the line for itself
 abbrev pub place : Shape → Part → ℕ × ℕ
 place g (data_part a) = (a, 0)
 place g (tag_part a) = (tag_line g a, a % 4)

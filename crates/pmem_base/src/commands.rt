@@ -7,11 +7,11 @@ use crate::Line;
 /// Which rule of the grammar a line breaks.
 #[derive(Clone, Copy, Debug, PartialEq, Eq)]
 pub enum Kind {
-    /// The first word is no command.
+    /// The first word isn't a command.
     Word = 1,
     /// The number of words is wrong.
     Count = 2,
-    /// A word is no number in its range.
+    /// A word isn't a number in its range.
     Number = 3,
     /// A port is above the greatest one.
     Port = 4,
@@ -31,7 +31,7 @@ pub struct Posted {
     pub line: Line,
 }
 
-/// One byte of 0 at the front of data line 0.
+/// One byte of 0, at the beginning of data line 0.
 impl Default for Posted {
     ghost is_default = { λ write. write ≡ first_byte_of_zeros };
 
@@ -54,8 +54,8 @@ pub enum Command {
         at: u64,
         line: Line,
     },
-    /// `count` bytes wait at a port to be written at place `from` of a line. They stand at the front
-    /// of `line`, whose other bytes are 0.
+    /// `count` bytes wait at a port to be written at place `from` of a line. They are the first bytes of `line`, whose
+    /// other bytes are 0.
     Part {
         port: u8,
         at: u64,
@@ -76,7 +76,7 @@ pub enum Command {
         port: u8,
         at: u64,
     },
-    /// One line of the oldest page under re-encryption is sealed anew.
+    /// One line of the oldest page under re-encryption is resealed.
     Turn,
     /// The oldest dirty metadata line is written back.
     Flush,

@@ -1,4 +1,4 @@
-//! What a call may answer in place of its value.
+//! What a call may answer instead of its value.
 ghost use Rattle.std.specs.Prelude.{⊤};
 
 use std::alloc::AllocError;

@@ -1,4 +1,4 @@
-//! The geometry of a memory, and where its parts stand on the device.
+//! The geometry of a memory, and the place of each part on the device.
 ghost use Rattle.std.specs.Prelude.{◌≡◌, ◌<◌, ◌≤◌, ◌^◌, ◌↔◌, IsTrue, IfOk, IsErrOf};
 ghost use Rattle.pmem_base.specs.Shape.{HasLevels, HasSets, HasWays, is_loss, IsShape};
 ghost use Rattle.pmem_base.specs.Layout.{pages, data_lines, meta_lines, slots, shadow_lines, device_lines, tag_line, meta_line, shadow_line, IsOneToOne};
@@ -31,7 +31,7 @@ pub struct Geo {
 impl Geo {
     ghost use Rattle.pmem_base.specs.Geo.{shape_of};
 
-    /// The geometry of these numbers, or the first of them that is out of its range.
+    /// The geometry of these numbers. Errors: the first of them, in this order, that is out of its range.
     pub fn new(levels: u8, sets: u8, ways: u8, loss: u8, major: u64) -> Result<Geo, GeoFault>
         ensures levels { IsErrOf result GeoFault.Levels ↔ (¬ HasLevels levels) }
         ensures sets { IsErrOf result GeoFault.Sets ↔ (HasLevels levels × ¬ HasSets sets) }

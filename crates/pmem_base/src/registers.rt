@@ -71,7 +71,7 @@ impl Regs {
         self.loss = regs.loss;
     }
 
-    /// The same registers with an empty group.
+    /// These registers with an empty group.
     pub fn emptied(&self) -> Regs
         ensures { result ≡ without_group self.now }
     {

@@ -13,6 +13,6 @@ IsOpenedBy words any = MatchOption (task_of (words_of words)) ⊥ (λ task. IsOp
 abbrev pub AreSessionWords : List ℕ → Type 0
 AreSessionWords words = All IsUtf8 (words_of words) × MatchOption (task_of (words_of words)) ⊥ IsSession
 
--- no session is opened: for want of memory (1), or since the words are not those of one (2)
+-- no session is opened: because memory ran out (1), or since the words are not those of one (2)
 abbrev pub IsUnopened : List ℕ → ℕ → Type 0
 IsUnopened words status = (status ≡ 1) ⊎ ((status ≡ 2) × ¬ AreSessionWords words)

@@ -8,7 +8,7 @@ use Rattle.pmem_c.specs.declared.Pmem.{Pmem}
 use Rattle.pmem_c.specs.declared.session.Session.{Session}
 use Rattle.pmem_c.specs.Opened.{IsOpenedBy, IsUnopened}
 
--- a handle that these calls wrote: it is open exactly where it holds a session
+-- a handle that these calls wrote: it is open if and only if it holds a session
 abbrev pub IsHandle : Pmem → Type 0
 IsHandle pmem = pmem.is_open ≡ is_some pmem.handle.held
 
@@ -29,7 +29,7 @@ pub record HasToldLine (old : Session) (line : List ℕ) (status : ℕ) (new : S
   pub its_status : status ≡ status_of_told told
   pub is_told : IsTold old.any line told new.reply.items new.any
 
--- a closed handle is told nothing, and an open one stays open
+-- a closed handle gets no line, and an open one stays open
 abbrev pub HasToldHeld : Option Session → List ℕ → ℕ → Option Session → Type 0
 HasToldHeld None line status new = (status ≡ 64) × (new ≡ None)
 HasToldHeld (Some old) line status (Some new) = HasToldLine old line status new

@@ -24,7 +24,7 @@ abbrev pub are_no_exhibit : List Word → Bool
 are_no_exhibit [] = true
 are_no_exhibit (name ∷ words) = is_comment name
 
--- they are skipped where they have at most 1,024 bytes
+-- they are skipped if they have at most 1,024 bytes
 unfoldable pub is_skipped : List ℕ → Bool
 is_skipped line = nat_le (length line) 1024 && are_no_exhibit (words_of (without_return line))
 
@@ -47,7 +47,7 @@ found_on (Ok found) (line ∷ lines) = found_on (found_with found line) lines
 abbrev pub found_in_lines : Option Exhibit → List (List ℕ) → Result (Option Exhibit) Kind
 found_in_lines found lines = found_on (Ok found) lines
 
--- ---- stops, from what was found before and after so many lines
+-- ---- stops, from what was found before and after that many lines
 
 -- all lines were read, and there are no more than a trace may have
 pub record IsFoundIn (found : Option Exhibit) (served : ℕ) (lines : List (List ℕ)) (after : Option Exhibit) : Type 0 where
@@ -98,7 +98,7 @@ LooksTo found served (Refused number kind) bytes left after = IsRefusedIn found 
 LooksTo found served Shown bytes left after = ⊥
 LooksTo found served TooManyLines bytes left after = IsPastLimit found served (lines_of bytes) after
 
--- the same where the source may tell no bytes
+-- the same if the source may tell no bytes
 abbrev pub HasCheckedLines : Stop → Option (List ℕ) → Option (List ℕ) → Option Exhibit → Option Exhibit → ℕ → Type 0
 HasCheckedLines stop ahead left before after served = (stop ≢ Words) × (stop ≢ WriteFault) × IfSome ahead (λ bytes. LooksTo before served stop bytes left after)
 
@@ -128,7 +128,7 @@ pub record IsFailed (formulas : Formulas) (bytes : List ℕ) : Type 0 where
   pub found : IsFoundIn None 0 (lines_of bytes) (Some shown)
   pub fails : ¬ IsExhibit formulas shown
 
--- no exhibit was found, which is told as line 0
+-- no exhibit was found, which is reported as line 0
 pub record IsMissing (bytes : List ℕ) (number : ℕ) (kind : Kind) : Type 0 where
   pub found : IsFoundIn None 0 (lines_of bytes) None
   pub its_number : number ≡ 0
@@ -150,7 +150,7 @@ IsChecked formulas (Stopped (Refused number kind)) bytes left =
 IsChecked formulas (Stopped TooManyLines) bytes left =
     (after : Option Exhibit) × IsPastLimit None 0 (lines_of bytes) after
 
--- ---- before a pull, from what was found before and after so many lines
+-- ---- before a pull, from what was found before and after that many lines
 
 -- The whole lines of these bytes were read, none is refused, and what was given of the next line decides no stop.
 pub record IsLookedThrough (found : Option Exhibit) (served : ℕ) (given : List ℕ) : Type 0 where

@@ -1,5 +1,5 @@
--- That a run of a trace leaves nothing open: what the clauses of `run` allow to be put and answered for the same words
--- and the same trace, where no pull and no push failed and memory could be had, is one text with one status.
+-- That a run of a trace leaves nothing open: what the clauses of `run` allow to be put and answered for the same words and the same trace,
+-- if no pull and no push failed and memory was there, is one text with one status.
 use Rattle.std.specs.Prelude.{◌≡◌, ◌≢◌, ◌↔◌, ◌++◌, ℕ, List, Option, Some, None, IfSome, IsNone, ◌⊎◌, []}
 use Rattle.collision_witness.specs.Words.{Word}
 use Rattle.pmem_cli.specs.Causes.{Rose}
@@ -9,8 +9,8 @@ use Rattle.plain_model.specs.declared.Stop.{Stop}
 use Rattle.plain_model.specs.declared.Stop.TheVariants.{Memory, ReadFault}
 use Rattle.plain_model.specs.Run.{stop_text, status_of}
 
--- What is seen of a call of `run`: its status, how many pulls and pushes had failed before and after it, the bytes that
--- the source had left, and those that the sink had put, where they are told.
+-- What is seen of a call of `run`: its status, how many pulls and pushes had failed before and after it, the bytes that the source had
+-- left, and those that the sink had put, if they are exposed.
 pub record Call : Type 0 where
   pub status : ℕ
   pub pulls_before : ℕ
@@ -37,8 +37,8 @@ call_over status left pulls_failed trace_old trace_new put pushes_failed out_old
       put_after = put out_new;
     }
 
--- What a call with these words is to its user: faulty words alone give status 2, and then their line was put; else what
--- was put is what the words ask for, as the status says. The statuses for faults come only where one came.
+-- What a call with these words is to its user: faulty words alone give status 2, and then their line was put; else what was put is what the
+-- words ask for, as the status says. The statuses for faults come only if one came.
 pub record IsCallWith (words : List Word) (call : Call) : Type 0 where
   pub faulty : (call.status ≡ 2) ↔ IsNone (task_of words)
   pub refused : call.status ≡ 2 → AreRefusedWords call.put_before call.put_after call.pushes_before call.pushes_after
@@ -55,7 +55,7 @@ IsByMachine words call =
     IfSome (task_of words) (λ task.
     TaskMachine task call.status (Rose call.pulls_before call.pulls_after) call.trace call.left call.put_before call.put_after)
 
--- the source told this trace and the sink what it had put, no pull and no push failed, and memory could be had
+-- the source told this trace and the sink what it had put, no pull and no push failed, and memory was there
 pub record IsUndisturbed (trace put : List ℕ) (call : Call) : Type 0 where
   pub trace_told : call.trace ≡ Some trace
   pub put_told : call.put_before ≡ Some put
@@ -77,15 +77,15 @@ RunIsDetermined =
 
 -- ---- a call that was disturbed
 
--- The line of a stop that broke a call off: the whole of it, with the stop's status, or a front of it, with status 4.
+-- The line of a stop that broke a call off: the whole of it, with the stop's status, or a prefix of it, with status 4.
 abbrev pub HasBreakLine : Call → List ℕ → Type 0
 HasBreakLine call line =
     (stop : Stop) × ((stop ≡ Memory) ⊎ (stop ≡ ReadFault))
     × (((call.status ≡ status_of stop) × (line ≡ stop_text stop))
     ⊎ ((call.status ≡ 4) × (rest : List ℕ) × (stop_text stop ≡ line ++ rest)))
 
--- What the first call put is a front of what the second put, and then maybe a line: it is all of that, with the same status; or a
--- push failed; or the line of the stop follows that broke it off.
+-- What the first call put is a prefix of what the second put, and then maybe a line: it is all of that, with the same status; or a push
+-- failed; or the line of the stop follows that broke it off.
 pub record IsFrontOf (put : List ℕ) (a b : Call) : Type 0 where
   pub done : List ℕ
   pub rest : List ℕ

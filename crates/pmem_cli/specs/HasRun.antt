@@ -33,10 +33,9 @@ use Rattle.pmem_cli.specs.Wear.{wear_language, wear_chosen}
 
 -- ---- at the end of the program
 
--- The trace ends by a stop, and its steps and the stop's line were put: the whole of them, with the
--- stop's own status, or a front of them, with status 4. Whatever the status, the stop is a failed pull only
--- where one failed, and want of memory only where the next command takes memory in that state, or before the first
--- line, of which then nothing was taken.
+-- The trace ends by a stop, and its steps and the stop's line were put: the whole of them, with the stop's own status, or a prefix of them,
+-- with status 4. Whatever the status, the stop is a failed pull only if one failed, and running out of memory only if the next command
+-- takes memory in that state, or before the first line, of which then nothing was taken.
 pub record HasRun (setup : Setup) (status : ℕ) (pull_failed : Type 0) (trace left put_before put_after : Option (List ℕ)) : Type 0 where
   pub stop : Stop
   pub steps : List Step
@@ -54,14 +53,14 @@ pub record IsWorldRun (setup : Setup) (status : ℕ) (pull_failed : Type 0) (tra
   pub told : HasRun setup status pull_failed trace left put_before put_after
   pub replayed : IsReplayed setup told.stop told.steps
 
--- A text was put: the whole of it, with status 0, or a front of it, with status 4.
+-- A text was put: the whole of it, with status 0, or a prefix of it, with status 4.
 pub record HasTextPut (text : List ℕ) (status : ℕ) (put_before put_after : Option (List ℕ)) : Type 0 where
   pub its_status : status ≢ 4 → status ≡ 0
   pub whole : status ≢ 4 → Appends put_before put_after text
   pub front : AppendsFront put_before put_after text
 
--- The commands were run to a stop, and the last line of that was put: the whole of it, with the stop's own
--- status, or a front of it, with status 4.
+-- The commands were run to a stop, and the last line of that was put: the whole of it, with the stop's own status, or a prefix of it, with
+-- status 4.
 pub record HasSampled (setup : Setup) (commands : List Command) (status : ℕ) (put_before put_after : Option (List ℕ)) : Type 0 where
   pub stop : Stop
   pub steps : List Step
@@ -78,8 +77,8 @@ pub record IsWorldSample (setup : Setup) (commands : List Command) (status : ℕ
   pub told : HasSampled setup commands status put_before put_after
   pub replayed : IsReplayed setup told.stop told.steps
 
--- The source was checked to an ending, and its line was put: the whole of it, with the ending's own
--- status, or a front of it, with status 4. Whatever the status, the ending is a failed pull only where one failed.
+-- The source was checked to an ending, and its line was put: the whole of it, with the ending's own status, or a prefix of it, with status
+-- 4. Whatever the status, the ending is a failed pull only if one failed.
 pub record HasCheckedTrace (choices : Choices) (status : ℕ) (pull_failed : Type 0) (trace left put_before put_after : Option (List ℕ)) : Type 0 where
   pub ending : Ending
   pub checked : IfSome trace (λ bytes. IsChecked (formulas_of choices) ending bytes left)
@@ -116,7 +115,7 @@ TaskMachine (Task.Txn c) status pull_failed trace left before after = IsSaidBySe
 abbrev pub IsInGrammar : List ℕ → Type 0
 IsInGrammar bytes = All (λ line. IsOk (reading_of line)) (lines_of bytes) × (length (lines_of bytes) ≤ line_limit)
 
--- a run goes through where all lines are in the grammar and within the limit, and no fault came
+-- a run goes through if all lines are in the grammar and within the limit, and no fault came
 abbrev pub IsComplete : Task → ℕ → Option (List ℕ) → Type 0 → Type 0
 IsComplete (Task.Run c) status trace fault = IfSome trace (λ bytes. IsInGrammar bytes → ¬ fault → IsRunThrough status)
 IsComplete (Task.Log c) status trace fault = IfSome trace (λ bytes. IsInGrammar bytes → ¬ fault → IsRunThrough status)
@@ -130,7 +129,7 @@ abbrev pub GoesThrough : {S K : Type 0} → Task → ℕ → (S → Option (List
 GoesThrough task status left pulls_failed trace_old trace_new pushes_failed out_old out_new =
     IsComplete task status (left trace_old) (AnyRose pulls_failed trace_old trace_new pushes_failed out_old out_new)
 
--- The one line that faulty words are answered with was put, or the sink failed and a front of it was.
+-- The one line that faulty words are answered with was put, or the sink failed and a prefix of it was.
 abbrev pub AreRefusedWords : Option (List ℕ) → Option (List ℕ) → ℕ → ℕ → Type 0
 AreRefusedWords put_before put_after faults_before faults_after =
     Appends put_before put_after (stop_text Words)
@@ -188,7 +187,7 @@ pub record CheckEnds (choices : Choices) (ending : Ending) (trace left : Option 
   pub write : ending ≢ Stopped WriteFault
   pub kept : to ≡ from
 
--- what was asked for was done, but for the last line
+-- what was asked for was done, except for the last line
 abbrev pub HasEnded : Task → Ending → Option (List ℕ) → Option (List ℕ) → Output → Output → Type 0
 HasEnded (Task.Run c) ending trace left from to = RunEnds (setup_chosen c) ending trace left from to
 HasEnded (Task.Log c) ending trace left from to = LoggedRunEnds (setup_chosen c) ending trace left from to

@@ -13,7 +13,7 @@ use Rattle.pmem_cli.specs.declared.options.SuiteName.{SuiteName}
 use Rattle.pmem_cli.specs.declared.options.SuiteName.TheVariants.{Aes, Weak, Blur}
 use Rattle.pmem_cli.specs.declared.options.Choices.{Choices}
 
--- the key: the bytes 00 to 0f where none is chosen
+-- the key: the bytes 00 to 0f if none is chosen
 abbrev pub chosen_key : Choices → List ℕ
 chosen_key c = unwrap_or c.key (range_with_len 0 16)
 
@@ -22,7 +22,7 @@ abbrev pub tag_key_bytes : Option (ℕ × Line) → List ℕ
 tag_key_bytes None = range_with_len 16 32
 tag_key_bytes (Some key) = take key.0 key.1.0
 
--- the tag key: the bytes 10 to 2f where none is chosen
+-- the tag key: the bytes 10 to 2f if none is chosen
 abbrev pub chosen_tag_key : Choices → List ℕ
 chosen_tag_key c = tag_key_bytes c.tag_key
 
@@ -41,12 +41,11 @@ suite_keys_named Blur keys = keys ++ blur_flag true ∷ []
 abbrev pub suite_keys_chosen : Choices → List ℕ
 suite_keys_chosen c = suite_keys_named (unwrap_or c.suite Aes) (chosen_key c ++ chosen_tag_key c)
 
--- aes where no suite is chosen
+-- aes if no suite is chosen
 unfoldable pub formulas_of : Choices → Formulas
 formulas_of c = formulas_named (unwrap_or c.suite Aes) (chosen_key c ++ chosen_tag_key c)
 
--- the geometry: two levels of nodes, four sets of two ways, windows of four minors and major 0 at first,
--- where nothing is chosen
+-- the geometry: two levels of nodes, four sets of two ways, windows of four minors and major 0 at first, if nothing is chosen
 unfoldable pub shape_chosen : Choices → Shape
 shape_chosen c =
     record {
@@ -64,6 +63,6 @@ setup_chosen c = record { shape = shape_chosen c; formulas = formulas_of c }
 abbrev pub setup_made : {U : Type 0} → Geo → (List ℕ → Formulas) → (U → List ℕ) → U → Setup
 setup_made geo formulas_of keys suite = record { shape = shape_of geo; formulas = formulas_of (keys suite) }
 
--- after how many writes the gap of a levelled memory moves: 100 where none is chosen
+-- after how many writes the gap of a levelled memory moves: 100 if none is chosen
 abbrev pub every_chosen : Choices → ℕ
 every_chosen c = unwrap_or c.every 100

@@ -1,4 +1,4 @@
--- A run whose accesses of the board are told before each reply.
+-- A run that prints its accesses of the board before each reply.
 use Rattle.std.specs.Prelude.{◌≡◌, ◌≢◌, ◌⊎◌, ◌<◌, ◌-◌, ◌++◌, ℕ, false, List, [], ◌∷◌, codes, decimal, length, map, All, Option, Some, None, Ok, Err, IfSome}
 use Rattle.std.specs.List.{flat_map}
 use Rattle.std.specs.Io.KnownBytes.{Appends}
@@ -70,10 +70,9 @@ pub record IsTold (old : WorldState) (logged : LoggedStep) (new : WorldState) : 
   pub tags : logged.tags ≡ new.tags - old.tags
   pub digests : logged.digests ≡ new.digests - old.digests
 
--- ---- want of memory
+-- ---- running out of memory
 
--- the reply to a line that reads so, with its log, may want memory in this state: for the reply, or for an access that is
--- logged
+-- the reply to a line that reads so, with its log, may run out of memory in this state: for the reply, or for an access that is logged
 abbrev pub WantsMemoryLogged : Shape → PlainState → Reading → Type 0
 WantsMemoryLogged g state (Ok (Some command)) = CanWantMemory state command ⊎ CanAccess g state command
 WantsMemoryLogged g state (Ok None) = ⊥
@@ -94,7 +93,7 @@ pub record EndsTold (formulas_of : List ℕ → Formulas) (old : WorldState) (li
   pub stepped : IsWorldStep (standing_of formulas_of old).setup old logged.step next
   pub told : IsTold old logged next
 
--- a world whose accesses are told, as what answers the lines of a trace
+-- a world that prints its accesses, as what answers the lines of a trace
 abbrev pub logged_protocol : (List ℕ → Formulas) → Protocol WorldState LoggedStep
 logged_protocol formulas_of =
     record {
@@ -117,22 +116,22 @@ AnswersTold formulas_of stop command old new from to =
 abbrev pub steps_logged : List LoggedStep → List Step
 steps_logged all = map (λ logged. logged.step) all
 
--- memory was wanted for the reply to the first of these lines or for its log, and the line isn't past the limit
+-- memory was needed for the reply to the first of these lines or for its log, and the line isn't past the limit
 abbrev pub IsMemoryWantedLogged : Shape → PlainState → ℕ → List (List ℕ) → Type 0
 IsMemoryWantedLogged g state served [] = ⊥
 IsMemoryWantedLogged g state served (line ∷ lines) =
     WantsMemoryLogged g state (reading_of line) × (served < line_limit)
 
--- A front of the lines is run, and memory was wanted for the reply to the next line's command or for its log, in the
--- state that the front left; or it was wanted before the first line, and no byte was taken.
+-- A prefix of the lines is run, and memory was needed for the reply to the next line's command or for its log, in the state that the prefix
+-- left; or it was needed before the first line, and no byte was taken.
 pub record IsStarvedLogged (setup : Setup) (machine : Machine) (trace : List ℕ) (left : Option (List ℕ)) (steps : List Step) : Type 0 where
   pub front : IsFrontFrom setup machine (lines_of trace) steps
   pub wanting :
       ((length front.before ≡ 0) × (left ≡ Some trace))
       ⊎ IsMemoryWantedLogged setup.shape (machine_after_all setup machine steps).state (length front.before) front.behind
 
--- What a stop says of a trace, of what is left of it, and of the steps: as without a log, but for want of memory,
--- which may be for the log.
+-- What a stop says of a trace, of what is left of it, and of the steps: as without a log, except that memory may run out, which may be for
+-- the log.
 abbrev pub LoggedEndsFrom : Setup → Machine → Stop → List ℕ → Option (List ℕ) → List Step → Type 0
 LoggedEndsFrom setup machine Memory trace left steps = IsStarvedLogged setup machine trace left steps
 LoggedEndsFrom setup machine stop trace left steps = EndsFrom setup machine 0 stop trace left steps
@@ -140,13 +139,13 @@ LoggedEndsFrom setup machine stop trace left steps = EndsFrom setup machine 0 st
 abbrev pub LoggedEnds : Setup → Stop → List ℕ → Option (List ℕ) → List Step → Type 0
 LoggedEnds setup stop trace left steps = LoggedEndsFrom setup (start setup) stop trace left steps
 
--- each of these commands was answered by the world that the ones before it left, and what it took is told
+-- each of these commands was answered by the world that the ones before it left, and what it took is printed
 abbrev pub AreTold : Setup → WorldState → List LoggedStep → WorldState → Type 0
 AreTold setup world [] last = last ≡ world
 AreTold setup world (logged ∷ later) last =
     (next : WorldState) × IsWorldStep setup world logged.step next × IsTold world logged next × AreTold setup next later last
 
--- a formatted world answered them, or memory was wanted for it and none was answered
+-- a formatted world answered them, or memory was needed for it and none was answered
 abbrev pub IsReplayedTold : Setup → Stop → List LoggedStep → Type 0
 IsReplayedTold setup stop all =
     ((stop ≡ Memory) × (all ≡ [])) ⊎ ((first last : WorldState) × IsFirstWorld setup first × AreTold setup first all last)
@@ -156,7 +155,7 @@ logged_texts all = flat_map logged_text all
 
 -- ---- at the end of the program
 
--- A trace was run as without a log, but that each reply is told with its log before it.
+-- A trace was run as without a log, except that each reply is printed with its log before it.
 pub record HasLoggedRun (setup : Setup) (status : ℕ) (pull_failed : Type 0) (trace left put_before put_after : Option (List ℕ)) : Type 0 where
   pub stop : Stop
   pub all : List LoggedStep

@@ -13,7 +13,7 @@ Takes Ended unread rest line longer = (part : List ℕ) × (unread ≡ part ++ 1
 Takes Part unread rest line longer = (rest ≡ []) × (longer ≡ line ++ unread) × IsWithin unread × (length longer ≤ 1024)
 Takes TooLong unread rest line longer = (part : List ℕ) × (unread ≡ part ++ rest) × IsWithin part × (1024 < length line + length part)
 
--- what was found at the front of the bytes that were ahead
+-- what was found at the beginning of the bytes that were ahead
 abbrev pub Finds : Found → Option (List ℕ) → Option (List ℕ) → List ℕ → Type 0
 Finds Line ahead behind line = Consumes ahead behind (ended line) × IsWithin line
 Finds Last ahead behind line = Consumes ahead behind line × IsWithin line × (0 < length line) × IsAtEnd behind

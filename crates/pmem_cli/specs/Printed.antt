@@ -2,14 +2,14 @@
 use Rattle.std.specs.Prelude.{◌≡◌, ◌++◌, ◌⊎◌, ℕ, List, Option}
 use Rattle.std.specs.Io.KnownBytes.{Appends}
 
--- a front of these bytes was put
+-- a prefix of these bytes was put
 pub record AppendsFront (before after : Option (List ℕ)) (bytes : List ℕ) : Type 0 where
   pub done : List ℕ
   pub rest : List ℕ
   pub cut : bytes ≡ done ++ rest
   pub appended : Appends before after done
 
--- the bytes that were put, where they are told, and those that wait to be put after them
+-- the bytes that were put, if they are exposed, and those that wait to be put after them
 pub record Output : Type 0 where
   pub put : Option (List ℕ)
   pub waiting : List ℕ
@@ -17,7 +17,7 @@ pub record Output : Type 0 where
 abbrev pub with_waiting : Option (List ℕ) → List ℕ → Output
 with_waiting put waiting = record { put = put; waiting = waiting }
 
--- a text was printed: what waited and then the text was put, but for what waits now
+-- a text was printed: what waited and then the text was put, except for what waits now
 pub record Prints (before after : Output) (text : List ℕ) : Type 0 where
   pub done : List ℕ
   pub in_order : before.waiting ++ text ≡ done ++ after.waiting
@@ -27,7 +27,7 @@ pub record Prints (before after : Output) (text : List ℕ) : Type 0 where
 abbrev pub PutsAtLeast : Output → Option (List ℕ) → List ℕ → Type 0
 PutsAtLeast before put text = (more : List ℕ) × Appends before.put put (before.waiting ++ text ++ more)
 
--- a front of what waited and then the text was put
+-- a prefix of what waited and then the text was put
 abbrev pub PrintsFront : Output → Output → List ℕ → Type 0
 PrintsFront before after text = AppendsFront before.put after.put (before.waiting ++ text)
 
@@ -37,7 +37,7 @@ PrintsFront before after text = AppendsFront before.put after.put (before.waitin
 abbrev pub HasPrinted : {K : Type 0} → (K → Option (List ℕ)) → K → K → List ℕ → List ℕ → List ℕ → Type 0
 HasPrinted put out_old out_new waited waiting text = Prints (with_waiting (put out_old) waited) (with_waiting (put out_new) waiting) text
 
--- a front of the text was, where the sink failed
+-- a prefix of the text was, if the sink failed
 abbrev pub HasPrintedFront : {K : Type 0} → (K → Option (List ℕ)) → K → K → List ℕ → List ℕ → List ℕ → Type 0
 HasPrintedFront put out_old out_new waited waiting text =
     PrintsFront (with_waiting (put out_old) waited) (with_waiting (put out_new) waiting) text

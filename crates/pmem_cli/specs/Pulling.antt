@@ -30,26 +30,26 @@ IsInTime before now = before ≡ Open → now ≢ Late
 abbrev pub RemembersLeft : Option (List ℕ) → Option (List ℕ) → Type 0
 RemembersLeft remembered left = IfSome remembered (λ bytes. left ≡ Some bytes)
 
--- where nothing stopped, more may follow
+-- if nothing stopped, more may follow
 pub record PullsInTime (stop : Option Stop) (before now : Pulls) : Type 0 where
   pub may_pull : stop ≡ None → StaysOpen before now
   pub in_time : IsInTime before now
 
--- What was given of the line behind so many lines decides no stop: it is no longer than a line may be, and nothing
--- behind as many lines as a trace may have.
+-- What was given of the line behind that many lines decides no stop: it is no longer than a line may be, and nothing behind as many lines
+-- as a trace may have.
 pub record IsUndecided (lines : ℕ) (part : List ℕ) : Type 0 where
   pub unfinished : IsWithin part
   pub short : length part ≤ 1024
   pub counted : lines ≤ line_limit
   pub at_limit : lines ≡ line_limit → part ≡ []
 
--- Before the last pull only so much had been taken of what was ahead behind so many lines. The source may not
--- remember what was left then.
+-- Before the last pull only so much had been taken of what was ahead behind that many lines. The source may not remember what was left
+-- then.
 abbrev pub PullsUndecided : ℕ → Option (List ℕ) → Option (List ℕ) → Type 0
 PullsUndecided lines ahead left_before =
     IfSome left_before (λ behind. (part : List ℕ) × Consumes ahead (Some behind) part × IsUndecided lines part)
 
--- the same where the count of lines isn't looked at
+-- the same if the count of lines isn't looked at
 abbrev pub PullsWithinLine : Option (List ℕ) → Option (List ℕ) → Type 0
 PullsWithinLine ahead left_before =
     IfSome left_before (λ behind. (part : List ℕ) × Consumes ahead (Some behind) part × IsWithin part × (length part ≤ 1024))

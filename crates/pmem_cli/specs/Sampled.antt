@@ -37,8 +37,8 @@ pub record IsLastAnswer (setup : Setup) (machine : Machine) (commands : List Com
 abbrev pub IsLineOf : Answer → List ℕ → Type 0
 IsLineOf answer text = text ≡ as_line (answer_text answer)
 
--- What a stop says of the run of these commands from a machine on, and of the text that is printed of it:
--- the last answer, which is an exhibit exactly at that stop. Where memory was wanted, nothing is said.
+-- What a stop says of the run of these commands from a machine on, and of the text that is printed of it: the last answer, which is an
+-- exhibit if and only if the stop is that one. If memory was needed, nothing is said.
 abbrev pub SampleEnds : Setup → Machine → List Command → Stop → List Step → List ℕ → Type 0
 SampleEnds setup machine commands Finished steps text =
     (answer : Answer) × IsLastAnswer setup machine commands steps answer × IsLineOf answer text × (is_shown answer ≡ false)
@@ -70,7 +70,7 @@ abbrev pub HasReachedAnswer : Standing → List Command → Answer → Type 0
 HasReachedAnswer before commands answer =
     (steps : List Step) × IsLastAnswer before.setup before.machine commands steps answer × LeadsOn before steps
 
--- a text was printed, or a front of it where the sink failed
+-- a text was printed, or a prefix of it if the sink failed
 pub record HasSaidText (stop : Stop) (from to : Output) (text : List ℕ) : Type 0 where
   pub whole : stop ≢ WriteFault → Prints from to text
   pub front : PrintsFront from to text

@@ -1,4 +1,4 @@
--- What the program says of a session that a command of its own runs, whichever session that is.
+-- What the program says of a session that has its own command, whichever session that is.
 use Rattle.std.specs.Prelude.{◌≡◌, ◌≢◌, ◌⊎◌, ◌++◌, ⊤, ℕ, Bool, List, [], ◌∷◌, Option, IfSome}
 use Rattle.std.specs.Io.KnownBytes.{Appends}
 use Rattle.pmem_base.specs.declared.answers.Exhibit.{Exhibit}
@@ -19,7 +19,7 @@ use Rattle.pmem_cli.specs.Telling.{ReplyAs, said_in, said_by, log_before, voice}
 
 -- ---- a session
 
--- what a session says to a line that asks: a reply, which is a command with its answer, or an exhibit in place of one
+-- what a session says to a line that asks: a reply, which is a command with its answer, or an exhibit instead of one
 pub data Said (R : Type 0) : Type 0 where
   reply : R → Said R
   exhibit : Exhibit → Said R
@@ -42,9 +42,9 @@ pub record Session (S R : Type 0) : Type 1 where
   pub begins : S → Type 0
   -- the state before, a command with its answer, and the state after
   pub answers : S → R → S → Type 0
-  -- the state before, a line that asks, an exhibit that ends the session in place of a reply, and the state after
+  -- the state before, a line that asks, an exhibit that ends the session instead of a reply, and the state after
   pub shows : S → List ℕ → Exhibit → S → Type 0
-  -- the state before, and a line that asks, for which memory may be wanted
+  -- the state before, and a line that asks, for which memory may be needed
   pub wants_memory : S → List ℕ → Type 0
   -- the state before, a line, the log of the board's accesses before and after, and the state after
   pub logs : S → List ℕ → Option (List Access) → Option (List Access) → S → Type 0
@@ -77,7 +77,7 @@ session_protocol session =
       runs = λ state. ⊤;
     }
 
--- the replies among what was said, and the exhibits
+-- the replies among what was answered, and the exhibits
 abbrev pub replies_among : {R : Type 0} → List (Said R) → List R
 replies_among [] = []
 replies_among (reply its ∷ said) = its ∷ replies_among said
@@ -88,7 +88,7 @@ exhibits_among [] = []
 exhibits_among (reply its ∷ said) = exhibits_among said
 exhibits_among (exhibit its ∷ said) = its ∷ exhibits_among said
 
--- the same as it is told: each reply by itself, or with what its command took before it
+-- the same as it is printed: each reply by itself, or with what its command took before it
 abbrev pub telling : {S R : Type 0} → Session S R → (logged : Bool) → Protocol S (ReplyAs (Said R) logged)
 telling session logged = voice (session_protocol session) session.logs session.work logged
 
@@ -115,22 +115,21 @@ spoken {R} language logged =
       runs = λ state. ⊤;
     }
 
--- This was said to the lines of the trace, up to the stop; and it is as the language promises.
+-- This was answered to the lines of the trace, up to the stop; and it is as the language promises.
 pub record IsSpoken {R : Type 0} (language : Language R) (logged : Bool) (stop : Stop) (trace left : Option (List ℕ))
     (replies : List (ReplyAs (Said R) logged)) : Type 0 where
   pub ends : IfSome trace (λ bytes. TalkEnds (spoken language logged) tt 0 stop bytes left replies)
   pub given : AreRepliesGiven (spoken language logged) tt replies
   pub promised : language.promises (said_by (Said R) logged replies)
 
--- Memory was wanted before the first line, and nothing was taken; or it came to the stop.
+-- Memory was needed before the first line, and nothing was taken; or it came to the stop.
 abbrev pub Speaks : {R : Type 0} → Language R → (logged : Bool) → Stop → Option (List ℕ) → Option (List ℕ)
     → List (ReplyAs (Said R) logged) → Type 0
 Speaks language logged stop trace left replies =
     ((stop ≡ Memory) × (replies ≡ []) × (left ≡ trace)) ⊎ IsSpoken language logged stop trace left replies
 
--- The session came to a stop, and its replies and the stop's line were put: the whole of them, with the
--- stop's own status, or a front of them, with status 4. Whatever the status, the stop is a failed pull only
--- where one failed.
+-- The session came to a stop, and its replies and the stop's line were put: the whole of them, with the stop's own status, or a prefix of
+-- them, with status 4. Whatever the status, the stop is a failed pull only if one failed.
 pub record HasSession {R : Type 0} (language : Language R) (logged : Bool) (status : ℕ) (pull_failed : Type 0)
     (trace left put_before put_after : Option (List ℕ)) : Type 0 where
   pub stop : Stop
@@ -156,7 +155,7 @@ pub record IsConversation {S R : Type 0} (session : Session S R) (logged : Bool)
   pub given : AreRepliesGiven (telling session logged) first replies
   pub kept : session.keeps first (said_by (Said R) logged replies)
 
--- Memory was wanted for the session itself, and nothing was taken; or it came to the stop.
+-- Memory was needed for the session itself, and nothing was taken; or it came to the stop.
 abbrev pub Converses : {S R : Type 0} (session : Session S R) (logged : Bool) → Stop → Option (List ℕ) → Option (List ℕ)
     → List (ReplyAs (Said R) logged) → Type 0
 Converses session logged stop trace left replies =

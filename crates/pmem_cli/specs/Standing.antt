@@ -39,7 +39,7 @@ pub record IsFirstWorld (setup : Setup) (world : WorldState) : Type 0 where
   pub new : IsNewWorld setup world
   pub work : HasFormatWork setup.shape 0 0 world
 
--- a formatted world answered them, or memory was wanted for it and none was answered
+-- a formatted world answered them, or memory was needed for it and none was answered
 abbrev pub IsReplayed : Setup → Stop → List Step → Type 0
 IsReplayed setup stop steps =
     ((stop ≡ Memory) × (steps ≡ [])) ⊎ ((first last : WorldState) × IsFirstWorld setup first × AreStepped setup first steps last)

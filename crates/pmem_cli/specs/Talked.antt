@@ -16,9 +16,8 @@ use Rattle.pmem_cli.specs.Pulling.{IsUndecided}
 abbrev pub talk_of : {T : Type 0} → Ghosts T → Protocol T (List ℕ)
 talk_of session = talk_protocol session.sort_of session.answers session.shows session.wants_memory
 
--- The trace ends by a stop, and its replies and the stop's line were put: the whole of them, with the
--- stop's own status, or a front of them, with status 4. Whatever the status, the stop is a failed pull only
--- where one failed.
+-- The trace ends by a stop, and its replies and the stop's line were put: the whole of them, with the stop's own status, or a prefix of
+-- them, with status 4. Whatever the status, the stop is a failed pull only if one failed.
 pub record HasTalked {S X : Type 0} (protocol : Protocol S X) (first : S) (status : ℕ) (pull_failed : Type 0)
     (trace left put_before put_after : Option (List ℕ)) : Type 0 where
   pub stop : Stop
@@ -41,11 +40,11 @@ IsNoFault (faulty kind) = ⊥
 abbrev pub IsInLanguage : {S X : Type 0} → Protocol S X → List ℕ → Type 0
 IsInLanguage protocol bytes = All (λ line. IsNoFault (line_sort protocol line)) (lines_of bytes) × (length (lines_of bytes) ≤ line_limit)
 
--- every command was answered, or the run ended by an exhibit, or memory was wanted
+-- every command was answered, or the run ended by an exhibit, or memory was needed
 abbrev pub IsRunThrough : ℕ → Type 0
 IsRunThrough status = (status ≡ 0) ⊎ ((status ≡ 6) ⊎ (status ≡ 1))
 
--- it goes through where no fault came
+-- it goes through if no fault came
 abbrev pub IsTalkComplete : {S X : Type 0} → Protocol S X → ℕ → Option (List ℕ) → Type 0 → Type 0
 IsTalkComplete protocol status trace fault = IfSome trace (λ bytes. IsInLanguage protocol bytes → ¬ fault → IsRunThrough status)
 

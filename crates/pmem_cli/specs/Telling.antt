@@ -1,4 +1,4 @@
--- Replies that are told with what their commands took of the board and the suite.
+-- Replies that are printed with what their commands took of the board and the suite.
 use Rattle.std.specs.Prelude.{◌≡◌, ◌⊎◌, ◌-◌, ◌++◌, ℕ, Bool, true, false, List, [], map, Option, Some, None}
 use Rattle.board.specs.declared.access.Access.{Access}
 use Rattle.plain_model.specs.declared.Stop.{Stop}
@@ -24,8 +24,8 @@ pub record IsToldOf {S X : Type 0} (logs : S → List ℕ → Option (List Acces
   pub tags : told.tags ≡ (work new).0 - (work old).0
   pub digests : told.digests ≡ (work new).1 - (work old).1
 
--- What answers lines, with what each command took told before its reply. Memory may be wanted for the log too, of a
--- command whose log may be lost.
+-- What answers lines, with what each command took printed before its reply. Memory may be needed for the log too, of a command whose log
+-- may be lost.
 abbrev pub told_protocol : {S X : Type 0} → Protocol S X → (S → List ℕ → Option (List Access) → Option (List Access) → S → Type 0) → (S → ℕ × ℕ)
     → Protocol S (Told X)
 told_protocol {S} {X} protocol logs work =
@@ -43,7 +43,7 @@ abbrev pub ReplyAs : Type 0 → Bool → Type 0
 ReplyAs X false = X
 ReplyAs X true = Told X
 
--- what was said by a reply, and what stands before it: its log, if that is printed
+-- what a reply answers, and what stands before it: its log, if that is printed
 abbrev pub said_in : (X : Type 0) → (logged : Bool) → ReplyAs X logged → X
 said_in X false said = said
 said_in X true told = told.said
@@ -52,7 +52,7 @@ abbrev pub log_before : (X : Type 0) → (logged : Bool) → ReplyAs X logged �
 log_before X false said = []
 log_before X true told = log_text told.accesses told.tags told.digests
 
--- what was said by all of them
+-- what all of them answer
 abbrev pub said_by : (X : Type 0) → (logged : Bool) → List (ReplyAs X logged) → List X
 said_by X false said = said
 said_by X true told = map (λ (its : Told X). its.said) told
@@ -67,7 +67,7 @@ voice protocol logs work true = told_protocol protocol logs work
 abbrev pub voice_of : {T : Type 0} → Ghosts T → (logged : Bool) → Protocol T (ReplyAs (List ℕ) logged)
 voice_of session logged = voice (talk_of session) session.logs session.work logged
 
--- A line was told with its log before it, or the sink failed at that; where the log was lost, nothing was.
+-- A line was answered with its log before it, or the sink failed at that; if the log was lost, nothing was.
 abbrev pub TellsLine : Option Stop → Option (List Access) → ℕ → ℕ → List ℕ → Output → Output → Type 0
 TellsLine None (Some accesses) tags digests text from to = Prints from to (log_text accesses tags digests ++ as_line text)
 TellsLine (Some WriteFault) (Some accesses) tags digests text from to =

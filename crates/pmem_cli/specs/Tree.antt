@@ -16,7 +16,7 @@ use Rattle.pmem_cli.specs.declared.options.Choices.{Choices}
 use Rattle.pmem_cli.specs.Keys.{setup_made, setup_chosen, suite_keys_chosen}
 use Rattle.pmem_cli.specs.Sessions.{Language, Session, Said, replies_among, exhibits_among}
 
--- an exhibit that ends the session in place of an answer to the line's command, and the state after it
+-- an exhibit that ends the session instead of an answer to the line's command, and the state after it
 pub record IsExhibitOf (setup : Setup) (old : SessionState) (line : List ℕ) (exhibit : Exhibit) (new : SessionState) : Type 0 where
   pub command : TreeCommand
   pub its_reading : reading_of_tree line ≡ Ok (Some command)
@@ -32,8 +32,8 @@ abbrev pub IsAllServed : List (Said TreeReply) → Type 0
 IsAllServed said =
     All (λ (reply : TreeReply). IsTreeAnswerUnrefused reply.answer) (replies_among said) × (exhibits_among said ≡ [])
 
--- What a session says promises: each answer is one that the commands and answers before it allow, and so is an exhibit, which
--- holds. Where nobody tampered with the device, nothing is refused or shown.
+-- What a session says promises: each answer is one that the commands and answers before it allow, and so is an exhibit, which holds. If
+-- nobody tampered with the device, nothing is refused or shown.
 pub record IsAsPromised (setup : Setup) (said : List (Said TreeReply)) : Type 0 where
   pub allowed : AreAllowed setup.shape (first_history setup.shape) (replies_among said)
   pub shown :

@@ -1,5 +1,5 @@
--- What one call leaves of a run: the lines that it took, the replies that it printed, and how it stopped. Each
--- definition is said of whatever answers the lines.
+-- What one call leaves of a run: the lines that it took, the replies that it printed, and how it stopped. Each definition holds for
+-- whatever answers the lines.
 use Rattle.std.specs.Prelude.{◌≡◌, ◌≢◌, ◌⊎◌, ℕ, List, [], ◌∷◌, All, IfSome, Option, Some, None}
 use Rattle.std.specs.List.{flat_map}
 use Rattle.std.specs.Io.KnownBytes.{Consumes, prepend_known}
@@ -23,8 +23,7 @@ pub record HasServed {S X : Type 0} (protocol : Protocol S X) (ahead behind : Op
   pub running : protocol.runs after
   pub printed : Prints from to (texts_of protocol replies)
 
--- The run stops here, after so many lines, and so much is left of the source. Where the sink didn't
--- fail, all replies were printed.
+-- The run stops here, after that many lines, and so much is left of the source. If the sink didn't fail, all replies were printed.
 pub record HasStopped {S X : Type 0} (protocol : Protocol S X) (stop : Stop) (ahead left : Option (List ℕ)) (before : S) (from to : Output)
     (served : ℕ) : Type 0 where
   pub replies : List X

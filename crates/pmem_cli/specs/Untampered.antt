@@ -1,4 +1,4 @@
--- What a run says where nothing was tampered with: no reply is a refusal, and an exhibit is a twin.
+-- What a run says if nothing was tampered with: no reply is a refusal, and an exhibit is a twin.
 use Rattle.std.specs.Prelude.{◌≡◌, ⊤, false, List, All}
 use Rattle.pmem_base.specs.declared.answers.Answer.{Answer}
 use Rattle.pmem_base.specs.declared.answers.Answer.TheVariants as Say
@@ -19,7 +19,7 @@ IsUnrefusedAnswer (Say.WrongRoot kept found steps) = ⊥
 IsUnrefusedAnswer (Say.Shown exhibit) = IsTwinShown exhibit
 IsUnrefusedAnswer answer = ⊤
 
--- where no device line is named after these steps, each of them is so
+-- if no device line is named after these steps, each of them is so
 abbrev pub IsUntampered : Setup → List Step → Type 0
 IsUntampered setup steps =
     has_flags (machine_after_all setup (start setup) steps).state.named ≡ false

@@ -16,7 +16,7 @@ use Rattle.pmem_cli.specs.declared.options.Choices.{Choices}
 use Rattle.pmem_cli.specs.Keys.{setup_made, setup_chosen, suite_keys_chosen, every_chosen}
 use Rattle.pmem_cli.specs.Sessions.{Language, Session, replies_among}
 
--- what it says to its user: of this setup, whose gap moves at each so many writes
+-- what it says to its user: of this setup, whose gap moves after that many writes
 abbrev pub levelled_language : Setup → ℕ → Language WearReply
 levelled_language setup every =
     record {

@@ -96,7 +96,7 @@ choose_wear c name value =
     if bytes_eq name (codes "every") then once c.every (number_where (is_up_to 1_000_000) value) (λ n. record c { every = Some n })
     else choose_run c name value
 
--- that the log is told
+-- that the log is printed
 abbrev pub choose_log : Choices → Option Choices
 choose_log c = if c.log then None else Some (record c { log = true })
 
@@ -112,7 +112,7 @@ choose Allowed.Wear c name value = choose_wear c name value
 abbrev pub is_equals : ℕ → Bool
 is_equals byte = byte == 61
 
--- the name of an option, and its value where the word has it: they stand apart at the first `=`
+-- the name of an option, and its value if the word has it: they stand apart at the first `=`
 abbrev pub parts_at_equals : Word → Word × Option Word
 parts_at_equals text =
     if nat_lt (position_or_len is_equals text) (length text)
@@ -162,7 +162,7 @@ seed_and_count (seed ∷ count ∷ []) = do
   Some (its_seed, its_count)
 seed_and_count words = None
 
--- a run with these options, and whether its log is told
+-- a run with these options, and whether its log is printed
 abbrev pub run_asked : List Word → Option Task
 run_asked words = take_options Allowed.Run no_choices words >>= λ c. Some (if c.log then Task.Log c else Task.Run c)
 
@@ -174,7 +174,7 @@ session_asked name words =
     else if bytes_eq name (codes "txn") then (take_options Allowed.Run no_choices words >>= λ c. Some (Task.Txn c))
     else None
 
--- what the words ask for, or nothing where they break the rules
+-- what the words ask for, or nothing if they break the rules
 unfoldable pub task_of : List Word → Option Task
 task_of [] = None
 task_of (name ∷ words) =
@@ -186,7 +186,7 @@ task_of (name ∷ words) =
 
 -- ---- what is known of them
 
--- chosen numbers are in their ranges, and a chosen tag key has its bytes at the front of its line
+-- chosen numbers are in their ranges, and a chosen tag key's bytes are the first of its line
 abbrev pub AreChosen : Choices → Type 0
 AreChosen c =
     IfSome c.levels HasLevels × IfSome c.sets HasSets × IfSome c.ways HasWays

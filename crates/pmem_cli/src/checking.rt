@@ -34,7 +34,7 @@ fn is_skipped(line: &[u8]) -> bool
     }
 }
 
-/// The exhibit that is known after a line, where one may be known before.
+/// The exhibit that is known after a line, given the one that was known before, if any.
 #[tactic(auto, unfolding(crate::specs::Checked::found_with))]
 fn find_in(found: Option<Exhibit>, line: &[u8]) -> Result<Option<Exhibit>, Kind>
     ensures { result ≡ found_with found line.now }
@@ -49,7 +49,7 @@ fn find_in(found: Option<Exhibit>, line: &[u8]) -> Result<Option<Exhibit>, Kind>
     }
 }
 
-/// Looks at a line, and says why the check stops, where it does.
+/// Looks at a line, and says why the check stops, if it does.
 fn check_line(number: u32, line: &[u8], found: &mut Option<Exhibit>) -> Option<Stop>
     ensures { ChecksLine result line.now number found.old found.new }
 {
@@ -62,7 +62,7 @@ fn check_line(number: u32, line: &[u8], found: &mut Option<Exhibit>) -> Option<S
     }
 }
 
-/// Looks at the next line, and says why the check stops, where it does.
+/// Looks at the next line, and says why the check stops, if it does.
 fn check_next<S: Source>(
     served: u32,
     reader: &mut LineReader,

@@ -115,7 +115,7 @@ fn tell<K: Sink>(ending: Ending, printer: &mut Printer, out: &mut K) -> Result<(
     printer.flush(out)
 }
 
-/// Tells the ending, and gives the status: 4 where the sink failed, but for faulty words.
+/// Prints the ending, and gives the status: 4 if the sink failed, except for invalid arguments.
 pub(crate) fn finish<K: Sink>(ending: Ending, printer: &mut Printer, out: &mut K) -> u8
     ensures status { result ≢ 4 → result ≡ ending_status ending }
     ensures words { (result ≡ 2) ↔ (ending ≡ Stopped Stop.Words) }

@@ -154,7 +154,7 @@ impl LineReader {
         Ok(count)
     }
 
-    /// Whether no byte is ahead. Where one is, it is at hand then.
+    /// Whether no byte is ahead. If one is, it is at hand then. Errors: `Failed` if the pull fails.
     pub fn is_ended<S: Source>(&mut self, source: &mut S) -> Result<bool, Failed>
         ensures ahead { Keeps (prepend_known self.old (S.left source.old)) (prepend_known self.new (S.left source.new)) }
         ensures at_hand { 0 < length self.old → self.new ≡ self.old }
@@ -193,7 +193,7 @@ impl LineReader {
         Piece::Ended
     }
 
-    /// Takes the next line. A line that is too long is taken as far as it was pulled.
+    /// Takes the next line. A line that is too long is taken as far as it was pulled. Errors: `Failed` if a pull fails.
     pub fn next_line<S: Source>(
         &mut self,
         source: &mut S,

@@ -1,4 +1,4 @@
-//! A run whose accesses of the board are told before each reply.
+//! A run that prints the accesses of the board before each reply.
 ghost use Rattle.std.specs.Prelude.{◌≡◌, ◌≤◌, ◌++◌, [], length, OnOk, OnErr, Some, Ok, false};
 ghost use Rattle.pmem_base.specs.Ranges.{IsCommand};
 ghost use Rattle.plain_model.specs.Texts.{reply_text};
@@ -83,8 +83,8 @@ fn print_told<U: Counted + Drop, K: Sink>(
     print_reply(world, reply, printer, out)
 }
 
-/// Answers a command, prints its log and the reply, and says why the run stops, where it does: where memory for the
-/// log can't be had, the command isn't told.
+/// Answers a command, prints its log and the reply, and says why the run stops, if it does. If memory for the log runs
+/// out, the command isn't reported.
 fn answer_told<U: Counted + Drop, K: Sink>(
     alloc: Global,
     command: &Command,
@@ -121,7 +121,7 @@ fn answer_told<U: Counted + Drop, K: Sink>(
     }
 }
 
-/// A reply of the world is told with what the command took.
+/// A reply of the world is printed with the accesses and the work of its command.
 impl<U: Counted + Drop> Serve for LoggedWorld<U> {
     ghost ReplyData = { LoggedStep };
 

@@ -13,10 +13,10 @@ use pmem_base::{Geo, Line};
 use suite::{AesSuite, WeakSuite};
 use trace_text::read_part;
 
-/// The key where none is chosen: the bytes 00 to 0f.
+/// The default key: the bytes 00 to 0f.
 const DEFAULT_KEY: [u8; 16] = [0, 1, 2, 3, 4, 5, 6, 7, 8, 9, 10, 11, 12, 13, 14, 15];
 
-/// The tag key where none is chosen, the 32 bytes 10 to 2f, at the front of a line of zeros.
+/// The default tag key: the 32 bytes 10 to 2f, at the beginning of a line of zeros.
 const DEFAULT_TAG_KEY: [u8; 64] = [
     16, 17, 18, 19, 20, 21, 22, 23, 24, 25, 26, 27, 28, 29, 30, 31, 32, 33, 34, 35, 36, 37, 38, 39,
     40, 41, 42, 43, 44, 45, 46, 47, 0, 0, 0, 0, 0, 0, 0, 0, 0, 0, 0, 0, 0, 0, 0, 0, 0, 0, 0, 0, 0,
@@ -31,7 +31,7 @@ pub enum SuiteName {
     Blur,
 }
 
-/// What was chosen by options. A tag key is a number of bytes at the front of a line.
+/// What was chosen by options. A tag key is its number of bytes, and a line that begins with them.
 #[derive(Clone, Copy)]
 pub struct Choices {
     pub levels: Option<u8>,
@@ -49,13 +49,13 @@ pub struct Choices {
 /// Which options a task takes: each kind takes those of the kinds before it, and more.
 #[derive(Clone, Copy)]
 pub(crate) enum Allowed {
-    /// Those of the suite.
+    /// The options of the suite.
     Suite,
-    /// Those of a counter tree.
+    /// The options of a counter tree.
     Tree,
-    /// Those of a run.
+    /// The options of a run.
     Run,
-    /// Those of a levelled memory.
+    /// The options of a levelled memory.
     Wear,
 }
 
@@ -144,14 +144,14 @@ impl Choices {
         }
     }
 
-    /// The suite: aes where none is chosen.
+    /// The suite: aes by default.
     pub fn suite_name(&self) -> SuiteName
         ensures { result ≡ unwrap_or self.now.suite SuiteName.Aes }
     {
         self.suite.unwrap_or(SuiteName::Aes)
     }
 
-    /// The key: the bytes 00 to 0f where none is chosen.
+    /// The key: the bytes 00 to 0f by default.
     pub fn suite_key(&self) -> [u8; 16]
         ensures { result ≡ chosen_key self.now }
     {
@@ -161,7 +161,7 @@ impl Choices {
         }
     }
 
-    /// The tag key, as so many bytes at the front of a line: the bytes 10 to 2f where none is chosen.
+    /// The tag key, padded: its length in bytes, and a line that begins with them. The default are the bytes 10 to 2f.
     pub fn suite_tag_key(&self) -> (u8, Line)
         requires { AreChosen self.now }
         ensures bytes { take result.0 result.1.0 ≡ chosen_tag_key self.now }
@@ -196,8 +196,7 @@ impl Choices {
         WeakSuite::new(&key, line.0.as_slice().split_at(usize::from(count)).0, blur)
     }
 
-    /// The geometry: two levels, four sets of two ways, windows of four minors and the first major 0
-    /// where nothing is chosen.
+    /// The geometry. By default: two levels, four sets of two ways, windows of four minors and the first major 0.
     #[tactic(auto, unfolding(crate::specs::Keys::shape_chosen))]
     pub fn geometry(&self) -> Geo
         requires { AreChosen self.now }
@@ -213,7 +212,7 @@ impl Choices {
         geo
     }
 
-    /// After how many writes the gap of a levelled memory moves: 100 where none is chosen.
+    /// After how many writes the gap of a levelled memory moves: 100 by default.
     pub fn every(&self) -> u32
         requires { AreChosen self.now }
         ensures every { result ≡ every_chosen self.now }
@@ -324,7 +323,7 @@ impl Choices {
     }
 }
 
-/// These choices, and that the log is told, where a word says so.
+/// These choices, with the log chosen if a word asks for it.
 fn with_log(choices: Choices) -> Option<Choices>
     requires { AreChosen choices }
     ensures choices { result ≡ choose_log choices }
@@ -361,7 +360,7 @@ fn equals_index(text: &[u8]) -> usize
     text.len()
 }
 
-/// The name of an option, and its value where the word has it.
+/// The name of an option, and its value if the word has one.
 fn split_option(word: &[u8]) -> Option<(&[u8], Option<&[u8]>)>
     ensures { map_some (λ found. (found.0.now, map_some (λ value. value.now) found.1)) result ≡ option_parts word.now }
 {
@@ -464,7 +463,7 @@ fn read_seed_and_count(words: &[String]) -> Option<(u64, u32)>
     Some((seed, count as u32))
 }
 
-/// A run with these options, and whether its log is told.
+/// A run with these options, and whether it prints its log.
 fn read_run(words: &[String]) -> Option<Task>
     ensures task { result ≡ run_asked (map string_bytes words.now) }
     ensures chosen { IfSome result HasChosen }
@@ -490,7 +489,7 @@ fn read_session(name: &str, words: &[String]) -> Option<Task>
     }
 }
 
-/// What the words ask for, or nothing where they break the rules.
+/// What the arguments ask for, or nothing if they are invalid.
 #[tactic(auto, unfolding(crate::specs::Words::task_of))]
 pub fn read_task(words: &[String]) -> Option<Task>
     ensures task { result ≡ task_of (map string_bytes words.now) }

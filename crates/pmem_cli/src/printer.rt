@@ -80,7 +80,7 @@ impl Printer {
         }
     }
 
-    /// Pushes all that waits. After a failed push nothing waits any more.
+    /// Pushes all that waits. After a failed push nothing waits any more. Errors: `Failed` if a push fails.
     pub fn flush<K: Sink>(&mut self, out: &mut K) -> Result<(), Failed>
         ensures ok { OnOk result (HasPrinted K.put out.old out.new self.old self.new []) }
         ensures emptied { self.new ≡ [] }
@@ -90,7 +90,7 @@ impl Printer {
         flush_waiting(&mut self.waiting, out)
     }
 
-    /// Prints a text, which may wait.
+    /// Prints a text, which may wait. Errors: `Failed` if what waited had to be pushed and the push failed.
     pub fn print<K: Sink>(&mut self, out: &mut K, text: &[u8]) -> Result<(), Failed>
         requires { length text.now ≤ 65536 }
         ensures ok { OnOk result (HasPrinted K.put out.old out.new self.old self.new text.now) }
@@ -101,7 +101,7 @@ impl Printer {
         print_text(&mut self.waiting, out, text)
     }
 
-    /// Prints a text as a line, with its LF.
+    /// Prints a text as a line, with its LF. Errors: those of `print`.
     pub fn print_line<K: Sink>(&mut self, out: &mut K, text: &[u8]) -> Result<(), Failed>
         requires { length text.now ≤ 65536 }
         ensures ok { OnOk result (HasPrinted K.put out.old out.new self.old self.new (as_line text.now)) }
@@ -112,7 +112,7 @@ impl Printer {
         self.print(out, b"\n")
     }
 
-    /// Prints the text of an answer, with its LF.
+    /// Prints the text of an answer, with its LF. Errors: those of `print`.
     pub fn print_answer<K: Sink>(&mut self, out: &mut K, answer: &Answer) -> Result<(), Failed>
         requires { HasSmallMinors answer.now }
         ensures ok { OnOk result (HasPrinted K.put out.old out.new self.old self.new
@@ -154,7 +154,7 @@ impl Printer {
         print_text(&mut self.waiting, out, self.text.as_slice())
     }
 
-    /// Prints how many tags and digests were made, with its LF.
+    /// Prints how many tags and digests were made, with its LF. Errors: those of `print`.
     pub fn print_work<K: Sink>(
         &mut self,
         out: &mut K,
@@ -173,7 +173,7 @@ impl Printer {
         print_text(&mut self.waiting, out, self.text.as_slice())
     }
 
-    /// Prints the text of a command, with its LF.
+    /// Prints the text of a command, with its LF. Errors: those of `print`.
     pub fn print_command<K: Sink>(&mut self, out: &mut K, command: &Command) -> Result<(), Failed>
         requires { IsWritable command.now }
         ensures ok { OnOk result (HasPrinted K.put out.old out.new self.old self.new
@@ -218,7 +218,7 @@ pub fn push_access(text: &mut ArrayVec<u8, 512>, access: &Access)
     }
 }
 
-/// Puts the text of so many tags and digests into an empty text, without its LF.
+/// Puts the text of these numbers of tags and digests into an empty text, without its LF.
 #[tactic(auto, unfolding(crate::specs::Logged::work_text))]
 pub fn push_work(text: &mut ArrayVec<u8, 512>, tags: u64, digests: u64)
     requires { text.old.items ≡ [] }

@@ -78,7 +78,7 @@ fn run_trace<S: Source, K: Sink>(
     }
 }
 
-/// Does what was asked for, but for the last line.
+/// Does what was asked for, except for the last line.
 fn do_task<S: Source, K: Sink>(
     alloc: Global,
     task: Task,
@@ -109,7 +109,7 @@ fn do_task<S: Source, K: Sink>(
     }
 }
 
-/// Does what the words ask for, but for the last line.
+/// Does what the arguments ask for, except for the last line.
 fn do_words<S: Source, K: Sink>(
     alloc: Global,
     words: &[String],
@@ -156,19 +156,20 @@ pub fn run<S: Source, K: Sink>(alloc: Global, words: &[String], trace: &mut S, o
     ensures complete { IfSome (task_of (map string_bytes words.now)) (λ task.
         GoesThrough task result S.left S.faults trace.old trace.new K.faults out.old out.new) }
 
-    // A push that fails gives 4 in place of every status but 2, a pull that fails gives 3 or 4, and neither is made
-    // again.
+    // A push that fails gives 4 instead of every status but 2, a pull that fails gives 3 or 4, and
+    // neither is made again.
     ensures failed_pull { S.faults trace.new ≢ S.faults trace.old → (result ≡ 3) ⊎ (result ≡ 4) }
     ensures failed_push { K.faults out.new ≢ K.faults out.old → (result ≡ 4) ⊎ (result ≡ 2) }
     ensures one_failed_pull { S.faults trace.new ≤ S.faults trace.old + 1 }
     ensures one_failed_push { K.faults out.new ≤ K.faults out.old + 1 }
 
-    // No pull follows one that failed or gave the end, and where no trace is asked for, nothing is pulled.
+    // No pull follows one that failed or gave the end, and if no trace is asked for, nothing is
+    // pulled.
     ensures in_time { IsInTime (S.pulls trace.old) (S.pulls trace.new) }
     ensures unread { IfSome (task_of (map string_bytes words.now)) (λ task. PullsNothing task → trace.new ≡ trace.old) }
 
-    // No reply waits while a pull is made: the replies to all whole lines that the source had given before its
-    // last pull were put, also where a push failed since. A sink may fail at any push.
+    // No reply waits while a pull is made: the replies to all whole lines that the source had given
+    // before its last pull were put, also if a push failed since. A sink may fail at any push.
     ensures replies_first { IfSome (task_of (map string_bytes words.now)) (λ task.
         RepliesBeforePull task S.left S.left_before trace.old trace.new K.put out.old out.new []) }
     ensures machine_first { IfSome (task_of (map string_bytes words.now)) (λ task.

@@ -26,10 +26,10 @@ use trace_text::Maker;
 
 /// What executes commands, one after the other.
 pub(crate) trait Execute {
-    /// Where the run of the commands stands.
+    /// How far the run of the commands has come.
     ghost standing: { Self → Standing };
 
-    /// Executes a command, and gives its answer. The one error is want of memory.
+    /// Executes a command, and gives its answer. Errors: running out of memory.
     fn execute(&mut self, alloc: Global, command: &Command) -> Result<Answer, MemFault>
         requires running { (standing self.old).world.shown ≡ false }
         requires range { IsCommand command.now }

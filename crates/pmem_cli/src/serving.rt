@@ -30,7 +30,7 @@ pub(crate) trait Serve {
     /// What the answers mean.
     ghost protocol: { Protocol Self ReplyData };
 
-    /// Answers one line of at most 1,024 bytes, and says why the run stops, where it does.
+    /// Answers one line of at most 1,024 bytes, and says why the run stops, if it does.
     fn serve_line<K: Sink>(
         &mut self,
         alloc: Global,
@@ -72,7 +72,7 @@ pub(crate) fn print_reply<U: Counted + Drop, K: Sink>(
     printer.print_answer(out, &reply.answer)
 }
 
-/// Answers a command, and says why the run stops, where it does.
+/// Answers a command, and says why the run stops, if it does.
 fn answer_command<U: Counted + Drop, K: Sink>(
     alloc: Global,
     command: &Command,

@@ -1,4 +1,4 @@
-//! The run of a trace, whoever answers its lines.
+//! The run of a trace, whatever answers its lines.
 ghost use Rattle.std.specs.Prelude.{◌≡◌, ◌<◌, ◌≤◌, ◌⊎◌, [], length, OnOk, OnErr, Option, Some, None, Contains};
 ghost use Rattle.std.specs.Io.KnownBytes.{prepend_known};
 ghost use Rattle.pmem_cli.specs.declared.lines.Found.TheVariants.{Line};
@@ -21,7 +21,7 @@ use std::alloc::Global;
 /// The lines that a trace may have.
 pub(crate) const LINE_LIMIT: u32 = 1_000_000;
 
-/// Answers what was found behind so many lines, and says why the run stops, where it does.
+/// Answers what was found after `served` lines, and says why the run stops, if it does.
 fn answer_found<W: Serve, K: Sink>(
     alloc: Global,
     found: Found,
@@ -54,8 +54,8 @@ fn answer_found<W: Serve, K: Sink>(
     }
 }
 
-/// Takes and answers the next line, and says why the run stops, where it does: at the limit of lines it looks
-/// for more. No reply waits where that may pull.
+/// Takes and answers the next line, and says why the run stops, if it does: at the limit of lines it looks for more. No
+/// reply waits when this may pull.
 fn answer_next<W: Serve, S: Source, K: Sink>(
     alloc: Global,
     served: u32,
@@ -107,7 +107,7 @@ fn flush_before_pull<K: Sink>(
     printer.flush(out)
 }
 
-/// Serves the next line, and says why the run stops, where it does.
+/// Serves the next line, and says why the run stops, if it does.
 fn serve_next<W: Serve, S: Source, K: Sink>(
     alloc: Global,
     served: u32,

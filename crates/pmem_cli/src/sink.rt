@@ -1,4 +1,4 @@
-//! Where replies go.
+//! The sink that takes the replies.
 ghost use Rattle.std.specs.Prelude.{◌≡◌, ◌<◌, ◌≤◌, ◌+◌, ◌-◌, ◌++◌, ◌⊎◌, ◌↔◌, [], min, ℕ, List, Option, Some, length, take, vec_len, IfOk, OnOk, OnErr, IsErr, is_err, Contains, if◌then◌else◌};
 ghost use Rattle.std.specs.Io.{WritesAtMost};
 ghost use Rattle.std.specs.Io.KnownBytes.{WriteAppends, Appends};
@@ -15,13 +15,13 @@ use std::snapshot::Snapshot;
 /// Takes bytes in order. The count of faults rises by one at each push that fails, up to 2^64 - 1, and stays
 /// at each other.
 pub trait Sink {
-    /// The bytes that were put, where they are told.
+    /// The bytes that were put, if the sink exposes them.
     ghost put: { Self → Option (List ℕ) };
 
     /// How often a push failed.
     ghost faults: { Self → ℕ };
 
-    /// Puts the first bytes of a piece, at least one where it isn't empty, and answers how many.
+    /// Puts the first bytes of a piece, at least one unless it is empty, and answers how many. Errors: `Failed`.
     fn push(&mut self, buf: &[u8]) -> Result<usize, Failed>
         ensures bound { WritesAtMost result buf.now }
         ensures moves { IfOk result (λ count. 0 < length buf.now → 0 < count) }
@@ -29,7 +29,8 @@ pub trait Sink {
         ensures cause { HasCause (faults self.old) (faults self.new) result };
 }
 
-/// Puts all bytes, or a front of them where a push fails. No push follows one that failed.
+/// Puts all bytes, or a prefix of them if a push fails. No push follows one that failed. Errors: `Failed` if a push
+/// fails.
 pub(crate) fn push_all<K: Sink>(out: &mut K, bytes: &[u8]) -> Result<(), Failed>
     ensures ok { OnOk result (Appends (K.put out.old) (K.put out.new) bytes.now) }
     ensures err { OnErr result (AppendsFront (K.put out.old) (K.put out.new) bytes.now) }

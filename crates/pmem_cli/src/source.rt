@@ -1,4 +1,4 @@
-//! Where a trace comes from.
+//! The source of a trace.
 ghost use Rattle.std.specs.Prelude.{◌≡◌, ◌≤◌, ◌↔◌, ◌++◌, ℕ, List, [], Option, Some, None, length, min, take, drop, vec_len, IsTrue, IsErr, is_err, IfOk, Contains, if◌then◌else◌};
 ghost use Rattle.std.specs.Io.{ReadsAtMost};
 ghost use Rattle.std.specs.Io.KnownBytes.{ReadConsumes};
@@ -17,10 +17,10 @@ use std::snapshot::Snapshot;
 #[derive(Clone, Copy, Debug, PartialEq, Eq)]
 pub struct Failed;
 
-/// Gives bytes in order, at most as many as a buffer has room for. Where it has room, 0 bytes are
-/// the end. The count of faults rises by one at each pull that fails, up to 2^64 - 1, and stays at each other.
+/// Gives bytes in order, at most as many as a buffer has room for. If it has room, 0 bytes are the end. The count of
+/// faults rises by one at each pull that fails, up to 2^64 - 1, and stays at each other.
 pub trait Source {
-    /// The bytes that are left, where they are told.
+    /// The bytes that are left, if the source exposes them.
     ghost left: { Self → Option (List ℕ) };
 
     /// How often a pull failed.
@@ -29,10 +29,10 @@ pub trait Source {
     /// Whether a pull failed or gave the end, and whether another was made after it.
     ghost pulls: { Self → Pulls };
 
-    /// The bytes that were left before the last pull, where they are remembered.
+    /// The bytes that were left before the last pull, if the source remembers them.
     ghost left_before: { Self → Option (List ℕ) } = { λ source. None };
 
-    /// Puts the next bytes at the front of a buffer, and answers how many.
+    /// Puts the next bytes at the beginning of a buffer, and answers how many. Errors: `Failed`.
     fn pull(&mut self, buf: &mut [u8]) -> Result<usize, Failed>
         ensures bound { ReadsAtMost result buf.new }
         ensures bytes { ReadConsumes (left self.old) (left self.new) result buf.new }

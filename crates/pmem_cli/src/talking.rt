@@ -1,4 +1,4 @@
-//! A session in a language of its own, over a whole trace.
+//! A session in its own language, over a whole trace.
 ghost use Rattle.std.specs.Prelude.{◌≡◌, ◌≢◌, ◌≤◌, ◌+◌, ◌⊎◌, [], ℕ, List, Some};
 ghost use Rattle.plain_model.specs.declared.Stop.TheVariants as Stop;
 ghost use Rattle.trace_text.specs.Conversations.{talk_protocol};
@@ -100,8 +100,8 @@ pub fn talk_all<T: Talk + Drop, S: Source, K: Sink>(
     ensures complete { IsTalkComplete (talk_of T.Talk) result (S.left trace.old)
         (AnyRose S.faults trace.old trace.new K.faults out.old out.new) }
 
-    // The statuses for faults come only where source or sink failed. A push that fails gives 4, a pull that fails
-    // gives 3 or 4, and neither is made again.
+    // The statuses for faults come only if source or sink failed. A push that fails gives 4, a pull
+    // that fails gives 3 or 4, and neither is made again.
     ensures read { result ≡ 3 → Rose (S.faults trace.old) (S.faults trace.new) }
     ensures write { result ≡ 4 → Rose (K.faults out.old) (K.faults out.new) }
     ensures failed_pull { S.faults trace.new ≢ S.faults trace.old → (result ≡ 3) ⊎ (result ≡ 4) }
@@ -112,8 +112,9 @@ pub fn talk_all<T: Talk + Drop, S: Source, K: Sink>(
     // No pull follows one that failed or gave the end.
     ensures in_time { IsInTime (S.pulls trace.old) (S.pulls trace.new) }
 
-    // No answer waits while a pull is made: the answers to all whole lines that the source had given before its
-    // last pull were put, also where a push failed since. A sink may fail at any push.
+    // No answer waits while a pull is made: the answers to all whole lines that the source had
+    // given before its last pull were put, also if a push failed since. A sink may fail at any
+    // push.
     ensures replies_first { IfPulled (HasToldFirst (talk_of T.Talk) session)
         S.left S.left_before trace.old trace.new K.put out.old out.new [] }
 {

@@ -1,4 +1,4 @@
-//! A session whose accesses of the board are told before each answer.
+//! A session that prints its accesses of the board before each answer.
 ghost use Rattle.std.specs.Prelude.{◌≤◌, ◌-◌, ◌++◌, ℕ, List, length, OnOk, OnErr, Some};
 ghost use Rattle.plain_model.specs.Texts.{as_line};
 ghost use Rattle.trace_text.specs.Conversations.{talk_protocol};
@@ -57,8 +57,8 @@ fn print_told<K: Sink>(
     printer.print_line(out, text)
 }
 
-/// Prints what a command answered with its log before it, and says why the run stops, where it does: where memory for
-/// the log couldn't be had, the command isn't told.
+/// Prints what a command answered with its log before it, and says why the run stops, if it does. If memory for the log
+/// ran out, the command isn't reported.
 fn tell_line<K: Sink>(
     log: &AccessLog,
     before: (u64, u64),
@@ -121,7 +121,7 @@ impl<T: Talk> Serve for Teller<T> {
     }
 }
 
-/// Answers a trace by a session, where `logged` each answer with its log before it, and says why that stops.
+/// Answers a trace by a session, each answer with its log before it if `logged`, and says why that stops.
 pub(crate) fn converse<T: Talk + Drop, S: Source, K: Sink>(
     alloc: Global,
     session: T,

@@ -19,8 +19,8 @@ use suite::Counted;
 use tree_session::TreeWorld;
 use tree_session::laws::sessions_keep_lines;
 
-/// Answers a trace by a new memory over a counter tree of this geometry and suite, and says why that stops. The
-/// watch has a suite of its own, of equal keys.
+/// Answers a trace by a new memory over a counter tree of this geometry and suite, and says why that stops. The watch
+/// has its own suite, of equal keys.
 fn tree_with<U: Counted + Drop, S: Source, K: Sink>(
     alloc: Global,
     geo: Geo,

@@ -91,8 +91,8 @@ pub record IsLeftAlone (old new : Parts) : Type 0 where
   pub tags : new.tags ≡ old.tags
   pub digests : new.digests ≡ old.digests
 
--- A call that is guarded by the flag whether its engine is down, before and later. Of an engine that is up this is
--- promised, and it is down later where the call was cut or shown. Of one that is down nothing is done, and this is refused.
+-- A call that is guarded by the flag whether its engine is down, before and later. If the engine is up, this is promised, and it is down
+-- later if the call was cut or shown. If it is down, nothing is done, and this is refused.
 pub record IsGuarded (down later : Bool) (outcome : Outcome) (old new : Parts) (promised refused : Type 0) : Type 0 where
   pub did : down ≡ false → promised
   pub refuses : down ≡ true → IsLeftAlone old new × refused
@@ -103,12 +103,12 @@ abbrev pub IsEngineCall : {T : Type 0} → Bool → Bool → Parts → Parts →
 IsEngineCall down later old new answer promised =
     IsGuarded down later (outcome_of answer) old new promised (answer ≡ Err Fail.Down)
 
--- so many steps, or at a cut fewer
+-- that many steps, or at a cut fewer
 abbrev pub TakesWithin : Outcome → ℕ → Parts → Parts → Type 0
 TakesWithin cut_short n old new = TakesFewer n old.device new.device
 TakesWithin outcome n old new = TakesAtMost n old.device new.device
 
--- the same where the board was live; else only that there are no more
+-- the same if the board was live; otherwise only that there are no more
 abbrev pub TakesWithinOfLive : Outcome → ℕ → Parts → Parts → Type 0
 TakesWithinOfLive outcome n old new =
     TakesAtMost n old.device new.device × (old.device.live ≡ true → TakesWithin outcome n old new)
@@ -176,7 +176,7 @@ fetch_state g parts =
 abbrev pub path_absent : Shape → Parts → ℕ → ℕ
 path_absent g parts page = absent_count g parts.engine.cache page (path_length g)
 
--- the dirty blocks that give way to those, by place and line: so many lines are written to fetch it
+-- the dirty blocks that are evicted for those, by place and line: that many lines are written to fetch it
 abbrev pub path_spilled : Shape → Parts → ℕ → List (ℕ × Line)
 path_spilled g parts page = spilled g parts.engine.cache page (path_length g)
 
@@ -203,25 +203,25 @@ IsPathFetched g page old new = IsPathFetchedInto g page old new.engine.cache
 
 -- ---- the exact work of unsealing and sealing
 
--- so many lines unsealed: for each the line and its tag line are read, and a tag is made
+-- that many lines unsealed: for each the line and its tag line are read, and a tag is made
 abbrev pub unseal_work : ℕ → Work
 unseal_work n = record { reads = 2 * n; writes = 0; latches = 0; tags = n; digests = 0 }
 
--- so many held lines sealed anew: each is unsealed, and its group has the line and its tag line
+-- that many held lines resealed: each is unsealed, and its group has the line and its tag line
 abbrev pub reseal_work : ℕ → Work
 reseal_work n = record { reads = 2 * n; writes = 2 * n; latches = 2 * n; tags = 2 * n; digests = 0 }
 
--- so many shadow lines written
+-- that many shadow lines written
 abbrev pub naming_work : ℕ → Work
 naming_work n = record { reads = 0; writes = n; latches = 0; tags = 0; digests = 0 }
 
--- so many pages begun: for each the path is made anew, and the group has the counter block
+-- that many pages begun: for each the path is made again, and the group has the counter block
 abbrev pub begin_work : Shape → ℕ → Work
 begin_work g n =
     record { reads = 0; writes = n; latches = 2 * n; tags = 0; digests = path_length g * n }
 
--- a line sealed under its next counter: the path is made anew, and the tag line is read; the group has
--- the line, its tag line, and the counter block where the stop-loss number divides the new minor
+-- a line sealed under its next counter: the path is made again, and the tag line is read; the group has the line, its tag line, and the
+-- counter block if the stop-loss number divides the new minor
 abbrev pub seal_work : Shape → ℕ → Ctr → Work
 seal_work g loss ctr =
     record {
@@ -342,11 +342,11 @@ IsFlushWork g (Some x) old new =
 abbrev pub whole_write : ℕ → Line → Posted
 whole_write a line = record { at = a; from = 0; len = 64; line = line }
 
--- memory afterwards: with the write where its own seal was made
+-- memory afterwards: with the write if its own seal was made
 abbrev pub memory_after : Memory → Posted → List Mark → Memory
 memory_after memory write made = if is_sealed_by made write.at then memory_with memory write else memory
 
--- made is a front of the marks asked, but not all of them; none of a write that is spent
+-- made is a prefix of the marks asked, but not all of them; none of a write that is spent
 pub record IsPartOf (asked : Option (List Mark)) (made : List Mark) : Type 0 where
   pub left : List Mark
   pub front : unwrap_or asked [] ≡ made ++ left
@@ -413,7 +413,7 @@ abbrev pub IsOwnSeal : ℕ → Mark → Type 0
 IsOwnSeal at (Begin page) = ⊥
 IsOwnSeal at (Seal line ctr cipher tag) = (line ≡ at) × (0 < ctr.minor)
 
--- at most 65 marks under the minor 0, and then the write's own seal, where it was made
+-- at most 65 marks under the minor 0, and then the write's own seal, if it was made
 pub record AreInWriteOrder (at : ℕ) (made : List Mark) : Type 0 where
   pub before : List Mark
   pub own : List Mark
@@ -447,7 +447,7 @@ TakesOfWrite g asked made old new (Err fault) =
 
 -- ---- the exact work of a write
 
--- a slot, without its line and its mark where it has position x
+-- a slot, without its line and its mark if it has position x
 abbrev pub masked : ℕ → Slot → Slot
 masked x slot = if slot.position == x then record slot { line = zero_line; dirty = false } else slot
 
@@ -507,8 +507,7 @@ pub record IsWriteWork (g : Shape) (write : Posted) (ctr : Ctr) (made : List Mar
 
 -- ---- the stop-loss number
 
--- how many steps it takes: none where it is the present one, one where it is greater, else one more
--- than there are dirty counter blocks
+-- how many steps it takes: none if it is the present one, one if it is greater, else one more than there are dirty counter blocks
 abbrev pub AreStepsOfLoss : ℕ → ℕ → ℕ → ℕ → Type 0
 AreStepsOfLoss dirty old_loss n steps =
     MatchBool (n == old_loss) (steps ≡ 0)

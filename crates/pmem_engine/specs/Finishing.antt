@@ -1,4 +1,4 @@
--- A page half finished: the first lines not done of its register were sealed anew.
+-- A page half finished: the first lines not done of its register were resealed.
 use Rattle.std.specs.Prelude.{ℕ, ◌≡◌, ◌<◌, ◌+◌, ◌*◌, List, [], ◌∷◌, ◌++◌, length, map, None, IsTrue}
 use Rattle.pmem_base.specs.declared.answers.Mark.{Mark}
 use Rattle.pmem_base.specs.Layout as layout
@@ -29,7 +29,7 @@ abbrev pub HasPlacesLeft : Parts → Parts → ℕ → List ℕ → Type 0
 HasPlacesLeft old new n [] = IsClosed old new n
 HasPlacesLeft old new n (i ∷ left) = IsStillOpen old new n (i ∷ left)
 
--- the lines at the first places not done of register n's page were sealed anew; the others are left
+-- the lines at the first places not done of register n's page were resealed; the others are left
 pub record HasResealedFirst (setup : Setup) (n number : ℕ) (old new : Parts) : Type 0 where
   pub made : List Mark
   pub sealed : List ℕ

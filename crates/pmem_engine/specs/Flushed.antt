@@ -36,7 +36,7 @@ pub record HasWrittenBack (bank x : ℕ) (old new : ChipState) (before after : D
 abbrev pub IsBankClean : ChipState → ℕ → Type 0
 IsBankClean engine bank = (x : ℕ) → is_cached_dirty engine.shape engine.cache bank x ≡ false
 
--- the oldest dirty block was written back, where one is dirty
+-- the oldest dirty block was written back, if one is dirty
 abbrev pub HasWrittenOldest : ChipState → ChipState → Device → Device → Result (Option ℕ) Cut → Type 0
 HasWrittenOldest old new before after (Ok None) =
     (new ≡ old) × (after ≡ before) × ((bank : ℕ) → IsBankClean old bank)
@@ -47,7 +47,7 @@ HasWrittenOldest old new before after (Err cut) =
 
 -- ---- the stop-loss number
 
--- so many dirty counter blocks were written back
+-- that many dirty counter blocks were written back
 pub record HasWrittenBlocks (count : ℕ) (old new : ChipState) (before after : Device) : Type 0 where
   pub shape : new.shape ≡ old.shape
   pub mirror : new.mirror ≡ old.mirror

@@ -63,7 +63,7 @@ pub record HasFetched (setup : Setup) (page : ℕ) (old new : Parts) (answer : R
 
 -- ---- a line unsealed
 
--- what the answer says, from a trusted chip on, where the counter is that of the line's last seal
+-- what the answer says, from a trusted chip on, if the counter is that of the line's last seal
 abbrev pub AnswersUnseal : Setup → ℕ → Parts → Parts → Result Unsealed LineFault → Type 0
 AnswersUnseal setup a old new (Ok unsealed) =
     (plain_line setup.formulas old.ledger.marks a ≡ Some unsealed.plain) × HoldsSeal setup.shape new a
@@ -75,7 +75,7 @@ AnswersUnseal setup a old new (Err AtLine.Shown) = IsForgedShown setup a new
 abbrev pub IsLastCounter : Parts → ℕ → Ctr → Type 0
 IsLastCounter parts a ctr = option_map (λ seal. seal.ctr) (last_seal parts.ledger.marks a) ≡ Some ctr
 
--- the tag line that was read, where the board tells its lines
+-- the tag line that was read, if the board exposes its lines
 abbrev pub TellsTagLine : Setup → ℕ → Parts → Result Unsealed LineFault → Type 0
 TellsTagLine setup a new (Ok unsealed) =
     Tells new.device.lines (layout.tag_line setup.shape a) unsealed.tag_line
@@ -105,7 +105,7 @@ pub record HasUnsealed (setup : Setup) (a : ℕ) (ctr : Ctr) (old new : Parts) (
 abbrev pub cached_block : Shape → ChipState → ℕ → Block
 cached_block g engine page = unpacked (line_in g engine.cache g.levels (counter_position g page))
 
--- the counter of a line is that of its last seal, where the chip is trusted and the line's path cached
+-- the counter of a line is that of its last seal, if the chip is trusted and the line's path cached
 abbrev pub IsCounterOfTrusted : ChipState → Regs → ℕ → Ctr → Type 0
 IsCounterOfTrusted engine regs at ctr =
     (setup : Setup) (ledger : LedgerState) → IsTrusted setup engine regs ledger

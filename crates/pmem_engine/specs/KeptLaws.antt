@@ -27,7 +27,7 @@ left_at (Err left) = left.0
 
 -- ---- a read, a flush and another number write metadata lines alone
 
--- the lines of data, of tags and of the shadow tables are as they were, where told
+-- the lines of data, of tags and of the shadow tables are as they were, if exposed
 abbrev pub KeepsOtherLines : Shape → Device → Device → Type 0
 KeepsOtherLines g old new =
     (at : ℕ) → (at < layout.meta_line g 0) ⊎ (layout.shadow_line g 0 ≤ at)
@@ -58,7 +58,7 @@ FlushesWriteMetadataAlone =
     → AreInTheirBanks engine.shape engine.cache → Follows (flush_plan engine) old new end
     → WritesMetadataAlone old new engine (left_at end)
 
--- of the registers the number alone is another one, where that is answered; else they are as they were
+-- of the registers the number alone is another one, if that is answered; else they are as they were
 abbrev pub NumberAt : ℕ → Regs → Regs → Result (ChipState × ℕ) (ChipState × Fault) → Type 0
 NumberAt n before after (Ok end) = after ≡ (if n == before.loss then before else with_loss before n)
 NumberAt n before after (Err left) = after ≡ before
@@ -114,7 +114,7 @@ pub record AreWrittenBack (blocks : List ℕ) (engine left : ChipState) (old new
   pub regs : new.regs ≡ old.regs
   pub reads : new.reads ≡ old.reads
 
--- all of them, or where power is cut the first of them
+-- all of them, or if power is cut the first of them
 abbrev pub IsWrittenInOrder : ChipState → Device → Device → Result (ChipState × ℕ) (ChipState × Cut) → Type 0
 IsWrittenInOrder engine old new (Ok end) = AreWrittenBack (dirty_counter_blocks engine) engine end.0 old new
 IsWrittenInOrder engine old new (Err left) =

@@ -18,15 +18,15 @@ abbrev pub marks_at : {A : Type 0} → Result (Chip × A) (Chip × Fault) → Li
 marks_at (Ok end) = end.0.ledger.marks
 marks_at (Err left) = left.0.ledger.marks
 
--- Of two runs from one board, which has power and tells its lines, one is cut and the other isn't: the one that is
--- cut has a front of the marks of the other.
+-- If one of two runs from one board, which has power and exposes its lines, is cut and the other isn't, the one that is cut has a prefix of
+-- the marks of the other.
 abbrev pub CutMakesAFront : {A : Type 0} → Plan (Chip × Fault) (Chip × A) → Type 0
 CutMakesAFront {A = A} plan =
     (lines : List Line) (old a b : Device) (first second : Result (Chip × A) (Chip × Fault)) → old.lines ≡ Some lines
     → old.live ≡ true → a.live ≡ false → b.live ≡ true → Follows plan old a first → Follows plan old b second
     → IsFront (marks_at first) (marks_at second)
 
--- the marks of before are a front of those at every end
+-- the marks of before are a prefix of those at every end
 abbrev pub KeepsMarks : {A : Type 0} → Chip → Plan (Chip × Fault) (Chip × A) → Type 0
 KeepsMarks {A = A} chip plan =
     (old new : Device) (end : Result (Chip × A) (Chip × Fault)) → Follows plan old new end

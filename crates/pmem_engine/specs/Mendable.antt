@@ -1,5 +1,4 @@
--- What recovery rests on and what it leaves: parts of a device that can be mended, an emptied group, and
--- the engine that starts anew.
+-- What recovery rests on and what it leaves: parts of a device that can be mended, an emptied group, and the engine that starts again.
 use Rattle.std.specs.Prelude.{ℕ, ◌≡◌, ◌<◌, false, List, replicate}
 use Rattle.pmem_base.specs.declared.lines.Line.{Line}
 use Rattle.pmem_base.specs.declared.registers.Regs.{Regs}
@@ -32,7 +31,7 @@ pub record IsShadowZero (setup : Setup) (lines : List Line) : Type 0 where
       (n : ℕ) → n < layout.shadow_lines setup.shape
       → line_at lines (layout.shadow_line setup.shape n) ≡ zero_line
 
--- the engine that starts anew over zero shadow lines
+-- the engine that starts again over zero shadow lines
 abbrev pub new_engine : Shape → EngineState
 new_engine g =
     record {

@@ -10,16 +10,16 @@ use Rattle.meta_path.specs.Naming.{named_path, naming_writes}
 use Rattle.pmem_engine.specs.Engine.{ChipState}
 use Rattle.pmem_engine.specs.Plans.{with_mirror, name_plan}
 
--- the engine with the path's first so many blocks named in its copy of the shadow lines
+-- the engine with the first that many blocks of the path named in its copy of the shadow lines
 abbrev pub with_path_named : ℕ → ℕ → ChipState → ChipState
 with_path_named page named engine = with_mirror engine (named_path engine.shape engine.cache page engine.mirror named)
 
--- the shadow lines that so many names change, by place and line: none for a block that was named already
+-- the shadow lines that this many names change, by place and line: none for a block that was named already
 abbrev pub path_names : ℕ → ℕ → ChipState → List (ℕ × Line)
 path_names page written engine = naming_writes engine.shape engine.cache page engine.mirror written
 
--- so many blocks are named in the copy, and so many on the device: the lines that this takes were written, in order, by
--- one line write each, and nothing else changed
+-- that many blocks are named in the copy, and that many on the device: the lines that this takes were written, in order, by one line write
+-- each, and nothing else changed
 pub record AreNamed (page named written : ℕ) (engine left : ChipState) (old new : Device) : Type 0 where
   pub engine_left : left ≡ with_path_named page named engine
   pub lines : new.lines ≡ redone_told (path_names page written engine) old.lines
@@ -28,7 +28,7 @@ pub record AreNamed (page named written : ℕ) (engine left : ChipState) (old ne
   pub reads : new.reads ≡ old.reads
   pub latches : new.latches ≡ old.latches
 
--- the whole path, or where power is cut the first of its blocks, and on the device one fewer
+-- the whole path, or if power is cut the first of its blocks, and on the device one fewer
 abbrev pub IsNamedInOrder : ℕ → ChipState → Device → Device → Result (ChipState × Unit {0}) (ChipState × Cut) → Type 0
 IsNamedInOrder page engine old new (Ok end) = AreNamed page (engine.shape.levels + 1) (engine.shape.levels + 1) engine end.0 old new
 IsNamedInOrder page engine old new (Err left) = (n : ℕ) × (n ≤ engine.shape.levels) × AreNamed page (n + 1) n engine left.0 old new

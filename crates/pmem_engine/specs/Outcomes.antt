@@ -98,7 +98,7 @@ LeavesSound setup shown new = ⊥
 
 -- ---- place by place
 
--- what stays stored where these marks were made, whatever the end
+-- what stays stored if these marks were made, whatever the end
 pub record KeepsPlaces (setup : Setup) (made : List Mark) (old new : Parts) : Type 0 where
   -- the last seal of each data line, and each seal made
   pub seals :
@@ -141,7 +141,7 @@ HasSmallGroup outcome new = ⊤
 
 -- ---- persist steps: line writes and latches, whose counts stand still at their end
 
--- so many steps were taken
+-- that many steps were taken
 pub record TakesSteps (n : ℕ) (old new : Device) : Type 0 where
   pub writes : old.writes ≤ new.writes
   pub latches : old.latches ≤ new.latches
@@ -149,7 +149,7 @@ pub record TakesSteps (n : ℕ) (old new : Device) : Type 0 where
       new.writes < last_count → new.latches < last_count
       → new.writes + new.latches ≡ old.writes + old.latches + n
 
--- at most so many
+-- at most that many
 pub record TakesAtMost (n : ℕ) (old new : Device) : Type 0 where
   pub writes : old.writes ≤ new.writes
   pub latches : old.latches ≤ new.latches
@@ -157,7 +157,7 @@ pub record TakesAtMost (n : ℕ) (old new : Device) : Type 0 where
       new.writes < last_count → new.latches < last_count
       → new.writes + new.latches ≤ old.writes + old.latches + n
 
--- fewer than so many
+-- fewer than that many
 pub record TakesFewer (n : ℕ) (old new : Device) : Type 0 where
   pub writes : old.writes ≤ new.writes
   pub latches : old.latches ≤ new.latches

@@ -50,7 +50,7 @@ setup_at suite engine s = setup_with_at suite (on_chip engine) s
 abbrev pub regs_of : Parts → Regs
 regs_of parts = parts.device.regs
 
--- the device's lines with the armed group redone, where they are told
+-- the device's lines with the armed group redone, if they are exposed
 abbrev pub lines_redone : Parts → Option (List Line)
 lines_redone parts = redone_told parts.device.regs.group.items parts.device.lines
 
@@ -59,18 +59,18 @@ lines_redone parts = redone_told parts.device.regs.group.items parts.device.line
 abbrev pub AreTrusted : Setup → Parts → Type 0
 AreTrusted setup parts = IsTrusted setup parts.engine (regs_of parts) parts.ledger
 
--- the lines are told, and sound
+-- the lines are exposed, and sound
 abbrev pub AreSound : Setup → Parts → Type 0
 AreSound setup parts =
     MatchOption parts.device.lines ⊥
     (λ lines. IsSound setup parts.engine lines (regs_of parts) parts.ledger)
 
--- the lines are told, and durable
+-- the lines are exposed, and durable
 abbrev pub AreDurable : Setup → Parts → Type 0
 AreDurable setup parts =
     MatchOption parts.device.lines ⊥ (λ lines. IsDurable setup lines (regs_of parts) parts.ledger)
 
--- ---- place by place, where the lines are told
+-- ---- place by place, if the lines are exposed
 
 -- the last seal of data line a is stored
 abbrev pub HoldsSeal : Shape → Parts → ℕ → Type 0

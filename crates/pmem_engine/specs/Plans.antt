@@ -1,4 +1,4 @@
--- What the engine's calls do of the board, as plans: functions of the state beside it, and of the registers.
+-- What the engine's calls do of the board, as plans: functions of the state next to it, and of the registers.
 use Rattle.std.specs.Prelude.{ℕ, ◌+◌, ◌-◌, ◌==◌, nat_lt, List, [], ◌∷◌, length, slice_index_or, Option, Some, None, if◌then◌else◌}
 use Rattle.pmem_base.specs.declared.faults.Cut.{Cut}
 use Rattle.pmem_base.specs.declared.lines.Line.{Line}
@@ -44,7 +44,7 @@ use Rattle.pmem_engine.specs.Flushed.{cache_of, with_loss}
 use Rattle.pmem_engine.specs.Committing.{next_seal_of, entries_of}
 use Rattle.pmem_engine.specs.Resealing.{line_of_page}
 
--- ---- the state beside the board
+-- ---- the state next to the board
 
 -- what the engine keeps on the chip, the ledger, and the suite's counts of tags and digests
 pub record Chip : Type 0 where
@@ -125,7 +125,7 @@ counter_blocks_plan engine =
     mapped (λ left. left) (λ end. (end.0, bank_dirty_count engine.shape engine.cache engine.shape.levels))
     (for_each counter_block_turn (dirty_counter_blocks engine) (engine, tt))
 
--- where the number gets smaller
+-- if the number gets smaller
 unfoldable pub make_way_plan : ℕ → Regs → ChipState → Plan (ChipState × Cut) (ChipState × ℕ)
 make_way_plan n regs engine = if nat_lt n regs.loss then counter_blocks_plan engine else done (engine, 0)
 
@@ -182,7 +182,7 @@ read_plan setup regs at chip =
     (λ fetched. mapped (λ left. (left.0, fault_of_line left.1)) (λ end. (end.0, end.1.plain))
     (unseal_plan setup at (its_counter setup regs at fetched.0) fetched.0))
 
--- ---- a held line sealed anew
+-- ---- a held line resealed
 
 -- the registers with the seal's line done, and its group
 abbrev pub armed : Shape → NextSeal → Regs → Regs
@@ -223,7 +223,7 @@ seal_anew_plan setup held left regs before =
     (commit_plan setup.shape (next_seal_of setup.formulas held.at held.next before.1.plain before.1.tag_line)
     regs before.0.ledger)
 
--- the lowest line not done of register n's page is unsealed, and then sealed anew
+-- the lowest line not done of register n's page is unsealed, and then resealed
 unfoldable pub reseal_plan : Setup → ℕ → Regs → Chip → Plan (Chip × LineFault) (Chip × (ℕ × ℕ))
 reseal_plan setup n regs chip =
     bind (unseal_plan setup (held_of (register_at regs n)).at (held_of (register_at regs n)).now chip)
@@ -231,7 +231,7 @@ reseal_plan setup n regs chip =
 
 -- ---- a turn
 
--- the same of the oldest page under re-encryption, where one is
+-- the same of the oldest page under re-encryption, if one is
 unfoldable pub oldest_page_plan : Setup → Regs → Chip → List Progress → Plan (Chip × LineFault) (Chip × Option (ℕ × ℕ))
 oldest_page_plan setup regs chip [] = done (chip, None)
 oldest_page_plan setup regs chip (register ∷ others) =

@@ -141,7 +141,7 @@ module _ {B S A : Type 0} (board : BoardOf B) (suite : SuiteOf S) (audit : Audit
       Follows (begin_for_plan setup page overflows device.regs chip) device later_device
       (ended_with answer later_chip later_device.regs)
 
--- ---- what uses the board alone: whatever ledger and counts stand beside it
+-- ---- what uses the board alone: whatever ledger and counts stand next to it
 
 module _ {B : Type 0} (board : BoardOf B) (engine : ChipState) (b : B) (later_engine : ChipState) (later_b : B) where
   -- of any setup of the engine's shape

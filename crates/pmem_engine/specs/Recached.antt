@@ -54,7 +54,7 @@ pub record IsSlotOfStoredPath (g : Shape) (truth : List Line) (page : ℕ) (set 
       → (before.line ≡ slot.line) × (slot.dirty ≡ true → before.dirty ≡ true)
   pub on_path : is_on_path g page slot.position ≡ true → slot.line ≡ line_at truth slot.position
 
--- the engine that starts anew: nothing cached, its copy of the shadow lines as they are
+-- the engine that starts again: nothing cached, its copy of the shadow lines as they are
 pub record IsNewEngine (setup : Setup) (engine : ChipState) (lines : List Line) : Type 0 where
   pub its_shape : engine.shape ≡ setup.shape
   pub empty_cache : (bank set : ℕ) → set_of engine.cache bank set ≡ []

@@ -1,4 +1,4 @@
--- What sealing a held line anew makes of its parts.
+-- What sealing a held line again makes of its parts.
 use Rattle.std.specs.Prelude.{ℕ, ◌≡◌, ◌<◌, ◌≤◌, ◌+◌, ◌*◌, ◌⊎◌, List, [], ◌∷◌, length, slice_get, slice_index_or, Some, IfOk, IsOk, IsTrue, Result, Ok, Err, ⊤}
 use Rattle.pmem_base.specs.declared.faults.Cut.{Cut}
 use Rattle.pmem_base.specs.declared.registers.Progress.{Progress}
@@ -66,7 +66,7 @@ HasResealEnded g next old new before after =
 
 -- ---- the whole
 
--- the marks, where the line at place i of the page was to be sealed
+-- the marks, if the line at place i of the page was to be sealed
 abbrev pub HasResealMarks : Formulas → Moment → ℕ → ℕ → List Mark → Result (ℕ × ℕ) LineFault → Type 0
 HasResealMarks f now page i made (Ok sealed) = made ≡ reseal_mark f now page i ∷ []
 HasResealMarks f now page i made (Err AtLine.Cut) = (made ≡ []) ⊎ (made ≡ reseal_mark f now page i ∷ [])
@@ -93,8 +93,7 @@ CountsReseal old new (Ok sealed) =
 CountsReseal old new (Err AtLine.Cut) = TakesFewer 4 old.device new.device
 CountsReseal old new (Err fault) = TakesSteps 0 old.device new.device
 
--- the lowest line not done of register n's page was sealed anew, under the page's new major and 0, or
--- the answer says why not
+-- the lowest line not done of register n's page was resealed, under the page's new major and 0, or the answer says why not
 pub record HasResealed (setup : Setup) (n : ℕ) (old new : Parts) (answer : Result (ℕ × ℕ) LineFault) : Type 0 where
   pub place : ℕ
   pub lowest : slice_get (not_done (register_in old n)) 0 ≡ Some place

@@ -36,7 +36,7 @@ use Rattle.pmem_engine.specs.Plans.{Chip, chip_with, with_tags, with_cache}
 
 -- ---- a page's new path
 
--- the path over the cached lines, where the page's counter block is another one
+-- the path over the cached lines, if the page's counter block is another one
 abbrev pub next_lines : Setup → ChipState → ℕ → Block → List (ℕ × Line)
 next_lines setup engine page block =
     path_with setup.shape setup.formulas (cached_line setup.shape engine.cache) page (packed block)
@@ -92,7 +92,7 @@ seal_over_plan setup at plain regs chip tags =
     (next_lines setup chip.engine (page_of at) block) (next_root setup chip.engine (page_of at) block) regs
     (with_tags chip (risen chip.tags)))
 
--- the page's path is made anew, and the tag line is read; the answer is the counter
+-- the page's path is made again, and the tag line is read; the answer is the counter
 unfoldable pub seal_next_plan : Setup → ℕ → Line → Regs → Chip → Plan (Chip × Cut) (Chip × Ctr)
 seal_next_plan setup at plain regs chip =
     read (with_path_digests setup.shape chip, the_cut) (layout.tag_line setup.shape at)
@@ -115,7 +115,7 @@ commit_begin_plan g page register block lines root regs chip =
     group_plan (begin_armed g page register block root regs) chip
     (with_marked_path g (Begin page) page true lines chip)
 
--- the page's path is made anew over its next counter block, and the begin is committed
+-- the page's path is made again over its next counter block, and the begin is committed
 unfoldable pub begin_page_plan : Setup → ℕ → Regs → Chip → Plan (Chip × Fault) (Chip × Regs)
 begin_page_plan setup page regs chip =
     let block = cached_block setup.shape chip.engine page in
@@ -124,7 +124,7 @@ begin_page_plan setup page regs chip =
     (commit_begin_plan setup.shape page (begun page (packed block)) (packed next) (next_lines setup chip.engine page next)
     (next_root setup chip.engine page next) regs (with_path_digests setup.shape chip))
 
--- where it has to be re-encrypted
+-- if it has to be re-encrypted
 unfoldable pub begin_for_plan : Setup → ℕ → Bool → Regs → Chip → Plan (Chip × Fault) (Chip × Regs)
 begin_for_plan setup page overflows regs chip =
     if overflows then begin_page_plan setup page regs chip else done (chip, regs)

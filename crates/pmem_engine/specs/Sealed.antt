@@ -62,7 +62,7 @@ pub record IsBegun (setup : Setup) (page : ℕ) (old_regs new_regs : Regs) (old 
       new_regs.progress.items
       ≡ old_regs.progress.items ++ begun page (line_at old.truth (counter_position setup.shape page)) ∷ []
 
--- a held line sealed anew with its truth unchanged, and done
+-- a held line resealed with its truth unchanged, and done
 pub record IsResealed (setup : Setup) (a : ℕ) (cipher : Line) (tag : List ℕ) (old_regs new_regs : Regs)
     (old new : LedgerState) : Type 0 where
   pub kept : IsKept setup old_regs new_regs old new

@@ -57,14 +57,14 @@ pub record HasNotedPath (lines : List (ℕ × Line)) (mark : Mark) (old new : Le
   pub data_lines : new.data_lines ≡ old.data_lines
   pub exhibit : new.exhibit ≡ old.exhibit
 
--- a seal's group, with its page's counter block where that is written too
+-- a seal's group, with its page's counter block if that is written too
 abbrev pub seal_group : Shape → NextSeal → Bool → Line → List (ℕ × Line)
 seal_group g next persisted block =
     if persisted then entries_of g next ++ block_entry g (page_of next.at) block ∷ [] else entries_of g next
 
 -- ---- a seal
 
--- what both a commit and a cut amid it leave of the chip
+-- what both a commit and a cut during it leave of the chip
 pub record HasPathSealed (g : Shape) (next : NextSeal) (persisted : Bool) (block : Line) (lines : List (ℕ × Line))
     (root : List ℕ) (old new : ChipState) (old_regs new_regs : Regs) (before after : LedgerState) : Type 0 where
   pub is_group : IsGroup (layout.device_lines g) (seal_group g next persisted block)
@@ -120,7 +120,7 @@ raised_block g engine a =
     let block = cached_block g engine (page_of a) in
     with_minor block (index_in_page a) (minor_of block (index_in_page a) + 1)
 
--- the steps of a seal: five where its page's counter block is written too
+-- the steps of a seal: five if its page's counter block is written too
 abbrev pub seal_steps : ℕ → Ctr → ℕ
 seal_steps loss ctr = if ctr.minor % loss == 0 then 5 else 4
 

@@ -20,7 +20,7 @@ use Rattle.pmem_engine.specs.SealPlans.{seal_next_plan, begin_for_plan}
 
 -- ---- the counter
 
--- whether the line's page has to be re-encrypted; spent where its counter is used up
+-- whether the line's page has to be re-encrypted; spent if its counter is exhausted
 abbrev pub overflow_end : Chip → Result Bool Fault → Plan (Chip × Fault) Bool
 overflow_end chip (Ok overflows) = done overflows
 overflow_end chip (Err fault) = stop (chip, fault)
@@ -46,7 +46,7 @@ abbrev pub with_next_done : ℕ → Regs → Regs
 with_next_done n regs =
     record regs { progress = record { items = registers_with_done regs.progress.items (held_of (register_at regs n)).at } }
 
--- that line is sealed anew, whichever it is by now
+-- that line is resealed, whichever it is by now
 abbrev pub finish_turn : Setup → ℕ → ℕ → Chip × Regs → Plan (Chip × LineFault) (Chip × Regs)
 finish_turn setup n i before =
     mapped (λ left. left) (λ end. (end.0, with_next_done n before.1)) (reseal_plan setup n before.1 before.0)
@@ -61,7 +61,7 @@ unfoldable pub finish_found_plan : Setup → Regs → Chip → Option ℕ → Pl
 finish_found_plan setup regs chip None = done (chip, regs)
 finish_found_plan setup regs chip (Some n) = finish_page_plan setup n regs chip
 
--- where the page has to be re-encrypted: its own register where it is open, else the oldest where four are
+-- if the page has to be re-encrypted: its own register if it is open, else the oldest if four are
 unfoldable pub finish_for_plan : Setup → ℕ → Bool → Regs → Chip → Plan (Chip × LineFault) (Chip × Regs)
 finish_for_plan setup page overflows regs chip =
     if overflows then finish_found_plan setup regs chip (register_to_finish regs.progress.items page)
@@ -69,8 +69,8 @@ finish_for_plan setup page overflows regs chip =
 
 -- ---- the whole
 
--- The page's path is fetched, the line's counter looked at, its plain line made, a page finished where one has to be,
--- the path named, the page begun where it has to be, and the line sealed; the answer is its counter.
+-- The page's path is fetched, the line's counter looked at, its plain line made, a page finished if one has to be, the path named, the page
+-- begun if it has to be, and the line sealed; the answer is its counter.
 unfoldable pub write_plan : Setup → Regs → Posted → Chip → Plan (Chip × Fault) (Chip × Ctr)
 write_plan setup regs write chip =
     bind (lifted (λ now. now) fault_of_path (fetch_path_plan setup regs.root (page_of write.at) chip)) (λ fetched.

@@ -30,7 +30,7 @@ use Rattle.pmem_engine.specs.CallFacts.{IsMemory, IsUnrefused, IsLeftAlone, mome
 use Rattle.pmem_engine.specs.Resealing.{register_in}
 use Rattle.pmem_engine.specs.Sealing.{HasBegunPage}
 
--- whether the page has to be re-encrypted for line i of it; spent where its major is used up too
+-- whether the page has to be re-encrypted for line i of it; spent if its major is exhausted too
 abbrev pub overflow_of : Block → ℕ → ℕ → Result Bool Fault
 overflow_of block page i =
     if nat_lt (minor_of block i) 127 then Ok false
@@ -43,8 +43,8 @@ pub record HasLeftOut {E : Type 0} (old new : Parts) (answer : Result Unit E) : 
 
 -- ---- the plain line
 
--- what the answer says, from a trusted chip with the path cached on: the line's plain line with the
--- write's bytes in it; a refusal or an exhibit only where the write is shorter than a line
+-- what the answer says, from a trusted chip with the path cached on: the line's plain line with the write's bytes in it; a refusal or an
+-- exhibit only if the write is shorter than a line
 abbrev pub AnswersPlain : Setup → Posted → Parts → Parts → Result Line LineFault → Type 0
 AnswersPlain setup write old new (Ok plain) =
     IfSome (plain_line setup.formulas old.ledger.marks write.at) (λ line. plain ≡ put_write line write)
@@ -80,7 +80,7 @@ pub record HasMadePlain (setup : Setup) (write : Posted) (old new : Parts) (answ
 abbrev pub reseals_of : Formulas → Moment → Progress → List Mark
 reseals_of f now register = map (reseal_mark f now register.page) (not_done register)
 
--- made is a front of the marks asked
+-- made is a prefix of the marks asked
 pub record IsFrontOf (asked made : List Mark) : Type 0 where
   pub left : List Mark
   pub front : asked ≡ made ++ left
@@ -92,7 +92,7 @@ pub record IsStoppedAt (asked made : List Mark) (b : ℕ) : Type 0 where
   pub front : asked ≡ made ++ next ∷ later
   pub its_line : is_seal_of b next ≡ true
 
--- the marks, by the answer: all that are asked, or a front of them
+-- the marks, by the answer: all that are asked, or a prefix of them
 abbrev pub HasFinishMarks : List Mark → List Mark → Result Unit LineFault → Type 0
 HasFinishMarks asked made (Ok value) = made ≡ asked
 HasFinishMarks asked made (Err AtLine.Cut) = IsFrontOf asked made
@@ -115,8 +115,7 @@ abbrev pub CountsFinish : ℕ → List Mark → Parts → Parts → Result Unit 
 CountsFinish number made old new (Err AtLine.Cut) = TakesFewer (4 * number) old.device new.device
 CountsFinish number made old new answer = TakesSteps (4 * length made) old.device new.device
 
--- every line not done of register n's page was sealed anew, upwards, and its register is gone; or the
--- answer says why not
+-- every line not done of register n's page was resealed, upwards, and its register is gone; or the answer says why not
 pub record HasFinishedPage (setup : Setup) (n : ℕ) (old new : Parts) (answer : Result Unit LineFault) : Type 0 where
   pub made : List Mark
   pub few : length made ≤ length (not_done (register_in old n))
@@ -151,13 +150,12 @@ pub record HasFinishedPage (setup : Setup) (n : ℕ) (old new : Parts) (answer :
   pub root : (regs_of new).root ≡ (regs_of old).root
   pub digests : new.digests ≡ old.digests
 
--- the place found, or the oldest where four registers are in use
+-- the place found, or the oldest if four registers are in use
 abbrev pub register_found : Option ℕ → ℕ → Option ℕ
 register_found (Some n) number = Some n
 register_found None number = if nat_le 4 number then Some 0 else None
 
--- the register of the page that has to be finished before a page begins: its own where it is open,
--- else the oldest where four are
+-- the register of the page that has to be finished before a page begins: its own if it is open, else the oldest if four are
 abbrev pub register_to_finish : List Progress → ℕ → Option ℕ
 register_to_finish registers page =
     register_found (position (λ register. register.page == page) registers) (length registers)
@@ -166,7 +164,7 @@ abbrev pub HasFinishedWhere : Setup → Option ℕ → Parts → Parts → Resul
 HasFinishedWhere setup None old new answer = HasLeftOut old new answer
 HasFinishedWhere setup (Some n) old new answer = HasFinishedPage setup n old new answer
 
--- a page was finished where the write's page has to be re-encrypted
+-- a page was finished if the write's page has to be re-encrypted
 abbrev pub HasFinishedFor : Bool → Setup → ℕ → Parts → Parts → Result Unit LineFault → Type 0
 HasFinishedFor true setup page old new answer =
     HasFinishedWhere setup (register_to_finish (regs_of old).progress.items page) old new answer
@@ -174,7 +172,7 @@ HasFinishedFor false setup page old new answer = HasLeftOut old new answer
 
 -- ---- a page begun
 
--- a page was begun where it had to be
+-- a page was begun if it had to be
 abbrev pub HasBegunFor : Bool → Setup → ℕ → Parts → Parts → Result Unit Fault → Type 0
 HasBegunFor true setup page old new answer = HasBegunPage setup page old new answer
 HasBegunFor false setup page old new answer = HasLeftOut old new answer

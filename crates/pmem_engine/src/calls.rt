@@ -1,4 +1,4 @@
-//! The engine's calls. Each ends the engine where it was cut or stopped.
+//! The engine's calls. A call that was cut or stopped ends the engine.
 ghost use Rattle.std.specs.Prelude.{◌≡◌, ◌<◌, ◌↔◌, IsOk, true, false, not, IsTrue, IfErr, OnOk, OnErr};
 ghost use Rattle.pmem_base.specs.Shape.{is_loss};
 ghost use Rattle.pmem_base.specs.Layout.{data_lines};
@@ -19,7 +19,9 @@ use seal_ledger::Audit;
 use suite::Suite;
 
 impl Engine {
-    /// The plain line `at`. Its page's path is fetched and checked, and its tag.
+    /// Reads the plain line `at`: fetches and checks its page's path, and checks its tag. Errors: `Cut`, `Meta`, `Tag`,
+    /// `Shown`, `Down` (see `Fault`; docs/ENGINE.md has their causes), never `Spent`. Cost: at most one line write for
+    /// each level, then two line reads and a tag.
     pub fn read<B: Board, S: Suite, A: Audit>(
         &mut self,
         board: &mut B,
@@ -41,7 +43,9 @@ impl Engine {
         self.ended(answer)
     }
 
-    /// Writes a whole line, and answers the counter that it is sealed under.
+    /// Writes a whole line, and answers the counter that it is sealed under. Requires room for 66 marks. Errors: `Cut`,
+    /// `Meta`, `Tag`, `Spent`, `Shown`, `Down` (see `Fault`; docs/ENGINE.md has their causes). Cost: 4 or 5 persist
+    /// steps if the path is cached and named, and the line's minor isn't 127.
     pub fn write<B: Board, S: Suite, A: Audit>(
         &mut self,
         board: &mut B,
@@ -70,8 +74,9 @@ impl Engine {
         self.write_part(board, suite, audit, &write)
     }
 
-    /// Writes the bytes of a posted write into their line, and answers the counter that it is sealed
-    /// under. Where the write is shorter than a line, the line is read and unsealed before.
+    /// Writes the bytes of a posted write into their line, and answers the counter that it is sealed under. If the
+    /// write is shorter than a line, the line is read and unsealed before. Errors and cost: those of `write`, and two
+    /// line reads and a tag if the write is shorter than a line.
     pub fn write_part<B: Board, S: Suite, A: Audit>(
         &mut self,
         board: &mut B,
@@ -95,8 +100,9 @@ impl Engine {
         self.ended(answer)
     }
 
-    /// Seals the lowest line not done of the oldest page under re-encryption. The answer is the line,
-    /// and how many lines of the page are left. None where no page is open.
+    /// Seals the lowest line not done of the oldest page under re-encryption. The answer is the line, and how many
+    /// lines of the page are left. `None` if and only if no page is open. Errors: `Cut`, `Tag`, `Shown`, `Down`. Cost:
+    /// four persist steps, two reads and two tags.
     pub fn turn<B: Board, S: Suite, A: Audit>(
         &mut self,
         board: &mut B,
@@ -121,7 +127,8 @@ impl Engine {
         Ok(Some(sealed))
     }
 
-    /// Writes the oldest dirty block to its place. None where no block is dirty.
+    /// Writes the oldest dirty block to its place. `None` if no block is dirty. Errors: `Cut`; `Down`. Cost: one
+    /// persist step, none if no block is dirty.
     pub fn flush<B: Board>(&mut self, board: &mut B) -> Result<Option<u32>, Fault>
         requires ready { IsReady self.old.shape self.old (B.device board.old) }
         ensures flushed { Flushes B.Board self.old board.old self.new board.new result }
@@ -134,8 +141,9 @@ impl Engine {
         self.ended_or_cut(answer)
     }
 
-    /// Sets the stop-loss number, which is 1, 2, 4, 8 or 16, and answers the persist steps taken. A
-    /// smaller number is latched once every dirty counter block is written to its place.
+    /// Sets the stop-loss number, which is 1, 2, 4, 8 or 16, and answers the persist steps taken. A smaller number is
+    /// latched once every dirty counter block is written to its place. Errors: `Cut`, `Down`. Cost: no step if the
+    /// number stays, one if it rises; if it falls, one, and one for each dirty counter block.
     pub fn set_loss<B: Board>(&mut self, board: &mut B, n: u8) -> Result<u32, Fault>
         requires number { IsTrue (is_loss n) }
         requires ready { IsReady self.old.shape self.old (B.device board.old) }
@@ -163,7 +171,7 @@ impl Engine {
         Ok(())
     }
 
-    // The answer of a call, which ends the engine where it was cut or stopped.
+    // The answer of a call, which ends the engine if it was cut or stopped.
     fn ended<T>(&mut self, answer: Result<T, Fault>) -> Result<T, Fault>
         requires up { self.old.down ≡ false }
         ensures answer { result ≡ answer }

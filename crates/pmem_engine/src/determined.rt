@@ -7,27 +7,32 @@ pub fn flush_is_determined()
     ensures { FlushIsDetermined }
 {}
 
-/// A law: the same of two turns, and of the ledger and the counts that they leave.
+/// A law: two turns of one engine over one watched board, which has power, that meet the same fuse have the same answer
+/// and leave the same engine, board, ledger and counts.
 pub fn turn_is_determined()
     ensures { TurnIsDetermined }
 {}
 
-/// A law: the same of two reads of one line.
+/// A law: two reads of one line by one engine over one watched board, which has power, that meet the same fuse have the
+/// same answer and leave the same engine, board, ledger and counts.
 pub fn read_is_determined()
     ensures { ReadIsDetermined }
 {}
 
-/// A law: the same of two writes of one line.
+/// A law: two writes of one line by one engine over one watched board, which has power, that meet the same fuse have
+/// the same answer and leave the same engine, board, ledger and counts.
 pub fn write_is_determined()
     ensures { WriteIsDetermined }
 {}
 
-/// A law: the same of two posted writes.
+/// A law: two posted writes, of the same bytes, by one engine over one watched board, which has power, that meet the
+/// same fuse have the same answer and leave the same engine, board, ledger and counts.
 pub fn write_part_is_determined()
     ensures { WritePartIsDetermined }
 {}
 
-/// A law: the same of two changes of the stop-loss number, of the engine and the board.
+/// A law: two changes to one stop-loss number of one engine over one watched board, which has power, that meet the same
+/// fuse have the same answer and leave the same engine and board.
 pub fn set_loss_is_determined()
     ensures { SetLossIsDetermined }
 {}

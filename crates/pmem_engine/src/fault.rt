@@ -23,7 +23,7 @@ pub enum Fault {
     Shown,
 }
 
-/// Why a line isn't unsealed, or not sealed anew.
+/// Why a line isn't unsealed, or not resealed.
 #[derive(Clone, Copy, Debug, PartialEq, Eq)]
 pub(crate) enum LineFault {
     /// Power was cut.

@@ -51,7 +51,7 @@ impl OnChip {
         Ok(written + 1)
     }
 
-    // Where the number gets smaller, writes every dirty counter block to its place, and answers how
+    // If the number gets smaller, writes every dirty counter block to its place, and answers how
     // many there were.
     fn make_way<B: Board>(&mut self, board: &mut B, n: u8) -> Result<u32, Cut>
         requires size { (B.device board.old).size ≡ device_lines self.old.shape }

@@ -1,4 +1,4 @@
-//! Sealing a line anew: the lowest line not done of a page under re-encryption.
+//! Resealing a line: the lowest line not done of a page under re-encryption.
 ghost use Rattle.std.specs.Prelude.{◌≡◌, ◌≢◌, ◌<◌, ◌+◌, ◌-◌, ◌*◌, ◌^◌, false, [], All, AllPairs, length};
 ghost use Rattle.pmem_base.specs.Counts.{risen};
 ghost use Rattle.pmem_base.specs.Layout.{data_lines, device_lines};
@@ -22,7 +22,7 @@ use seal_ledger::Audit;
 use split_counters::unpack;
 use suite::Suite;
 
-/// A line about to be sealed anew: its counter, cipher and tag, and its tag line with that tag.
+/// A line about to be resealed: its counter, cipher and tag, and its tag line with that tag.
 #[derive(Clone, Copy, Debug, PartialEq, Eq)]
 pub(crate) struct NextSeal {
     pub(crate) at: u32,

@@ -109,7 +109,8 @@ impl OnChip {
         Ok(())
     }
 
-    // Commits a seal with its page's new path, whose counter block is in the group where it is persisted.
+    // Commits a seal with its page's new path, whose counter block is in the group if it is
+    // persisted.
     fn commit_seal<B: Board, A: Audit>(
         &mut self,
         board: &mut B,

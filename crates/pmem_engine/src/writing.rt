@@ -22,8 +22,9 @@ use seal_ledger::Audit;
 use suite::Suite;
 
 impl OnChip {
-    // Writes a posted write: fetches its path, unseals its line where it is shorter than a line, makes
-    // room for a page that has to be re-encrypted, names the path's blocks, begins the page, and seals.
+    // Writes a posted write: fetches its path, unseals its line if it is shorter than a line, makes
+    // room for a page that has to be re-encrypted, names the path's blocks, begins the page, and
+    // seals.
     pub(crate) fn write_posted<B: Board, S: Suite, A: Audit>(
         &mut self,
         board: &mut B,
@@ -53,7 +54,7 @@ impl OnChip {
         Ok(ctr)
     }
 
-    // Whether the line's minor in its page's counter block stands at its end. Spent where the major
+    // Whether the line's minor in its page's counter block stands at its end. Spent if the major
     // does too.
     fn overflows(&self, at: u32) -> Result<bool, Fault>
         requires line { at < data_lines self.now.shape }
@@ -96,7 +97,8 @@ impl OnChip {
         Ok(line_with(&unsealed.plain, write))
     }
 
-    // Where the page has to be re-encrypted: finishes it if it is open, or the oldest page if four are.
+    // If the page has to be re-encrypted: finishes it if it is open, or the oldest page if four
+    // are.
     fn finish_for<B: Board, S: Suite, A: Audit>(
         &self,
         board: &mut B,
@@ -150,7 +152,7 @@ impl OnChip {
         Ok(())
     }
 
-    // Begins the page where it has to be re-encrypted.
+    // Begins the page if it has to be re-encrypted.
     fn begin_for<B: Board, S: Suite, A: Audit>(
         &mut self,
         board: &mut B,
@@ -182,8 +184,8 @@ impl OnChip {
     }
 }
 
-// The place of the register whose page is finished before `page` begins: its own where it is open,
-// else the oldest where four are.
+// The place of the register whose page is finished before `page` begins: its own if it is open,
+// else the oldest if four are.
 fn to_finish(registers: &ArrayVec<Progress, 4>, page: u32) -> Option<usize>
     ensures found { result ≡ register_to_finish registers.now.items page }
     ensures inside { IfSome result (λ n. n < length registers.now.items) }

@@ -25,7 +25,7 @@ FormatIsDetermined =
     → old.lines ≡ Some lines → old.live ≡ true → HasFormatted setup ledger old a engine → HasFormatted setup other old b last
     → (engine ≡ last) × (ledger ≡ other) × (a ≡ b)
 
--- an answer that isn't a cut or want of memory
+-- an answer that isn't a cut or running out of memory
 abbrev pub IsGoneThrough : Answer → Type 0
 IsGoneThrough (Ok done) = ⊤
 IsGoneThrough (Err Memory) = ⊥

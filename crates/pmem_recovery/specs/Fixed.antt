@@ -1,5 +1,4 @@
--- The metadata that recovery makes, from the top down: a named block is made anew, any other is the
--- device's.
+-- The metadata that recovery makes, from the top down: a named block is made again, any other is the device's.
 use Rattle.std.specs.Prelude.{ℕ, zero, suc, ◌+◌, ◌-◌, ◌*◌, List, map, slice_get, unwrap_or, if◌then◌else◌}
 use Rattle.std.specs.List.{range_with_len}
 use Rattle.pmem_base.specs.declared.lines.Line.{Line}

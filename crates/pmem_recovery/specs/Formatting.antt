@@ -70,7 +70,7 @@ HasSealedAll setup n new =
     IfLinesTold new.lines (λ now. length now ≡ layout.device_lines setup.shape
     → (a : ℕ) → a < n → IsFirstSealed setup now a)
 
--- the first n metadata lines are told
+-- the first n metadata lines are reported
 pub record HasToldMeta (g : Shape) (truth : List Line) (n : ℕ) (old new : LedgerState) : Type 0 where
   pub lines : (x : ℕ) → x < n → line_at new.truth x ≡ line_at truth x
   pub count : length new.truth ≡ length old.truth

@@ -1,5 +1,5 @@
--- How the metadata lines and the shadow lines stand while recovery writes: a front of its writes is done, in
--- their order. First come the named lines, from the lowest level upwards, and then the shadow lines.
+-- How the metadata lines and the shadow lines stand while recovery writes: a prefix of its writes is done, in their order. First come the
+-- named lines, from the lowest level upwards, and then the shadow lines.
 use Rattle.std.specs.Prelude.{ℕ, ◌≡◌, ◌≤◌, ◌<◌, ◌⊎◌, true, false, List}
 use Rattle.pmem_base.specs.declared.lines.Line.{Line}
 use Rattle.pmem_base.specs.declared.registers.Regs.{Regs}
@@ -26,7 +26,7 @@ pub record AreWrittenBefore (setup : Setup) (lines : List Line) (regs : Regs) (n
       (m : ℕ) → m < layout.shadow_lines setup.shape
       → line_at now (layout.shadow_line setup.shape m) ≡ line_at lines (layout.shadow_line setup.shape m)
 
--- the root is right, all metadata lines are the fixed ones, and so many shadow lines are zero
+-- the root is right, all metadata lines are the fixed ones, and that many shadow lines are zero
 pub record AreClearedTo (setup : Setup) (lines : List Line) (regs : Regs) (n : ℕ) (now : List Line) :
     Type 0 where
   pub root : HasRoot setup lines regs

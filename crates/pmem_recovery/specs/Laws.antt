@@ -12,7 +12,7 @@ use Rattle.call_effects.specs.SuiteStates.{SuiteState}
 use Rattle.pmem_recovery.specs.Plans.{counts_of, recover_plan}
 use Rattle.pmem_recovery.specs.Recovered.{Answer, HasRecovered}
 
--- a board of whole lines that followed recovery's plan has recovered, whatever code it was, where keys and pads stay
+-- a board of whole lines that followed recovery's plan has recovered, whatever code it was, if keys and pads stay
 abbrev pub PlansRecover : Type 0
 PlansRecover =
     (setup : Setup) (ledger : LedgerState) (old new : Device) (suite_old suite_new : SuiteState) (answer : Answer)

@@ -54,7 +54,7 @@ abbrev pub most_reads : Shape → ℕ
 most_reads g =
     layout.shadow_lines g + 129 * layout.slots g + 5 * (g.levels * layout.slots g) + 1
 
--- so many lines are written, each another one than before
+-- that many lines are written, each another one than before
 pub record HasMadeWrites (setup : Setup) (regs : Regs) (old new : Device) : Type 0 where
   pub size : new.size ≡ old.size
   pub same_regs : new.regs ≡ old.regs

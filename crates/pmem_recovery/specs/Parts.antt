@@ -21,7 +21,7 @@ use Rattle.pmem_recovery.specs.Named.{count_named}
 use Rattle.pmem_recovery.specs.Trials.{stored_block, tried_minors, first_undecided, trials_below}
 use Rattle.pmem_recovery.specs.Fixed.{found_root}
 
--- what holds of the lines, where they are told
+-- what holds of the lines, if they are exposed
 abbrev pub IfLinesTold : Option (List Line) → (List Line → Type 0) → Type 0
 IfLinesTold told P = (lines : List Line) → told ≡ Some lines → P lines
 
@@ -49,14 +49,14 @@ pub record IsCutOff (old new : Device) : Type 0 where
   pub never_falls : old.cuts ≤ new.cuts
   pub rose : HasRisen old.cuts new.cuts
 
--- a stage that stops goes on but where power is cut
+-- a stage that stops goes on but if power is cut
 abbrev pub StopsBy : RecFault → Device → Device → Type 0
 StopsBy Cut old new = IsCutOff old new
 StopsBy fault old new = IsUncut old new
 
 -- ---- the suite
 
--- so many tags and digests are made, and no pad
+-- that many tags and digests are made, and no pad
 pub record SuiteWork (n m : ℕ) (old new : SuiteState) : Type 0 where
   pub keys : new.keys ≡ old.keys
   pub pads : new.pads ≡ old.pads
@@ -144,7 +144,7 @@ pub record HasRoot (setup : Setup) (lines : List Line) (regs : Regs) : Type 0 wh
   pub decided : first_undecided setup lines regs ≡ None
   pub root : found_root setup lines regs ≡ regs.root
 
--- where recovery stops: at the first line that hasn't one minor, else at the root
+-- if recovery stops: at the first line that hasn't one minor, else at the root
 abbrev pub IsRefusal : Setup → List Line → Regs → RecFault → Type 0
 IsRefusal setup lines regs Memory = ⊤
 IsRefusal setup lines regs Cut = ⊤

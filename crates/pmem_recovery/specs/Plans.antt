@@ -34,7 +34,7 @@ use Rattle.pmem_recovery.specs.Upward.{line_made, is_other}
 use Rattle.call_effects.specs.SuiteStates.{SuiteState}
 use Rattle.pmem_recovery.specs.Parts.{decided_of}
 
--- ---- the state beside the board
+-- ---- the state next to the board
 
 -- the suite's counts of tags and digests
 pub record SuiteCounts : Type 0 where
@@ -60,7 +60,7 @@ module _ {S : Type 0} (suite : SuiteOf S) where
   abbrev pub counts_at : S → SuiteCounts
   counts_at s = suite_counts (suite.tags s) (suite.digests s)
 
--- the counts after so many tags, and after one digest
+-- the counts after that many tags, and after one digest
 abbrev pub after_tags : ℕ → SuiteCounts → SuiteCounts
 after_tags n counts = suite_counts (risen_times n counts.tags) counts.digests
 
@@ -108,7 +108,7 @@ after_sealed setup loss stored at sealed =
     window_plan setup.formulas at stored.major (window_minors (slice_index stored.minors (index_in_page at)) loss)
     sealed.1.0 sealed.1.1 sealed.0
 
--- the stored minor stays where a register holds the line
+-- the stored minor stays if a register holds the line
 unfoldable pub held_or_tried : Setup → ℕ → Block → ℕ → SuiteCounts → Option Progress → Plan (SuiteCounts × RecFault) (SuiteCounts × (ℕ × ℕ))
 held_or_tried setup loss stored at counts (Some register) = done (counts, (slice_index stored.minors (index_in_page at), 0))
 held_or_tried setup loss stored at counts None =
@@ -249,7 +249,7 @@ making_plan setup regs counts =
 
 -- ---- the writes
 
--- a line is written where it is another one than the device's
+-- a line is written if it is another one than the device's
 unfoldable pub changed_plan : ℕ → Line → Bool → Plan Cut (Unit {0})
 changed_plan at line changed = if changed then write the_cut at line (done tt) else done tt
 
@@ -275,7 +275,7 @@ writes_plan setup made =
 
 -- ---- the whole
 
--- where no group is armed
+-- if no group is armed
 unfoldable pub mend_plan : Setup → Regs → SuiteCounts → Plan (SuiteCounts × RecFault) (SuiteCounts × Work)
 mend_plan setup regs counts = bind (making_plan setup regs counts) (writes_plan setup)
 

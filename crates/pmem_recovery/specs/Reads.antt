@@ -21,7 +21,7 @@ use Rattle.pmem_recovery.specs.Upward.{line_made}
 abbrev pub sum_named : Shape → List Line → (ℕ → ℕ) → ℕ → ℕ → ℕ
 sum_named g shadow f a b = sum_by f (filter (λ x. names g shadow x) (range_with_len a (b - a)))
 
--- for line a: it and its tag line, or none where a register holds it
+-- for line a: it and its tag line, or none if a register holds it
 abbrev pub line_reads : List Progress → ℕ → ℕ
 line_reads registers a = if is_some (register_held registers a) then 0 else 2
 
@@ -57,8 +57,8 @@ all_reads g shadow regs =
     + sum_named g shadow (node_reads g shadow) 0 (level_start g.levels)
     + unnamed_reads g shadow 0
 
--- the most reads with so many blocks named: the shadow lines, each named counter block with the lines of its
--- page and their tag lines, each named node with its children, and the top line
+-- the most reads with that many blocks named: the shadow lines, each named counter block with the lines of its page and their tag lines,
+-- each named node with its children, and the top line
 abbrev pub named_reads : Shape → List Line → ℕ
 named_reads g shadow =
     layout.shadow_lines g

@@ -39,8 +39,7 @@ Answer = Result (EngineState × Work) RecFault
 
 -- ---- the device
 
--- The group is redone and empty but after a cut, which may have come before, and where there was no
--- memory. No other register changes.
+-- The group is redone and empty but after a cut, which may have come before, and if there was no memory. No other register changes.
 abbrev pub RegsAfter : Answer → Regs → Regs → Type 0
 RegsAfter (Err Memory) old new = new ≡ old
 RegsAfter (Err Cut) old new = (new ≡ old) ⊎ (new ≡ without_group old)
@@ -71,14 +70,14 @@ abbrev pub most_recovery_steps : Setup → Regs → ℕ
 most_recovery_steps setup regs =
     length regs.group.items + finishing_latches regs.group.items + most_writes setup.shape
 
--- at most so many; a cut comes at a step that isn't taken, so before all of them were
+-- at most that many; a cut comes at a step that isn't taken, so before all of them were
 abbrev pub StepsAfter : Answer → ℕ → Device → Device → Type 0
 StepsAfter (Err Cut) most old new = TakesFewer most old new
 StepsAfter answer most old new = TakesAtMost most old new
 
 -- ---- the suite
 
--- so many calls at most were counted
+-- that many calls at most were counted
 pub record CountsAtMost (most old new : ℕ) : Type 0 where
   pub calls : ℕ
   pub few : calls ≤ most
@@ -93,7 +92,7 @@ abbrev pub DigestsCounted : Answer → ℕ → ℕ → Type 0
 DigestsCounted (Ok done) old new = new ≡ risen_times done.1.digests old
 DigestsCounted (Err fault) old new = ⊤
 
--- where there was no memory nothing was counted
+-- if there was no memory nothing was counted
 abbrev pub IsUncounted : Answer → SuiteState → SuiteState → Type 0
 IsUncounted (Err Memory) old new = new ≡ old
 IsUncounted answer old new = ⊤
@@ -150,7 +149,7 @@ pub record IsCleared (setup : Setup) (now : List Line) (regs : Regs) : Type 0 wh
   pub shadow_zero : IsShadowZero setup now
   pub top : setup.formulas.digest_of 0 (stored_meta setup.shape now 0) ≡ regs.root
 
--- what has become of the lines, where they are told
+-- what has become of the lines, if they are exposed
 pub record HasMended (setup : Setup) (ledger : LedgerState) (old new : Device) (lines now : List Line)
     (answer : Answer) : Type 0 where
   pub from_durable :

@@ -41,14 +41,13 @@ minors_tried setup lines loss a None stored =
     filter (λ minor. is_tag_met setup lines a (record { major = stored.major; minor = minor }))
     (window_of (slice_index stored.minors (index_in_page a)) loss)
 
--- the minors that line a may have, where its counter block is named
+-- the minors that line a may have, if its counter block is named
 abbrev pub tried_minors : Setup → List Line → Regs → ℕ → List ℕ
 tried_minors setup lines regs a =
     minors_tried setup lines regs.loss a (register_held regs.progress.items a)
     (stored_block setup.shape lines (page_of a))
 
--- the minors that are tried for line a where its counter block is named: those of its window, or none where a
--- register holds it
+-- the minors that are tried for line a if its counter block is named: those of its window, or none if a register holds it
 abbrev pub candidates : ℕ → Option Progress → ℕ → List ℕ
 candidates loss (Some register) minor = []
 candidates loss None minor = window_of minor loss

@@ -23,7 +23,7 @@ is_other read line = not (same_bytes read.0 line.0)
 abbrev pub line_made : List MadeEntry → ℕ → Option Line
 line_made made x = option_map (λ entry. entry.line) (find (λ entry. entry.at == x) made)
 
--- the line made for x, or the device's where none was
+-- the line made for x, or the device's if none was
 abbrev pub made_or_stored : Shape → List Line → List MadeEntry → ℕ → Line
 made_or_stored g lines made x = unwrap_or (line_made made x) (stored_meta g lines x)
 

@@ -12,11 +12,11 @@ use Rattle.pmem_recovery.specs.declared.entries.MadeEntry.{MadeEntry}
 use Rattle.pmem_recovery.specs.Parts.{IfLinesTold}
 use Rattle.pmem_recovery.specs.Upward.{is_other}
 
--- what holds of the lines before and after, where they are told
+-- what holds of the lines before and after, if they are exposed
 abbrev pub IfBothLinesTold : Device → Device → (List Line → List Line → Type 0) → Type 0
 IfBothLinesTold old new P = IfLinesTold old.lines (λ lines. IfLinesTold new.lines (λ now. P lines now))
 
--- so many lines are written, and nothing else but lines is changed
+-- that many lines are written, and nothing else but lines is changed
 pub record HasOnlyWritten (n : ℕ) (old new : Device) : Type 0 where
   pub size : new.size ≡ old.size
   pub regs : new.regs ≡ old.regs
@@ -26,7 +26,7 @@ pub record HasOnlyWritten (n : ℕ) (old new : Device) : Type 0 where
   pub none : n ≡ 0 → new.writes ≡ old.writes
   pub told : is_some new.lines ≡ is_some old.lines
 
--- a line is written where it is another one than the device's
+-- a line is written if it is another one than the device's
 abbrev pub HasWrittenIf : Bool → Device → ℕ → Line → Device → Type 0
 HasWrittenIf true old at line new = HasWritten old at line new
 HasWrittenIf false old at line new = new ≡ old
@@ -38,7 +38,7 @@ differing old new =
 
 -- ---- the writes that are due
 
--- a line for a place, which is written where it is another one than the line there
+-- a line for a place, which is written if it is another one than the line there
 pub record DueWrite : Type 0 where
   pub place : ℕ
   pub line : Line
@@ -76,7 +76,7 @@ pub record AreWritten (due : ℕ → DueWrite) (k : ℕ) (old new : List Line) :
   pub others : (n : ℕ) → ((j : ℕ) → j < k → (due j).place ≢ n) → line_at new n ≡ line_at old n
   pub differ : differing old new ≡ count_changed due k
 
--- the first k are written, where they are other lines
+-- the first k are written, if they are other lines
 pub record HasWrittenTo (due : ℕ → DueWrite) (all k : ℕ) (old new : Device) : Type 0 where
   pub steps : HasOnlyWritten (count_changed due k) old new
   pub lines : IfBothLinesTold old new (λ lines now. AreDue due all lines → AreWritten due k lines now)

@@ -119,8 +119,8 @@ fn fix_minors<B: Board, S: Suite>(
     Ok((fixed, trials))
 }
 
-/// The minor of a line, and the number of trials: the stored one where a register holds the line, else
-/// the one of its window that fits.
+/// The minor of a line, and the number of trials: the stored minor if a register holds the line, and otherwise the one
+/// of its window that fits.
 fn try_line<B: Board, S: Suite>(
     board: &mut B,
     suite: &mut S,

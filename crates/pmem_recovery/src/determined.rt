@@ -14,13 +14,13 @@ pub fn format_is_determined()
 {}
 
 /// A law: a recovery that is cut makes fewer persist steps than one of the same device that isn't, with or without a
-/// refusal. So where no step is due none is cut, and a recovery that is done isn't told as cut.
+/// refusal. So if no step is due none is cut, and a recovery that is done isn't reported as cut.
 pub fn cut_recoveries_make_fewer_steps()
     ensures { CutRecoveriesMakeFewerSteps }
 {}
 
-/// A law: a board of whole lines that followed `recover_plan` has recovered, whatever code it was, where the suite's keys
-/// and pads stay. So all that `recover` promises where it had its memory is a law of its plan.
+/// A law: a board of whole lines that followed `recover_plan` has recovered, whatever code ran, if the suite's keys and
+/// pads stay. So everything that `recover` promises once it has its memory is a law about its plan.
 pub fn plans_recover()
     ensures { PlansRecover }
 {}

@@ -1,4 +1,4 @@
-//! What recovery answers beside an engine.
+//! What recovery answers besides an engine.
 use pmem_base::{Cut, Line, MemFault, Tag};
 
 /// Why a recovery stops.
@@ -12,7 +12,7 @@ pub enum RecFault {
     NoCounter {
         at: u32,
     },
-    /// The digest of the top line, once it is made anew, isn't the root register.
+    /// The digest of the top line, once it is made again, isn't the root register.
     Root {
         kept: Tag,
         found: Tag,

@@ -32,10 +32,9 @@ use split_counters::{Block, pack};
 use std::alloc::Global;
 use suite::Suite;
 
-/// Makes a device new: each data line is sealed as zeros under the first major and 0, with its tag, the
-/// counter blocks and the nodes over them, zero shadow lines, and the root. The answer is an engine with
-/// nothing cached. The one error is want of memory. What it does of the board, line by line, is
-/// `format_plan` of `specs/Formatting.antt`.
+/// Makes a device new: each data line is sealed as zeros under the first major and 0, with its tag, the counter blocks
+/// and the nodes over them, zero shadow lines, and the root. The answer is an engine with nothing cached. What it does
+/// to the board, line by line, is `format_plan` of `specs/Formatting.antt`. Errors: running out of memory.
 pub fn format<B: Board, S: Suite, A: Audit>(
     alloc: Global,
     geo: &Geo,
@@ -68,7 +67,7 @@ pub fn format<B: Board, S: Suite, A: Audit>(
     Ok(Engine::new(*geo, cache, mirror))
 }
 
-/// The same in memory that was taken: `truth` is a place for the metadata lines.
+/// Makes a device new, in memory that was taken: `truth` is a place for the metadata lines.
 fn fill_device<B: Board, S: Suite, A: Audit>(
     board: &mut B,
     suite: &mut S,

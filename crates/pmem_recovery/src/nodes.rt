@@ -138,7 +138,7 @@ fn node_line<B: Board, S: Suite>(
     Ok(node_of(&digests))
 }
 
-/// The line made for a position, or the device's where none was.
+/// The line made for a position, or the device's line if none was made.
 fn made_or_read<B: Board>(board: &mut B, geo: &Geo, x: u32, made: &[MadeEntry]) -> Result<Line, Cut>
     requires size { (B.device board.old).size ≡ device_lines (shape_of geo.now) }
     requires position { x < meta_lines (shape_of geo.now) }

@@ -25,14 +25,14 @@ use shadow_tables::Mirror;
 use std::alloc::Global;
 use suite::Suite;
 
-/// Recovers a device after power went off: redoes the armed group, finds the minors of the named
-/// counter blocks by trials, makes the named nodes anew, compares the root, writes what changed, and
-/// clears the shadow lines. The answer is an engine with nothing cached, and how much was tried.
+/// Recovers a device after power went off: redoes the armed group, finds the minors of the named counter blocks by
+/// trials, makes the named nodes again, compares the root, writes what changed, and clears the shadow lines. The answer
+/// is an engine with nothing cached, and how much was tried. What it does to the board, step by step, is `recover_plan`
+/// of `specs/Plans.antt`. The audit isn't called.
 ///
-/// It takes all its memory first, so `Memory` changes nothing. `NoCounter` and `Twin` come at the first
-/// line that hasn't exactly one minor, `Root` where each has one and the found root isn't the register.
-/// These change nothing but the redo. `Cut` comes as the board says. The audit isn't told anything.
-/// What it does of the board, step by step, is `recover_plan` of `specs/Plans.antt`.
+/// Errors: `Memory`, and nothing changes, since all memory is taken first. `NoCounter` and `Twin` at the first line
+/// that doesn't have exactly one minor; `Root` if each has one and the found root isn't the register; these change
+/// nothing except by the redo. `Cut` as the board says.
 pub fn recover<B: Board, S: Suite, A: Audit>(
     alloc: Global,
     geo: &Geo,
@@ -61,7 +61,7 @@ struct Room {
 }
 
 impl Room {
-    /// Room for all shadow lines, and for a line of each slot. An error is want of memory.
+    /// Room for all shadow lines, and for a line of each slot. Errors: running out of memory.
     fn new(alloc: Global, geo: &Geo) -> Result<Room, MemFault>
         ensures shadow { IfOk result (λ room. room.shadow.items ≡ []) }
         ensures made { IfOk result (λ room. room.made.items ≡ []) }

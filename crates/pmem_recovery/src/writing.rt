@@ -35,7 +35,7 @@ pub(crate) fn clear_shadow<B: Board>(board: &mut B, geo: &Geo, shadow: &[Line]) 
     Ok(())
 }
 
-/// Writes a line where it is another one than the device's.
+/// Writes a line if it differs from the device's.
 fn write_changed<B: Board>(board: &mut B, at: u32, line: &Line, changed: bool) -> Result<(), Cut>
     requires { at < (B.device board.old).size }
     ensures plan { Follows (changed_plan at line.now changed) (B.device board.old) (B.device board.new) result }

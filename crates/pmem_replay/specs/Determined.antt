@@ -17,8 +17,8 @@ pub record AreSameParts (a b : WorldState) : Type 0 where
   pub tags : a.tags ≡ b.tags
   pub digests : a.digests ≡ b.digests
 
--- All of the world that a reply depends on: all but the keys, of which the suite's formulas stand in the setup, and how
--- many marks there is room for. Where an exhibit ended the run, the state of the plain machine tells nothing any more.
+-- All of the world that a reply depends on: all but the keys, of which the suite's formulas stand in the setup, and how many marks there is
+-- room for. If an exhibit ended the run, the state of the plain machine tells nothing any more.
 pub record AreAlike (a b : WorldState) : Type 0 where
   pub shape : a.shape ≡ b.shape
   pub start : a.start ≡ b.start

@@ -1,5 +1,5 @@
--- A call of the engine or of recovery within a command: what it works on, and what formatting and
--- recovery leave where the engine is put in its place.
+-- A call of the engine or of recovery within a command: what it works on, and what formatting and recovery leave once the engine is in its
+-- place.
 use Rattle.std.specs.Prelude.{◌≡◌, Option, Some, None, Result, Ok, Err, MatchOption}
 use Rattle.board.specs.Device.{Device}
 use Rattle.watched_board.specs.declared.taken.Taken.{Taken}
@@ -15,7 +15,7 @@ use Rattle.pmem_recovery.specs.Formatting.{HasFormatted}
 use Rattle.pmem_recovery.specs.Recovered.{HasRecovered}
 use Rattle.pmem_replay.specs.World.{WorldState}
 
--- what formatting does, where its engine is in its place
+-- what formatting does, if its engine is in its place
 abbrev pub WasFormatted : Setup → LedgerState → Device → Device → Option EngineState → Type 0
 WasFormatted setup ledger old new engine = MatchOption engine ⊥ (λ found. HasFormatted setup ledger old new found)
 
@@ -25,7 +25,7 @@ IsTakenApart (Ok done) engine (Ok work) = (engine ≡ Some done.0) × (work ≡ 
 IsTakenApart (Err fault) engine (Err its) = (engine ≡ None) × (its ≡ fault)
 IsTakenApart answer engine outcome = ⊥
 
--- what recovery does, where its engine is in its place
+-- what recovery does, if its engine is in its place
 pub record WasRecovered (setup : Setup) (ledger : LedgerState) (old new : Device) (suite_old suite_new : SuiteState)
     (engine : Option EngineState) (outcome : Result Work RecFault) : Type 0 where
   pub answer : Result (EngineState × Work) RecFault

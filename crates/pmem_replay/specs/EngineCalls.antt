@@ -37,7 +37,7 @@ use Rattle.pmem_engine.specs.CallFacts.{IsDownAnswer}
 
 -- ---- the write of a call, if it is one
 
--- memory with the write, where its own seal was made
+-- memory with the write, if its own seal was made
 abbrev pub memory_put : Option Posted → List Mark → Memory → Memory
 memory_put None made memory = memory
 memory_put (Some write) made memory = memory_after memory write made
@@ -155,7 +155,7 @@ pub record HasCalledEngine {T : Type 0} (setup : Setup) (relation : Setup → Pa
 
 -- ---- what is answered
 
--- a cut, by whether a write was put; a command that is no write has none
+-- a cut, by whether a write was put; a command that isn't a write has none
 abbrev pub cut_answer : Option Bool → ℕ → Answer
 cut_answer None steps = Say.Cut steps
 cut_answer (Some true) steps = Say.CutKept None steps
@@ -170,7 +170,7 @@ IsFaultAnswered exhibit put (Fail.Spent page) steps said = said ≡ Say.Spent No
 IsFaultAnswered exhibit put Fail.Shown steps said = (its : Exhibit) × (exhibit ≡ Some its) × (said ≡ Say.Shown its)
 IsFaultAnswered exhibit put Fail.Down steps said = ⊥
 
--- the engine isn't down, and an exhibit is there where one stopped it
+-- the engine isn't down, and an exhibit is there if one stopped it
 abbrev pub CanStop : Option Exhibit → Fault → Type 0
 CanStop exhibit Fail.Down = ⊥
 CanStop exhibit Fail.Shown = IsSome exhibit

@@ -53,7 +53,7 @@ pub record HasDirtyingOf (g : Shape) (flags : Dirtying) : Type 0 where
 
 -- ---- a write's line
 
--- without the line's flag, where one of these marks seals it
+-- without the line's flag, if one of these marks seals it
 abbrev pub healed_flags : Option ℕ → List Mark → List Bool → List Bool
 healed_flags None made flags = flags
 healed_flags (Some at) made flags = if is_sealed_by made at then without_flag flags at else flags

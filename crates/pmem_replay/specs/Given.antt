@@ -98,7 +98,7 @@ pub record IsWriteGivenShown (setup : Setup) (old : WorldState) (port : ℕ) (ne
   pub engine : new.engine ≡ Some given.after
   pub shown : new.shown ≡ true
 
--- by what the engine answered: the write was put where it was done, and in a cut where its own seal was made
+-- by what the engine answered: the write was put if it was done, and in a cut if its own seal was made
 abbrev pub IsWriteGivenTo : Setup → WorldState → ℕ → ℕ → Result Ctr Fault → Bool → WorldState → Type 0
 IsWriteGivenTo setup old port steps (Ok ctr) put new = IsWriteGiven setup old port steps (Ok ctr) true true new
 IsWriteGivenTo setup old port steps (Err Fail.Cut) put new = IsWriteGiven setup old port steps (Err Fail.Cut) put false new

@@ -11,8 +11,8 @@ use Rattle.plain_model.specs.Answers.{is_covered}
 use Rattle.board.specs.declared.access.Access.{Access}
 use Rattle.access_log.specs.Traced.{GoesOn}
 
--- The log goes on from the board before the command to the board after it. Only what the engine or recovery serves
--- accesses the board; where another command changes or shows it, that is past the controller.
+-- The log goes on from the board before the command to the board after it. Only what the engine or recovery serves accesses the board; if
+-- another command changes or shows it, that is past the controller.
 abbrev pub IsLogged : Command → Option (List Access) → BoardMemory → Option (List Access) → BoardMemory → Type 0
 IsLogged (Do.Drain port) log_old old log_new new = GoesOn log_old old log_new new
 IsLogged (Do.Fence port) log_old old log_new new = GoesOn log_old old log_new new
@@ -23,10 +23,9 @@ IsLogged (Do.Loss n) log_old old log_new new = GoesOn log_old old log_new new
 IsLogged Do.On log_old old log_new new = GoesOn log_old old log_new new
 IsLogged command log_old old log_new new = log_new ≡ log_old
 
--- Where a command may access the board, so that memory may be wanted for the log: in a drain or a fence with power on
--- and a write that waits; in a read with power on of a line that is in range and that no waiting writes cover; in a turn
--- or a flush with power on; in setting a loss with power on that is one and isn't the present one; in recovery with
--- power off.
+-- If a command may access the board, so that memory may be needed for the log: in a drain or a fence with power on and a write that waits;
+-- in a read with power on of a line that is in range and that no waiting writes cover; in a turn or a flush with power on; in setting a
+-- loss with power on that is one and isn't the present one; in recovery with power off.
 abbrev pub CanAccess : Shape → PlainState → Command → Type 0
 CanAccess g state (Do.Drain port) = (state.power ≡ true) × (0 < length (queue_of state.queues port))
 CanAccess g state (Do.Fence port) = (state.power ≡ true) × (0 < length (queue_of state.queues port))

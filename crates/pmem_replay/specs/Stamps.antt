@@ -1,7 +1,7 @@
 -- Flags as stamps of an epoch.
 use Rattle.std.specs.Prelude.{ℕ, ◌≡◌, ◌≤◌, ◌<◌, ◌^◌, ◌==◌, Bool, List, length, map, count_by, All}
 
--- a flag is set where its stamp is the epoch
+-- a flag is set if its stamp is the epoch
 abbrev pub is_now : ℕ → ℕ → Bool
 is_now epoch stamp = stamp == epoch
 

@@ -1,4 +1,4 @@
--- One command and its reply: what the world answers, and what becomes of it and of its own parts.
+-- One command and its reply: what the world answers, and what becomes of it and of its parts.
 use Rattle.std.specs.Prelude.{ℕ, ◌≡◌, ◌≢◌, ◌≤◌, ◌<◌, ◌+◌, ◌-◌, ◌++◌, ◌⊎◌, true, false, not, List, [], ◌∷◌, length, drop, Option, Some, None, Result, Ok, Err, MatchOption, slice_range, IsTrue, IfSome, ⊤, if◌then◌else◌}
 use Rattle.pmem_base.specs.declared.lines.Line.{Line}
 use Rattle.pmem_base.specs.declared.lines.Ctr.{Ctr}
@@ -109,13 +109,13 @@ pub record HasCalled {T : Type 0} (plan : CallPlan T) (relation : Parts → Part
   pub cut : is_cut answer ≡ true → HasRisen old.board.cuts new.board.cuts
   pub uncut : is_cut answer ≡ false → new.board.cuts ≡ old.board.cuts
 
--- what a call answered, as the world answers it after so many steps, from the ledgers before and after it; a read
--- answers its line with what waits put on it
+-- what a call answered, as the world answers it after that many steps, from the ledgers before and after it; a read answers its line with
+-- what waits put on it
 abbrev pub IsReadAnswer : List Posted → LedgerState → LedgerState → ℕ → Result Line Fault → Answer → Type 0
 IsReadAnswer waiting before after steps (Ok line) answer = answer ≡ Say.Got (put_writes line waiting) steps
 IsReadAnswer waiting before after steps (Err fault) answer = IsFaultAnswered after.exhibit None fault steps answer
 
--- a write that was cut is kept where one of the new marks seals its line
+-- a write that was cut is kept if one of the new marks seals its line
 abbrev pub IsDrainAnswer : Posted → LedgerState → LedgerState → ℕ → Result Ctr Fault → Answer → Type 0
 IsDrainAnswer write before after steps (Ok ctr) answer = answer ≡ Say.Drained steps
 IsDrainAnswer write before after steps (Err fault) answer =
@@ -135,7 +135,7 @@ abbrev pub IsLossAnswer : LedgerState → LedgerState → ℕ → Result ℕ Fau
 IsLossAnswer before after steps (Ok taken) answer = answer ≡ Say.LossSet steps
 IsLossAnswer before after steps (Err fault) answer = IsFaultAnswered after.exhibit None fault steps answer
 
--- what recovery answered, as the world answers it after so many steps
+-- what recovery answered, as the world answers it after that many steps
 abbrev pub IsOnAnswer : ℕ → Result (EngineState × Work) RecFault → Answer → Type 0
 IsOnAnswer steps (Ok done) answer = answer ≡ Say.Recovered done.1.trials done.1.digests steps
 IsOnAnswer steps (Err Stop.Cut) answer = answer ≡ Say.Cut steps
@@ -161,8 +161,8 @@ pub record HasSameParts (old new : WorldState) : Type 0 where
   pub tags : new.tags ≡ old.tags
   pub digests : new.digests ≡ old.digests
 
--- What a command answers that ends with a write of which a drain of it alone would answer `one`: so many were drained
--- before it, as a fence tells, in `spent` steps. It isn't counted itself, not even where it was kept in a cut.
+-- What a command answers that ends with a write of which a drain of it alone would answer `one`: that many were drained before it, as a
+-- fence tells, in `spent` steps. It isn't counted itself, not even if it was kept in a cut.
 abbrev pub EndsWrites : Option ℕ → ℕ → Answer → Answer → Type 0
 EndsWrites drained spent (Say.Refused None place steps) answer = answer ≡ Say.Refused drained place (spent + steps)
 EndsWrites drained spent (Say.Spent None page steps) answer = answer ≡ Say.Spent drained page (spent + steps)
@@ -171,9 +171,8 @@ EndsWrites drained spent (Say.CutLost None steps) answer = answer ≡ Say.CutLos
 EndsWrites drained spent (Say.Shown exhibit) answer = answer ≡ Say.Shown exhibit
 EndsWrites drained spent one answer = ⊥
 
--- A fence of these writes, the oldest first, after so many drained ones that took `spent` steps: a chain
--- of drains. The first write ends it, or is drained, and the fence goes on with the others from the
--- world in between, of which only the world's own parts count.
+-- A fence of these writes, the oldest first, after that many drained ones that took `spent` steps: a chain of drains. The first write ends
+-- it, or is drained, and the fence goes on with the others from the world in between, of which only the world's own parts count.
 abbrev pub HasFenced : Setup → List Posted → ℕ → ℕ → WorldState → Answer → WorldState → Type 0
 HasFenced setup [] drained spent old answer new = HasSameParts old new × (answer ≡ Say.Fenced drained spent)
 HasFenced setup (write ∷ later) drained spent old answer new =
@@ -188,7 +187,7 @@ abbrev pub engine_given : Result (EngineState × Work) RecFault → Option Engin
 engine_given (Ok done) = Some done.0
 engine_given (Err fault) = None
 
--- the board as it is left after recovery: where that is refused or shown something, power goes off again
+-- the board as it is left after recovery: if that is refused or shown something, power goes off again
 abbrev pub board_after_on : Result (EngineState × Work) RecFault → BoardMemory → BoardMemory
 board_after_on (Ok done) left = left
 board_after_on (Err Stop.Cut) left = left
@@ -222,7 +221,7 @@ pub record HasPoweredOn (setup : Setup) (old new : WorldState) (answer : Answer)
   pub cut : is_cut answer ≡ true → HasRisen old.board.cuts new.board.cuts
   pub uncut : is_cut answer ≡ false → new.board.cuts ≡ old.board.cuts
 
--- the counts of a board, beside those of tags and digests
+-- the counts of a board, next to those of tags and digests
 abbrev pub counts_with : BoardMemory → ℕ → ℕ → Stat
 counts_with board tags digests =
     record { reads = board.reads; writes = board.writes; latches = board.latches; tags = tags; digests = digests }
@@ -245,7 +244,7 @@ abbrev pub IsStatAnswer : WorldState → Answer → Type 0
 IsStatAnswer world (Say.Counts counts) = IsStatOf world counts
 IsStatAnswer world answer = ⊥
 
--- where the table decides nothing: what the engine, recovery or a look does
+-- if the table decides nothing: what the engine, recovery or a look does
 abbrev pub IsCommandDone : Setup → WorldState → Command → Answer → WorldState → Type 0
 IsCommandDone setup old (Do.Read port at) answer new =
     HasCalled (plan_of_read setup at) (λ p q r. HasReadLine setup at p q r) (IsReadAnswer (writes_to (queue_of old.state.queues port) at)) old
@@ -337,18 +336,18 @@ pub record HasStepped (setup : Setup) (old : WorldState) (command : Command) (re
 
 -- ---- few steps
 
--- no command takes more steps than so many, of sixteen calls
+-- no command takes more steps than that many, of sixteen calls
 abbrev pub most_command_steps : ℕ
 most_command_steps = 1048576
 
--- a step adds at most so many to the steps, unless it ends with an exhibit
+-- a step adds at most that many to the steps, unless it ends with an exhibit
 abbrev pub AddsFewSteps : WorldState → WorldState → Type 0
 AddsFewSteps old new = new.shown ≡ false → new.state.steps ≤ old.state.steps + most_command_steps
 
--- ---- want of memory
+-- ---- running out of memory
 
--- Where memory may be wanted: for the marks of a drain or a fence with power on and a write that waits, or
--- of a turn with power on; for recovery with power off; and for the first snapshot.
+-- If memory may be needed: for the marks of a drain or a fence with power on and a write that waits, or of a turn with power on; for
+-- recovery with power off; and for the first snapshot.
 abbrev pub CanWantMemory : PlainState → Command → Type 0
 CanWantMemory state (Do.Drain port) = (state.power ≡ true) × (0 < length (queue_of state.queues port))
 CanWantMemory state (Do.Fence port) = (state.power ≡ true) × (0 < length (queue_of state.queues port))

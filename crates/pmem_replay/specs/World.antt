@@ -57,7 +57,7 @@ lines_in world = redone world.board.regs.group.items world.board.lines
 
 -- ---- a world of its parts
 
--- what the program keeps of a world beside the geometry
+-- what the program keeps of a world next to the geometry
 pub record WorldParts : Type 0 where
   pub keys : List ℕ
   pub board : BoardMemory
@@ -129,9 +129,8 @@ pub record AreKept (setup : Setup) (state : PlainState) (lines : List Line) (los
       → is_flagged state.named (layout.meta_line setup.shape (counter_position setup.shape page)) ≡ false
       → IsCounterStored setup lines loss ledger.truth page
 
--- with power on the engine is up and the chip is trusted, and all is sound where no line was tampered with; while nothing
--- is loose a metadata line that isn't named is true on the device or cached dirty; and only a block of a touched page that
--- wasn't flushed is dirty
+-- with power on the engine is up and the chip is trusted, and all is sound if no line was tampered with; while nothing is loose a metadata
+-- line that isn't named is true on the device or cached dirty; and only a block of a touched page that wasn't flushed is dirty
 pub record IsOn (setup : Setup) (world : WorldState) (engine : EngineState) : Type 0 where
   pub powered : world.state.power ≡ true
   pub up : engine.down ≡ false
@@ -148,7 +147,7 @@ pub record IsOn (setup : Setup) (world : WorldState) (engine : EngineState) : Ty
       (bank x : ℕ) → is_cached_dirty setup.shape engine.cache bank x ≡ true
       → IsTrue (can_be_dirty setup.shape world.state x)
 
--- with power off the registers are anchored, and the device is durable where no line was tampered with
+-- with power off the registers are anchored, and the device is durable if no line was tampered with
 pub record IsOff (setup : Setup) (world : WorldState) : Type 0 where
   pub unpowered : world.state.power ≡ false
   pub anchored : IsAnchored setup world.board.regs world.ledger

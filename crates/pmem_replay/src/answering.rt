@@ -14,7 +14,7 @@ use std::alloc::Global;
 use suite::Counted;
 
 impl<S: Counted + Drop> World<S> {
-    /// Answers a command. The one error is want of memory, and changes nothing.
+    /// Answers a command. Errors: running out of memory, and then nothing changes.
     pub fn step(&mut self, alloc: Global, command: &Command) -> Result<Reply, MemFault>
         requires running { self.old.shown ≡ false }
         requires command { IsCommand command.now }
@@ -30,8 +30,8 @@ impl<S: Counted + Drop> World<S> {
         self.step_logged(alloc, command, &mut log)
     }
 
-    /// Answers a command, and logs its accesses of the board, where a log is kept. The one error is want of memory,
-    /// and changes nothing of the world; where it is wanted for the log, the command is answered, and the log lost.
+    /// Answers a command, and logs its accesses of the board, if a log is kept. Errors: running out of memory, and then
+    /// nothing of the world changes. If only memory for the log runs out, the command is answered, and the log lost.
     pub fn step_logged(
         &mut self,
         alloc: Global,

@@ -66,7 +66,7 @@ impl<S: Counted + Drop> World<S> {
         done
     }
 
-    /// A law: what the world always holds until an answer was an exhibit.
+    /// A law: until an answer was an exhibit, the world keeps its invariant, `IsWorld`.
     pub(crate) fn holds(&self)
         requires { self.now.shown ≡ false }
         ensures { IsWorld (setup_of_world S.formulas_of self.now) self.now }
@@ -93,7 +93,7 @@ impl<S: Counted + Drop> World<S> {
         Ok(())
     }
 
-    /// What a fault answers, after so many steps. A write says whether it was put.
+    /// What a fault answers, after this number of steps. For a write it says whether the line was put.
     pub(crate) fn stopped(&self, fault: Fault, put: Option<bool>, steps: u64) -> Answer
         requires { CanStop self.now.ledger.exhibit fault }
         ensures { IsFaultAnswered self.now.ledger.exhibit put fault steps result }
@@ -152,7 +152,7 @@ fn exhibit_of(ledger: &Ledger) -> Exhibit
     }
 }
 
-/// The written line is healed where a mark from the `from`-th on seals it.
+/// The written line is healed if a mark from the `from`-th on seals it.
 fn heal(tampered: &mut Tampered, ledger: &Ledger, from: usize, line: Option<u32>)
     requires from { from ≤ length (ledger_of ledger.now).marks }
     requires hurt { IfSome line (λ at. at < length tampered.old.hurt) }

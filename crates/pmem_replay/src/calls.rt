@@ -41,7 +41,7 @@ use watched_call::{BoardCall, CallEnd, make_call};
 /// A call of the engine: what it needs of the geometry and of the room for marks, what it does, by its plan and its
 /// relation, and the write that it puts, if it is one.
 pub(crate) trait Call {
-    /// What it answers where it is done.
+    /// What it answers if it is done.
     type Value: Copy;
 
     ghost can: { Self → Shape → LedgerState → ℕ → Type 0 };
@@ -292,7 +292,7 @@ pub(crate) fn is_cut<T>(answer: &Result<T, Fault>) -> bool
     }
 }
 
-/// Makes the device new. Where it is done the engine is there.
+/// Makes the device new. If it is done the engine is there.
 pub(crate) fn format<S: Suite>(
     alloc: Global,
     geo: &Geo,
@@ -394,7 +394,7 @@ impl<'a> BoardCall<()> for Recovery<'a> {
     }
 }
 
-/// Recovers the device. Where it is done the engine is there.
+/// Recovers the device. If it is done the engine is there.
 pub(crate) fn recover<S: Suite>(
     alloc: Global,
     geo: &Geo,

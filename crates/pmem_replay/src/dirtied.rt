@@ -31,7 +31,7 @@ impl Model for Dirtied {
 }
 
 impl Dirtied {
-    /// Nothing is dirty. The one error is want of memory.
+    /// Nothing is dirty. Errors: running out of memory.
     pub(crate) fn new(alloc: Global, geo: &Geo) -> Result<Dirtied, MemFault>
         ensures { IfOk result (λ flags. flags ≡ no_dirtying (shape_of geo.now)) }
     {

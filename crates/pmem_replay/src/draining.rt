@@ -70,7 +70,7 @@ impl<S: Counted + Drop> World<S> {
         Ok(self.drain_all(port, count, log))
     }
 
-    /// The writes of the port, so many, are drained.
+    /// The `count` writes of the port are drained.
     fn drain_all(&mut self, port: u8, count: u8, log: &mut AccessLog) -> Answer
         requires shown { self.old.shown ≡ false }
         requires port { port < 8 }
@@ -144,7 +144,7 @@ impl<S: Counted + Drop> World<S> {
     }
 }
 
-/// What a fence answers that ends with this drain, after `done` drained ones that took so many steps.
+/// What a fence answers that ends with this drain, after `done` drained writes that took `steps` steps.
 fn ended(one: Answer, done: u8, steps: u64) -> Answer
     requires small { steps ≤ 65536 * 16 }
     requires few { steps_of one ≤ 65536 }

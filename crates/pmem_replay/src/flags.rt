@@ -6,8 +6,8 @@ use pmem_base::MemFault;
 use std::alloc::Global;
 use std::marker::Model;
 
-/// A flag for each of a fixed number of things. A flag is set where its stamp is the present epoch, so
-/// that a new epoch clears all of them at once. Contracts see the list of the flags.
+/// A flag for each of a fixed number of things. A flag is set if its stamp is the present epoch, so that a new epoch
+/// clears all of them at once. Contracts see the list of the flags.
 #[derive(Drop)]
 pub struct Flags {
     stamps: Vec<u32>,
@@ -27,7 +27,7 @@ impl Model for Flags {
 }
 
 impl Flags {
-    /// No flag of `n` is set. The one error is want of memory.
+    /// No flag of `n` is set. Errors: running out of memory.
     #[tactic(auto, using(crate::proofs::Boards::StampLemmas::new_flags))]
     pub fn new(alloc: Global, n: u32) -> Result<Flags, MemFault>
         ensures { IfOk result (λ flags. flags ≡ no_flags n) }

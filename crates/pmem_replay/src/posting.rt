@@ -31,7 +31,7 @@ impl<S: Counted + Drop> World<S> {
         Answer::Ok
     }
 
-    /// A write of `count` bytes, which stand at the front of `line`, waits at a port.
+    /// A write of `count` bytes, the first ones of `line`, waits at a port.
     pub(crate) fn part(&mut self, port: u8, at: u64, from: u64, count: u8, line: &Line) -> Answer
         requires shown { self.old.shown ≡ false }
         requires port { port < 8 }

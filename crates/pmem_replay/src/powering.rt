@@ -40,7 +40,7 @@ impl<S: Counted + Drop> World<S> {
         Answer::Ok
     }
 
-    /// Power comes on, with recovery. The one error is want of memory.
+    /// Switches power on, with recovery. Errors: running out of memory.
     pub(crate) fn on(&mut self, alloc: Global, log: &mut AccessLog) -> Result<Answer, MemFault>
         requires { self.old.shown ≡ false }
         ensures stepped { IfOk result (λ answer. HasStepped (setup_of_world S.formulas_of self.old) self.old Do.On (without_marks answer) self.new) }

@@ -75,8 +75,7 @@ impl<S: Counted + Drop> World<S> {
         }
     }
 
-    /// One line of the oldest page under re-encryption is sealed anew. Its seal has the minor 0, so it
-    /// leaves no block dirty.
+    /// Reseals one line of the oldest page under re-encryption. Its seal has the minor 0, so it leaves no block dirty.
     pub(crate) fn turn(&mut self, log: &mut AccessLog) -> Result<Answer, MemFault>
         requires { self.old.shown ≡ false }
         ensures stepped { IfOk result (λ answer. HasStepped (setup_of_world S.formulas_of self.old) self.old Do.Turn (with_marks_since self.old self.new answer) self.new) }

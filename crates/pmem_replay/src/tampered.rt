@@ -30,7 +30,7 @@ impl Model for Tampered {
 }
 
 impl Tampered {
-    /// Nothing was changed. The one error is want of memory.
+    /// Nothing was changed. Errors: running out of memory.
     pub(crate) fn new(alloc: Global, geo: &Geo) -> Result<Tampered, MemFault>
         ensures { IfOk result (λ flags. flags ≡ no_tampering (shape_of geo.now)) }
     {
@@ -65,7 +65,7 @@ impl Tampered {
         self.named.set(d);
     }
 
-    /// Data line `at` is changed. It is spoiled where it wasn't hurt and the change surely shows.
+    /// Data line `at` is changed. It is spoiled if it wasn't hurt and the change surely shows.
     fn change_line(&mut self, at: u32, shows: bool)
         requires hurt { at < length self.old.hurt }
         requires spoiled { at < length self.old.spoiled }
@@ -101,7 +101,7 @@ impl Tampered {
         self.spoiled.unset(at);
     }
 
-    /// The same where the write was put.
+    /// Heals data line `at`, as `heal` does, if the write was put.
     pub(crate) fn heal_if(&mut self, put: bool, at: u32)
         requires hurt { at < length self.old.hurt }
         requires spoiled { at < length self.old.spoiled }

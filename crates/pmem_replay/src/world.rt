@@ -21,7 +21,7 @@ use std::marker::Model;
 use suite::Counted;
 use write_ports::Ports;
 
-/// A command's answer, and where its marks begin and end among all marks.
+/// A command's answer, and the places at which its marks begin and end among all marks.
 #[derive(Clone, Copy, Debug, PartialEq, Eq)]
 pub struct Reply {
     pub from: usize,
@@ -29,8 +29,8 @@ pub struct Reply {
     pub answer: Answer,
 }
 
-/// A device with its snapshot, the engine while power is on, the suite, the writes that wait, the marks,
-/// and what the plain machine keeps beside.
+/// A device with its snapshot, the engine while power is on, the suite, the writes that wait, the marks, and what else
+/// the plain machine keeps.
 #[derive(Drop)]
 pub struct World<S: Counted + Drop> {
     pub(crate) geo: Geo,
@@ -101,7 +101,7 @@ struct Blank {
 }
 
 impl Blank {
-    /// That of a geometry. The one error is want of memory.
+    /// The parts for a geometry. Errors: running out of memory.
     fn new(alloc: Global, geo: &Geo) -> Result<Blank, MemFault>
         ensures board { IfOk result (λ blank. memory_of blank.board ≡ new_memory (device_lines (shape_of geo.now))) }
         ensures ledger { IfOk result (λ blank. ledger_of blank.ledger ≡ new_ledger (shape_of geo.now)) }
@@ -119,7 +119,7 @@ impl Blank {
 }
 
 impl<S: Counted + Drop> World<S> {
-    /// A formatted device with power on, on which nothing was done. The one error is want of memory.
+    /// A formatted device with power on, on which nothing was done. Errors: running out of memory.
     pub fn new(alloc: Global, geo: Geo, suite: S) -> Result<World<S>, MemFault>
         ensures new { IfOk result (λ world. IsNewWorld (record { shape = shape_of geo; formulas = S.formulas_of (S.keys suite) }) world) }
         ensures keys { IfOk result (λ world. world.keys ≡ S.keys suite) }

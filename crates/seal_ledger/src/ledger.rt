@@ -11,8 +11,8 @@ use crate::{Audit, Go};
 use pmem_base::{Ctr, Exhibit, Geo, GhostLine, Line, Mark, MemFault, Tag};
 use std::alloc::Global;
 
-/// An audit that keeps what is printed of each mark, and for each data line the cipher of its last
-/// seal, which is the zero line where it has none.
+/// An audit that keeps what is printed of each mark, and for each data line the cipher of its last seal, or the zero
+/// line if it has none.
 #[derive(Drop)]
 pub struct Ledger {
     marks: Vec<Mark>,

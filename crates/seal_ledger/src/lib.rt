@@ -20,8 +20,8 @@ pub enum Go {
     Stop,
 }
 
-/// What an engine tells of its work. There are no readers, so an engine can't take its answers from
-/// it. No call changes the number of true lines or of data lines.
+/// What an engine reports of its work. No call reads anything back, so an engine can't take its answers from it. No
+/// call changes the number of true lines or of data lines.
 pub trait Audit {
     /// The marks in order, the true metadata lines, the number of data lines, and the first exhibit.
     ghost ledger: { Self → LedgerState };
@@ -29,8 +29,8 @@ pub trait Audit {
     /// How many marks there is room for in all, the present ones with them.
     ghost capacity: { Self → ℕ };
 
-    /// Makes room for `n` marks more, and changes nothing else. The one error is want of memory, and
-    /// nothing changes then.
+    /// Makes room for `n` more marks, and changes nothing else. Errors: running out of memory, and then nothing
+    /// changes.
     fn reserve(&mut self, n: u32) -> Result<(), MemFault>
         ensures ledger { ledger self.new ≡ ledger self.old }
         ensures ok { OnOk result (HasRoom (ledger self.new) (capacity self.new) n) }
@@ -62,16 +62,15 @@ pub trait Audit {
         ensures capacity { capacity self.new ≡ capacity self.old }
         ensures fits { IsLine line.now };
 
-    /// Stops where a fetched line, whose digest is right, isn't the true line at `x`. The exhibit is
-    /// the clash of the two.
+    /// Stops if a fetched line, whose digest is right, isn't the true line at `x`. The exhibit is the clash of the two.
     fn note_fetch(&mut self, x: u32, line: &Line) -> Go
         requires { x < length (ledger self.old).truth }
         ensures line { IsFetchNoted (ledger self.old) (ledger self.new) x line.now result }
         ensures capacity { capacity self.new ≡ capacity self.old }
         ensures fits { IsLine line.now };
 
-    /// Stops where a cipher, whose tag is right, isn't that of the last seal of data line `at`. The
-    /// exhibit is the forged seal.
+    /// Stops if a cipher, whose tag is right, isn't that of the last seal of data line `at`. The exhibit is the forged
+    /// seal.
     fn note_unseal(&mut self, at: u32, ctr: Ctr, cipher: &Line, tag: &Tag) -> Go
         requires line { at < (ledger self.old).data_lines }
         requires sealed { IsSome (last_seal (ledger self.old).marks at) }

@@ -28,7 +28,7 @@ impl Model for Mirror {
 }
 
 impl Mirror {
-    /// All entries are 0. An error is want of memory.
+    /// All entries are 0. Errors: running out of memory.
     pub fn new(alloc: Global, geo: &Geo) -> Result<Mirror, MemFault>
         ensures { IfOk result (λ mirror. mirror ≡ replicate (shadow_lines (shape_of geo.now)) zero_line) }
     {
@@ -43,8 +43,8 @@ impl Mirror {
         let _ = &self.lines;
     }
 
-    /// Lets the slot's entry name position `x`. The answer is the device line to write and its bytes,
-    /// or None where the entry names `x` already.
+    /// Lets the slot's entry name position `x`. The answer is the device line to write and its bytes, or `None` if the
+    /// entry names `x` already.
     pub fn name_slot(&mut self, geo: &Geo, bank: u8, slot: u32, x: u32) -> Option<(u32, Line)>
         requires mirror { length self.old ≡ shadow_lines (shape_of geo.now) }
         requires bank { bank ≤ (shape_of geo.now).levels }

@@ -134,7 +134,7 @@ pub fn line_is_kept(line: &Line)
     line.is_whole();
 }
 
-/// A law: minor `i` stands in bits 7i to 7i + 6 after the major, where bit 0 is the top bit of byte 8.
+/// A law: minor `i` stands in bits 7i to 7i + 6 after the major. Bit 0 is the top bit of byte 8.
 pub fn minors_have_seven_bits(block: &Block)
     requires { All (λ m. m ≤ 127) block.now.minors }
     ensures { HasMinorBits block.now (packed block.now) }

@@ -24,7 +24,7 @@ pub enum Bumped {
     Overflow,
 }
 
-/// Raises minor `i` by one. Where it is 127 the block stays as it was.
+/// Raises minor `i` by one. If it is 127 the block stays as it was.
 pub fn bump(block: &mut Block, i: u8) -> Bumped
     requires place { i < 64 }
     requires minors { All (λ m. m ≤ 127) block.old.minors }
@@ -42,8 +42,8 @@ pub fn bump(block: &mut Block, i: u8) -> Bumped
     Bumped::Done
 }
 
-/// The block after a page's last minor: the major one greater and all minors 0. `Spent` names the
-/// page where the major is 2^64 - 1.
+/// The block after a page's last minor: the major one greater and all minors 0. Errors: `Spent`, with the page, if the
+/// major is 2^64 - 1.
 #[tactic(auto, unfolding(crate::specs::Blocks::zero_minors))]
 pub fn roll(block: &Block, page: u32) -> Result<Block, Spent>
     ensures value { result ≡ ok_or (rolled block.now) (record { page = page }) }

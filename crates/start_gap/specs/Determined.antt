@@ -19,7 +19,7 @@ pub record IsWriteOn (setup : Setup) (a : ℕ) (plain : Line) (gapped after : Ga
   pub follows :
       FollowsWrite setup a plain gapped after old.regs from to (device_during old none_taken) (device_during new taken) answer
 
--- the answers are the same, wear and count, what the write left beside the board, the boards, and what was taken of them
+-- the answers are the same, wear and count, what the write left next to the board, the boards, and what was taken of them
 pub record AreSameWrites (one other : Gapped) (to there : Chip) (a b : BoardMemory) (x y : Taken) (first second : Result Moved WriteFault) : Type 0 where
   pub answers : first ≡ second
   pub wears : one.wear ≡ other.wear

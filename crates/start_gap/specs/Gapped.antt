@@ -40,8 +40,8 @@ pub record HasReadRecord (setup : Setup) (every : ℕ) (line : Line) (old new : 
   pub its_every : gapped.every ≡ every
   pub no_writes : gapped.count ≡ 0
 
--- The line of the record is read, and nothing else is done. What the parts are then is said of an engine: of
--- the one that is kept, or of the one that is dropped.
+-- The line of the record is read, and nothing else is done. The parts are then those of an engine: of the one that is kept, or of the one
+-- that is dropped.
 abbrev pub HasGappedOpened : Setup → ℕ → Parts → (EngineState → Parts) → Result Gapped GapFault → Type 0
 HasGappedOpened setup every old now (Ok gapped) =
     (line : Line) × HasReadRecord setup every line old (now gapped.engine) gapped
@@ -77,8 +77,8 @@ pub record HasWear (wear : Wear) (count : ℕ) (old new : Gapped) : Type 0 where
   pub its_wear : new.wear ≡ wear
   pub its_count : new.count ≡ count
 
--- A move is made: the source is read, its line written into the gap, and the next wear recorded, up to a call that isn't
--- done. And writes are counted anew.
+-- A move is made: the source is read, its line written into the gap, and the next wear recorded, up to a call that isn't done. And writes
+-- are counted again.
 pub record HasTriedMove (setup : Setup) (old new : Gapped) (from to : Parts) (answer : Result Moved WriteFault) :
     Type 0 where
   pub tried : Result (Unit {0}) Fault
@@ -116,7 +116,7 @@ pub record HasLevelledWrite (setup : Setup) (a : ℕ) (plain : Line) (old new : 
 
 -- ---- what becomes of the logical lines
 
--- the stages at which a write may end, by its answer; nothing is written where its line is spent
+-- the stages at which a write may end, by its answer; nothing is written if its line is spent
 abbrev pub IsWriteEnd : Result Moved WriteFault → MoveStage → Type 0
 IsWriteEnd (Ok Move.Not) written = ⊤
 IsWriteEnd (Ok Move.Made) moved = ⊤
@@ -128,8 +128,8 @@ IsWriteEnd (Err fault) copied = (fault.written ≡ true) × IsUnspent fault.faul
 IsWriteEnd (Err fault) moved = (fault.written ≡ true) × IsUnspent fault.fault
 IsWriteEnd answer stage = ⊥
 
--- Where the lines were these, they are at a stage of the write now: its own line is there whole or as it was. And
--- where they held a logical memory, they hold it without the line or with it, under the wear that they record.
+-- If the lines were these, they are at a stage of the write now: its own line is there whole or as it was. And if they held a logical
+-- memory, they hold it without the line or with it, under the wear that they record.
 pub record IsLeftLevelled (setup : Setup) (a : ℕ) (plain : Line) (old : Gapped) (lines : List Line) (to : Parts)
     (answer : Result Moved WriteFault) : Type 0 where
   pub stage : MoveStage

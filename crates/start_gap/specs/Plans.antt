@@ -27,7 +27,7 @@ use Rattle.start_gap.specs.Gapped.{logical_lines, HasWear}
 
 -- ---- opening
 
--- the wear of a line that was read, or that the line is no record
+-- the wear of a line that was read, or that the line isn't a record
 abbrev pub wear_end : Line → Chip → Option Wear → Plan (Chip × GapFault) (Chip × Wear)
 wear_end line chip None = stop (chip, BadWear line)
 wear_end line chip (Some wear) = done (chip, wear)
@@ -38,8 +38,7 @@ open_plan setup regs chip =
     bind (lifted (λ now. now) Engine (read_plan setup regs (logical_lines setup.shape + 1) chip))
     (λ found. wear_end found.1 found.0 (recorded (logical_lines setup.shape) found.1))
 
--- the board went along it; what the chip is then is said of an engine: of the one that is kept, or of the one that
--- is dropped
+-- the board went along it; the chip is then that of an engine: of the one that is kept, or of the one that is dropped
 abbrev pub FollowsOpening : Setup → Regs → Chip → Device → Device → (EngineState → Chip) → Result Gapped GapFault → Type 0
 FollowsOpening setup regs chip old new now (Ok gapped) =
     Follows (open_plan setup regs chip) old new (Ok (now gapped.engine, gapped.wear))
@@ -52,7 +51,7 @@ FollowsOpening setup regs chip old new now (Err fault) =
 abbrev pub is_move_due : ℕ → ℕ → Bool
 is_move_due count every = not (nat_lt (count + 1) every)
 
--- a move's changes, where one is due
+-- a move's changes, if one is due
 abbrev pub due_edits : Bool → ℕ → Wear → List Edit
 due_edits due n wear = if due then move_edits n wear else []
 
@@ -80,12 +79,12 @@ abbrev pub write_answer_of : Bool → Result Regs WriteFault → Result Moved Wr
 write_answer_of due (Ok regs) = Ok (moved_as due)
 write_answer_of due (Err fault) = held_as fault.written fault.fault
 
--- the wear is the next one where a move was made
+-- the wear is the next one if a move was made
 abbrev pub wear_after : Bool → ℕ → Wear → Result Regs WriteFault → Wear
 wear_after due n wear (Ok regs) = if due then next_wear n wear else wear
 wear_after due n wear (Err fault) = wear
 
--- a write whose line is written is counted, and the count begins anew where a move was due
+-- a write whose line is written is counted, and the count begins again if a move was due
 abbrev pub count_after : Bool → ℕ → Result Regs WriteFault → ℕ
 count_after due count (Ok regs) = if due then 0 else count + 1
 count_after due count (Err fault) = if fault.written then 0 else count

@@ -1,4 +1,4 @@
-//! Levelled lines over an engine: reads and writes of logical lines, and a gap move at each so many writes.
+//! Levelled lines over an engine: reads and writes of logical lines, and a move of the gap after a number of writes.
 ghost use Rattle.std.specs.Prelude.{◌≡◌, ◌≤◌, ◌<◌, ◌+◌, ◌^◌, false, not, IfOk};
 ghost use Rattle.pmem_base.specs.Layout.{data_lines};
 ghost use Rattle.pmem_engine.specs.Engine.{EngineState};
@@ -41,7 +41,7 @@ pub struct WriteFault {
 pub enum GapFault {
     /// The record wasn't read.
     Engine(Fault),
-    /// The line of the record is no record.
+    /// The line of the record isn't a record.
     BadWear { line: Line },
 }
 
@@ -64,8 +64,8 @@ impl Gapped {
     ghost use Rattle.start_gap.specs.Promised.{OpensLevelled, ReadsRecord, FollowsRecord, ReadsLevelled, WritesLevelled, WritesAndMoves, FollowsWriting, MovesGap, FollowsMove};
     ghost use Rattle.start_gap.specs.Gapped.{IsSpentUnwritten, HasWear, write_answer_by, write_outcome_by, wear_by};
 
-    /// Reads the record of the wear. `BadWear` comes exactly where its line is no record. An engine that is down reads
-    /// nothing, and answers `Down`.
+    /// Reads the record of the wear. Errors: `BadWear` if and only if its line isn't a record; otherwise the fault of
+    /// the engine's read, which is `Down` if the engine is down, and then nothing is read.
     pub fn open<B: Board, S: Suite, A: Audit>(
         engine: Engine,
         board: &mut B,
@@ -144,7 +144,8 @@ impl Gapped {
         self.lines
     }
 
-    /// A logical line, read at its place.
+    /// A logical line, read at its place. Errors: the fault of the engine's read, which is `Down` if the engine is
+    /// down.
     pub fn read<B: Board, S: Suite, A: Audit>(
         &mut self,
         board: &mut B,
@@ -166,8 +167,10 @@ impl Gapped {
         self.engine.read(board, suite, audit, at)
     }
 
-    /// Writes a logical line to its place, and moves the gap where that is due. Wherever the write ends, the
-    /// line is there whole or as it was, and so is every other. Where the engine is down nothing is done.
+    /// Writes a logical line to its place, and moves the gap if that is due. Wherever the write ends, the line is there
+    /// whole or as it was, and so is every other. Errors: `WriteFault`, with the fault of the engine's call and
+    /// `written`, whether the line's own write was answered; with `written` the fault is never that a line is spent. If
+    /// the engine is down nothing is done.
     pub fn write<B: Board, S: Suite, A: Audit>(
         &mut self,
         board: &mut B,
@@ -197,7 +200,7 @@ impl Gapped {
         self.write_and_move(board, suite, audit, line, plain)
     }
 
-    // The line's own write, and then the move where that is due.
+    // The line's own write, and then the move if that is due.
     fn write_and_move<B: Board, S: Suite, A: Audit>(
         &mut self,
         board: &mut B,

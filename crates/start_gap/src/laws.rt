@@ -16,9 +16,8 @@ pub fn lines_have_places(n: u32, wear: &Wear)
     let _ = wear.start;
 }
 
-/// A law: where the gap holds the line of the source, logical memory is the same under the next wear. And a
-/// write with its move, wherever it is cut off, leaves logical memory without the line or with it, under the
-/// wear that is recorded.
+/// A law: if the gap holds the line of the source, logical memory is the same under the next wear. And a write with its
+/// move, wherever it is cut, leaves logical memory without the line or with it, under the wear that is recorded.
 pub fn moves_keep_memory(n: u32)
     ensures same { IsSameUnderNext n }
     ensures each { IsSafeAtEachStage n }

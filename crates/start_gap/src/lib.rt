@@ -1,5 +1,5 @@
-//! Start-gap wear levelling: where each logical line lies, how the gap moves, the record of both, and lines that
-//! are so levelled over an engine.
+//! Start-gap wear levelling: the place of each logical line, how the gap moves, the record of both, and lines that are
+//! levelled in this way over an engine.
 #![tactic(auto)]
 
 mod gapped;

@@ -21,8 +21,8 @@ pub fn wear_line(n: u32, wear: &Wear) -> Line
     line
 }
 
-/// The wear that a line records. None exactly where the start isn't below n, the gap has moved by more
-/// than n places, or a byte from 8 on isn't 0.
+/// The wear that a line records. `None` if and only if the start isn't below n, the gap has moved by more than n
+/// places, or a byte from 8 on isn't 0.
 pub fn read_wear(n: u32, line: &Line) -> Option<Wear>
     ensures { result ≡ recorded n line.now }
 {

@@ -1,4 +1,4 @@
-//! Where the logical lines lie: of n + 1 places, n hold one line each, and one is the gap.
+//! The places of the logical lines: of n + 1 places, n hold one line each, and one is the gap.
 ghost use Rattle.std.specs.Prelude.{◌≡◌, ◌≤◌, ◌<◌, ◌^◌};
 ghost use Rattle.start_gap.specs.Wear.{IsWear, place_of, next_wear, source_of};
 
@@ -46,7 +46,7 @@ pub fn next(n: u32, wear: &Wear) -> Wear
     }
 }
 
-/// The place whose line a move copies into the gap: the one below it, or place n where the gap is place 0.
+/// The place whose line a move copies into the gap: the one below it, or place n if the gap is place 0.
 pub fn source(n: u32, wear: &Wear) -> u32
     requires { IsWear n wear.now }
     ensures source { result ≡ source_of n wear.now }

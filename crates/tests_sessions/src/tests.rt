@@ -18,12 +18,12 @@ use std::process::Abort;
 use std::test::Fail;
 use trace_text::{Halt, Talk};
 
-/// Stops the test, with both values, unless they are equal. A macro is proved anew at each place, and this once.
+/// Stops the test, with both values, unless they are equal. A macro is proved again at each place, and this once.
 fn equal<T: PartialEq + Debug + Drop>(rt: &impl Abort, found: T, wanted: T) {
     assert_eq!(rt; found, wanted);
 }
 
-/// The keys of a session where none are chosen.
+/// The default keys of a session.
 const KEY: [u8; 16] = [0, 1, 2, 3, 4, 5, 6, 7, 8, 9, 10, 11, 12, 13, 14, 15];
 
 const TAG_KEY: [u8; 32] = [

@@ -44,8 +44,8 @@ impl Sink for ByteSink {
     }
 }
 
-/// Runs the program a byte at a time. Of the pulls and of the pushes those of these numbers fail, counted from 0. Gives
-/// the status and what was put. Fails for want of memory.
+/// Runs the program a byte at a time. The pulls and the pushes of these numbers fail, counted from 0. Gives the status
+/// and what was put. Errors: running out of memory.
 pub fn ran_by_bytes<R: AllocGlobal>(
     rt: &R,
     words: &str,
@@ -64,7 +64,7 @@ pub fn ran_by_bytes<R: AllocGlobal>(
     Ok((status, sink.inner.put().to_vec(alloc)?))
 }
 
-/// Runs the row's trace a byte at a time, where a call fails. Fails unless it ends so.
+/// Runs the row's trace a byte at a time, with a call that fails. Errors: another ending.
 fn check_failing<R: AllocGlobal>(
     rt: &R,
     row: &Row,
@@ -77,7 +77,7 @@ fn check_failing<R: AllocGlobal>(
     check_end(row.trace, found, status, output)
 }
 
-/// The bytes of the replies to so many lines, and then `stop read`.
+/// The bytes of the replies to `lines` lines, and then `stop read`.
 fn stopped_after<R: AllocGlobal>(rt: &R, output: &str, lines: usize) -> Result<Vec<u8>, Fail> {
     let mut told = front_of(rt, output, lines)?;
     told.extend_from_slice(b"stop read\n")?;
@@ -85,8 +85,8 @@ fn stopped_after<R: AllocGlobal>(rt: &R, output: &str, lines: usize) -> Result<V
 }
 
 /// Lets each pull of a byte fail in turn, of a row whose output has a group of lines for each line of the trace. The
-/// replies to the lines that had come are put, and then `stop read`, unless the last of all lines had come, which is the
-/// one that stops the run. Fails unless it is so, and for want of memory.
+/// replies to the lines that had come are put, and then `stop read`, unless the last of all lines had come, which is
+/// the one that stops the run. Errors: another output, or running out of memory.
 pub fn check_pulls<R: AllocGlobal>(rt: &R, row: &Row) -> Result<(), Fail> {
     let given = spelled(rt, row.trace)?;
     let (mut ended, mut pull) = (0_usize, 0_u64);
@@ -114,7 +114,8 @@ pub fn check_pulls<R: AllocGlobal>(rt: &R, row: &Row) -> Result<(), Fail> {
     )
 }
 
-/// Lets each push of a byte fail in turn. Just the bytes before it are put. Fails unless it is so, and for want of memory.
+/// Lets each push of a byte fail in turn. Just the bytes before it are put. Errors: another output, or running out of
+/// memory.
 pub fn check_pushes<R: AllocGlobal>(rt: &R, row: &Row) -> Result<(), Fail> {
     let given = spelled(rt, row.trace)?;
     let whole = spelled(rt, row.output)?;
@@ -135,8 +136,8 @@ pub fn check_pushes<R: AllocGlobal>(rt: &R, row: &Row) -> Result<(), Fail> {
     )
 }
 
-/// Lets each pull and each push of each row of a table fail in turn, a byte at a time. Fails unless they end
-/// as they should, where a text is no row, and for want of memory.
+/// Lets each pull and each push of each row of a table fail in turn, a byte at a time. Errors: another ending, a text
+/// that isn't a row, or running out of memory.
 pub fn check_faults<R: AllocGlobal>(rt: &R, rows: &str) -> Result<(), Fail> {
     for text in rows.split("\n\n") {
         let row = row_of(text)?;

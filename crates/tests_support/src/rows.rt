@@ -14,8 +14,8 @@ pub struct Row<'a> {
     pub output: &'a str,
 }
 
-/// The row of a text, whose last three lines are its words, its trace, and `STATUS: OUTPUT`. What comes before is a
-/// comment. Fails where the text has fewer lines, or no status.
+/// The row of a text, whose last three lines are its arguments, its trace, and `STATUS: OUTPUT`. What comes before is a
+/// comment. Errors: the text has fewer lines, or no status.
 pub fn row_of(text: &str) -> Result<Row<'_>, Fail> {
     match parts_of(text) {
         Some(row) => Ok(row),
@@ -23,7 +23,7 @@ pub fn row_of(text: &str) -> Result<Row<'_>, Fail> {
     }
 }
 
-/// The same, where the text is a row.
+/// The row of a text, or `None` if the text isn't a row.
 fn parts_of(text: &str) -> Option<Row<'_>> {
     let (front, end) = text.trim_end().rsplit_once('\n')?;
     let (status, output) = end.split_once(": ")?;

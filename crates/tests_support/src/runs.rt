@@ -10,8 +10,8 @@ pub const NEVER: u64 = 1_000_000_000;
 /// Room for the output of every run, in bytes.
 pub const PLACES: usize = 400_000;
 
-/// Runs the program over memory. Of the pulls and of the pushes those of these numbers fail, counted from 0. Gives the
-/// status and what was put into so many places of a byte. Fails for want of memory.
+/// Runs the program over memory. The pulls and the pushes of these numbers fail, counted from 0. Gives the status and
+/// what was put into this number of places of a byte. Errors: running out of memory.
 pub fn ran<R: AllocGlobal>(
     rt: &R,
     words: &str,
@@ -39,7 +39,8 @@ pub fn check_end(at: &str, found: (u8, Vec<u8>), status: u8, output: &[u8]) -> R
     Ok(())
 }
 
-/// Whether this is what a row puts. An output that begins with `.. / ` is only the end of it. Fails for want of memory.
+/// Whether this is what a row puts. An output that begins with `.. / ` is only the end of it. Errors: running out of
+/// memory.
 fn is_put<R: AllocGlobal>(rt: &R, row: &Row, put: &[u8]) -> Result<bool, Fail> {
     match row.output.strip_prefix(".. / ") {
         Some(end) => Ok(put.ends_with(spelled(rt, end)?.as_slice())),
@@ -47,7 +48,7 @@ fn is_put<R: AllocGlobal>(rt: &R, row: &Row, put: &[u8]) -> Result<bool, Fail> {
     }
 }
 
-/// Compares the status and the output of a run with those of a row. Fails unless they are equal, and for want of memory.
+/// Compares the status and the output of a run with those of a row. Errors: they differ, or memory ran out.
 pub fn check_found<R: AllocGlobal>(rt: &R, row: &Row, status: u8, put: &[u8]) -> Result<(), Fail> {
     let (words, trace) = (row.words, row.trace);
     if status != row.status {
@@ -59,15 +60,15 @@ pub fn check_found<R: AllocGlobal>(rt: &R, row: &Row, status: u8, put: &[u8]) ->
     Ok(())
 }
 
-/// Runs the program as a row says. Fails unless its status and its output are those of the row, and for want of memory.
+/// Runs the program as a row says. Errors: its status or its output isn't that of the row, or memory ran out.
 pub fn check_row<R: AllocGlobal>(rt: &R, row: &Row) -> Result<(), Fail> {
     let given = spelled(rt, row.trace)?;
     let (status, put) = ran(rt, row.words, given.as_slice(), (NEVER, NEVER), PLACES)?;
     check_found(rt, row, status, put.as_slice())
 }
 
-/// Checks each row of a table, between which empty lines stand. Fails where a run is another, a text is no row, or for want
-/// of memory.
+/// Checks each row of a table; empty lines stand between the rows. Errors: a run ends otherwise, a text isn't a row, or
+/// memory ran out.
 pub fn check_rows<R: AllocGlobal>(rt: &R, rows: &str) -> Result<(), Fail> {
     for text in rows.split("\n\n") {
         check_row(rt, &row_of(text)?)?;

@@ -74,10 +74,10 @@ fn push_lines<R: AllocGlobal>(rt: &R, text: &str, bytes: &mut Vec<u8>) -> Result
     Ok(())
 }
 
-/// The bytes of the first so many groups of lines in shorthand, set apart by ` / `. In a line `[aa]` stands for the byte
-/// aa 64 times, `[01..]` for 64 bytes, each one greater than the last, `{51}` for 30 zeros and 51, and `9*ab` for nine
-/// times ab. A group `3x LINE & LINE` stands for these lines three times, and a group `-` takes the last LF away. Fails
-/// for want of memory.
+/// The bytes of the first `groups` groups of lines in shorthand, set apart by ` / `. In a line `[aa]` stands for the
+/// byte aa 64 times, `[01..]` for 64 bytes, each one greater than the last, `{51}` for 30 zeros and 51, and `9*ab` for
+/// nine times ab. A group `3x LINE & LINE` stands for these lines three times, and a group `-` takes the last LF away.
+/// Errors: running out of memory.
 pub fn front_of<R: AllocGlobal>(rt: &R, text: &str, groups: usize) -> Result<Vec<u8>, Fail> {
     let mut bytes = Vec::new(rt.alloc());
     if text.is_empty() {
@@ -91,12 +91,12 @@ pub fn front_of<R: AllocGlobal>(rt: &R, text: &str, groups: usize) -> Result<Vec
     Ok(bytes)
 }
 
-/// The bytes of lines in shorthand, as in [`front_of`]. Fails for want of memory.
+/// The bytes of lines in shorthand, as in [`front_of`]. Errors: running out of memory.
 pub fn spelled<R: AllocGlobal>(rt: &R, text: &str) -> Result<Vec<u8>, Fail> {
     front_of(rt, text, usize::MAX)
 }
 
-/// The words of a command line, which spaces set apart. Fails for want of memory.
+/// The arguments of a command line, which spaces set apart. Errors: running out of memory.
 pub fn words_of(alloc: Global, line: &str) -> Result<Vec<String>, Fail> {
     let mut words = Vec::new(alloc);
     for word in line.split(' ') {

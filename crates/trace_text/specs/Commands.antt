@@ -9,7 +9,7 @@ use Rattle.collision_witness.specs.Words.{Word, hex_bytes, ◌>>=◌}
 use Rattle.plain_model.specs.Grammar.{padded_line}
 use Rattle.plain_model.specs.Words.{last_port}
 
--- its port, where it has one, is at most this one
+-- its port, if it has one, is at most this one
 abbrev pub HasPortWithin : ℕ → Command → Type 0
 HasPortWithin most (Do.Post port at line) = port ≤ most
 HasPortWithin most (Do.Part port at from count line) = port ≤ most
@@ -18,7 +18,7 @@ HasPortWithin most (Do.Fence port) = port ≤ most
 HasPortWithin most (Do.Read port at) = port ≤ most
 HasPortWithin most command = ⊤
 
--- a part has 1 to 64 bytes, and they stand at the front of its line, with zeros after them
+-- a part has 1 to 64 bytes, and they are the first of its line, with zeros after them
 abbrev pub HasPartAtFront : Command → Type 0
 HasPartAtFront (Do.Part port at from count line) = IsPartLine count line
 HasPartAtFront command = ⊤
@@ -28,7 +28,7 @@ pub record IsWritable (command : Command) : Type 0 where
   pub port : HasPortWithin last_port command
   pub part : HasPartAtFront command
 
--- the line that has the bytes of n pairs of hex digits at its front
+-- the line that has the bytes of n pairs of hex digits at its beginning
 abbrev pub line_at_front : ℕ → Word → Result Line Kind
 line_at_front n word = do
   bytes ← hex_bytes n word

@@ -1,5 +1,4 @@
--- The lines of a trace, answered one after the other, and how that ends. Each definition is said from any
--- state on, after so many lines.
+-- The lines of a trace, answered one after the other, and how that ends. Each definition holds from any state on, after that many lines.
 use Rattle.std.specs.Prelude.{ℕ, ◌≡◌, ◌≤◌, ◌<◌, ◌+◌, ◌⊎◌, ⊤, List, [], ◌∷◌, ◌++◌, length, nat_lt, All, Option, Some, if◌then◌else◌}
 use Rattle.std.specs.List.{flat_map}
 use Rattle.std.specs.Io.KnownBytes.{Consumes}
@@ -26,7 +25,7 @@ pub record Protocol (S X : Type 0) : Type 1 where
   pub shows : S → List ℕ → X → S → Type 0
   -- what is printed of a reply, with each LF
   pub text_of : X → List ℕ
-  -- the state before, and a line that asks, whose reply may want memory
+  -- the state before, and a line that asks, whose reply may run out of memory
   pub wants_memory : S → List ℕ → Type 0
   -- the states in which lines are answered
   pub runs : S → Type 0
@@ -77,7 +76,7 @@ AreRepliesGiven {S} protocol first (reply ∷ replies) =
 
 -- ---- stops
 
--- the replies are those to a front of these lines
+-- the replies are those to a prefix of these lines
 pub record IsTalkFront {S X : Type 0} (protocol : Protocol S X) (first : S) (lines : List (List ℕ)) (replies : List X) : Type 0 where
   pub before : List (List ℕ)
   pub behind : List (List ℕ)
@@ -129,8 +128,8 @@ pub record IsCutOffTalk {S X : Type 0} (protocol : Protocol S X) (first : S) (se
   pub counted : served + length front.before ≡ line_limit
   pub more : 0 < length front.behind
 
--- The whole lines that the source gave were answered. What it gave of the next line decides no stop of its own:
--- it is no longer than a line may be, and nothing at the limit.
+-- The whole lines that the source gave were answered. What it gave of the next line decides no stop by itself: it is no longer than a line
+-- may be, and nothing at the limit.
 pub record IsCutShortTalk {S X : Type 0} (protocol : Protocol S X) (first : S) (served : ℕ) (trace : List ℕ)
     (left : Option (List ℕ)) (replies : List X) : Type 0 where
   pub before : List (List ℕ)
@@ -144,7 +143,7 @@ pub record IsCutShortTalk {S X : Type 0} (protocol : Protocol S X) (first : S) (
   pub counted : served + length before ≤ line_limit
   pub at_limit : served + length before ≡ line_limit → part ≡ []
 
--- the lines before one were answered, and memory was wanted for the reply to that one, which isn't past the limit
+-- the lines before one were answered, and memory was needed for the reply to that one, which isn't past the limit
 pub record IsStarvedTalk {S X : Type 0} (protocol : Protocol S X) (first : S) (served : ℕ) (lines : List (List ℕ)) (replies : List X) :
     Type 0 where
   pub before : List (List ℕ)
@@ -157,7 +156,7 @@ pub record IsStarvedTalk {S X : Type 0} (protocol : Protocol S X) (first : S) (s
   pub wanted : protocol.wants_memory last line
   pub counted : served + length before < line_limit
 
--- a front of the lines was answered, of no more of them than a trace may have
+-- a prefix of the lines was answered, of no more of them than a trace may have
 pub record IsLimitedTalk {S X : Type 0} (protocol : Protocol S X) (first : S) (served : ℕ) (lines : List (List ℕ)) (replies : List X) :
     Type 0 where
   pub front : IsTalkFront protocol first lines replies

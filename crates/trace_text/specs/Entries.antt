@@ -20,12 +20,12 @@ entry_of_line line =
     if nat_lt 1024 (length line) then Err Kind.Long
     else Ok (entry_of_words (words_of (without_return line)))
 
--- what a line's first word and those after it ask for: nothing where there are none
+-- what a line's first word and those after it ask for: nothing if there are none
 abbrev pub command_of_first_word : {C : Type 0} → (Word → List Word → Result C Kind) → Option Entry → Result (Option C) Kind
 command_of_first_word command_of None = Ok None
 command_of_first_word command_of (Some entry) = command_of entry.0 entry.1 >>= λ command. Ok (Some command)
 
--- what a line asks for, where a first word and those after it ask for a command
+-- what a line asks for, if a first word and those after it ask for a command
 abbrev pub reading_by : {C : Type 0} → (Word → List Word → Result C Kind) → List ℕ → Result (Option C) Kind
 reading_by command_of line = entry_of_line line >>= command_of_first_word command_of
 

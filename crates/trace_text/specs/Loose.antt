@@ -30,7 +30,7 @@ count_and_steps most words = do
   steps ← number_of found.1
   Ok (count, steps)
 
--- the steps, and before them how many writes were drained, where the answer tells it
+-- the steps, and before them how many writes were drained, if the answer tells it
 abbrev pub drained_and_steps : List Word → Result (Option ℕ × ℕ) Kind
 drained_and_steps words =
     or_else (count_and_steps 255 words)
@@ -166,7 +166,7 @@ shown_of line = exhibit_of_line line >>= λ shown. Ok (Say.Shown shown)
 
 -- ---- a line
 
--- by its first word, where that is none of `ok`, `cut`, `refused` and `spent`
+-- by its first word, if that isn't `ok`, `cut`, `refused` or `spent`
 abbrev pub later_answer_of : List ℕ → Word → List Word → Result Answer Kind
 later_answer_of line name words =
     if bytes_eq name (codes "line") then got_of words

@@ -14,7 +14,7 @@ use Rattle.plain_model.specs.Texts.{as_line, command_text}
 abbrev pub sample_port : ℕ → ℕ
 sample_port word = word / 2 ^ 4 % 8
 
--- a data line by the bits from 8 on: one of the first four where bit 40 is set, else one of 1,024
+-- a data line by the bits from 8 on: one of the first four if bit 40 is set, else one of 1,024
 abbrev pub sample_place : ℕ → ℕ
 sample_place word = if word / 2 ^ 40 % 2 == 1 then word / 2 ^ 8 % 4 else word / 2 ^ 8 % 1024
 
@@ -63,13 +63,13 @@ state_after_word state = (mix_u64 state).1
 
 -- ---- traces
 
--- so many commands from number i on, with one word for each
+-- that many commands from number i on, with one word for each
 abbrev pub commands_from : ℕ → ℕ → ℕ → List Command
 commands_from state i zero = []
 commands_from state i (suc count) =
     sample_command i (word_at state) ∷ commands_from (state_after_word state) (i + 1) count
 
--- the sample trace of a seed and a count: so many commands, and the counts
+-- the sample trace of a seed and a count: that many commands, and the counts
 unfoldable pub sample_trace : ℕ → ℕ → List Command
 sample_trace seed count = commands_from (state_of_seed seed) 1 count ++ Do.Stat ∷ []
 

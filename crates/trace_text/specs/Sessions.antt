@@ -1,13 +1,13 @@
--- What a command's persist steps do to the fuse and to the count of cuts, whatever else a session's state holds. A fuse
--- is how many more steps are done before power is cut, where a cut is set.
+-- What a command's persist steps do to the fuse and to the count of cuts, whatever else a session's state holds. A fuse is how many more
+-- steps are done before power is cut, if a cut is set.
 use Rattle.std.specs.Prelude.{ℕ, ◌≡◌, ◌≤◌, ◌-◌, Option, Some, None, option_map, IfSome}
 use Rattle.pmem_base.specs.Counts.{HasRisen}
 
--- the fuse has so many steps left
+-- the fuse has that many steps left
 abbrev pub Lasts : Option ℕ → ℕ → Type 0
 Lasts fuse steps = IfSome fuse (λ left. steps ≤ left)
 
--- the fuse after so many steps
+-- the fuse after that many steps
 abbrev pub burnt : Option ℕ → ℕ → Option ℕ
 burnt fuse steps = option_map (λ left. left - steps) fuse
 

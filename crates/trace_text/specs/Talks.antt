@@ -33,12 +33,12 @@ abbrev pub IfShown : Talked → (Exhibit → Type 0) → Type 0
 IfShown (Err (Stop.Shown exhibit)) P = P exhibit
 IfShown talked P = ⊤
 
--- what holds where memory was wanted
+-- what holds if memory was needed
 abbrev pub IfMemory : Talked → Type 0 → Type 0
 IfMemory (Err Stop.Memory) P = P
 IfMemory talked P = ⊤
 
--- what holds where nothing was done
+-- what holds if nothing was done
 abbrev pub IfNothing : Talked → Type 0 → Type 0
 IfNothing (Ok None) P = P
 IfNothing (Err Stop.Memory) P = P

@@ -32,7 +32,7 @@ fn read_count_and_steps(most: u64, text: &[u8]) -> Result<(u64, u64), Kind>
     Ok((count, steps))
 }
 
-/// How many writes were drained, where the text tells it, and the steps.
+/// How many writes were drained, if the text says it, and the steps. Errors: `Kind::Count` or `Kind::Number`.
 fn read_drained_and_steps(text: &[u8]) -> Result<(Option<u8>, u64), Kind>
     ensures { result ≡ drained_and_steps (words_of text.now) }
 {
@@ -291,7 +291,7 @@ fn read_plain(name: &[u8]) -> Result<Answer, Kind>
     read_later_plain(name)
 }
 
-/// The answer that a word is by itself, where it isn't `full`, `empty`, `idle` or `clean`.
+/// The answer that a word is by itself, if it isn't `full`, `empty`, `idle` or `clean`.
 fn read_later_plain(name: &[u8]) -> Result<Answer, Kind>
     ensures answer { result ≡ later_plain_of name.now }
     ensures shown { IfOk result HasExhibitValue }
@@ -320,8 +320,7 @@ fn read_exhibit(line: &[u8]) -> Result<Answer, Kind>
     Ok(Answer::Shown(shown))
 }
 
-/// The answer of a line, where zeros in front of numbers, hex digits in upper case and any gaps are
-/// let through.
+/// The answer of a line that may have leading zeros, hex digits in upper case and any gaps.
 #[tactic(auto, unfolding(crate::specs::Loose::answer_of_words))]
 fn read_loosely(command: &Command, line: &[u8]) -> Result<Answer, Kind>
     ensures answer { result ≡ loose_answer_of command.now line.now }
@@ -368,7 +367,7 @@ fn read_later_answer(line: &[u8], name: &[u8], text: &[u8]) -> Result<Answer, Ki
     }
 }
 
-/// A law: an answer is in its ranges where its exhibit is.
+/// A law: an answer whose exhibit is in its ranges is in its ranges.
 pub(crate) fn is_in_range(answer: Answer)
     ensures { HasExhibitValue answer → IsAnswer answer }
 {

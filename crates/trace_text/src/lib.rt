@@ -1,5 +1,5 @@
-//! The language of traces both ways: the commands and answers that lines spell, their texts and those
-//! of marks, and sample traces. What a session of a language of its own is.
+//! The language of traces both ways: the commands and answers that lines spell, their texts and those of marks, and
+//! sample traces. What a session in its own language is.
 #![tactic(auto)]
 
 mod answers;

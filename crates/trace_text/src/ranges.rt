@@ -4,7 +4,7 @@ ghost use Rattle.pmem_base.specs.Ranges.{IsDrained, IsPlace, IsStat};
 use collision_witness::ranges::{is_u8, is_u32, is_u64};
 use pmem_base::{Place, Stat};
 
-/// A number of drained writes is below 2^8, where there is one.
+/// A law: a number of drained writes, if there is one, is below 2^8.
 pub fn is_drained(drained: Option<u8>)
     ensures { IsDrained drained }
 {

@@ -20,7 +20,7 @@ use pmem_base::{Command, Kind, Line};
 /// The greatest of the eight ports.
 const LAST_PORT: u8 = 7;
 
-/// That a text has no word.
+/// Checks that a text has no word. Errors: `Kind::Count` if it has one.
 pub fn has_no_word(text: &[u8]) -> Result<(), Kind>
     ensures { map_ok (λ found. []) result ≡ no_word (words_of text.now) }
 {
@@ -112,7 +112,8 @@ fn read_read(most: u8, text: &[u8]) -> Result<Command, Kind>
     Ok(Command::Read { port, at })
 }
 
-/// The words behind `poke`: a number and a line.
+/// The words after `poke`: a number and a line. Errors: `Kind::Count` if there aren't two words; `Kind::Number` or
+/// `Kind::Hex`, by the first wrong word from the left.
 pub fn read_poke(text: &[u8]) -> Result<(u64, Line), Kind>
     ensures { result ≡ poke_values (words_of text.now) }
 {
@@ -238,7 +239,7 @@ fn read_last_verb(most: u8, verb: &[u8], text: &[u8]) -> Result<Command, Kind>
     Err(Kind::Word)
 }
 
-/// A law: what a trace can spell is in its ranges.
+/// A law: a command that a trace can spell is in its ranges.
 pub(crate) fn is_in_range(command: Command)
     requires { IsWritable command }
     ensures { IsCommand command }
@@ -268,8 +269,8 @@ pub(crate) fn is_in_range(command: Command)
     }
 }
 
-/// The first word of a line, and the text behind it. The line is its bytes before its LF or the end of the trace,
-/// with its CR. A blank line and a comment have none.
+/// The first word of a line, and the text behind it. The line is its bytes before its LF or the end of the trace, with
+/// its CR. A blank line and a comment have none. Errors: `Kind::Long` if the line has more than 1,024 bytes.
 #[tactic(auto, unfolding(crate::specs::Entries::entry_of_line))]
 pub fn first_word(line: &[u8]) -> Result<Option<(&[u8], &[u8])>, Kind>
     ensures { map_ok (option_map (λ found. (found.0.now, words_of found.1.now))) result ≡ entry_of_line line.now }

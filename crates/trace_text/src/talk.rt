@@ -16,7 +16,7 @@ pub const TEXT_BYTES: usize = 512;
 /// Why a session stops at a line.
 #[derive(Clone, Copy, Debug, PartialEq, Eq)]
 pub enum Halt {
-    /// Memory couldn't be had for the answer.
+    /// Memory for the answer ran out.
     Memory,
     /// The line isn't in the session's grammar.
     Line(Kind),
@@ -33,10 +33,10 @@ pub trait Talk {
     /// The state before, a line that asks, the text of an answer to it without its LF, and the state after.
     ghost answers: { Self → List ℕ → List ℕ → Self → Type 0 };
 
-    /// The state before, a line that asks, an exhibit that stands in place of its answer, and the state after.
+    /// The state before, a line that asks, an exhibit that comes instead of its answer, and the state after.
     ghost shows: { Self → List ℕ → Exhibit → Self → Type 0 };
 
-    /// The state before, and a line that asks, whose answer may want memory.
+    /// The state before, and a line that asks, whose answer may run out of memory.
     ghost wants_memory: { Self → List ℕ → Type 0 };
 
     /// The state before, a line, the log of the board's accesses before and after, and the state after.
@@ -45,9 +45,9 @@ pub trait Talk {
     /// How many tags and digests were made.
     ghost work: { Self → ℕ × ℕ };
 
-    /// Answers a line of at most 1,024 bytes, without its LF. None comes exactly of a skipped line, and `Line`
-    /// exactly of a faulty one. These, and `Memory`, leave the state as it was. After `Shown` no call follows.
-    /// Accesses of the board are logged, where a log is kept.
+    /// Answers a line of at most 1,024 bytes, without its LF. `None` if and only if the line is skipped. Errors: `Line`
+    /// if and only if it isn't in the grammar; `Memory`. These and a skipped line leave the state as it was. After
+    /// `Shown` no call follows. Accesses of the board are logged, if a log is kept.
     fn talk(
         &mut self,
         alloc: Global,

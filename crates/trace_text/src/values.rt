@@ -9,7 +9,8 @@ ghost use Rattle.trace_text.specs.Commands.{line_at_front};
 use collision_witness::{one_word, read_number, two_words};
 use pmem_base::{Kind, Line};
 
-/// A number up to the greatest port.
+/// A number up to the greatest port. Errors: `Kind::Number` if the word isn't a number; `Kind::Port` if it is above
+/// `most`.
 #[tactic(auto, unfolding(plain_model::specs::Words::port_of))]
 pub fn read_port(most: u8, word: &[u8]) -> Result<u8, Kind>
     ensures port { result ≡ port_of most word.now }
@@ -23,7 +24,7 @@ pub fn read_port(most: u8, word: &[u8]) -> Result<u8, Kind>
     }
 }
 
-/// The port of a text that has one alone.
+/// The port of a text of exactly one word. Errors: `Kind::Count` for any other text; then those of `read_port`.
 pub fn read_one_port(most: u8, text: &[u8]) -> Result<u8, Kind>
     ensures port { result ≡ one_port most (words_of text.now) }
     ensures within { IfOk result (λ port. port ≤ most) }
@@ -31,14 +32,14 @@ pub fn read_one_port(most: u8, text: &[u8]) -> Result<u8, Kind>
     read_port(most, one_word(text)?)
 }
 
-/// The number of a text that has one alone.
+/// The number of a text of exactly one word. Errors: `Kind::Count` for any other text; `Kind::Number`.
 pub fn read_one_number(text: &[u8]) -> Result<u64, Kind>
     ensures { result ≡ one_number (words_of text.now) }
 {
     read_number(one_word(text)?)
 }
 
-/// The numbers of a text that has two.
+/// The numbers of a text of exactly two words. Errors: `Kind::Count` for any other text; `Kind::Number`.
 pub fn read_two_numbers(text: &[u8]) -> Result<(u64, u64), Kind>
     ensures { result ≡ two_numbers (words_of text.now) }
 {
@@ -48,8 +49,7 @@ pub fn read_two_numbers(text: &[u8]) -> Result<(u64, u64), Kind>
     Ok((first, second))
 }
 
-/// The bytes of so many pairs of hex digits, in either case, at the front of a line of zeros, or
-/// `Kind::Hex`.
+/// The bytes of `count` pairs of hex digits, in either case, at the beginning of a line of zeros. Errors: `Kind::Hex`.
 #[tactic(auto, unfolding(collision_witness::specs::Words::hex_bytes))]
 fn read_front(word: &[u8], count: usize) -> Result<Line, Kind>
     requires { count ≤ 64 }
@@ -68,8 +68,8 @@ fn read_front(word: &[u8], count: usize) -> Result<Line, Kind>
     }
 }
 
-/// How many bytes a part of a line has, with a line that has them at its front and zeros after
-/// them, by 2 to 128 hex digits, an even number of them, in either case; or `Kind::Hex`.
+/// How many bytes a part of a line has, with a line that has them first and zeros after them, by 2 to 128 hex digits,
+/// an even number of them, in either case. Errors: `Kind::Hex`.
 #[tactic(auto, unfolding(collision_witness::specs::Words::some_hex_bytes))]
 pub fn read_part(word: &[u8]) -> Result<(u8, Line), Kind>
     ensures part { result ≡ part_of word.now }

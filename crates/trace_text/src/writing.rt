@@ -210,8 +210,8 @@ pub fn push_answer(text: &mut ArrayVec<u8, 512>, answer: &Answer)
     }
 }
 
-/// The text of an answer that the command can have, without its LF. `read_answer` reads it back,
-/// where the minor of a forged line is in its range too.
+/// The text of an answer that the command can have, without its LF. `read_answer` reads it back, if the minor of a
+/// forged line is in its range too.
 pub fn write_answer(command: &Command, answer: &Answer) -> ArrayVec<u8, 512>
     requires listed { IsTrue (is_answer_to command.now answer.now) }
     requires minors { HasSmallMinors answer.now }

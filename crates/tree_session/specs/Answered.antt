@@ -1,5 +1,5 @@
--- Which answers a command has in which states, and the state after: where the state alone decides, the first
--- condition that holds does; else the engine gives one of the answers that are listed.
+-- Which answers a command has in which states, and the state after: if the state alone decides, the first condition that holds does; else
+-- the engine gives one of the answers that are listed.
 use Rattle.std.specs.Prelude.{ℕ, ◌≡◌, ◌≢◌, ◌<◌, ◌≤◌, ◌+◌, ◌-◌, ◌*◌, ◌^◌, ◌⊎◌, nat_lt, not, Bool, true, false, List, [], ◌∷◌, map, sum, length, slice_index_or, Option, Some, None, Ok, is_none, if◌then◌else◌, IsTrue}
 use Rattle.pmem_base.specs.declared.lines.Line.{Line}
 use Rattle.pmem_base.specs.declared.answers.Exhibit.{Exhibit}
@@ -89,7 +89,7 @@ pub record IsGroupDone (old new : BoardMemory) : Type 0 where
   pub lines : new.lines ≡ board_redone old
   pub regs : new.regs ≡ without_group old.regs
 
--- the steps that this takes: a line write for each entry, and a latch where there is one
+-- the steps that this takes: a line write for each entry, and a latch if there is one
 abbrev pub group_steps : BoardMemory → ℕ
 group_steps board = length board.regs.group.items + finishing_latches board.regs.group.items
 
@@ -251,7 +251,7 @@ write_least g = g.levels + 5
 abbrev pub tree_recovery_bound : Shape → ℕ
 tree_recovery_bound g = g.levels + 4
 
--- all writes were made that can be, of so many of each line
+-- all writes were made that can be, of that many of each line
 abbrev pub AllAreMade : List ℕ → Type 0
 AllAreMade counts = sum counts ≡ 2 ^ 64 - 1
 
@@ -354,7 +354,7 @@ SaysOfEngine setup before (Do.Read a) after answer = SaysOfRead setup before a a
 SaysOfEngine setup before Do.On after answer = SaysOfOn setup before after answer
 SaysOfEngine setup before command after answer = ⊥
 
--- the exhibits that stand in place of an engine's answer
+-- the exhibits that stand instead of an engine's answer
 abbrev pub ShowsEngine : Setup → PlainTree → TreeCommand → PlainTree → Exhibit → Type 0
 ShowsEngine setup before (Do.Write a line) after exhibit =
     (AllAreMade before.counts → ⊥) × IsNodeExhibit setup after a exhibit
@@ -389,17 +389,17 @@ pub record IsTreeAnswered (setup : Setup) (old : SessionState) (command : TreeCo
   pub kept : IsTreeStateKept old new
   pub answered :
       AnswersWith setup old.plain command new.plain answer (tree_decided setup.shape old.plain command)
-  -- exactly what was done: where power is cut, which nodes gave way, and what stands in the cache
+  -- exactly what was done: if power is cut, which nodes were evicted, and what stands in the cache
   pub called : IsTreeCalled setup old command new answer (tree_decided setup.shape old.plain command)
   pub rooted : IsRooted setup new.plain
 
--- What the engine did to the board before it showed something, in so many steps: it finished the armed group, or wrote
--- true nodes back. So the line shown is the one that stood there.
+-- What the engine did to the board before it showed something, in that many steps: it finished the armed group, or wrote true nodes back.
+-- So the line shown is the one that stood there.
 abbrev pub IsBoardLeft : Setup → PlainTree → TreeCommand → ℕ → PlainTree → Type 0
 IsBoardLeft setup before Do.On s after = IsGroupDone before.board after.board × (s ≡ group_steps before.board)
 IsBoardLeft setup before command s after = IsBoardSpilled setup before after × (s ≤ read_bound setup.shape)
 
--- an exhibit that holds, where the state doesn't decide: power is off after it, and nothing else is told
+-- an exhibit that holds, if the state doesn't decide: power is off after it, and nothing else is reported
 pub record IsEngineShown (setup : Setup) (old : SessionState) (command : TreeCommand) (exhibit : Exhibit) (new : SessionState) :
     Type 0 where
   pub not_shown : old.shown ≡ None
@@ -428,13 +428,13 @@ TakesMemory before Do.On = before.board.powered ≡ false
 TakesMemory before Do.Snap = before.board.snapshot ≡ None
 TakesMemory before command = ⊥
 
--- a command may want memory
+-- a command may run out of memory
 pub record IsTreeMemoryWanted (old : SessionState) (command : TreeCommand) : Type 0 where
   pub takes : IsTrue (tree_takes_memory command)
   pub not_shown : old.shown ≡ None
   pub needs : TakesMemory old.plain command
 
--- why a command has no answer: memory is wanted, and nothing was done; or it is an exhibit
+-- why a command has no answer: memory is needed, and nothing was done; or it is an exhibit
 abbrev pub IsTreeHalt : Setup → SessionState → TreeCommand → Halt → SessionState → Type 0
 IsTreeHalt setup old command Stop.Memory new = IsTreeMemoryWanted old command × (new ≡ old)
 IsTreeHalt setup old command (Stop.Shown exhibit) new = IsTreeShownBy setup old command exhibit new × AreSmallMinors exhibit
@@ -456,7 +456,7 @@ pub record IsTreeShownOf (setup : Setup) (old : SessionState) (line : List ℕ) 
   pub its_reading : reading_of_tree line ≡ Ok (Some command)
   pub shown : IsTreeShownBy setup old command exhibit new
 
--- the line asks for a command that may want memory
+-- the line asks for a command that may run out of memory
 pub record IsTreeStarvedOf (old : SessionState) (line : List ℕ) : Type 0 where
   pub command : TreeCommand
   pub its_reading : reading_of_tree line ≡ Ok (Some command)

@@ -1,5 +1,5 @@
--- What a command does beside what it answers or shows, exactly: the board followed the plan of the command's call, the answer
--- is a function of how the plan ended, and what is on the chip afterwards is what the plan left.
+-- What a command does next to what it answers or shows, exactly: the board followed the plan of the command's call, the answer is a
+-- function of how the plan ended, and what is on the chip afterwards is what the plan left.
 use Rattle.std.specs.Prelude.{ℕ, ◌≡◌, nat_lt, Bool, true, false, Option, Some, None, Result, Ok, Err, if◌then◌else◌}
 use Rattle.pmem_base.specs.declared.lines.Line.{Line}
 use Rattle.pmem_base.specs.Shape.{Shape}
@@ -25,11 +25,11 @@ use Rattle.tree_session.specs.declared.answers.TreeAnswer.{TreeAnswer}
 use Rattle.tree_session.specs.declared.answers.TreeAnswer.TheVariants as Say
 use Rattle.tree_session.specs.State.{SessionState, watch_in}
 
--- what is on the chip beside the registers
+-- what is on the chip next to the registers
 abbrev pub chip_in : Setup → SessionState → TreeState → TreeChip
 chip_in setup state engine = tree_chip_of engine (watch_in setup state) state.pads state.tags state.digests
 
--- ---- what is answered; where the watch stopped the engine nothing is, and its exhibit stands for an answer
+-- ---- what is answered; if the watch stopped the engine nothing is, and its exhibit stands for an answer
 
 abbrev pub read_said : Taken → Result Line TreeFault → Option TreeAnswer
 read_said taken (Ok line) = Some (Say.Got line (steps_in taken))
@@ -38,7 +38,7 @@ read_said taken (Err (Fail.Tag a)) = Some (Say.RefusedData a (steps_in taken))
 read_said taken (Err Fail.Cut) = Some (Say.Cut (steps_in taken))
 read_said taken (Err fault) = None
 
--- a cut write is kept where it was armed, by its first latch
+-- a cut write is kept if it was armed, by its first latch
 abbrev pub write_said : Taken → Result ℕ TreeFault → Option TreeAnswer
 write_said taken (Ok counter) = Some (Say.Written (steps_in taken))
 write_said taken (Err (Fail.Node x)) = Some (Say.RefusedNode x (steps_in taken))
@@ -70,7 +70,7 @@ abbrev pub engine_made : Result (TreeState × Work) TreeRec → Option TreeState
 engine_made (Ok made) = Some made.0
 engine_made (Err fault) = None
 
--- power stays on where it made one
+-- power stays on if it made one
 abbrev pub board_resting : Result (TreeState × Work) TreeRec → BoardMemory → BoardMemory
 board_resting (Ok made) board = board
 board_resting (Err fault) board = record board { powered = false }

@@ -45,7 +45,7 @@ tree_command_of_verb back words = with_number Do.Back words
 unfoldable pub tree_command_of : Word → List Word → Result TreeCommand Kind
 tree_command_of name words = command_by_verb tree_command_of_verb tree_verbs name words
 
--- whether the answer to the command may want memory
+-- whether the answer to the command may run out of memory
 abbrev pub tree_takes_memory : TreeCommand → Bool
 tree_takes_memory Do.On = true
 tree_takes_memory Do.Snap = true

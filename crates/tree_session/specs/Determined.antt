@@ -26,7 +26,7 @@ NewTreeIsDetermined =
     (setup : Setup) (pads tags digests : ℕ) (a b : SessionState) → IsNewTree setup a → IsNewTree setup b → IsFormattedTree setup pads tags digests a
     → IsFormattedTree setup pads tags digests b → a.keys ≡ b.keys → a ≡ b
 
--- two logs of one command from one state are the same, where none was lost for want of memory
+-- two logs of one command from one state are the same, if none was lost because memory ran out
 abbrev pub TreeLogsAreDetermined : Type 0
 TreeLogsAreDetermined =
     (setup : Setup) (command : TreeCommand) (first second : Result TreeAnswer Exhibit) (old one other : SessionState) (accesses others : List Access)

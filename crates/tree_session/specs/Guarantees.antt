@@ -105,7 +105,7 @@ power_with power command (Say.Cut s) = false
 power_with power command (Say.Recovered digests s) = true
 power_with power command answer = power
 
--- the fuse burns by the steps that are told, and is cleared as power goes off
+-- the fuse burns by the steps of the answer, and is cleared as power goes off
 abbrev pub fuse_with : Option ℕ → TreeCommand → TreeAnswer → Option ℕ
 fuse_with fuse (Do.Cut n) Say.Ok = Some n
 fuse_with fuse Do.Off Say.Ok = None
@@ -147,11 +147,11 @@ pub record IsTreeServed (g : Shape) (history : History) (a : ℕ) : Type 0 where
   pub power : history.power ≡ true
   pub inside : a < tree_lines g
 
--- so many steps at most, within the fuse
+-- that many steps at most, within the fuse
 abbrev pub TakesFew : ℕ → ℕ → History → Type 0
 TakesFew s most history = Lasts history.fuse s × (s ≤ most)
 
--- a cut after so many steps, fewer than the most
+-- a cut after that many steps, fewer than the most
 abbrev pub EndsAt : ℕ → ℕ → History → Type 0
 EndsAt s most history = (history.fuse ≡ Some s) × (s < most)
 
@@ -225,7 +225,7 @@ AreAllowed g history (reply ∷ replies) =
 
 -- ---- exhibits
 
--- the version of node x after so many writes of each line
+-- the version of node x after that many writes of each line
 abbrev pub version_by : Shape → List ℕ → ℕ → ℕ
 version_by g counts x = total (node_above_lines g counts (g.levels - level_of x) x)
 
@@ -290,7 +290,7 @@ IsTreeShown setup =
     → IsExhibit setup.formulas exhibit
     × MayShow setup.shape (history_after setup.shape (first_history setup.shape) replies) command exhibit
 
--- where nobody tampered with the device, nothing is refused, and there is no exhibit
+-- if nobody tampered with the device, nothing is refused, and there is no exhibit
 abbrev pub IsTreeUntouched : Setup → Type 0
 IsTreeUntouched setup =
     (replies : List TreeReply) (last : SessionState) → IsTreeSession setup replies last

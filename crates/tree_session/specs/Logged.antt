@@ -8,9 +8,8 @@ use Rattle.tree_session.specs.declared.commands.TreeCommand.TheVariants as Do
 use Rattle.tree_session.specs.State.{SessionState}
 use Rattle.tree_session.specs.Answered.{tree_decided}
 
--- The log goes on from the board before the command to the board after it. Only what the engine or recovery serves
--- accesses the board; where another command changes it, that is past the controller. A command whose answer the state
--- decides leaves the log as it was.
+-- The log goes on from the board before the command to the board after it. Only what the engine or recovery serves accesses the board; if
+-- another command changes it, that is past the controller. A command whose answer the state decides leaves the log as it was.
 abbrev pub IsTreeLogged : TreeCommand → Option (List Access) → SessionState → Option (List Access) → SessionState → Type 0
 IsTreeLogged (Do.Write a line) log_old old log_new new =
     IsLoggedBy (tree_decided old.shape old.plain (Do.Write a line)) log_old old.plain.board log_new new.plain.board

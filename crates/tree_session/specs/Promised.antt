@@ -88,7 +88,7 @@ module _ {S W : Type 0} (suite : SuiteOf S) (watch : WatchOf W) (engine : TreeSt
   FollowsWrite at line answer =
       FollowsWriteOver suite watch engine found s w later_engine left later_s later_w at line answer
 
--- where there is no engine: recovery
+-- if there is no engine: recovery
 module _ {S W : Type 0} (suite : SuiteOf S) (watch : WatchOf W) (geo : Geo) (device : Device) (s : S) (w : W)
     (later_device : Device) (later_s : S) (later_w : W) where
   abbrev rest : Rest
@@ -101,7 +101,7 @@ module _ {S W : Type 0} (suite : SuiteOf S) (watch : WatchOf W) (geo : Geo) (dev
   RecoversOver answer =
       HasTreeRecovered (setup_with suite geo s) rest later_rest (suite.digests s) (suite.digests later_s) answer
 
-  -- every answer but want of memory
+  -- every answer except running out of memory
   abbrev pub FollowsRecoveryOver : Result (TreeState × Work) TreeRec → Type 0
   FollowsRecoveryOver answer =
       answer ≢ Err Stop.Memory

@@ -77,8 +77,8 @@ pub record IsNewTree (setup : Setup) (state : SessionState) : Type 0 where
   pub slots : state.slots ≡ first_slots setup.shape
   pub shown : state.shown ≡ None
 
--- The device was formatted along the plan of formatting, after so many pads, tags and digests: a pad and a tag for each data
--- line, a tag for each node, and the digests of the tree over the slot lines.
+-- The device was formatted along the plan of formatting, after that many pads, tags and digests: a pad and a tag for each data line, a tag
+-- for each node, and the digests of the tree over the slot lines.
 pub record IsFormattedTree (setup : Setup) (pads tags digests : ℕ) (state : SessionState) : Type 0 where
   pub follows : Follows (tree_format_plan setup) (device_of (new_memory (tree_size setup.shape))) (device_of state.plain.board) (Ok tt)
   pub its_pads : state.pads ≡ risen_times (tree_lines setup.shape) pads

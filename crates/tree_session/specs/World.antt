@@ -26,7 +26,7 @@ use Rattle.tree_session.specs.State.{SessionState}
 
 -- ---- a state of its parts
 
--- what the program keeps of a session beside the geometry
+-- what the program keeps of a session next to the geometry
 pub record TreeParts : Type 0 where
   pub keys : List ℕ
   pub pads : ℕ

@@ -15,15 +15,15 @@ pub enum TreeAnswer {
     Off,
     /// Power was on.
     Already,
-    /// There is no such line.
+    /// The line doesn't exist.
     Range,
-    /// There is no snapshot.
+    /// No snapshot was taken.
     NoSnap,
     /// The line is written.
     Written { steps: u64 },
     /// A line that was read.
     Got { line: Line, steps: u64 },
-    /// Power is on; recovery made so many digests.
+    /// Power is on; recovery made `digests` digests.
     Recovered { digests: u64, steps: u64 },
     /// Node `x` isn't of the version that its parent has for it.
     RefusedNode { x: u32, steps: u64 },

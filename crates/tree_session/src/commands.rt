@@ -17,7 +17,7 @@ pub enum TreeCommand {
     On,
     /// Turn power off.
     Off,
-    /// Cut power after so many more persist steps.
+    /// Cut power after `n` more persist steps.
     Cut { n: u64 },
     /// Change a device line past the controller.
     Poke { at: u64, line: Line },

@@ -6,10 +6,10 @@ ghost use Rattle.tree_session.specs.Guarantees.{IsTreeKept, IsTreeShown, IsTreeU
 use pmem_base::Geo;
 use suite::Suite;
 
-/// A law: two replies to one command in one state, answers or exhibits, are the same, with the same state after them:
-/// so a session's relation leaves nothing open but where memory is wanting. A log that isn't lost has the same accesses
-/// of the device, in the same order. And two new states of one setup, whose suites had the same keys and had made as many
-/// pads, tags and digests before, are the same.
+/// A law: two replies to one command in one state, answers or exhibits, are the same, with the same state after them.
+/// So a session's relation leaves nothing open except when memory runs out. A log that isn't lost has the same accesses
+/// of the device, in the same order. And two new states of one setup, whose suites had the same keys and had made as
+/// many pads, tags and digests before, are the same.
 pub fn tree_replies_are_determined()
     ensures replies { TreeRepliesAreDetermined }
     ensures begins { NewTreeIsDetermined }

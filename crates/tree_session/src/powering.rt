@@ -38,7 +38,7 @@ impl<S: Suite + Drop> TreeWorld<S> {
         TreeAnswer::Ok
     }
 
-    /// Power comes on, with recovery. It stops for want of memory, or at a clash.
+    /// Switches power on, with recovery. Errors: running out of memory, or a clash.
     pub(crate) fn on(&mut self, alloc: Global, log: &mut AccessLog) -> Result<TreeAnswer, Halt>
         requires { self.old.shown ≡ None }
         ensures answered { IfOk result (λ answer. IsTreeAnswered (tree_setup_in S.formulas_of self.old) self.old Do.On answer self.new) }

@@ -28,7 +28,7 @@ impl<S: Suite + Drop> TreeWorld<S> {
         TreeAnswer::Ok
     }
 
-    /// A snapshot of the device is taken. It stops for want of memory.
+    /// Takes a snapshot of the device. Errors: running out of memory.
     pub(crate) fn snap(&mut self) -> Result<TreeAnswer, Halt>
         requires { self.old.shown ≡ None }
         ensures answered { IfOk result (λ answer. IsTreeAnswered (tree_setup_in S.formulas_of self.old) self.old Do.Snap answer self.new) }

@@ -62,8 +62,8 @@ impl<S: Suite + Drop> Model for TreeWorld<S> {
 }
 
 impl<S: Suite + Drop> TreeWorld<S> {
-    /// A formatted device with power on: all lines are zeros, and nothing was tampered with. Formatting follows its plan.
-    /// The one error is want of memory.
+    /// A formatted device with power on: all lines are zeros, and nothing was tampered with. Formatting follows its
+    /// plan. Errors: running out of memory.
     pub fn new(alloc: Global, geo: Geo, suite: S, watch_suite: S) -> Result<TreeWorld<S>, MemFault>
         requires { S.keys watch_suite ≡ S.keys suite }
         ensures new { IfOk result (λ world. IsNewTree (record { shape = shape_of geo; formulas = S.formulas_of (S.keys suite) }) world) }

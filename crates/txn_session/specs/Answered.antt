@@ -1,5 +1,5 @@
--- Which answers a command has in which states, and the state after: where the state alone decides, the first
--- condition that holds does; else the engine's call does, by how it ended, and what the answer says is listed.
+-- Which answers a command has in which states, and the state after: if the state alone decides, the first condition that holds does; else
+-- the engine's call does, by how it ended, and what the answer says is listed.
 use Rattle.std.specs.Prelude.{ℕ, ◌≡◌, ◌≤◌, ◌<◌, ◌+◌, ◌*◌, ◌==◌, nat_lt, Bool, true, false, List, [], ◌∷◌, length, Option, Some, None, option_map, is_some, unwrap_or, Ok, IsTrue, if◌then◌else◌}
 use Rattle.pmem_base.specs.declared.lines.Line.{Line}
 use Rattle.pmem_base.specs.declared.commands.Posted.{Posted}
@@ -32,15 +32,15 @@ use Rattle.txn_session.specs.State.{TxnState, txn_left, Entries, txn_lines_in, e
 
 -- ---- answers that the state decides
 
--- the answer, where power is on
+-- the answer, if power is on
 abbrev pub of_power : TxnState → Option TxnAnswer → Option TxnAnswer
 of_power state answer = if state.session.board.powered then answer else Some Say.Off
 
--- the answer, where there is such a line
+-- the answer, if there is such a line
 abbrev pub txn_of_line : TxnState → ℕ → Option TxnAnswer → Option TxnAnswer
 txn_of_line state a answer = if nat_lt a (txn_lines_in state) then answer else Some Say.Range
 
--- the answer, where a transaction is open
+-- the answer, if a transaction is open
 abbrev pub of_open : Option Entries → (Entries → Option TxnAnswer) → Option TxnAnswer
 of_open None answer = Some Say.Closed
 of_open (Some entries) answer = answer entries
@@ -49,7 +49,7 @@ of_open (Some entries) answer = answer entries
 abbrev pub is_txn_full : Entries → ℕ → Bool
 is_txn_full entries a = if is_some (entry_in entries a) then false else length entries == 15
 
--- a transaction is opened, where the store isn't stuck
+-- a transaction is opened, if the store isn't stuck
 abbrev pub begun_txn : Option ℕ → Option Entries → TxnAnswer
 begun_txn (Some page) open_txn = Say.Blocked page
 begun_txn None (Some entries) = Say.Busy
@@ -69,7 +69,7 @@ held (Some line) = Some (Say.Got line 0)
 abbrev pub line_held : TxnState → ℕ → Option Line
 line_held state a = entry_in (unwrap_or state.txn []) a
 
--- the answer that the state alone decides; none where the engine decides
+-- the answer that the state alone decides; none if the engine decides
 abbrev pub txn_decided : TxnState → TxnCommand → Option TxnAnswer
 txn_decided state Do.Begin = of_power state (Some (begun_txn state.stuck state.txn))
 txn_decided state (Do.Put a line) =
@@ -96,7 +96,7 @@ txn_after_decided state command answer = state
 
 -- ---- what is left
 
--- a state that is another but for what the call's plan alone says
+-- a state that is another except for what the call's plan alone says
 pub record IsTxnButForSteps (expected new : TxnState) : Type 0 where
   pub memory : new.memory ≡ expected.memory
   pub in_force : new.in_force ≡ expected.in_force
@@ -114,11 +114,11 @@ GoesToTxnState expected steps most new = IsTxnButForSteps expected new × (steps
 abbrev pub IsTxnCutOff : TxnState → ℕ → ℕ → TxnState → Type 0
 IsTxnCutOff expected steps most new = IsTxnButForSteps (txn_without_power expected) new × (steps < most)
 
--- the most steps of a commit of so many lines
+-- the most steps of a commit of that many lines
 abbrev pub most_of_commit : Shape → ℕ → ℕ
 most_of_commit g count = (2 * count + 2) * write_steps g
 
--- those of a redo of so many lines: each body is read, and then its target written
+-- those of a redo of that many lines: each body is read, and then its target written
 abbrev pub most_of_redo : Shape → ℕ → ℕ
 most_of_redo g count =
     if count == 0 then 0 else count * (read_steps g + write_steps g) + write_steps g
@@ -136,8 +136,8 @@ IsAllWritten f now writes writing = (writing.done ≡ length writes) × AreAllWr
 
 -- ---- a commit
 
--- How far a commit of so many lines came, by its answer: through; or, with the header, up to a line that is spent;
--- or up to one before it is written; or up to a cut, with the seal of the header's write or before it.
+-- How far a commit of that many lines came, by its answer: through; or, with the header, up to a line that is spent; or up to one before it
+-- is written; or up to a cut, with the seal of the header's write or before it.
 abbrev pub IsCommitting : ℕ → Formulas → Moment → List Posted → Writing → TxnAnswer → Type 0
 IsCommitting count f now writes writing (Say.Applied steps) = IsAllWritten f now writes writing
 IsCommitting count f now writes writing (Say.Stuck page steps) =
@@ -150,7 +150,7 @@ IsCommitting count f now writes writing (Say.CutLost steps) =
     (writing.done ≤ count) × IsCutAmong f now writes writing
 IsCommitting count f now writes writing answer = ⊥
 
--- the state that so many done writes leave, but for power, fuse and counts
+-- the state that that many done writes leave, except for power, fuse and counts
 abbrev pub after_commit : TxnState → Entries → Writing → TxnState
 after_commit old entries writing =
     record (with_commit old entries writing.done) { session = with_marks old.session writing.made }
@@ -186,7 +186,7 @@ IsRedoing f now writes writing (Say.Stuck page steps) = IsSpentNext f now writes
 IsRedoing f now writes writing (Say.Cut steps) = IsCutAmong f now writes writing
 IsRedoing f now writes writing answer = ⊥
 
--- the state that so many done writes of a redo leave, with power on
+-- the state that that many done writes of a redo leave, with power on
 abbrev pub after_redo : TxnState → Writing → TxnState
 after_redo old writing =
     record (with_redo old writing.done) { session = with_marks (with_power old.session) writing.made }
@@ -239,17 +239,17 @@ IsTxnShownBy setup old Do.On (Twin at major low high cipher tag) new =
     × (new ≡ txn_left setup new.session None None)
 IsTxnShownBy setup old command exhibit new = ⊥
 
--- whether a command may want memory
+-- whether a command may run out of memory
 abbrev pub txn_takes_memory : TxnCommand → Bool
 txn_takes_memory Do.Commit = true
 txn_takes_memory Do.On = true
 txn_takes_memory command = false
 
--- a command may want memory where the state doesn't decide its answer
+-- a command may run out of memory if the state doesn't decide its answer
 abbrev pub IsTxnMemoryWanted : TxnState → TxnCommand → Type 0
 IsTxnMemoryWanted old command = IsTrue (txn_takes_memory command) × (txn_decided old command ≡ None)
 
--- why a command has no answer: memory is wanted, and nothing was done; or it is an exhibit
+-- why a command has no answer: memory is needed, and nothing was done; or it is an exhibit
 abbrev pub IsTxnHalt : Setup → TxnState → TxnCommand → Halt → TxnState → Type 0
 IsTxnHalt setup old command Stop.Memory new = IsTxnMemoryWanted old command × (new ≡ old)
 IsTxnHalt setup old command (Stop.Shown exhibit) new = IsTxnShownBy setup old command exhibit new
@@ -271,7 +271,7 @@ pub record IsTxnShownOf (setup : Setup) (old : TxnState) (line : List ℕ) (exhi
   pub its_reading : reading_of_txn line ≡ Ok (Some command)
   pub shown : IsTxnShownBy setup old command exhibit new
 
--- the line asks for a command that may want memory
+-- the line asks for a command that may run out of memory
 pub record IsTxnStarvedOf (old : TxnState) (line : List ℕ) : Type 0 where
   pub command : TxnCommand
   pub its_reading : reading_of_txn line ≡ Ok (Some command)

@@ -29,7 +29,7 @@ NewTxnIsDetermined setup =
     (tags digests : ℕ) (a b : TxnState) → IsNewTxn setup a → IsNewTxn setup b → IsNewByPlan setup (open_call setup) tags digests a.session
     → IsNewByPlan setup (open_call setup) tags digests b.session → a.session.keys ≡ b.session.keys → a ≡ b
 
--- two logs of one command from one state are the same, where none was lost for want of memory
+-- two logs of one command from one state are the same, if none was lost because memory ran out
 abbrev pub TxnLogsAreDetermined : Setup → Type 0
 TxnLogsAreDetermined setup =
     (old one other : TxnState) (command : TxnCommand) (first second : Result TxnAnswer Exhibit) (accesses others : List Access)

@@ -84,7 +84,7 @@ AreReadAsCommitted seen (reply ∷ replies) =
 
 -- ---- recovery
 
--- recovery ends with power on, where it may be stuck, unless it is cut; or it shows a twin
+-- recovery ends with power on, if it may be stuck, unless it is cut; or it shows a twin
 abbrev pub IsTxnMendedAnswer : TxnCommand → TxnAnswer → Type 0
 IsTxnMendedAnswer Do.On Say.Already = ⊤
 IsTxnMendedAnswer Do.On (Say.Opened redone steps) = ⊤
@@ -156,8 +156,8 @@ AreTxnSpentAsUsedUp setup first (reply ∷ replies) =
 abbrev pub nothing_seen : ℕ → Seen
 nothing_seen n = record { memory = replicate n zero_line; txn = None }
 
--- What the replies of a session say by themselves: reads show zeros changed by whole transactions, recovery that
--- isn't cut succeeds or is stuck, and a transaction is refused as stuck exactly where the store is.
+-- What the replies of a session say by themselves: reads show zeros changed by whole transactions, recovery that isn't cut succeeds or is
+-- stuck, and a transaction is refused as stuck if and only if the store is.
 pub record AreTxnReplies (n : ℕ) (replies : List TxnReply) : Type 0 where
   pub reads : AreReadAsCommitted (nothing_seen n) replies
   pub mended : All (λ reply. IsTxnMendedAnswer reply.command reply.answer) replies
@@ -169,7 +169,7 @@ AreTxnsKept setup =
     (replies : List TxnReply) (last : TxnState)
     → IsTxnSession setup replies last → AreTxnReplies (logged_lines setup.shape) replies
 
--- and each is stuck or spent only where a counter is used up
+-- and each is stuck or spent only if a counter is exhausted
 abbrev pub AreTxnsSpent : Setup → Type 0
 AreTxnsSpent setup =
     (first last : TxnState) (replies : List TxnReply)

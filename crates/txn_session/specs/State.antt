@@ -114,7 +114,7 @@ with_commit state entries done =
     }
     else closed
 
--- so many of a redo's writes were done: memory stays, and with the last one the transaction is in force no more
+-- that many of a redo's writes were done: memory stays, and with the last one the transaction is in force no more
 abbrev pub with_redo : TxnState → ℕ → TxnState
 with_redo state done =
     record state { in_force = if nat_lt (length state.in_force) done then [] else state.in_force }

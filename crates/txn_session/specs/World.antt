@@ -18,7 +18,7 @@ stuck_in (Some store) = store.inner.stuck
 abbrev pub txn_of : Setup → StoreSession TxnStore → Option Entries → TxnState
 txn_of setup session txn = txn_left setup session.state (stuck_in session.store) txn
 
--- The store's log has the targets that are in force. A transaction is open only where none is; it has distinct data lines.
+-- The store's log has the targets that are in force. A transaction is open only if none is; it has distinct data lines.
 abbrev pub IsOpenBy : Setup → List ℕ → Option TxnStore → Option Entries → Type 0
 IsOpenBy setup targets None txn = txn ≡ None
 IsOpenBy setup targets (Some store) txn =

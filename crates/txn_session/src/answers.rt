@@ -21,7 +21,7 @@ pub enum TxnAnswer {
     Busy,
     /// No transaction is open.
     Closed,
-    /// There is no such data line.
+    /// The data line doesn't exist.
     Range,
     /// Fifteen other lines are in the transaction.
     Full,
@@ -39,7 +39,7 @@ pub enum TxnAnswer {
     Cut { steps: u64 },
     /// A line that was read.
     Got { line: Line, steps: u64 },
-    /// Power is on, and a transaction of so many lines was redone.
+    /// Power is on, and a transaction of `redone` lines was redone.
     Opened { redone: u8, steps: u64 },
 }
 

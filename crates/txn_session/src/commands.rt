@@ -19,7 +19,7 @@ pub enum TxnCommand {
     Abort,
     /// Read a data line.
     Read { at: u64 },
-    /// Cut power after so many more persist steps.
+    /// Cut power after `n` more persist steps.
     Cut { n: u64 },
     /// Turn power off.
     Off,

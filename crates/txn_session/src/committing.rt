@@ -31,7 +31,7 @@ fn place_in(txn: &[(u32, Line)], at: u32) -> Option<usize>
     None
 }
 
-/// Puts a line into a transaction, in the place of an earlier one where that is there. False where it is full.
+/// Puts a line into a transaction, instead of an earlier one if that is there. Answers false if it is full.
 fn put_line(txn: &mut ArrayVec<(u32, Line), 15>, at: u32, line: &Line) -> bool
     ensures put { result ≡ true → txn.new.items ≡ with_put_line txn.old.items at line.now }
     ensures full { result ≡ not (is_txn_full txn.old.items at) }
@@ -127,7 +127,7 @@ impl<S: Suite + Drop> TxnWorld<S> {
         TxnAnswer::Ok
     }
 
-    /// The open transaction is written. The one error is want of memory.
+    /// Writes the open transaction. Errors: running out of memory.
     pub(crate) fn commit(&mut self, log: &mut AccessLog) -> Result<TxnAnswer, MemFault>
         ensures answered { IfOk result (λ answer. IsTxnAnswered (txn_setup_in S.formulas_of self.old) self.old Do.Commit answer self.new) }
         ensures err { OnErr result (self.new ≡ self.old) }

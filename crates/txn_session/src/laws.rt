@@ -6,9 +6,9 @@ ghost use Rattle.txn_session.specs.Guarantees.{AreTxnsKept, AreTxnsSpent};
 use pmem_base::Geo;
 use suite::Suite;
 
-/// A law: in each session, whatever is asked and wherever power is cut, reads show zeros changed by whole
-/// transactions, those that were answered as written and no other; recovery that isn't cut succeeds or is stuck;
-/// and `spent` and `stuck` come only where a counter is used up.
+/// A law: in each session, whatever is asked and wherever power is cut, reads show zeros changed by whole transactions,
+/// those that were answered as written and no other; recovery that isn't cut succeeds or is stuck; and `spent` and
+/// `stuck` come only if a counter is exhausted.
 pub fn sessions_keep_transactions<S: Suite>(geo: &Geo, suite: &S)
     ensures kept { AreTxnsKept (record { shape = shape_of geo.now; formulas = S.formulas_of (S.keys suite.now) }) }
     ensures spent { AreTxnsSpent (record { shape = shape_of geo.now; formulas = S.formulas_of (S.keys suite.now) }) }

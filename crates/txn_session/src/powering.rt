@@ -54,8 +54,7 @@ impl<S: Suite + Drop> TxnWorld<S> {
         TxnAnswer::Ok
     }
 
-    /// Power comes on, with recovery, and the transaction in force is redone. It stops for want of memory, or at
-    /// a twin.
+    /// Switches power on, with recovery, and redoes the transaction in force. Errors: running out of memory, or a twin.
     pub(crate) fn on(&mut self, alloc: Global, log: &mut AccessLog) -> Result<TxnAnswer, Halt>
         ensures answered { IfOk result (λ answer. IsTxnAnswered (txn_setup_in S.formulas_of self.old) self.old Do.On answer self.new) }
         ensures halted { IfErr result (λ halt. IsTxnHalt (txn_setup_in S.formulas_of self.old) self.old Do.On halt self.new) }

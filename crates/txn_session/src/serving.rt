@@ -45,7 +45,7 @@ fn is_read_cut(done: &Result<Done<Line, Fault>, MemFault>) -> bool
     matches!(done, Ok(Done::Ended { answer: Err(_), .. }))
 }
 
-/// Drops the open transaction where power was cut.
+/// Drops the open transaction if power was cut.
 fn close_if(txn: &mut Option<ArrayVec<(u32, Line), 15>>, cut: bool)
     ensures { option_map (λ entries. entries.items) txn.new ≡ (if cut then None else option_map (λ entries. entries.items) txn.old) }
 {
@@ -73,7 +73,7 @@ fn read_answer(done: Result<Done<Line, Fault>, MemFault>) -> TxnAnswer
 }
 
 impl<S: Suite + Drop> TxnWorld<S> {
-    /// A data line is read: as the open transaction has it, where that holds it.
+    /// Reads a data line: as the open transaction has it, if that holds it.
     pub(crate) fn read(&mut self, at: u64, log: &mut AccessLog) -> TxnAnswer
         ensures answered { IsTxnAnswered (txn_setup_in S.formulas_of self.old) self.old (Do.Read at) result self.new }
         ensures logged { IsTxnLogged (Do.Read at) log.old self.old log.new self.new }

@@ -34,8 +34,8 @@ impl<S: Suite + Drop> Model for TxnWorld<S> {
 }
 
 impl<S: Suite + Drop> TxnWorld<S> {
-    /// A formatted device with power on and its lines opened: all are zeros, and no transaction is in force or
-    /// open. Formatting and the opening follow their plans. The one error is want of memory.
+    /// A formatted device with power on and its lines opened: all are zeros, and no transaction is in force or open.
+    /// Formatting and the opening follow their plans. Errors: running out of memory.
     pub fn new(alloc: Global, geo: Geo, suite: S) -> Result<TxnWorld<S>, MemFault>
         ensures new { IfOk result (λ world. IsNewTxn (record { shape = shape_of geo; formulas = S.formulas_of (S.keys suite) }) world) }
         ensures opened { IfOk result (λ world. IsNewByPlan (record { shape = shape_of geo; formulas = S.formulas_of (S.keys suite) })

@@ -6,7 +6,7 @@ use Rattle.board.specs.Device.{Device}
 use Rattle.board.specs.Memory.{BoardMemory}
 use Rattle.watched_board.specs.declared.taken.Taken.{Taken}
 
--- so many line writes, latches and cuts since a call began
+-- that many line writes, latches and cuts since a call began
 abbrev pub taken_of : ℕ → ℕ → ℕ → Taken
 taken_of writes latches cuts = record { writes = writes; latches = latches; cuts = cuts }
 
@@ -37,11 +37,11 @@ device_during board taken =
 abbrev pub step_limit : ℕ
 step_limit = 65536
 
--- a count of 64 bits after so many more
+-- a count of 64 bits after that many more
 abbrev pub counted : ℕ → ℕ → ℕ
 counted before more = min (before + more) last_count
 
--- the board's cuts after so many more: one that sees none stays as it is
+-- the board's cuts after that many more: one that sees none stays as it is
 abbrev pub cuts_after : ℕ → ℕ → ℕ
 cuts_after before zero = before
 cuts_after before (suc more) = counted before (suc more)
@@ -51,9 +51,8 @@ pub record AreInCount (board : BoardMemory) : Type 0 where
   pub writes : board.writes ≤ last_count
   pub latches : board.latches ≤ last_count
 
--- What becomes of the board in a call that takes these steps: the snapshot stays, and the fuse burns
--- by a step each. Power goes off where a step was due with no fuse left, or at the limit: that is a cut,
--- and each cut that the call saw is one that the board counted.
+-- What becomes of the board in a call that takes these steps: the snapshot stays, and the fuse burns by a step each. Power goes off if a
+-- step was due with no fuse left, or at the limit: that is a cut, and each cut that the call saw is one that the board counted.
 pub record FollowsOn (old new : BoardMemory) (taken : Taken) : Type 0 where
   pub snapshot : new.snapshot ≡ old.snapshot
   pub writes : new.writes ≡ counted old.writes taken.writes

@@ -1,5 +1,5 @@
--- Which answers a command has in which states, and the state after: where the state alone decides, the first
--- condition that holds does; else the engine's call does, by how it ended, and what the answer says is listed.
+-- Which answers a command has in which states, and the state after: if the state alone decides, the first condition that holds does; else
+-- the engine's call does, by how it ended, and what the answer says is listed.
 use Rattle.std.specs.Prelude.{ℕ, ◌≡◌, ◌≤◌, ◌<◌, ◌+◌, ◌*◌, nat_lt, Bool, true, false, List, length, Option, Some, None, Ok, IsTrue, if◌then◌else◌}
 use Rattle.pmem_base.specs.declared.lines.Line.{Line}
 use Rattle.pmem_base.specs.declared.commands.Posted.{Posted}
@@ -31,12 +31,12 @@ use Rattle.wear_session.specs.State.{WearState, wear_left, wear_lines_in, place_
 
 -- ---- answers that the state decides
 
--- the answer, where power is on and there is such a line
+-- the answer, if power is on and there is such a line
 abbrev pub wear_of_line : WearState → ℕ → Option WearAnswer → Option WearAnswer
 wear_of_line state a answer =
     if state.session.board.powered then (if nat_lt a (wear_lines_in state) then answer else Some Say.Range) else Some Say.Off
 
--- the answer that the state alone decides; none where the engine decides
+-- the answer that the state alone decides; none if the engine decides
 abbrev pub wear_decided : WearState → WearCommand → Option WearAnswer
 wear_decided state (Do.Write a plain) = wear_of_line state a None
 wear_decided state (Do.Read a) = wear_of_line state a None
@@ -52,7 +52,7 @@ wear_after_decided state command = state
 
 -- ---- what is left
 
--- a state that is another but for what the call's plan alone says
+-- a state that is another except for what the call's plan alone says
 pub record IsWearButForSteps (expected new : WearState) : Type 0 where
   pub memory : new.memory ≡ expected.memory
   pub wear : new.wear ≡ expected.wear
@@ -69,7 +69,7 @@ GoesToWearState expected steps most new = IsWearButForSteps expected new × (ste
 abbrev pub IsWearCutOff : WearState → ℕ → ℕ → WearState → Type 0
 IsWearCutOff expected steps most new = IsWearButForSteps (wear_without_power expected) new × (steps < most)
 
--- those of a write, with its move where one is due, and of recovery with the opening
+-- those of a write, with its move if one is due, and of recovery with the opening
 abbrev pub most_of_write : WearState → ℕ
 most_of_write state =
     if is_due state then 3 * write_steps state.session.shape + read_steps state.session.shape else write_steps state.session.shape
@@ -94,7 +94,7 @@ IsWriting f now writes writing (Say.CutLost steps) =
     (writing.done ≡ 0) × IsStopped f now writes writing.done writing.made
 IsWriting f now writes writing answer = ⊥
 
--- the state that so many done writes leave, but for power, fuse and counts
+-- the state that that many done writes leave, except for power, fuse and counts
 abbrev pub after_writing : WearState → ℕ → Line → Writing → WearState
 after_writing old a plain writing =
     record (with_writes old a plain writing.done) { session = with_marks old.session writing.made }
@@ -161,17 +161,17 @@ IsWearShownBy setup old Do.On (Twin at major low high cipher tag) new =
     × (new ≡ wear_left setup old.every new.session 0)
 IsWearShownBy setup old command exhibit new = ⊥
 
--- whether a command may want memory
+-- whether a command may run out of memory
 abbrev pub wear_takes_memory : WearCommand → Bool
 wear_takes_memory (Do.Write a plain) = true
 wear_takes_memory Do.On = true
 wear_takes_memory command = false
 
--- a command may want memory where the state doesn't decide its answer
+-- a command may run out of memory if the state doesn't decide its answer
 abbrev pub IsWearMemoryWanted : WearState → WearCommand → Type 0
 IsWearMemoryWanted old command = IsTrue (wear_takes_memory command) × (wear_decided old command ≡ None)
 
--- why a command has no answer: memory is wanted, and nothing was done; or it is an exhibit
+-- why a command has no answer: memory is needed, and nothing was done; or it is an exhibit
 abbrev pub IsWearHalt : Setup → WearState → WearCommand → Halt → WearState → Type 0
 IsWearHalt setup old command Stop.Memory new = IsWearMemoryWanted old command × (new ≡ old)
 IsWearHalt setup old command (Stop.Shown exhibit) new = IsWearShownBy setup old command exhibit new
@@ -193,7 +193,7 @@ pub record IsWearShownOf (setup : Setup) (old : WearState) (line : List ℕ) (ex
   pub its_reading : reading_of_wear line ≡ Ok (Some command)
   pub shown : IsWearShownBy setup old command exhibit new
 
--- the line asks for a command that may want memory
+-- the line asks for a command that may run out of memory
 pub record IsWearStarvedOf (old : WearState) (line : List ℕ) : Type 0 where
   pub command : WearCommand
   pub its_reading : reading_of_wear line ≡ Ok (Some command)

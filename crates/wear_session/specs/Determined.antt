@@ -30,7 +30,7 @@ NewWearIsDetermined setup =
     → IsNewByPlan setup (open_call setup) tags digests a.session → IsNewByPlan setup (open_call setup) tags digests b.session
     → a.session.keys ≡ b.session.keys → a ≡ b
 
--- two logs of one command from one state are the same, where none was lost for want of memory
+-- two logs of one command from one state are the same, if none was lost because memory ran out
 abbrev pub WearLogsAreDetermined : Setup → Type 0
 WearLogsAreDetermined setup =
     (old one other : WearState) (command : WearCommand) (first second : Result WearAnswer Exhibit) (accesses others : List Access)

@@ -62,8 +62,7 @@ AreReadAsWritten memory (reply ∷ replies) =
 
 -- ---- start and gap
 
--- what the answers alone say of the wear: the wear, and how many lines were written since power came on; 0 where a
--- cut or `off` turned it off
+-- what the answers alone say of the wear: the wear, and how many lines were written since power came on; 0 if a cut or `off` turned it off
 pub record Turning : Type 0 where
   pub wear : Wear
   pub written : ℕ
@@ -76,8 +75,8 @@ abbrev pub wear_turned : ℕ → ℕ → Turning → Wear
 wear_turned n every turning =
     if is_turn every turning then next_wear n turning.wear else turning.wear
 
--- An answer: a move is made at each `every`th line that is written, where that is answered ok. A cut may come
--- before its end or not, and no other move is made. `on` and `place` show the wear.
+-- An answer: a move is made at each `every`th line that is written, if that is answered ok. A cut may come before its end or not, and no
+-- other move is made. `on` and `place` show the wear.
 abbrev pub TurnsTo : ℕ → ℕ → Turning → WearCommand → WearAnswer → Turning → Type 0
 TurnsTo n every old (Do.Write a plain) (Say.Written steps) new =
     (new.wear ≡ wear_turned n every old) × (new.written ≡ old.written + 1)
@@ -155,7 +154,7 @@ IsWearKept setup =
     → IsWearSession setup every replies last
     → AreWearReplies (logical_lines setup.shape) every replies
 
--- and each is held or spent only where a counter is used up
+-- and each is held or spent only if a counter is exhausted
 abbrev pub IsWearSpent : Setup → Type 0
 IsWearSpent setup =
     (every : ℕ) (first last : WearState) (replies : List WearReply)

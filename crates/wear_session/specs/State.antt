@@ -17,7 +17,7 @@ use Rattle.start_gap.specs.Gapped.{logical_lines}
 pub record WearState : Type 0 where
   -- geometry, keys, device, engine and marks
   pub session : LineSession
-  -- at each so many writes since power came on the gap moves
+  -- the gap moves after each `every` writes since power came on
   pub every : ℕ
   -- the logical lines, and the wear that is recorded
   pub memory : Memory
@@ -53,7 +53,7 @@ levelled_memory setup places =
     let n = logical_lines setup.shape in
     map (λ a. line_at places (place_of n (wear_in setup places) a)) (range_with_len 0 n)
 
--- the state of a session, after so many writes: memory and wear are what its marks say
+-- the state of a session, after that many writes: memory and wear are what its marks say
 abbrev pub wear_left : Setup → ℕ → LineSession → ℕ → WearState
 wear_left setup every session count =
     let places = places_in setup session in
@@ -71,7 +71,7 @@ moving_writes n wear places =
 abbrev pub own_write : WearState → ℕ → Line → Posted
 own_write state a plain = whole_write (place_in state a) plain
 
--- the line's own, and those of the move where one is due
+-- the line's own, and those of the move if one is due
 abbrev pub engine_writes : Setup → WearState → ℕ → Line → List Posted
 engine_writes setup state a plain =
     let own = own_write state a plain in

@@ -15,9 +15,9 @@ pub enum WearAnswer {
     Off,
     /// Power was on.
     Already,
-    /// There is no such logical line.
+    /// The logical line doesn't exist.
     Range,
-    /// The line is written, and its move, where one was due, is made.
+    /// The line is written, and its move, if one was due, is made.
     Written { steps: u64 },
     /// The line is written, and the move stays out: the counter of a line of it, which lies in this page, is
     /// used up.

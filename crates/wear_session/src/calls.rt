@@ -84,7 +84,7 @@ impl StoreCall for ReadLine {
     }
 }
 
-/// A logical line is written, and the gap moves where that is due.
+/// A logical line is written, and the gap moves if that is due.
 #[derive(Drop)]
 pub(crate) struct WriteLine<'a> {
     pub(crate) at: u64,

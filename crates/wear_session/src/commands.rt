@@ -15,7 +15,7 @@ pub enum WearCommand {
     Read { at: u64 },
     /// Tell the place of a logical line.
     Place { at: u64 },
-    /// Cut power after so many more persist steps.
+    /// Cut power after `n` more persist steps.
     Cut { n: u64 },
     /// Turn power off.
     Off,

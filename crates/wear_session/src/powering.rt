@@ -56,7 +56,7 @@ impl<S: Suite + Drop> WearWorld<S> {
         off_answer(on)
     }
 
-    /// Power comes on, with recovery, and the lines are opened. It stops for want of memory, or at a twin.
+    /// Switches power on, with recovery, and opens the lines. Errors: running out of memory, or a twin.
     pub(crate) fn on(&mut self, alloc: Global, log: &mut AccessLog) -> Result<WearAnswer, Halt>
         ensures answered { IfOk result (λ answer. IsWearAnswered (wear_setup_in S.formulas_of self.old) self.old Do.On answer self.new) }
         ensures halted { IfErr result (λ halt. IsWearHalt (wear_setup_in S.formulas_of self.old) self.old Do.On halt self.new) }

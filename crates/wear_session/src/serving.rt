@@ -59,7 +59,7 @@ fn read_answer(done: Result<Done<Line, Fault>, MemFault>) -> WearAnswer
 }
 
 impl<S: Suite + Drop> WearWorld<S> {
-    /// A logical line is written. The one error is want of memory.
+    /// Writes a logical line. Errors: running out of memory.
     pub(crate) fn write(
         &mut self,
         at: u64,

@@ -33,7 +33,7 @@ impl<S: Suite + Drop> Model for WearWorld<S> {
 
 impl<S: Suite + Drop> WearWorld<S> {
     /// A formatted device with power on and its lines opened: all are zeros, and no move was made. Formatting and the
-    /// opening follow their plans. The one error is want of memory.
+    /// opening follow their plans. Errors: running out of memory.
     pub fn new(alloc: Global, geo: Geo, suite: S, every: u32) -> Result<WearWorld<S>, MemFault>
         requires { 1 ≤ every }
         ensures new { IfOk result (λ world. IsNewWear (record { shape = shape_of geo; formulas = S.formulas_of (S.keys suite) }) every world) }

@@ -20,7 +20,7 @@ overlaid_byte line seen i = if is_seen seen i then slice_index seen.line.0 i els
 unfoldable pub overlaid : Line → Seen → Line
 overlaid line seen = line_of (map (λ i. overlaid_byte line seen i) (range_with_len 0 64))
 
--- a byte was seen exactly where one of the writes has it, and it is the newest one; the others are 0
+-- a byte was seen if and only if one of the writes has it, and it is the newest one; the others are 0
 pub record IsSight (writes : List Posted) (seen : Seen) : Type 0 where
   pub seen_bytes : (i : ℕ) → i < 64 → is_seen seen i ≡ have_byte writes i
   pub newest : seen.line ≡ put_writes zero_line writes

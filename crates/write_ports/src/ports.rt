@@ -56,8 +56,8 @@ impl Ports {
         let _ = &self.queues;
     }
 
-    /// The write waits behind the others of its port. Full exactly where 16 wait there; nothing has
-    /// then changed.
+    /// The write waits behind the others of its port. Errors: `Full` if and only if 16 wait there, and then nothing has
+    /// changed.
     pub fn post(&mut self, port: u8, write: &Posted) -> Result<(), Full>
         requires port { port < 8 }
         requires write { IsPosted write.now }
@@ -107,9 +107,8 @@ impl Ports {
         *self = Ports::new();
     }
 
-    /// What the port's waiting writes to line `at` show of it: a byte is seen exactly where one of
-    /// them has it, and the newest one is. Over any line, that is the line with those writes put into
-    /// it in order.
+    /// What the port's waiting writes to line `at` show of it: a byte is seen if and only if one of them has it, and
+    /// then the newest one is. Laid over any line, that gives the line with those writes put into it in order.
     pub fn look(&self, port: u8, at: u32) -> Seen
         requires { port < 8 }
         ensures mask { (i : ℕ) → i < 64

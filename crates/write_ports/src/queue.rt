@@ -34,7 +34,7 @@ impl Queue {
         }
     }
 
-    /// The write waits behind the others. Full exactly where 16 wait, which then stay.
+    /// The write waits behind the others. Errors: `Full` if and only if 16 wait, which then stay.
     pub(crate) fn post(&mut self, write: &Posted) -> Result<(), Full>
         requires { length self.old ≤ 16 }
         ensures full { IsErr result ↔ (length self.old ≡ 16) }

@@ -8,8 +8,8 @@ ghost use Rattle.write_ports.specs.Seen.{is_seen, overlaid, overlaid_byte};
 
 use pmem_base::{Line, Posted};
 
-/// The bytes of a line that waiting writes have: bit i of `mask` is set where byte i is one of them,
-/// and byte i of `line` is then the newest; the other bytes of `line` are 0.
+/// The bytes of a line that waiting writes have: bit i of `mask` is set if byte i is one of them, and byte i of `line`
+/// is then the newest; the other bytes of `line` are 0.
 #[derive(Clone, Copy, Debug, PartialEq, Eq, Default)]
 pub struct Seen {
     pub mask: u64,

@@ -28,7 +28,7 @@ use suite::{Counted, Suite, WeakSuite};
 
 mod writes;
 
-/// A device that is being formatted: so many of its data lines are sealed.
+/// A device that is being formatted: `sealed` of its data lines are sealed.
 #[derive(Drop)]
 struct Bench {
     geo: Geo,
@@ -53,7 +53,7 @@ struct Chip {
 }
 
 impl Bench {
-    /// Nothing is sealed yet, for so many levels and one set of so many ways in each bank.
+    /// Nothing is sealed yet, with `levels` levels and one set of `ways` ways in each bank.
     fn new(alloc: Global, levels: u8, ways: u8) -> Result<Bench, Fail> {
         let geo = Geo::new(levels, 1, ways, 4, 0)?;
         Ok(Bench {
@@ -106,7 +106,7 @@ impl Bench {
         self.suite.digest(x, &line)
     }
 
-    /// Registers with this root, and page 0 under re-encryption where it is to be opened.
+    /// Registers with this root, and page 0 under re-encryption if `opened`.
     fn regs(&self, root: Tag, opened: bool) -> Regs
         ensures loss { result.loss ≡ (shape_of self.now.geo).loss }
         ensures no_group { result.group.items ≡ [] }
@@ -247,7 +247,7 @@ impl Chip {
         *self.board.peek(at)
     }
 
-    /// Cuts power after so many more steps.
+    /// Cuts power after `fuse` more steps.
     fn arm(&mut self, fuse: u8) {
         self.board.arm(u64::from(fuse));
     }
@@ -307,7 +307,7 @@ impl Chip {
         equal(rt, self.board.regs().group.len(), lines);
     }
 
-    /// The lines that are done of the oldest open page, where there is one.
+    /// The lines that are done of the oldest open page, if there is one.
     fn done(&self) -> Option<u64> {
         match self.board.regs().progress.first() {
             Some(oldest) => Some(oldest.done),
@@ -316,7 +316,7 @@ impl Chip {
     }
 }
 
-/// The first of two values where it is so, and else the second.
+/// The first of two values if `is_so`, and otherwise the second.
 fn either<T: Copy>(is_so: bool, first: T, second: T) -> T {
     if is_so { first } else { second }
 }
@@ -389,7 +389,7 @@ fn turns(rt: HostRuntime) -> Result<(), Fail> {
     Ok(())
 }
 
-// A turn that is cut after so many steps of four.
+// A turn that is cut after that many steps of four.
 fn cut_turn(rt: &impl Abort, alloc: Global, fuse: u8) -> Result<(), Fail> {
     let mut chip = formatted(rt, alloc, true, 1)?;
     let (cipher, tag_line) = (chip.peek(rt, 0), chip.peek(rt, 256));
@@ -450,7 +450,7 @@ fn write_backs(rt: HostRuntime) -> Result<(), Fail> {
     Ok(())
 }
 
-// A smaller number that is cut after so many steps of three.
+// A smaller number that is cut after that many steps of three.
 fn cut_loss(rt: &impl Abort, alloc: Global, fuse: u8) -> Result<(), Fail> {
     let mut chip = formatted(rt, alloc, false, 2)?;
     let start = chip.counts();

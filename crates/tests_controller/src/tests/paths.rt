@@ -126,8 +126,7 @@ fn fetch(
     (answer, took)
 }
 
-/// Fetches the path of page 0 and names its blocks. The answer is how many lines that wrote, where it
-/// wasn't cut.
+/// Fetches the path of page 0 and names its blocks. The answer is how many lines that wrote, if it wasn't cut.
 fn name(rt: &impl Abort, bench: &mut Bench) -> Result<u64, PathFault> {
     assert!(rt; 0 < bench.geo.pages());
     fetch_path(

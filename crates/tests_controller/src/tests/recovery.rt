@@ -50,7 +50,7 @@ struct Bench {
     ghost each_sealed: { (a : ℕ) → a < data_lines (shape_of geo) → IsSome (last_seal (ledger_of ledger).marks a) },
 }
 
-/// A new memory with so many sets and ways in each bank.
+/// A new memory with `sets` sets of `ways` ways in each bank.
 fn fresh_with(alloc: Global, (sets, ways): (u8, u8), blur: bool, loss: u8) -> Result<Bench, Fail> {
     let geo = Geo::new(2, sets, ways, loss, 0)?;
     let mut board = MemBoard::new(alloc, geo.size())?;
@@ -123,7 +123,7 @@ fn grow(rt: &impl Abort, bench: &mut Bench, block: &Line) -> Tag {
     bench.suite.digest(0, &top)
 }
 
-/// A line sealed anew: its cipher, its tag line, and the root of the tree that has its counter.
+/// A resealed line: its cipher, its tag line, and the root of the tree that has its counter.
 #[derive(Clone, Copy)]
 struct Sealed {
     cipher: Line,
@@ -131,7 +131,7 @@ struct Sealed {
     root: Tag,
 }
 
-/// Line 0 sealed anew under 0.`minor`, and told to the ledger with the path that it makes.
+/// Reseals line 0 under 0.`minor`, and reports it to the ledger with the path that it makes.
 fn seal_anew(rt: &impl Abort, bench: &mut Bench, plain: &Line, minor: u8) -> Result<Sealed, Fail> {
     assert!(rt; 0 < bench.geo.lines() && minor < 128);
     let ctr = Ctr { major: 0, minor };
@@ -158,7 +158,7 @@ fn rooted(geo: &Geo, root: Tag) -> Regs
     regs
 }
 
-/// The same with the group of the sealed line and its tag line.
+/// Registers with this root and the group of the sealed line and its tag line.
 fn armed(geo: &Geo, line: &Sealed) -> Regs
     requires { TAGS < device_lines (shape_of geo.now) }
     ensures { IsValidRegs (shape_of geo.now) result }
@@ -346,7 +346,7 @@ fn lines_are_made_and_written(rt: HostRuntime) -> Result<(), Fail> {
     Ok(())
 }
 
-/// A recovery that is cut after so many steps, and then another one, which tries so much and takes so many.
+/// A recovery that is cut after a number of steps, and then another one, with the trials and the steps that it takes.
 fn cut_recovery(
     rt: &impl Abort,
     alloc: Global,
@@ -403,7 +403,7 @@ fn tamper(rt: &impl Abort, bench: &mut Bench, tampering: &Tampering) {
     }
 }
 
-/// The answer where the found root is another one.
+/// The answer if the found root is another one.
 fn wrong_root(found: u8) -> Result<Work, RecFault> {
     Err(RecFault::Root {
         kept: one_byte(0x17),
@@ -459,14 +459,14 @@ fn tampering_is_refused_or_mended(rt: HostRuntime) -> Result<(), Fail> {
         0,
     )?;
     tampered(&rt, alloc, Tampering::Poke(NODE_TABLE), wrong_root(0x15), 0)?;
-    // a named node is made anew, and the weak suite gives both lines one cipher
+    // a named node is made again, and the weak suite gives both lines one cipher
     tampered(&rt, alloc, Tampering::Flip(BLOCK - 4, 0), mended, 5)?;
     tampered(&rt, alloc, Tampering::Move(1, 0), mended, 5)
 }
 
 #[test]
 fn old_lines_are_refused(rt: HostRuntime) -> Result<(), Fail> {
-    // sealed anew, and the shadow lines name nothing: the redo alone is done
+    // resealed, and the shadow lines name nothing: the redo alone is done
     let mut bench = fresh(rt.alloc(), false, 4)?;
     write_armed(&rt, &mut bench, &Line([0x11; 64]), 1)?;
     poke(&rt, &mut bench, BLOCK_TABLE, &Line::default());
@@ -475,7 +475,7 @@ fn old_lines_are_refused(rt: HostRuntime) -> Result<(), Fail> {
     // named again, it goes through
     name_path(&rt, &mut bench);
     recovers(&rt, rt.alloc(), &mut bench, done(256, 9, 5));
-    // an armed line is written anew, whatever stands in its place
+    // an armed line is written again, whatever stands in its place
     let plain = Line([0x11; 64]);
     let mut bench = fresh(rt.alloc(), false, 4)?;
     write_armed(&rt, &mut bench, &plain, 1)?;
@@ -507,7 +507,7 @@ fn twins_are_shown(rt: HostRuntime) -> Result<(), Fail> {
     Ok(())
 }
 
-/// Seals a line anew on the device, and tells the ledger.
+/// Reseals a line on the device, and reports it to the ledger.
 fn put_sealed(
     rt: &impl Abort,
     bench: &mut Bench,
@@ -571,7 +571,7 @@ fn with_register(geo: &Geo, root: Tag, register: Progress) -> Regs
     regs
 }
 
-/// A turn that is cut after so many steps, over a memory that was recovered.
+/// A turn that is cut after `fuse` steps, over a memory that was recovered.
 fn cut_turn(rt: &impl Abort, alloc: Global, bench: &mut Bench, fuse: u64) -> Result<(), Fail> {
     let mut engine = match mended(alloc, bench) {
         Ok(engine) => engine,
@@ -585,8 +585,8 @@ fn cut_turn(rt: &impl Abort, alloc: Global, bench: &mut Bench, fuse: u64) -> Res
     Ok(())
 }
 
-/// A turn of an open page that is cut after so many steps: it is lost before the latch, and redone after it,
-/// in so many steps of the recovery.
+/// A turn of an open page that is cut after `fuse` steps: it is lost before the latch, and redone after it, in `steps`
+/// steps of the recovery.
 fn cut_page(rt: &impl Abort, alloc: Global, fuse: u64, steps: u64) -> Result<(), Fail> {
     let zero = Line::default();
     let fives = Line([0x55; 64]);
@@ -609,7 +609,7 @@ fn open_pages_are_recovered(rt: HostRuntime) -> Result<(), Fail> {
     cut_page(&rt, rt.alloc(), 3, 3)
 }
 
-/// Sets the stop-loss number 2 over a memory that was recovered, with so many steps before a cut.
+/// Sets the stop-loss number 2 over a memory that was recovered, with `fuse` steps before a cut.
 fn set_loss(alloc: Global, bench: &mut Bench, fuse: u64) -> Result<Result<u32, Fault>, RecFault> {
     let mut engine = mended(alloc, bench)?;
     bench.board.arm(fuse);

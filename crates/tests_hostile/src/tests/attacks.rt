@@ -1,5 +1,5 @@
-//! What an attacker on the bus tries, beside the worked rows: for each row the setting, the trace, the status, and the
-//! replies, or where they begin with `..` the end of them. The answers are those of another program.
+//! What an attacker on the bus tries, in addition to the worked rows: for each row the setting, the trace, the status,
+//! and the replies, or the end of them if they begin with `..`. The answers are those of another program.
 use super::tampering::check_rows;
 use std::test::Fail;
 
@@ -56,7 +56,7 @@ fn old_parts_are_refused(rt: HostRuntime) -> Result<(), Fail> {
     )
 }
 
-/// The same with power off.
+/// Parts of a line put back as they were before its last write, with power off.
 #[test]
 fn old_parts_are_refused_after_power(rt: HostRuntime) -> Result<(), Fail> {
     check_rows(
@@ -154,7 +154,7 @@ fn old_parts_are_refused_after_power(rt: HostRuntime) -> Result<(), Fail> {
     )
 }
 
-/// Parts swapped, or put where others belong.
+/// Parts swapped, or put to places of others.
 #[test]
 fn moved_parts_are_refused(rt: HostRuntime) -> Result<(), Fail> {
     check_rows(

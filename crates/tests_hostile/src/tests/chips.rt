@@ -89,7 +89,7 @@ fn part(at: u32, from: u8, len: u8, byte: u8) -> Posted
 }
 
 impl Rest {
-    /// A formatted device of 16 pages, for banks of so many sets and ways.
+    /// A formatted device of 16 pages, for banks of `sets` sets of `ways` ways.
     pub(crate) fn fresh(alloc: Global, sets: u8, ways: u8) -> Result<Rest, Fail> {
         let geo = Geo::new(2, sets, ways, 4, 0)?;
         let mut board = MemBoard::new(alloc, geo.size())?;
@@ -122,8 +122,7 @@ impl Rest {
         })
     }
 
-    /// Recovers the device over a board that trips after so many calls. The answer is whether it was
-    /// done, and the device.
+    /// Recovers the device over a board that trips after `n` calls. The answer is whether it was done, and the device.
     pub(crate) fn recovered_tripped(self, rt: &impl Abort, alloc: Global, n: u64) -> (bool, Rest) {
         let Rest {
             geo,
@@ -146,7 +145,7 @@ impl Rest {
 }
 
 impl<B: Board + Drop> Chip<B> {
-    /// Makes a call. The answer is why it failed, where it did.
+    /// Makes a call. The answer is why it failed, if it did.
     pub(crate) fn call(&mut self, rt: &impl Abort, call: &Call) -> Option<Fault> {
         assert!(rt; self.ledger.reserve(66).is_ok());
         match *call {
@@ -209,7 +208,7 @@ impl<B: Board + Drop> Chip<B> {
 }
 
 impl Chip<MemBoard> {
-    /// Lets the board trip after so many calls.
+    /// Lets the board trip after `n` calls.
     pub(crate) fn tripped(self, n: u64) -> Chip<Tripped<MemBoard>> {
         let Chip {
             geo,
@@ -244,7 +243,7 @@ impl Chip<MemBoard> {
         }
     }
 
-    /// Cuts power after so many persist steps, and turns it on again after the call.
+    /// Cuts power after `fuse` persist steps, and switches it on again after the call.
     pub(crate) fn cut_after(&mut self, rt: &impl Abort, fuse: u64, call: &Call) {
         self.board.arm(fuse);
         equal(rt, self.call(rt, call), Some(Fault::Cut));

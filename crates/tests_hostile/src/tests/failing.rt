@@ -50,7 +50,7 @@ fn a_malformed_line_fails_at_each_call(rt: HostRuntime) -> Result<(), Fail> {
     )
 }
 
-/// Lets each pull of a byte fail in turn, where nothing is put before the end: just `stop read` is put.
+/// Lets each pull of a byte fail in turn, for a run that puts nothing before the end: only `stop read` is put.
 fn check_quiet_pulls<R: Abort + AllocGlobal>(rt: &R, row: &Row) -> Result<(), Fail> {
     let given = spelled(rt, row.trace)?;
     let count = given.len() as u64;
@@ -113,8 +113,8 @@ fn samples_fail_at_each_push(rt: HostRuntime) -> Result<(), Fail> {
     check_sample(&rt, "sample 0 5", "stat 5 0 0 1 3")
 }
 
-/// A pull or a push of the greatest chunks fails: the replies are put where there are any, and `stop read`
-/// where it is said.
+/// A pull or a push of the greatest chunks fails: the replies are put if there are any, and `stop read` if the row says
+/// so.
 fn check_chunks<R: Abort + AllocGlobal>(
     rt: &R,
     failing: (u64, u64),

@@ -21,7 +21,7 @@ pub(crate) struct Setting {
     loss: u8,
 }
 
-/// A suite under the keys where none is chosen.
+/// A suite under the default keys.
 #[derive(Clone, Copy, PartialEq)]
 enum Keyed {
     Aes,
@@ -29,8 +29,8 @@ enum Keyed {
     Blur,
 }
 
-/// The setting of this name, where there is one: `aes`, `weak` or `blur` for a suite, `narrow` for one way and one set in
-/// each bank, or `each` for the weak suite where each write has its counter block in the group.
+/// The setting of this name, if there is one: `aes`, `weak` or `blur` for a suite, `narrow` for one way and one set in
+/// each bank, or `each` for the weak suite with each write's counter block in the group.
 pub(crate) fn setting_of(name: &str) -> Option<Setting> {
     let (suite, sets, ways, loss) = match name {
         "aes" => (Keyed::Aes, 4, 2, 4),
@@ -135,7 +135,7 @@ fn stepped<S: Counted + Drop, R: Abort + AllocGlobal>(
     Ok(out)
 }
 
-/// The keys where none is chosen.
+/// The default keys.
 const KEY: [u8; 16] = [0, 1, 2, 3, 4, 5, 6, 7, 8, 9, 10, 11, 12, 13, 14, 15];
 
 const TAG_KEY: [u8; 32] = [
@@ -143,7 +143,7 @@ const TAG_KEY: [u8; 32] = [
     40, 41, 42, 43, 44, 45, 46, 47,
 ];
 
-/// The same over a new world of this setting.
+/// The replies to a trace over a new world of this setting.
 pub(crate) fn stepped_with<R: Abort + AllocGlobal>(
     rt: &R,
     setting: &Setting,

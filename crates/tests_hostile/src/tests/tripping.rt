@@ -21,7 +21,7 @@ struct Row {
 /// No call of the board makes a line be there.
 const NEVER: u64 = u64::MAX;
 
-/// Writes a line so many times, each time with another byte, and notes the last one.
+/// Writes a line `times` times, each time with another byte, and notes the last one.
 fn wear(rt: &impl Abort, chip: &mut Chip<MemBoard>, lines: &mut [Line], at: u32, times: u8) {
     for n in 0..times {
         let byte = n.wrapping_add(1);
@@ -256,8 +256,8 @@ fn a_write_that_finishes_a_page_trips(rt: HostRuntime) -> Result<(), Fail> {
     trip_each(&rt, rt.alloc(), &row)
 }
 
-/// Cuts a write of line 0 after so many steps, recovers over a board that trips after `n` calls, recovers
-/// again over the inner one, and reads all lines. The answer is whether the first recovery was done.
+/// Cuts a write of line 0 after a number of steps, recovers over a board that trips after `n` calls, recovers again
+/// over the inner one, and reads all lines. The answer is whether the first recovery was done.
 fn recover_tripped(
     rt: &impl Abort,
     alloc: Global,

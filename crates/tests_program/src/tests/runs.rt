@@ -331,7 +331,7 @@ fn answers_a_sample_trace(rt: HostRuntime) -> Result<(), Fail> {
     Ok(())
 }
 
-/// Words that are no command, a line each.
+/// Arguments that aren't a command, a line each.
 const REFUSED: &str = "ran
     --help
     run x
@@ -357,7 +357,7 @@ const REFUSED: &str = "ran
     check --key 0g
     check --tag-key=";
 
-/// Words that are no command: nothing is read, and a sink that fails changes no status.
+/// Arguments that aren't a command: nothing is read, and a sink that fails changes no status.
 fn check_refusal<R: Abort + AllocGlobal>(rt: &R, words: &str) -> Result<(), Fail> {
     let told = ran(rt, words, b"read 0 0", (0, NEVER), PLACES)?;
     check_end(words, told, 2, b"stop words\n")?;
@@ -591,7 +591,7 @@ fn tells_faults(rt: HostRuntime) -> Result<(), Fail> {
     Ok(())
 }
 
-/// A limit on lines: a front, a byte so many times, an end, and the status and the output.
+/// A limit on lines: a beginning, a byte a number of times, an end, and the status and the output.
 fn check_limit<R: Abort + AllocGlobal>(
     rt: &R,
     words: &str,

@@ -12,8 +12,8 @@ use std::test::Fail;
 use tests_support::{ByteSink, ByteSource, NEVER};
 use trace_text::{Halt, TEXT_BYTES, Talk};
 
-/// The smallest session: it says a line of one byte back, with the number of lines said before, modulo 10. It
-/// wants memory for `m`, and shows two equal lines for `x`.
+/// The smallest session: it says a line of one byte back, with the number of lines said before, modulo 10. It allocates
+/// for `m`, and shows two equal lines for `x`.
 #[derive(Clone, Copy, Debug, PartialEq, Eq, Drop)]
 struct Echo {
     said: u8,
@@ -67,8 +67,8 @@ impl Talk for Echo {
     }
 }
 
-/// Answers a trace by a session over memory. Of the pulls and of the pushes those of these numbers fail. Gives
-/// the status and what was put.
+/// Answers a trace by a session over memory. The pulls and the pushes of these numbers fail. Gives the status and what
+/// was put.
 fn talked<R: AllocGlobal>(
     rt: &R,
     trace: &[u8],
@@ -81,7 +81,7 @@ fn talked<R: AllocGlobal>(
     Ok((status, sink.put().to_vec(alloc)?))
 }
 
-/// The same a byte at a time.
+/// Answers a trace a byte at a time, as `talked` does.
 fn talked_by_bytes<R: AllocGlobal>(
     rt: &R,
     trace: &[u8],
@@ -144,7 +144,7 @@ fn answers_lines(rt: HostRuntime) -> Result<(), Fail> {
     Ok(())
 }
 
-/// A limit on lines: a byte so many times, the status and the output.
+/// A limit on lines: a byte a number of times, the status and the output.
 fn check_limit<R: Abort + AllocGlobal>(
     rt: &R,
     byte: u8,

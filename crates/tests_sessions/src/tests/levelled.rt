@@ -113,7 +113,7 @@ fn lines_are_written_and_move(rt: HostRuntime) -> Result<(), Fail> {
     Ok(())
 }
 
-/// Cuts power after so many steps of a write with its move, and reads the line.
+/// Cuts power after `fuse` steps of a write with its move, and reads the line.
 fn cut_write(rt: &impl Abort, alloc: Global, fuse: u8) -> Result<(), Fail> {
     let mut bench = fresh(alloc, 0)?;
     let mut gapped = opened(alloc, &mut bench, 1)?;
@@ -163,8 +163,8 @@ fn change(rt: &impl Abort, alloc: Global, at: u32) -> Result<(), Fail> {
     Ok(())
 }
 
-// Line 1,023 holds the record. Where it was written past the levelling it is no record, and where its line or its tag was
-// changed it isn't read.
+// Line 1,023 holds the record. If it was written past the levelling it isn't a record, and if its
+// line or its tag was changed it isn't read.
 #[test]
 fn faulty_records_are_told(rt: HostRuntime) -> Result<(), Fail> {
     let mut bench = fresh(rt.alloc(), 0)?;

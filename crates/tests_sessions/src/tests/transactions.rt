@@ -119,7 +119,7 @@ fn transactions_are_applied(rt: HostRuntime) -> Result<(), Fail> {
     Ok(())
 }
 
-/// Cuts power after so many steps of a commit of two lines, and reads them.
+/// Cuts power after `fuse` steps of a commit of two lines, and reads them.
 fn cut_commit(rt: &impl Abort, alloc: Global, fuse: u8) -> Result<(), Fail> {
     let mut bench = fresh(alloc, 0)?;
     let (mut store, _) = opened(rt, alloc, &mut bench)?;
@@ -196,7 +196,7 @@ fn open_over(
     }
 }
 
-/// With this byte changed the line is no header.
+/// With this byte changed the line isn't a header.
 fn refuse(rt: &impl Abort, alloc: Global, at: usize, byte: u8) -> Result<(), Fail> {
     let line = header_with(at, byte);
     let found = open_over(rt, alloc, &line)?;

@@ -10,7 +10,7 @@ use std::test::Fail;
 use suite::WeakSuite;
 use tree_session::TreeWorld;
 
-/// A new session of so many levels and sets.
+/// A new session with this number of levels and of sets.
 fn new_session(alloc: Global, levels: u8, sets: u8) -> Result<TreeWorld<WeakSuite>, Fail> {
     let geo = Geo::new(levels, sets, 2, 4, 0)?;
     let suite = WeakSuite::new(&KEY, &TAG_KEY, false);
@@ -18,7 +18,7 @@ fn new_session(alloc: Global, levels: u8, sets: u8) -> Result<TreeWorld<WeakSuit
     Ok(TreeWorld::new(alloc, geo, suite, watch_suite)?)
 }
 
-/// A new session of so many levels and sets answers these steps.
+/// A new session with this number of levels and of sets answers these steps.
 fn check<R: Abort + AllocGlobal>(rt: &R, levels: u8, sets: u8, steps: &str) -> Result<(), Fail> {
     let mut session = new_session(rt.alloc(), levels, sets)?;
     converse(rt, rt.alloc(), &mut session, steps)

@@ -87,7 +87,7 @@ impl<W: Watch + Drop> Machine<W> {
         writes.wrapping_add(latches)
     }
 
-    /// Power comes back, and the engine is made anew. An error has the watch.
+    /// Switches power on, and makes the engine again. An error has the watch.
     fn recover(self, alloc: Global) -> Result<(Machine<W>, Work), (TreeRec, W)> {
         let Machine {
             geo,
@@ -112,7 +112,7 @@ impl<W: Watch + Drop> Machine<W> {
         }
     }
 
-    /// The same, where it is to succeed.
+    /// The machine after a recovery that must succeed.
     fn recovered(self, alloc: Global) -> Result<(Machine<W>, Work), Fail> {
         match self.recover(alloc) {
             Ok(made) => Ok(made),
@@ -120,7 +120,7 @@ impl<W: Watch + Drop> Machine<W> {
         }
     }
 
-    /// Why recovery stops, where it is to stop, and the watch.
+    /// Why a recovery stops that must stop, and the watch.
     fn unrecovered(self, alloc: Global) -> Result<(TreeRec, W), Fail> {
         match self.recover(alloc) {
             Ok(_) => Err(Fail::new("recovered")),
@@ -209,7 +209,7 @@ fn clash_shown(rt: HostRuntime) -> Result<(), Fail> {
     Ok(())
 }
 
-// Of the writes that can be counted one is left: the path of line 0 has counted all others.
+// One of the writes that can be counted is left: the path of line 0 has counted all others.
 #[test]
 fn last_write(rt: HostRuntime) -> Result<(), Fail> {
     let mut machine = formatted(rt.alloc())?;

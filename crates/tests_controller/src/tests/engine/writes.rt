@@ -65,7 +65,7 @@ impl Chip {
             .write_part(&mut self.board, &mut self.suite, &mut self.ledger, write)
     }
 
-    /// Writes zeros to a line so many times.
+    /// Writes zeros to a line `times` times.
     pub(super) fn wear(&mut self, rt: &impl Abort, at: u32, times: u8) {
         let zero = Line::default();
         'writes: for _write in 0..times {
@@ -78,7 +78,7 @@ impl Chip {
         self.ledger.marks().len()
     }
 
-    /// So many marks were made since there were so many.
+    /// Checks that `marks` marks were made since there were `before` of them.
     fn has_made(&self, rt: &impl Abort, before: usize, marks: usize) {
         equal(rt, self.marks().wrapping_sub(before), marks);
     }
@@ -183,7 +183,7 @@ fn parts(rt: HostRuntime) -> Result<(), Fail> {
     Ok(())
 }
 
-// This page begins, the fifth where it is page 4.
+// This page begins, the fifth if it is page 4.
 fn begins(rt: &impl Abort, chip: &mut Chip, page: u8) {
     let at = 64 * u32::from(page);
     chip.wear(rt, at, 127);
@@ -225,7 +225,7 @@ fn own_page(rt: HostRuntime) -> Result<(), Fail> {
     Ok(())
 }
 
-/// The marks that a write has made which begins its page and is cut after so many steps.
+/// The number of marks made by a write that begins its page and is cut after `fuse` steps.
 fn marks_made(fuse: u8) -> usize {
     match fuse {
         0 => 0,
@@ -243,7 +243,7 @@ fn lines_armed(fuse: u8) -> usize {
     }
 }
 
-// A write that begins its page, and is cut after so many steps of seven.
+// A write that begins its page, and is cut after that many steps of seven.
 fn cut_overflow(rt: &impl Abort, alloc: Global, fuse: u8) -> Result<(), Fail> {
     let mut chip = formatted(rt, alloc, false, 1)?;
     chip.wear(rt, 0, 127);
@@ -289,8 +289,9 @@ impl Chip {
     }
 }
 
-// After three writes of line 0 an older counter block is put back, where it is to be once the cache is
-// flushed. The trials then find the true minor, and under the new number 2, which takes so many steps, this.
+// After three writes of line 0 an older counter block is put back, if it is to be once the cache is
+// flushed. The trials then find the true minor, and under the new number 2, which takes that many
+// steps, this.
 fn old_block(
     rt: &impl Abort,
     alloc: Global,
@@ -314,9 +315,9 @@ fn old_block(
     Ok(())
 }
 
-// After three writes of line 0 an older counter block, put back by an attacker, still has the true minor
-// in its window of 4. Where the page's block is cached dirty, the new number 2 writes it first. Where it
-// isn't, the old block stays, and its window of 2 ends before the true minor.
+// After three writes of line 0 an older counter block, put back by an attacker, still has the true
+// minor in its window of 4. If the page's block is cached dirty, the new number 2 writes it first.
+// If it isn't, the old block stays, and its window of 2 ends before the true minor.
 #[test]
 fn old_blocks_leave_their_windows(rt: HostRuntime) -> Result<(), Fail> {
     old_block(&rt, rt.alloc(), false, 2, Found::One(3))?;

@@ -1,4 +1,4 @@
-//! Recovery and formatting where an allocation is refused, as a run that makes the n-th one fail does.
+//! Recovery and formatting when an allocation is refused, as a run that makes the n-th one fail does.
 ghost use Rattle.std.specs.Prelude.{◌≡◌, IfOk};
 ghost use Rattle.pmem_base.specs.Geo.{shape_of};
 ghost use Rattle.board.specs.Memory.{device_of};
@@ -24,8 +24,8 @@ fn have_same_lines(rt: &impl Abort, first: &Bench, second: &Bench) {
     }
 }
 
-/// Recovers the memory. Where memory is refused, nothing was counted and the device is as the other
-/// one; the memory is recovered again then.
+/// Recovers the memory. If memory is refused, nothing was counted and the device is as the other one; the memory is
+/// recovered again then.
 fn mended_at_last(
     rt: &impl Abort,
     alloc: Global,

@@ -50,7 +50,7 @@ fn whole(at: u32, line: &Line) -> Posted
     }
 }
 
-/// Writes zeros to line 0 so many times.
+/// Writes zeros to line 0 `times` times.
 fn wear(rt: &impl Abort, bench: &mut Bench, engine: &mut Engine, times: u8)
     requires shape { engine.old.shape ≡ shape_of bench.old.geo }
     requires ready { IsReady engine.old.shape engine.old (device_of (memory_of bench.old.board)) }
@@ -64,8 +64,8 @@ fn wear(rt: &impl Abort, bench: &mut Bench, engine: &mut Engine, times: u8)
     }
 }
 
-/// Writes zeros to line 0 so many times, and then this with so many steps before a cut. The answer is
-/// whether it was done.
+/// Writes zeros to line 0 `times` times, and then this with `fuse` steps before a cut. The answer is whether it was
+/// done.
 fn cut_write(
     rt: &impl Abort,
     alloc: Global,
@@ -88,13 +88,13 @@ fn cut_write(
     Ok(answer.is_ok())
 }
 
-/// A new memory, whose cache has one block a bank where it isn't deep.
+/// A new memory, whose cache has one block a bank unless it is deep.
 fn new_bench(alloc: Global, deep: bool) -> Result<Bench, Fail> {
     let banks = if deep { (4, 2) } else { (1, 1) };
     fresh_with(alloc, banks, false, 4)
 }
 
-/// Recovers the memory and reads its lines: zeros, and the one that was written where it is there.
+/// Recovers the memory and reads its lines: zeros, and the one that was written if it is there.
 fn read_with(
     rt: &impl Abort,
     alloc: Global,
@@ -110,8 +110,8 @@ fn read_with(
     mend_and_read(rt, alloc, bench, &lines)
 }
 
-/// Cuts this write, after so many of line 0, at each of its steps but the last. Up to the latch after
-/// so many steps it is absent, and from then on whole, after recovery too.
+/// Cuts this write, after `before` writes of line 0, at each of its steps except the last. Up to a cut after `latch`
+/// steps it is absent, and from then on whole, after recovery too.
 fn cut_each(
     rt: &impl Abort,
     alloc: Global,

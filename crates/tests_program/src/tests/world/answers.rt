@@ -270,7 +270,7 @@ impl Asked {
     }
 }
 
-/// A page goes on being sealed anew over a line that is tampered with and mended, up to a cut.
+/// The re-encryption of a page goes on over a line that is tampered with and mended, up to a cut.
 fn seal_anew_to_a_cut<R: Abort + AllocGlobal>(rt: &R, world: &mut Asked) {
     world.ask(rt, Command::Turn, 1, Answer::Turned { left: 58, steps: 4 });
     world.ask(rt, read(0, 1), 0, got(ZEROS));
@@ -295,7 +295,7 @@ fn seal_anew_to_a_cut<R: Abort + AllocGlobal>(rt: &R, world: &mut Asked) {
     world.ask(rt, drain(0), 0, Answer::Off);
 }
 
-/// A page whose counter is used up is sealed anew, by turns and by writes, up to a cut within a turn.
+/// A page whose counter is exhausted is re-encrypted, by turns and by writes, up to a cut within a turn.
 fn seal_anew<R: Abort + AllocGlobal>(rt: &R, world: &mut Asked) {
     world.wear(rt);
     world.ask(rt, post(0, 7), 0, Answer::Ok);
@@ -311,7 +311,7 @@ fn seal_anew<R: Abort + AllocGlobal>(rt: &R, world: &mut Asked) {
     world.ask(rt, Command::On, 0, recovered(10, 5, 7));
 }
 
-/// A page is sealed anew, before a cut, after it, and up to the next one.
+/// A page is re-encrypted, before a cut, after it, and up to the next one.
 fn seal_pages<R: Abort + AllocGlobal>(rt: &R, world: &mut Asked) {
     seal_anew(rt, world);
     seal_anew_to_a_cut(rt, world);

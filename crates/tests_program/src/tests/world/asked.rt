@@ -18,8 +18,8 @@ pub(crate) struct Asked {
     ghost running: { world.shown ≡ false },
 }
 
-/// A formatted world of four pages, with one set of one way in each bank, the stop-loss number 2, and this
-/// first major. Where the suite blurs, two minors have one tag.
+/// A formatted world of four pages, with one set of one way in each bank, the stop-loss number 2, and this first major.
+/// If the suite blurs, two minors have one tag.
 pub(crate) fn small_world(alloc: Global, major: u64, blur: bool) -> Result<Asked, Fail> {
     let suite = WeakSuite::new(&[0; 16], &[0], blur);
     let world = World::new(alloc, Geo::new(1, 1, 1, 2, major)?, suite)?;
@@ -48,7 +48,7 @@ fn is_number(n: u64)
     let _ = n;
 }
 
-/// Whether a trace can hold the command. Of parts it takes those of one byte.
+/// Whether a trace can hold the command. It takes only parts of one byte.
 fn is_command(command: &Command) -> bool
     ensures { result ≡ true → IsCommand command.now }
 {
@@ -116,7 +116,7 @@ fn is_shown(answer: &Answer) -> bool
     }
 }
 
-/// A command is answered as wanted, with so many marks, and by no exhibit.
+/// A command is answered as wanted, with this number of marks, and by no exhibit.
 fn ask<R: Abort + AllocGlobal>(
     rt: &R,
     world: &mut World<WeakSuite>,
@@ -142,7 +142,7 @@ fn ask<R: Abort + AllocGlobal>(
 }
 
 impl Asked {
-    /// A command is answered as wanted, with so many marks, and by no exhibit.
+    /// A command is answered as wanted, with this number of marks, and by no exhibit.
     pub(crate) fn ask<R: Abort + AllocGlobal>(
         &mut self,
         rt: &R,

@@ -61,7 +61,7 @@ const NODE_SHOWN_TO_READ: &str = "write 0 [11]: ok 6 / write 0 [22]: ok 6 / writ
     read 4: line [33] 0 / \
     read 1: forged 2147483649 2.0 00000000000000000000000000000002000000000000000000000000000000000000000000000000000000000000000000000000000000000000000000000000 00000000000000000000000000000091";
 
-/// The same, and a write fetches it.
+/// Two counters of a node change places, which its tag and its version let through, and a write fetches it.
 const NODE_SHOWN_TO_WRITE: &str = "write 0 [11]: ok 6 / write 0 [22]: ok 6 / write 4 [33]: ok 7 / \
     poke 33 00000000000000000000000000000002000000000000000000000000000000000000000000000000000000000000000000000000000000000000000000000091: ok / \
     read 4: line [33] 0 / \

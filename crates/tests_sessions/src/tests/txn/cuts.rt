@@ -48,7 +48,7 @@ fn read_lines<T: Talk>(
     Ok(())
 }
 
-/// Cuts a commit of the fifteen lines after so many steps, recovers, and reads them.
+/// Cuts a commit of the fifteen lines after `fuse` steps, recovers, and reads them.
 fn cut_commit<T: Talk>(
     rt: &impl Abort,
     alloc: Global,
@@ -95,7 +95,8 @@ fn each_cut_in_the_last_targets_leaves_all(rt: HostRuntime) -> Result<(), Fail> 
     cut_commits(&rt, rt.alloc(), 100, 138)
 }
 
-/// A redo is cut after no step, after one and so on, each time where the last cut left it, until it is through.
+/// A redo is cut after no step, after one and so on, each time from the state that the last cut left, until it is
+/// through.
 fn cut_redo<T: Talk>(rt: &impl Abort, alloc: Global, session: &mut T) -> Result<(), Fail> {
     put_fifteen(rt, alloc, session)?;
     ask(rt, alloc, session, "cut 63", "ok")?;

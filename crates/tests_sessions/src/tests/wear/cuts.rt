@@ -43,7 +43,7 @@ fn cut_and_read<T: Talk>(
     read_all(rt, alloc, session, first)
 }
 
-/// The same with a new session.
+/// Makes a new session answer what comes before, and then these steps, and reads all lines.
 fn check_cut<R: Abort + AllocGlobal>(rt: &R, steps: &str, first: u8) -> Result<(), Fail> {
     let mut session = new_session(rt.alloc(), (1, 1, 1, 4, 0), 1, false)?;
     cut_and_read(rt, rt.alloc(), &mut session, steps, first)
@@ -83,7 +83,7 @@ fn each_cut_of_a_write_keeps_the_lines(rt: HostRuntime) -> Result<(), Fail> {
     Ok(())
 }
 
-/// Recovery is cut after no step, after one and so on, each time where the last cut left it.
+/// Recovery is cut after no step, after one and so on, each time from the state that the last cut left.
 const RECOVERY_CUTS: &str =
     "cut 1: ok / write 0 [dd]: cut lost 1 / cut 0: ok / on: cut 0 / cut 1: ok / on: cut 1 / cut 2: ok / on: on 0 251 2
     cut 8: ok / write 0 [dd]: cut kept 8 / cut 0: ok / on: cut 0 / cut 1: ok / on: cut 1 / cut 2: ok / on: on 0 251 2

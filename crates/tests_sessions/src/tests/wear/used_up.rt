@@ -1,4 +1,4 @@
-//! Moves while a page is sealed anew, and counters that are used up.
+//! Moves while a page is re-encrypted, and counters that are exhausted.
 use super::new_session;
 use crate::tests::{ask, converse};
 use std::alloc::Global;
@@ -6,7 +6,7 @@ use std::process::Abort;
 use std::test::Fail;
 use trace_text::Talk;
 
-/// Writes so many lines from `first` on, `step` apart: each one has to be answered `ok`.
+/// Writes `count` lines from `first` on, `step` apart: each one must be answered `ok`.
 fn write_many<T: Talk>(
     rt: &impl Abort,
     alloc: Global,
@@ -40,7 +40,7 @@ fn wear_once<T: Talk>(
     converse(rt, alloc, session, steps)
 }
 
-/// The same twice.
+/// Does what `wear_once` does twice, with these lines and steps and then with the others.
 fn wear_twice<T: Talk>(
     rt: &impl Abort,
     alloc: Global,
@@ -52,8 +52,9 @@ fn wear_twice<T: Talk>(
     wear_once(rt, alloc, session, more, then)
 }
 
-// The record is written at each write, so its counter runs over at the 128th: its page is opened. At the 255th it
-// runs over again, and the page's lines are sealed anew first. There the gap is at place 0 too.
+// The record is written at each write, so its counter runs over at the 128th: its page is opened.
+// At the 255th it runs over again, and the page's lines are resealed first. There the gap is at
+// place 0 too.
 #[test]
 fn page_of_the_record_runs_over(rt: HostRuntime) -> Result<(), Fail> {
     let mut session = new_session(rt.alloc(), (1, 1, 1, 4, 0), 1, false)?;
