@@ -8,7 +8,7 @@ from variants import drawn, filled
 
 ZEROS = "00" * 64
 MOST_TRIES = 300_000
-TOO_LONG = "the trace is too long to be judged: leave out what the task doesn't need"
+TOO_LONG = "the trace is too long to be judged: leave out what the task does not need"
 KINDS = ("see", "one of", "any order", "different", "never", "at most")
 ENTRIES = {"about", "given", "shown", "variant", "says", "fixed", "parts"}
 Run = Sequence[Tuple[str, str]]

@@ -19,7 +19,7 @@ FOLDERS = {"first": "first", "lesson": ".", "exercise": "exercises"}
 MOST_BYTES = 2_000_000
 DEFAULTS = {"levels": "2", "sets": "4", "ways": "2", "loss": "4", "major": "0", "suite": "aes", "key": "", "tag-key": "",
             "every": "100"}
-FAULTS = {"1": "doesn't begin with a command", "2": "has too few or too many words", "3": "has a word that isn't a number",
+FAULTS = {"1": "does not begin with a command", "2": "has too few or too many words", "3": "has a word that is not a number",
           "4": "has a port that is too great", "5": "has a wrong hex value", "6": "is longer than 1,024 bytes"}
 TASK = re.compile(r"(?P<student>.*?)[-_ ]*\b(?P<kind>first|lesson|exercise|f|l|e)[-_ ]?(?P<number>\d{1,3})", re.IGNORECASE)
 COLUMNS = ("student", "task", "verdict", "missing", "seconds", "file")
@@ -141,7 +141,7 @@ def read_trace(path: str) -> str:
         with open(path, "rb") as file:
             return decoded(file.read(MOST_BYTES + 1))
     except OSError as error:
-        raise NotJudged(f"the file can't be read: {error.strerror}") from None
+        raise NotJudged(f"the file cannot be read: {error.strerror}") from None
 
 
 def chosen_words(trace: str) -> Optional[List[str]]:
@@ -160,7 +160,7 @@ def options_of(words: Sequence[str]) -> Dict[str, str]:
     options, given = dict(DEFAULTS), " ".join(words).replace("=", " ").split()
     for name, value in zip(given[::2], [*given[1::2], ""]):
         if not name.startswith("--") or name[2:] not in DEFAULTS or not re.fullmatch("[0-9a-zA-Z]{1,128}", value):
-            raise NotJudged(f"the options of its line `# pmem:` aren't known: {name} {value}".rstrip())
+            raise NotJudged(f"the options of its line `# pmem:` are not known: {name} {value}".rstrip())
         options[name[2:]] = value
     return options
 
@@ -184,7 +184,7 @@ def replies_to(program: str, words: Sequence[str], trace: str, seconds: float) -
     except subprocess.TimeoutExpired:
         raise NotJudged(f"the run takes longer than {seconds:g} s") from None
     except OSError as error:
-        raise NotJudged(f"the program can't be run: {error.strerror}") from None
+        raise NotJudged(f"the program cannot be run: {error.strerror}") from None
     said = ran.stdout.decode("utf-8", "replace")
     last = said.rstrip("\n").split("\n")[-1]
     if ran.returncode not in (0, 6) and not last.startswith("stop "):
@@ -224,7 +224,7 @@ def read_seeds(path: str) -> Dict[str, int]:
         with open(path, encoding="utf-8-sig", newline="") as file:
             rows = list(csv.DictReader(file))
     except (OSError, UnicodeDecodeError, csv.Error) as error:
-        raise NotJudged(f"{path} can't be read: {error}") from None
+        raise NotJudged(f"{path} cannot be read: {error}") from None
     if not rows or not {"student", "seed"} <= set(rows[0]):
         raise NotJudged(f"{path} needs the columns student and seed, with a line of titles")
     return {row["student"] or "": seed_of(row["seed"] or "") for row in rows}
@@ -259,7 +259,7 @@ def row_of(program: str, folder: str, path: str, seconds: float, seeds: Optional
             student = path.split(os.sep)[0]
             return Row(student, "", "not judged", "the file's name names no task: lesson-2.trace, exercise-1.trace", 0.0, path)
         if seeds is not None and named[0] not in seeds:
-            raise NotJudged("the table of seeds doesn't have this student")
+            raise NotJudged("the table of seeds does not have this student")
         seed = None if seeds is None else seeds[named[0]]
         why = judge(program, named[1], read_trace(os.path.join(folder, path)), seconds, seed)
         verdict = "reached" if why is None else "not reached"

@@ -8,7 +8,7 @@ MOST_SEED = 9999
 # another give different values.
 MULTIPLIERS = (617, 401, 229, 127)
 LINE_BYTES = 64
-# Which kind of number stands where in a command, by its word and how many words it has.
+# Which kind of number stands at which place of a command, by its word and how many words it has.
 PLACES = {("post", 4): "port line", ("part", 5): "port line", ("read", 3): "port line", ("read", 2): "line", ("drain", 2): "port",
           ("fence", 2): "port", ("write", 3): "line", ("put", 3): "line", ("place", 2): "line", ("peek", 2): "line", ("poke", 3): "line",
           ("back", 2): "line", ("flip", 3): "line bit", ("move", 3): "line line"}
@@ -82,7 +82,7 @@ def varied_line(line: str, other: Mapping[str, Mapping[str, str]]) -> str:
 
 
 def varied_comment(found: "re.Match[str]", other: Mapping[str, Mapping[str, str]]) -> str:
-    """Where a comment names lines or ports: the same with others."""
+    """A comment that names lines or ports, with others instead."""
     names = other["port" if found[1].lower().startswith("port") else "line"]
     numbers = [names.get(number, number) for number in (found[2], found[3]) if number]
     return f"{found[1]} {' and '.join(numbers)}"

@@ -1,4 +1,4 @@
-/* Copies in the portable build: each session has a memory of its own, and a copy is a copy of that memory. Nothing is kept for it. */
+/* Copies in the portable build: each session has its own memory, and a copy is a copy of that memory. Nothing is kept for it. */
 #include "session.h"
 
 const char pmem_build_name[] = "portable";

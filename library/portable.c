@@ -1,5 +1,5 @@
 /* The exports of crates/pmem_c for the portable build. tools/portable translates the WebAssembly module of the proved program to C; that C
- * stands in front of this file, and has a function in_NAME for each export NAME of the module. The module computes in a memory of its own,
+ * comes before this file, and has a function in_NAME for each export NAME of the module. The module computes in its own memory,
  * an instance. Each session has an instance, so a copy of a session is a copy of its memory. */
 #include "session.h"
 #include <stdlib.h>
@@ -13,7 +13,7 @@ enum {
 /* The program looks at 1,000,000 lines of at most 1,025 bytes each, and at one byte more. */
 static const size_t longest_trace = 1000000 * (size_t)1025 + 1;
 
-/* A session's memory, and where the things are that go in and out. */
+/* A session's memory, and the places in it of what goes in and out. */
 typedef struct instance {
     u8 *m;
     u64 handle, whole, line, out;
@@ -116,7 +116,7 @@ uint8_t pmem_session_tell(proved *handle, const uint8_t *line, size_t line_len, 
     uint8_t status;
     *whole = 0;
     if (!handle->is_open) return PMEM_NOT_OPEN;
-    if (line_len > PMEM_TEXT_BYTES) return PMEM_LINE_LONG; /* session.c tells none of these */
+    if (line_len > PMEM_TEXT_BYTES) return PMEM_LINE_LONG; /* session.c gives none of these */
     if (line_len != 0) put_bytes(its->m, its->line, line, line_len);
     status = (uint8_t)in_pmem_session_tell(its->m, its->handle, its->line, line_len, its->out, part, its->whole);
     *whole = (size_t)load64(its->m, its->whole);

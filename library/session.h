@@ -29,7 +29,7 @@ typedef struct bytes {
     size_t len, room;
 } bytes;
 
-/* What was told to a session, for copies in the native build. In the portable build it stays empty. */
+/* What a session was given, for copies in the native build. In the portable build it stays empty. */
 typedef struct history {
     bytes words, lines;  /* the arguments; the lines that were answered, each with its LF */
     bool is_forgotten;
@@ -48,7 +48,7 @@ extern const char pmem_build_name[];
 /* Keeps the arguments of a new session. Answers whether there was memory for them. */
 bool pmem_history_begin(history *its, const uint8_t *words, size_t words_len);
 
-/* Makes room for a line of this length before it is told. Answers whether there was memory for it. */
+/* Makes room for a line of this length before the session gets it. Answers whether there was memory for it. */
 bool pmem_history_make_room(history *its, size_t line_len);
 
 /* Keeps a line that was answered. There is room for it. */
@@ -60,7 +60,7 @@ void pmem_history_forget(history *its);
 /* Frees everything. */
 void pmem_history_end(history *its);
 
-/* Opens `copy`, which is all 0, where an open session stands. At another status than PMEM_OK, pmem_history_end and pmem_session_close
+/* Opens `copy`, which is all 0, in the state of an open session. At another status than PMEM_OK, pmem_history_end and pmem_session_close
  * free what it has. */
 uint8_t pmem_session_copied(session *its, session *copy);
 

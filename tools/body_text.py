@@ -203,7 +203,7 @@ def statements_of(tokens: Sequence[Token]) -> List[Tuple[int, int]]:
 
 
 def law_calls(tokens: Sequence[Token], laws: Set[str]) -> List[Tuple[int, int]]:
-    """Where a body calls laws, which say something and do nothing: from the start of each such call's statement, as places of the text."""
+    """The places in the text of a body's calls of laws, which state something and do nothing: from the start of each call's statement."""
     found = []
     spans = statements_of(tokens)
     for at, token in enumerate(tokens[:-1]):

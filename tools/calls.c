@@ -1,5 +1,5 @@
-/* What calls of the library cost, under --suite weak: `calls answer COUNT` runs `read 0 0` on a new memory so many times, `calls tell COUNT` tells
- * one session `read 0 0` so many times, and `calls typed COUNT` reads line 0 by pmem_read so many times. */
+/* What COUNT calls of the library cost, under --suite weak. `calls answer COUNT` runs `read 0 0` on a new memory each time, `calls tell COUNT`
+ * sends one session `read 0 0` each time, and `calls typed COUNT` reads line 0 by pmem_read. */
 #include "pmem.h"
 #include <stdlib.h>
 

@@ -1,4 +1,4 @@
-"""What a call from Python costs: `calls.py COUNT program FILE` tells one session under --suite weak `read 0 0` so many times, by a child
+"""What a call from Python costs: `calls.py COUNT program FILE` sends one session under --suite weak `read 0 0` COUNT times, by a child
 process; `calls.py COUNT library FILE` does so by the library, in this process."""
 import sys
 from pathlib import Path

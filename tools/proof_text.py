@@ -6,10 +6,10 @@ from typing import Dict, Iterator, List, NamedTuple, Optional, Sequence, Set, Tu
 # What a call may stand for. NAMES are the lemmas that the body cites.
 CALLS = {"rules": "search (rules, NAMES)", "steps": "grind (arith, common_steps, NAMES)", "arith": "search (arith, NAMES)"}
 
-# Where the words of a call come from.
+# The files that the words of a call come from.
 ORIGINS = {"rules": "Rattle.std.proofs.Common", "arith": "Rattle.std.proofs.Common", "common_steps": "Rattle.std.proofs.lemmas.Grind"}
 
-# Words that are no lemma to give to a search: the language's own, and those that `rules` and `arith` know.
+# Words that aren't lemmas to give to a search: the language's own, and those that `rules` and `arith` know.
 PLAIN = set("""absurd arith ap cc common_steps elim Err false get_or grind in inl inr let None Ok omega record refl rules rw search simp Some suc
     subst subst₂ sym transport true tt unfolding Unit where zero λ""".split())
 
@@ -48,7 +48,7 @@ class Lemma(NamedTuple):
 
 
 class Part(NamedTuple):
-    """A part of a body on lines of its own, from `first` up to `end` of the body's lines: what stands before it and behind it."""
+    """A part of a body that fills its lines, from `first` up to `end` of the body's lines: what stands before it and after it."""
 
     first: int
     end: int
@@ -89,7 +89,7 @@ def split_at_equals(text: str) -> Optional[Tuple[str, str]]:
 
 
 def end_of_block(lines: Sequence[str], at: int, indent: int) -> int:
-    """Where the lines end that stand deeper than `indent`; blank lines and comments at the end aren't counted."""
+    """The end of the lines that are indented deeper than `indent`; blank lines and comments at the end aren't counted."""
     end = at
     while end < len(lines) and (not lines[end].strip() or indent_of(lines[end]) > indent or lines[end].strip()[0] in ")]}"):
         end += 1
@@ -198,7 +198,7 @@ def parts_of(lines: Sequence[str]) -> Iterator[Part]:
 
 
 def end_of_let(lines: Sequence[str], at: int) -> int:
-    """Where a let ends that begins at a line, if its `in` ends a line; else 0."""
+    """The end of a let that begins at a line, if its `in` ends a line; else 0."""
     depth = waits = 0
     for number in range(at, len(lines)):
         for token in re.findall(r"[(){}\[\]]|(?<!\S)(?:let|in)(?!\S)", lines[number]):
@@ -211,14 +211,14 @@ def end_of_let(lines: Sequence[str], at: int) -> int:
 
 
 def laid_out(before: str, call: str, behind: str, indent: int) -> Tuple[str, ...]:
-    """A call behind its `=`, on a line of its own if one line would be too long."""
+    """A call after its `=`, on a separate line if one line would be too long."""
     line = f"{before} {call}{behind}"
     fits = len(line.split("\n")[-1]) <= WIDTH
     return tuple(line.split("\n")) if fits else (*before.split("\n"), " " * (indent + 4) + call + behind)
 
 
 def arguments_in(body: str, imports: Dict[str, str], takes_paths: bool) -> List[Tuple[int, int]]:
-    """Where arguments stand in a body that may be left out: applications of definitions in brackets, and paths of arguments of a function."""
+    """The places of arguments in a body that may be left out: applications of definitions in brackets, and paths of arguments of a function."""
     found: List[Tuple[int, int]] = []
     opened: List[Tuple[int, bool]] = []
     # nothing is inferred in the type of a let
@@ -258,7 +258,7 @@ def joined(lines: Sequence[str]) -> List[str]:
 
 
 def with_inferred(shown: Sequence[str], head: str, imports: Dict[str, str]) -> Iterator[Tuple[str, ...]]:
-    """A clause with arguments left to be inferred, as many as may be, and then those in brackets alone."""
+    """A clause with arguments left to be inferred, as many as may be, and then only those in brackets."""
     text = "\n".join(shown)
     start = len(head)
     for takes_paths in (True, False):
@@ -390,7 +390,7 @@ def picked(attempts: Sequence[Attempt]) -> List[Attempt]:
 
 
 def applied(text: str, picks: Sequence[Attempt]) -> str:
-    """A file's text with the picked calls in place of what they replace, and with the imports that it then needs."""
+    """A file's text with the picked calls instead of what they replace, and with the imports that it then needs."""
     if not picks:
         return text
     lines = text.split("\n")

@@ -1,4 +1,4 @@
-"""Builds the package for pip, with Python's standard library and a C compiler alone, so that it needs no network (PEP 517).
+"""Builds the package for pip, with Python's standard library and only a C compiler, so that it needs no network (PEP 517).
 
 A wheel has the package and the C library, compiled for this machine. A source archive has the library as one file of C (c/libpmem.c) that a
 checkout translates from the module of the proved program. What is built twice is the same bytes: times are those of SOURCE_DATE_EPOCH.

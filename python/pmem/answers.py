@@ -28,7 +28,7 @@ Word = Union[str, int, bytes, Counter, None]
 
 
 def spelled(*words: Word) -> str:
-    """Words with one space between each two, bytes in hex; None is no word."""
+    """Words with one space between each two, bytes in hex; None is left out."""
     return " ".join(word.hex() if isinstance(word, bytes) else str(word) for word in words if word is not None)
 
 
@@ -148,7 +148,7 @@ class Ok(Done):
 
 @dataclass(frozen=True)
 class Stepped(Done):
-    """`drain`, `loss`, `write` or `commit`: done, in so many persist steps."""
+    """`drain`, `loss`, `write` or `commit`: done, in `steps` persist steps."""
 
     steps: int
     marks: Marks = ()
@@ -159,7 +159,7 @@ class Stepped(Done):
 
 @dataclass(frozen=True)
 class Fenced(Done):
-    """`fence`: so many writes were drained."""
+    """`fence`: `drained` writes were drained."""
 
     drained: int
     steps: int
@@ -171,7 +171,7 @@ class Fenced(Done):
 
 @dataclass(frozen=True)
 class Turned(Done):
-    """`turn`: a line was sealed anew, and so many of its page are left."""
+    """`turn`: a line was re-encrypted, and `left` lines of its page are left."""
 
     left: int
     steps: int
@@ -233,7 +233,7 @@ class Stat(Done):
 
 @dataclass(frozen=True)
 class Recovered(Done):
-    """`on` of `Controller`: power is on; recovery tried so many counters, and computed so many digests."""
+    """`on` of `Controller`: power is on; recovery tried `trials` counters, and computed `digests` digests."""
 
     trials: int
     digests: int
@@ -246,7 +246,7 @@ class Recovered(Done):
 
 @dataclass(frozen=True)
 class TreeRecovered(Done):
-    """`on` of `TreeController`: power is on; recovery computed so many digests."""
+    """`on` of `TreeController`: power is on; recovery computed `digests` digests."""
 
     digests: int
     steps: int
@@ -271,7 +271,7 @@ class WearOpened(Done):
 
 @dataclass(frozen=True)
 class LogOpened(Done):
-    """`on` of `TransactionMemory`: power is on, and so many lines of a transaction were redone."""
+    """`on` of `TransactionMemory`: power is on, and `redone` lines of a transaction were written again."""
 
     redone: int
     steps: int
@@ -283,7 +283,7 @@ class LogOpened(Done):
 
 @dataclass(frozen=True)
 class Place(Done):
-    """`place`: where a line lies."""
+    """`place`: the place of a line."""
 
     place: int
     marks: Marks = ()
@@ -294,7 +294,7 @@ class Place(Done):
 
 @dataclass(frozen=True)
 class Held(Done):
-    """`write` of `LevelledMemory`: the line is written, and the move after it couldn't be: a counter in this page is used up."""
+    """`write` of `LevelledMemory`: the line is written, and the move after it couldn't be: a counter in this page is exhausted."""
 
     page: int
     steps: int
@@ -306,8 +306,8 @@ class Held(Done):
 
 @dataclass(frozen=True)
 class Cut(Answer):
-    """Power was cut after so many steps. `kept` says whether the write in flight had reached memory; None where no write was in flight.
-    `drained`: of a fence, the writes that were drained before."""
+    """Power was cut after `steps` steps. `kept` says whether the write in flight had reached memory; None if no write was in flight.
+    `drained`: for a fence, the number of writes that were drained before."""
 
     steps: int
     kept: Optional[bool] = None
@@ -401,7 +401,7 @@ class RefusedShadow(Refusal):
 
 @dataclass(frozen=True)
 class Spent(Answer):
-    """The write wasn't done: a counter in `page` is used up; None of `TreeController`, whose counters aren't a page's."""
+    """The write wasn't done: a counter in `page` is exhausted; None of `TreeController`, whose counters aren't a page's."""
 
     page: Optional[int]
     steps: int
@@ -414,8 +414,8 @@ class Spent(Answer):
 
 @dataclass(frozen=True)
 class Stuck(Answer):
-    """A counter in this page is used up at a target or the header of the log. Of `commit`: the transaction is in memory; of `on`: power
-    is on."""
+    """A counter in this page is exhausted at a target or the header of the log. After `commit` the transaction is in memory; after `on`
+    power is on."""
 
     page: int
     steps: Optional[int] = None
@@ -588,7 +588,7 @@ FORMS: Dict[str, Dict[str, Dict[str, Maker]]] = {
 
 
 def _word_of(kind: str, text: str) -> Word:
-    """A word read as what a form asks for there; None where it isn't one."""
+    """A word read as what a form asks for there; None if it isn't one."""
     if kind == "N":
         return int(text) if text.isascii() and text.isdigit() and len(text) <= 20 else None
     if kind == "C":
@@ -604,7 +604,7 @@ def _word_of(kind: str, text: str) -> Word:
 
 
 def _fields_of(form: str, text: str) -> Optional[Dict[str, Word]]:
-    """The fields of a text of this form; None where it isn't of the form."""
+    """The fields of a text of this form; None if it doesn't have the form."""
     places, words = form.split(" "), text.split(" ")
     if len(places) != len(words):
         return None
@@ -626,7 +626,7 @@ def read_mark(text: str) -> Mark:
     """Reads a mark's line, without its LF.
 
     Raises:
-        ProgramFailed: the text is no mark.
+        ProgramFailed: the text is not a mark.
     """
     begin, seal = _fields_of("begin N:page", text), _fields_of("seal N:line C:counter T:tag", text)
     mark: Optional[Mark] = None
@@ -635,7 +635,7 @@ def read_mark(text: str) -> Mark:
     elif seal is not None:
         mark = Seal(**seal)  # type: ignore[arg-type]
     if mark is None or str(mark) != text:
-        raise ProgramFailed(f"a mark that isn't one of pmem: {text[:80]!r}")
+        raise ProgramFailed(f"a mark that is not one of pmem: {text[:80]!r}")
     return mark
 
 
@@ -651,7 +651,7 @@ def read_answer(session: str, command: str, text: str, marks: Marks = ()) -> Ans
             answer = make(marks, fields)
             if str(answer) == text:
                 return answer
-    raise ProgramFailed(f"an answer to {command!r} that isn't one of pmem: {text[:80]!r}")
+    raise ProgramFailed(f"an answer to {command!r} that is not one of pmem: {text[:80]!r}")
 
 
 def is_mark(text: str) -> bool:
@@ -674,7 +674,7 @@ def read_access(text: str) -> Access:
         fields = _fields_of(f"{kind.value} N:line", text)
         if fields is not None and isinstance(fields["line"], int) and text == spelled(kind.value, fields["line"]):
             return Access(kind, fields["line"])
-    raise ProgramFailed(f"an access that isn't one of pmem: {text[:80]!r}")
+    raise ProgramFailed(f"an access that is not one of pmem: {text[:80]!r}")
 
 
 def read_log(lines: Sequence[str]) -> Log:
@@ -685,10 +685,10 @@ def read_log(lines: Sequence[str]) -> Log:
     """
     work = _fields_of("work N:tags N:digests", lines[-1]) if lines else None
     if work is None:
-        raise ProgramFailed(f"a log that isn't one of pmem: {lines[-1:]!r}")
+        raise ProgramFailed(f"a log that is not one of pmem: {lines[-1:]!r}")
     log = Log(tuple(map(read_access, lines[:-1])), **work)  # type: ignore[arg-type]
     if str(log) != "\n".join(lines):
-        raise ProgramFailed(f"a log that isn't one of pmem: {lines[-1]!r}")
+        raise ProgramFailed(f"a log that is not one of pmem: {lines[-1]!r}")
     return log
 
 
@@ -705,7 +705,7 @@ def read_reply(session: str, command: str, lines: Sequence[str], has_log: bool =
             raise ProgramFailed(f"a reply without its log: {rest[:1]!r}")
         log, rest = read_log(rest[:end + 1]), rest[end + 1:]
     if not rest or any(not is_mark(line) for line in rest[:-1]):
-        raise ProgramFailed(f"a reply that isn't one of pmem: {' / '.join(rest)[:80]!r}")
+        raise ProgramFailed(f"a reply that is not one of pmem: {' / '.join(rest)[:80]!r}")
     answer = read_answer(session, command, rest[-1], tuple(map(read_mark, rest[:-1])))
     if log is not None:
         answer.__dict__["_log"] = log

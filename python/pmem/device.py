@@ -9,7 +9,7 @@ SHOWN_LINES = 4
 
 @dataclass(frozen=True)
 class Layout:
-    """Where the device of a geometry keeps what (docs/MACHINE.md, The geometry)."""
+    """The parts of the device of a geometry (docs/MACHINE.md, The geometry)."""
 
     levels: int = 2
     sets: int = 4
@@ -70,7 +70,7 @@ class Device:
         return self.lines[place]
 
     def differences(self, other: "Device") -> List[int]:
-        """The places where another device of the same layout has another line."""
+        """The places at which another device of the same layout has another line."""
         if other.layout != self.layout:
             raise ValueError("the devices have different layouts")
         return [place for place, (mine, its) in enumerate(zip(self.lines, other.lines)) if mine != its]

@@ -39,11 +39,11 @@ class Refused(NotDone):
 
 
 class CounterSpent(NotDone):
-    """A counter that a write needs is used up. Its answer is a `Spent`."""
+    """A counter that a write needs is exhausted. Its answer is a `Spent`."""
 
 
 class LogStuck(NotDone):
-    """The log of the transactions is stuck at a used up counter. Its answer is a `Stuck`."""
+    """The log of the transactions is stuck at an exhausted counter. Its answer is a `Stuck`."""
 
 
 class BreakShown(NotDone):
@@ -129,7 +129,7 @@ class BadWords(PmemError, ValueError):
 
 
 class NoMemory(PmemError, MemoryError):
-    """Memory could not be had; nothing was done."""
+    """Out of memory; nothing was done."""
 
 
 class TooManyLines(PmemError):

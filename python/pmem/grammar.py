@@ -27,7 +27,7 @@ _DIGITS, _HEX = frozenset(b"0123456789"), frozenset(b"0123456789abcdefABCDEF")
 
 
 def words_of(line: bytes) -> List[bytes]:
-    """The words of a line without its LF: spaces and tabs alone stand between them, and one CR at its end is dropped."""
+    """The words of a line without its LF: only spaces and tabs stand between them, and one CR at its end is dropped."""
     if line.endswith(b"\r"):
         line = line[:-1]
     return [word for word in line.replace(b"\t", b" ").split(b" ") if word]
@@ -48,7 +48,7 @@ def _fault_of_word(rule: str, word: bytes) -> Optional[int]:
 
 
 def fault_of(session: str, line: bytes) -> Optional[int]:
-    """The kind of the fault of a line without its LF, 1 to 6; None where it is a command of this session, or skipped."""
+    """The kind of the fault of a line without its LF, 1 to 6; None if it is a command of this session, or skipped."""
     if len(line) > LONGEST_LINE:
         return LONG
     words = words_of(line)

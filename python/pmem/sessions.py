@@ -156,7 +156,7 @@ class Session:
         return self.copy()
 
     def __reduce__(self) -> NoReturn:
-        raise TypeError("a session can't be pickled: its words and its trace can")
+        raise TypeError("a session cannot be pickled: its words and its trace can")
 
     def check(self, exhibit: Exhibit) -> bool:
         """Whether an exhibit holds under this session's suite and keys."""
@@ -232,7 +232,7 @@ class Session:
     # ---- what every memory has
 
     def cut(self, steps: int) -> Ok:
-        """Power will fail after so many more persist steps: the next one is the cut. Recovery's steps count too."""
+        """Power will fail after `steps` more persist steps: the next one is the cut. Recovery's steps count too."""
         return self._done(Ok, "cut", _number("steps", steps))
 
     def off(self) -> Ok:
@@ -264,9 +264,9 @@ def _suite(suite: Optional[str], key: Optional[Bytes], tag_key: Optional[Bytes])
 class Controller(Session):
     """The controller over a hash tree: `pmem run`.
 
-    levels 1 to 6, sets 1 to 64 and ways 1 to 8 of each bank of the metadata cache, the stop-loss number 1, 2, 4, 8 or 16, the first major
-    counter, the suite `aes`, `weak` or `blur` with its keys of 16 and of 1 to 64 bytes. None is the program's default: 2, 4, 2, 4, 0,
-    `aes`.
+    `levels` is 1 to 6. `sets` is 1 to 64 and `ways` 1 to 8, for each bank of the metadata cache. `loss`, the stop-loss number, is 1, 2, 4,
+    8 or 16. `major` is the first major counter. `suite` is `aes`, `weak` or `blur`; its keys have 16 and 1 to 64 bytes. None is the
+    program's default: 2, 4, 2, 4, 0, `aes`.
 
     >>> with Controller() as controller:
     ...     controller.post(0, 7, b"a" * 64)
@@ -316,7 +316,7 @@ class Controller(Session):
         return self._done(Line, "read", self._port(port), _number("line", line))
 
     def turn(self) -> Turned:
-        """One more line of the oldest page under re-encryption is sealed anew."""
+        """One more line of the oldest page under re-encryption is encrypted again."""
         return self._done(Turned, "turn")
 
     def flush(self) -> Flushed:
@@ -375,14 +375,14 @@ class Controller(Session):
             raise self._error_of(status)
         shown = output.split(b"\n")[-self._layout.lines - 1:-1]
         if any(not line.startswith(b"raw ") for line in shown) or len(shown) != self._layout.lines:
-            raise ProgramFailed("the device isn't shown whole")
+            raise ProgramFailed("the device is not shown whole")
         return Device(self._layout, tuple(bytes.fromhex(line[4:].decode()) for line in shown))
 
 
 class LevelledMemory(Session):
     """A memory whose lines keep moving over the controller, so that none wears out one place: `pmem wear`.
 
-    After each `every`th write, 1 to 1,000,000 and by default 100, the line beside the gap moves into it. The other options are those of
+    After each `every`th write, 1 to 1,000,000 and by default 100, the line next to the gap moves into it. The other options are those of
     `Controller`.
     """
 
@@ -406,7 +406,7 @@ class LevelledMemory(Session):
         return self._done(Line, "read", _number("line", line))
 
     def place(self, line: int) -> Place:
-        """Where a line lies."""
+        """The place of a line."""
         return self._done(Place, "place", _number("line", line))
 
     def on(self) -> WearOpened:
@@ -455,7 +455,7 @@ class TransactionMemory(Session):
 
     @contextlib.contextmanager
     def transaction(self) -> Iterator[None]:
-        """A transaction that is committed at the end of a `with`, and aborted where an exception leaves that."""
+        """A transaction that is committed at the end of a `with`, and aborted if an exception leaves the block."""
         self.begin()
         try:
             yield
@@ -466,7 +466,7 @@ class TransactionMemory(Session):
         self.commit()
 
     def read(self, line: int) -> Line:
-        """A line of memory, or of the open transaction where that has it."""
+        """A line of memory, or of the open transaction if that has written it."""
         return self._done(Line, "read", _number("line", line))
 
     def on(self) -> LogOpened:

@@ -82,7 +82,7 @@ class Trace:
 
     @property
     def commands(self) -> List[Command]:
-        """Its lines but for blank ones and comments."""
+        """Its lines except blank ones and comments."""
         found = []
         for number, line in enumerate(self.lines, 1):
             words = words_of(line)
@@ -155,7 +155,7 @@ class Output:
 
     @property
     def answers(self) -> List[Answer]:
-        """The answers alone."""
+        """The answers, without the commands."""
         return [answer for _, answer in self.replies]
 
     @property
@@ -166,7 +166,7 @@ class Output:
 
     @property
     def stop(self) -> Optional[str]:
-        """The last line where the run stopped early, as `stop line 3 1`."""
+        """The last line if the run stopped early, as `stop line 3 1`."""
         last = self.text.splitlines()[-1:]
         return last[0] if last and last[0].startswith("stop ") else None
 

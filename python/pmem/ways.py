@@ -30,7 +30,7 @@ class Channel(ABC):
 
     @abstractmethod
     def copy(self) -> "Channel":
-        """Another session that stands where this one stands."""
+        """Another session in the same state as this one."""
 
     @abstractmethod
     def close(self) -> None:
@@ -74,7 +74,7 @@ def _end(process: "subprocess.Popen[bytes]", owner: int) -> None:
 
 class ProgramChannel(Channel):
     """A session of a child process. Each line's reply comes before the child asks for more. If the child ends, as it does at a line that
-    is not in the grammar, when it is interrupted, and in a process forked from this one, a new child is told all lines so far."""
+    is not in the grammar, when it is interrupted, and in a process forked from this one, a new child gets all lines so far."""
 
     BATCH = 4096
 
@@ -109,7 +109,7 @@ class ProgramChannel(Channel):
             for _ in batch:
                 status, _ = self._read_reply(process)
                 if status not in (OK, SHOWN):
-                    raise ProgramFailed(f"{self._program.path} doesn't answer the same in two runs: status {status}")
+                    raise ProgramFailed(f"{self._program.path} does not answer the same in two runs: status {status}")
             place += len(batch)
 
     @staticmethod
@@ -189,7 +189,7 @@ class Program(Way):
         except ValueError as error:
             raise BadWords(str(error)) from error
         except OSError as error:
-            raise ProgramFailed(f"the program {self.path} can't be run: {error.strerror or error}") from error
+            raise ProgramFailed(f"the program {self.path} cannot be run: {error.strerror or error}") from error
 
     def run(self, words: Sequence[str], trace: bytes) -> Tuple[int, bytes]:
         process = self.start(words)
@@ -226,7 +226,7 @@ def _checkout_file(top: Path, *names: str) -> Optional[str]:
 @lru_cache(maxsize=None)
 def _checkout_program(top: Path) -> Optional[str]:
     """The program that the script ./pmem of a checkout or a bundle would run; None if there is no such script. The script may compile it
-    first, which takes half a minute and is told on standard error. It begins no proof.
+    first, which takes half a minute and is announced on standard error. It begins no proof.
 
     Raises:
         NotFound: there is no program and none can be made; the message says why.
@@ -306,7 +306,7 @@ def _must_open(status: int) -> None:
     if status == BAD_WORDS:
         raise BadWords("the library refuses the words")
     if status != OK:
-        raise ProgramFailed(f"a session can't be opened: status {status}")
+        raise ProgramFailed(f"a session cannot be opened: status {status}")
 
 
 class Library(Way):
@@ -323,7 +323,7 @@ class Library(Way):
                 call.argtypes, call.restype = types, ctypes.c_uint8
             self.calls.pmem_reply.restype = _SIZE
         except (OSError, AttributeError) as error:
-            raise ProgramFailed(f"{self.path} isn't pmem's library: {error}") from error
+            raise ProgramFailed(f"{self.path} is not pmem's library: {error}") from error
 
     @staticmethod
     def _joined(words: Sequence[str]) -> bytes:

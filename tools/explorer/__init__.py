@@ -14,7 +14,7 @@
         print(row["design"], row["sets"], row["write_steps"], row["recovery_tags_mean"])
 
 What is wrong (a file, a line of the trace, no program) is an `ExploreError`, whose text says it in one line. The program is
-that which `program=` names, or the variable PMEM_PROGRAM, or else the repository's own, where it is built.
+the one that `program=` names, or the variable PMEM_PROGRAM, or else the repository's own if it is built.
 """
 from .errors import ExploreError
 from .program import Reply

@@ -37,7 +37,7 @@ def about(what: str, program: str, traces: Sequence[Trace], settings: Optional[S
 
 
 def comments_of(found: Dict[str, Any]) -> str:
-    """The same as comments in front of a CSV."""
+    """The same as comments before a CSV."""
     lines: List[str] = []
     for name, value in found.items():
         if isinstance(value, dict):

@@ -1,4 +1,4 @@
-"""What the program's log (`--log`) tells of a trace: which device lines each command read and wrote, each latch, and the
+"""What the program's log (`--log`) reports of a trace: which device lines each command read and wrote, each latch, and the
 tags and digests made. docs/FORMATS.md has its lines."""
 from collections import deque
 from dataclasses import dataclass
@@ -14,8 +14,8 @@ LOOK, LINE, LATCHED, WORK = b"look", b"line", b"latch", b"work "
 
 @dataclass(frozen=True)
 class Log:
-    """The log of one command: its accesses in order, each with the device line, or of a latch with the lines that the
-    commit group has after it; the tags and digests that it made; and how many bytes the log is."""
+    """The log of one command: its accesses in order; the tags and digests that it made; and the log's length in bytes. An
+    access has the device line, or for a latch the number of lines in the commit group after it."""
 
     accesses: Tuple[Tuple[bytes, int], ...]
     tags: int
@@ -114,13 +114,13 @@ class Teller:
 
 
 def told_steps(recording: Recording, with_work: bool) -> Optional[List[Traced]]:
-    """All commands that were answered, with their steps, by one run with `--log`; None if the program hasn't that."""
+    """All commands that were answered, with their steps, by one run with `--log`; None if the program lacks that option."""
     data = recording.program.logged(recording.script, recording.settings)
     return None if data is None else Teller(recording, with_work).traced(data)
 
 
 def told_last(recording: Recording) -> Optional[int]:
-    """The steps of the last command that was answered, by one run with `--log`; None if the program hasn't that."""
+    """The steps of the last command that was answered, by one run with `--log`; None if the program lacks that option."""
     data = recording.program.logged(recording.script, recording.settings)
     if data is None:
         return None

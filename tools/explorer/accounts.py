@@ -22,8 +22,8 @@ def no_parts() -> List[int]:
 @dataclass
 class Account:
     """What some commands took together. `read_runs`: how many reads came one after the other, without a persist step
-    between; `groups`: how many lines were written between the latch that arms a group and the one that empties it, or by a
-    recovery before that one; `single_writes`: all other line writes."""
+    between. `groups`: how many lines were written between the latch that arms a group and the one that empties it, or by a
+    recovery before that one. `single_writes`: all other line writes."""
 
     reads: List[int] = field(default_factory=no_parts)
     writes: List[int] = field(default_factory=no_parts)

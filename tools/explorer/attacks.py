@@ -117,7 +117,7 @@ class Attacks:
         return [line for lines in self.lines.values() for line in lines]
 
     def lines_of_parts(self) -> Dict[str, List[int]]:
-        """Of each part some device lines that the trace used, and some that it didn't."""
+        """For each part, some device lines that the trace used, and some that it didn't."""
         part_of = Parts(self.layout).of
         used: Dict[int, Set[int]] = {part: set() for part in range(len(PARTS))}
         for entry in self.recording.entries:

@@ -117,7 +117,7 @@ class Bounds:
         return self.recovery_of_tree() if self.machine_name == "tree" else self.recovery_of_run()
 
     def recovery_of_run(self) -> Account:
-        """Of `run`: by its cache. Without names: by its memory, each block and node being made again."""
+        """For `run`: by its cache. Without names: by its memory, since each block and node is made again."""
         levels, slots, shadow = self.settings.levels, self.slots, self.shadow_lines
         if self.design == "whole":
             blocks, reads, digests = self.pages, 129 * self.pages + self.nodes, 4 * self.nodes + 1
@@ -126,7 +126,7 @@ class Bounds:
         return account_of(reads, GROUP_LINES + (levels + 1) * slots + shadow, GROUP_LATCHES, LINE * self.settings.loss * blocks, digests)
 
     def recovery_of_tree(self) -> Account:
-        """Of `tree`: its slot lines are read, and the shadow tree over them is made."""
+        """For `tree`: its slot lines are read, and the shadow tree over them is made."""
         height = 1
         while 4 ** height < self.slots:
             height += 1

@@ -186,7 +186,7 @@ def is_beside(told: Sequence[Tuple[float, float, str]], text: str, cost: float, 
 
 
 def points_of(row: Row, timed: bool) -> List[Tuple[float, float, Row]]:
-    """What a write and a recovery of a design take; nothing where there is no write, or no recovery that went through."""
+    """What a write and a recovery of a design take; nothing if there is no write, or no successful recovery."""
     names = ("write_ns", "recovery_ns_mean") if timed else ("write_steps", "recovery_tags_mean", "recovery_digests_mean")
     numbers = [row[name] for name in names]
     return [] if None in numbers else [(float(numbers[0]), float(sum(numbers[1:])), row)]
@@ -252,7 +252,7 @@ def moment_panels(columns: Sequence[Tuple[str, Sequence[Sequence[float]]]], name
 
 
 def worn(value: Dict[str, Any], title: str, kind: str) -> bytes:
-    """How many lines of each part have so many writes: a panel for each design."""
+    """How many lines of each part have how many writes: a panel for each design."""
     pyplot = load_matplotlib()
     from matplotlib.patches import Patch
     designs: Dict[Tuple[Any, ...], List[Row]] = {}

@@ -135,7 +135,7 @@ class Asker:
         if not self.is_batch:
             self.answer(verdict_of(status, self.said))
         elif self.asked is not None and self.answers:
-            self.ask(self.asked)  # a process of its own tells whether this outcome ended it
+            self.ask(self.asked)  # another process shows whether this outcome ended it
         elif self.asked is not None:
             reason = f"the check ended with status {status} before it answered" if status >= 0 else verdict_of(status, b"").reason
             self.answer(Verdict(False, reason, True))

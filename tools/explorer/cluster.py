@@ -1,4 +1,4 @@
-"""Runs of the program on a cluster of `dask.distributed`, in place of this machine's processors. What a worker needs (the
+"""Runs of the program on a cluster of `dask.distributed`, instead of this machine's processors. What a worker needs (the
 program, this package, the trace) is put there once, by its digest; runs go several to a task; answers come back in order,
 the same as here."""
 import hashlib
@@ -42,7 +42,7 @@ LARGEST_SCHEDULER_FILE = 1 << 20
 # What a worker may say: the statuses of a run, and how long a message is.
 RUN_STATUSES = range(-64, 256)
 LONGEST_MESSAGE = 1000
-# Those of dask.distributed: what is wrong is told here in one line.
+# Those of dask.distributed: an error is reported here in one line.
 LOGGERS = ("distributed", "tornado", "asyncio")
 INSTALL = "Debian: python3-distributed; else: pip install distributed"
 
@@ -51,7 +51,7 @@ Files = Dict[str, bytes]
 
 
 def load_distributed() -> Any:
-    """dask.distributed, which is needed for a cluster alone."""
+    """dask.distributed, which is needed only for a cluster."""
     try:
         importlib.import_module("distributed.diagnostics.plugin")
         return importlib.import_module("distributed")
@@ -100,7 +100,7 @@ def digest_of(data: bytes) -> str:
 
 
 def put_files(folder: str, files: Files) -> None:
-    """Puts files into a worker's folder, each whole or not at all, but for those that are there."""
+    """Puts files into a worker's folder, each whole or not at all, except those that are there."""
     for name, data in files.items():
         path = os.path.join(folder, name)
         if os.path.exists(path):
@@ -114,7 +114,7 @@ def put_files(folder: str, files: Files) -> None:
 
 
 def do_batch(folder: str, batch: bytes) -> bytes:
-    """At a worker: does a batch, by a process of its own in the folder where the files were put."""
+    """At a worker: does a batch, by a new process in the folder of these files."""
     place = os.path.join(importlib.import_module("distributed").get_worker().local_directory, folder)
     ran = subprocess.run([sys.executable, "-m", "explorer.remote"], input=batch, cwd=place, stdout=subprocess.PIPE,
                          stderr=subprocess.PIPE, check=False)
@@ -175,7 +175,7 @@ class Cluster:
         return client
 
     def asked(self, what: Callable[[], Item]) -> Item:
-        """What the cluster answers. One that is gone, or whose workers are, is told so."""
+        """What the cluster answers. If it or its workers are gone, that is an error."""
         # Here, as the other commands don't need them.
         import asyncio
         import concurrent.futures
@@ -190,7 +190,7 @@ class Cluster:
             raise ExploreError(f"the cluster at {self.address} does not answer, or is gone") from error
 
     def put(self, files: Files) -> None:
-        """Puts files at all workers, but for those that are there."""
+        """Puts files at all workers, except those that are there."""
         new = {name: data for name, data in files.items() if name not in self.there}
         if not new:
             return
@@ -335,7 +335,7 @@ class ClusterTogether(Together):
         return ExploreError(f"the cluster at {self.cluster.address} answers otherwise than the program here")
 
     def batch_size(self, total: int, least: int) -> int:
-        """How many runs go to a task: enough that it is no matter of milliseconds, where all workers have some then."""
+        """How many runs go to a task: enough that it takes more than milliseconds, if all workers have some then."""
         slots = self.cluster.slots
         return min(LARGEST_BATCH, max(1, min(least, total // slots), total // (BATCHES_OF_SLOT * slots)))
 
@@ -346,7 +346,7 @@ def some_places(total: int) -> Set[int]:
 
 
 def pieces(items: Iterable[Item], size: int) -> Iterator[List[Item]]:
-    """The items, so many at a time."""
+    """The items, a fixed number at a time."""
     some: List[Item] = []
     for item in items:
         some.append(item)

@@ -29,7 +29,7 @@ RECOVERY_TEXTS = {"tags": "tags (trials)", "digests": "digests", "steps": "persi
 # The baseline: a memory without ciphers, tags, counters, trees and logs, which takes one line write a write and one line read a read.
 # It isn't a machine of the program: what it takes follows from the workload.
 PLAIN = "plain"
-# What is told of each design in units of the baseline, and the row that it is made of.
+# What is shown of each design in units of the baseline, and the row that it is computed from.
 OVER_PLAIN = {"over_plain_line_writes": "write_line_writes", "over_plain_ns": "write_ns", "over_plain_nj": "write_nj",
               "over_plain_device_bytes": "device_bytes"}
 DONE = ("ok", "line", "on", "off", "already", "stat")
@@ -135,7 +135,7 @@ class Comparison:
             found.recoveries += self.recoveries(found, recording)
 
     def account(self, found: Found, recording: LoggedRecording) -> None:
-        """Adds up what the units took. The power cycle at the end is none of them."""
+        """Adds up what the units took. The power cycle at the end isn't one of them."""
         accountant = Accountant(found.settings)
         accounts = [accountant.account(command.word, entry) for command, entry in zip(recording.commands, recording.entries)]
         if recording.ends_in_exhibit or len(accounts) != len(recording.commands):
@@ -176,7 +176,7 @@ def spread(moments: Sequence[Tuple[int, int, int]], count: int) -> List[Tuple[in
 
 
 def summary(values: Sequence[float]) -> Dict[str, Optional[float]]:
-    """The mean, the median, the 99th percentile (the least value that so many aren't above) and the greatest."""
+    """The mean, the median, the 99th percentile (the least value that 99 percent aren't above) and the greatest."""
     if not values:
         return {"mean": None, "median": None, "p99": None, "greatest": None}
     ordered = sorted(values)
@@ -190,7 +190,7 @@ def rounded(value: Any) -> Any:
 
 
 def row_of(found: Found, trace_name: str, costs: Optional[Costs]) -> Row:
-    """What a workload took on a design, by name. What a design hasn't, or what there is no figure of, is None."""
+    """What a workload took on a design, by name. What a design lacks, or what there is no figure of, is None."""
     settings = found.settings
     row: Row = {"trace": trace_name, "design": settings.machine_name, "figures": costs.name if costs else None}
     row.update((name, getattr(settings, name) if name in settings.machine.options else None) for name in NUMBERS)
@@ -341,8 +341,8 @@ def cell(value: Any) -> str:
 
 
 def lines_of(rows: Sequence[Row]) -> List[List[str]]:
-    """The lines of the table over these designs: those that are of any of them, headings among them. Of the parts those that
-    are 0 for all are left out."""
+    """The lines of the table over these designs, with headings. A line is left out if none of the designs has it, and a part
+    if it is 0 for all."""
     lines: List[List[str]] = []
     for heading, names in SECTIONS:
         some = [[f"  {text}", *(cell(row.get(name)) for row in rows)] for name, text in names
@@ -376,7 +376,7 @@ def chosen_lines(rows: Sequence[Row], names: Sequence[str]) -> List[List[str]]:
 
 
 def table_of(rows: Sequence[Row]) -> str:
-    """The table for people, some designs beside each other at a time."""
+    """The table for people, some designs side by side at a time."""
     texts = []
     for first in range(0, len(rows), COLUMNS):
         some = rows[first:first + COLUMNS]
@@ -386,7 +386,7 @@ def table_of(rows: Sequence[Row]) -> str:
 
 @dataclass(frozen=True)
 class Compared:
-    """What was found: the rows of each trace, their means where there are several, and what is to be told."""
+    """What was found: the rows of each trace, their means if there are several, and the notes to print."""
 
     rows: List[List[Row]]
     means: List[Row]
@@ -429,8 +429,8 @@ class Compared:
 
 
 def compare(traces: Sequence[Trace], comparison: Comparison, costs: Sequence[Costs], has_plain: bool = False) -> Compared:
-    """Compares designs on traces, with the figures of each file, and with the baseline. What isn't in a workload is told on standard error
-    before anything runs."""
+    """Compares designs on traces, with the figures of each file, and with the baseline. Notes on standard error
+    say before anything runs what isn't in a workload."""
     workloads = [comparison.workloads(trace) for trace in traces]
     notes = [note for trace, some in zip(traces, workloads) for note in comparison.notes(trace, some)]
     for note in notes:
@@ -479,7 +479,7 @@ def notes_of(trace: Trace, found: Found) -> List[str]:
 
 
 def cuts_note(every: Sequence[Found]) -> List[str]:
-    """Where the recoveries aren't looked at after every step."""
+    """The note that recoveries aren't looked at after every step, if so."""
     some = sorted(found.cuts for found in every if len(found.recoveries) < found.cuts)
     if not some:
         return []

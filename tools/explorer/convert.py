@@ -2,9 +2,9 @@
 another machine.
 
 Each machine has the same memory after each `drain` and `fence`: what one of them makes sure of is written just then, as a
-whole line. `wear` and `tree` write it line by line; of `txn` it is one transaction, or several where it has more lines
+whole line. `wear` and `tree` write it line by line; for `txn` it is one transaction, or several if it has more lines
 than one holds. `run` itself takes the commands as they are. What isn't part of a workload is left out: the attacker,
-what is only shown, cuts (their steps are those of one machine), and upkeep that another machine hasn't."""
+what is only shown, cuts (their steps are those of one machine), and upkeep that another machine lacks."""
 import os
 import re
 from collections import Counter
@@ -33,7 +33,7 @@ Waiting = Tuple[int, int, bytes, bytes]
 
 
 def levels_for(machine_name: str, levels: int) -> int:
-    """The levels by which a machine has the memory that `run` has with so many, but for the lines of its own."""
+    """The levels with which a machine has the memory that `run` has with `levels`, except for the machine's own lines."""
     wanted = levels + LEVELS_OF_TREE if machine_name == "tree" else levels
     if wanted not in LEVELS:
         most = MACHINES[machine_name].data_lines(LEVELS[-1])
@@ -44,7 +44,7 @@ def levels_for(machine_name: str, levels: int) -> int:
 
 @dataclass(frozen=True)
 class Unit:
-    """A part of a workload: a `read`, a `write` (what a drain or a fence makes sure of, of so many lines), `off` or `on`; and
+    """A part of a workload: a `read`, a `write` (of the lines that a drain or a fence makes durable), `off` or `on`; and
     which commands it is in a machine's language."""
 
     kind: str
@@ -55,7 +55,7 @@ class Unit:
 @dataclass
 class Converted:
     """A workload in a machine's language, and what became of the trace's commands that aren't in it as they were. Its units
-    are those of whole lines alone."""
+    are only those of whole lines."""
 
     machine_name: str
     data_lines: int
@@ -99,7 +99,7 @@ def wrong(command: Command, why: str) -> ExploreError:
 
 class Converter:
     """Goes along a trace, with what waits at its ports and what is in memory. With `whole_of` each machine, `run` too, writes
-    whole lines, just when they are made sure of, and the memory has so many lines; `folded`: a line past them is the one
+    whole lines, just when they are made durable, and the memory has `whole_of` lines; `folded`: a line past them is the one
     with its remainder."""
 
     def __init__(self, machine_name: str, levels: int, whole_of: Optional[int] = None, folded: bool = False) -> None:
@@ -163,7 +163,7 @@ class Converter:
         self.has_power = word == "on"
 
     def post(self, command: Command, port: int, line: int) -> None:
-        """A write waits, where there is room."""
+        """A write waits, if there is room."""
         words = command.words
         start = 0 if command.word == "post" else self.number(command, words[3], LINE_BYTES)
         if not HEX.fullmatch(words[-1]) or command.word == "post" and len(words[-1]) != 2 * LINE_BYTES:
@@ -239,14 +239,14 @@ class Converter:
 
 def converted(commands: Sequence[Command], machine_name: str, levels: int, whole_of: Optional[int] = None,
               folded: bool = False) -> Converted:
-    """The workload of a trace of `run` in the language of a machine that has so many levels; `whole_of` and `folded` are those
+    """The workload of a trace of `run` in the language of a machine with `levels` levels; `whole_of` and `folded` are those
     of `Converter`."""
     return Converter(machine_name, levels, whole_of, folded).convert(commands)
 
 
 def converted_text(trace: Trace, made: Converted) -> str:
-    """The workload as a trace. Comments say what became of the other one's commands; where lines lie in the memory of an
-    imported program is kept."""
+    """The workload as a trace. Comments say what became of the other one's commands. Comments with the addresses of an
+    imported program's lines are kept."""
     kept = [text for text in trace.data.decode("ascii", "replace").split("\n") if text.startswith("# line")]
     name = ascii(os.path.basename(trace.name))[1:-1][:200]
     head = [f"# The workload of {name} for pmem {made.machine_name}.", *(f"# {note}." for note in made.notes)]

@@ -12,7 +12,7 @@ from .errors import ExploreError
 from .trace import printable, read_bytes, shown_path
 
 FOLDER = Path(__file__).resolve().parent / "costs"
-# What takes time, in the order in which it is told.
+# What takes time, in the order in which it is printed.
 RESOURCES = ("line reads", "line writes", "latches", "pads", "tags", "digests")
 # The most letters of an unknown key that a message shows.
 LONGEST_KEY = 80
@@ -35,7 +35,7 @@ SPLIT = (*PART_WORDS, "chip")
 
 @dataclass(frozen=True)
 class Figure:
-    """A number of a cost file and where it is from."""
+    """A number of a cost file and its source."""
 
     value: float
     source: str
@@ -104,7 +104,7 @@ class Costs:
         return (*(read * reads + write * writes for reads, writes in zip(account.reads, account.writes)), chip)
 
     def many(self, what: str, count: int, is_recovery: bool) -> float:
-        """The time of so many tags or digests: one after the other, but in a recovery begun at the unit's pace."""
+        """The time of `count` tags or digests: one after the other, except in a recovery, which begins them at the unit's pace."""
         latency = self.of(f"chip.{what}.ns")
         if not is_recovery or not count:
             return latency * count
@@ -131,7 +131,7 @@ def split_ns(account: Account, shares: Sequence[float]) -> Tuple[float, ...]:
 
 
 def turns(runs: Dict[int, int], at_once: float) -> int:
-    """How many times as long as one access all runs of accesses take, so many of a run going side by side."""
+    """How many times as long as one access all runs of accesses take, if `at_once` of a run go side by side."""
     return sum(count * math.ceil(length / at_once) for length, count in runs.items())
 
 

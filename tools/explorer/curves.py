@@ -25,7 +25,7 @@ BOUNDED = range(2, 15)
 MOST_OF_TREE = 4
 SETS = (1, 2, 4, 8, 16, 32, 64)
 LOSSES = (1, 2, 4, 8, 16)
-# The attack on one line: so many writes of it in a memory of 254 lines, and how often the gap moves.
+# The attack on one line: how many writes of it in a memory of 254 lines, and how often the gap moves.
 ATTACKED, ATTACK_LEVELS = 5, 1
 MOVES = (1, 2, 4, 8, 16, 32, 64, 100)
 # The columns of each table of measured curves.
@@ -109,7 +109,7 @@ def bounds(choice: Choice) -> List[Row]:
 
 
 def memory_rows(choice: Choice, together: Optional[Together]) -> List[Row]:
-    """The bounds, and if there are workloads what they took where the program has such a memory."""
+    """The bounds; if there are workloads, also what they took on each memory that the program has."""
     rows = bounds(choice)
     if together is not None:
         rows += [{"trace": row["trace"], "design": row["design"], "memory_bytes": row["memory_bytes"], "recovery_ns": row["recovery_ns_mean"],
@@ -155,7 +155,7 @@ def needs_program(name: str, has_traces: bool) -> bool:
 
 
 def rows_of(name: str, choice: Choice, together: Optional[Together]) -> List[Row]:
-    """The rows of a figure. Without workloads recovery-memory has the bounds alone."""
+    """The rows of a figure. Without workloads recovery-memory has only the bounds."""
     if name == "recovery-memory":
         return memory_rows(choice, together if choice.traces else None)
     assert together is not None

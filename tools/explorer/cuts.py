@@ -72,8 +72,8 @@ class Other:
 
 @dataclass(frozen=True)
 class Stored:
-    """Which of a program's stores memory has: just before the row `before` (None: at the end of the trace), of the stores that no
-    fence has made sure of, those that are there, those that are there in part, and those that are missing."""
+    """Which of a program's stores memory has just before the row `before` (None: at the end of the trace). Among the stores that no
+    fence has made durable, `kept` are there, `partly` are there in part, and `missing` are not there."""
 
     before: Optional[Event]
     kept: Tuple[Event, ...]
@@ -84,7 +84,7 @@ class Stored:
 @dataclass(frozen=True)
 class Cut:
     """A cut after `steps` steps of the trace, `number` of them the command's, and what comes of it. `lost` are the writes
-    that waited and are lost. With `recovery_steps` the recovery is cut too, after that many steps of its own. With `script`
+    that waited and are lost. With `recovery_steps` the recovery is cut too, after that many steps of recovery. With `script`
     no command is cut: these commands lead to it, by which `written` are the writes that are in memory, or `stored` says which
     of the program's stores are. `row` is what the imported program did by the command."""
 
@@ -202,7 +202,7 @@ class CutFinder:
         return [*cut, b"cut %d" % moment.recovery_steps, b"on", b"on"]
 
     def question(self, moment: Moment, lines: Optional[Sequence[int]] = None) -> Question:
-        """The question that tells what a moment leaves; with `lines` it reads those."""
+        """The question that shows what a moment leaves; with `lines` it reads those."""
         lines, is_before = self.lines_at(moment) if lines is None else lines, moment.kind == "before"
         if lines is self.lines:
             reads = self.before_reads if is_before else self.reads
@@ -232,7 +232,7 @@ class CutFinder:
         return moments
 
     def answers(self, moments: Sequence[Moment], what: str) -> Iterator[Tuple[Moment, bytes]]:
-        """What is printed of each moment. If a run of the whole trace is worth it, its log tells which cuts one recovery
+        """What is printed of each moment. If a run of the whole trace is worth it, its log reports which cuts one recovery
         stands for."""
         if self.seconds is not None:
             yield from self.seconds.answers(moments, what)
@@ -266,7 +266,7 @@ class CutFinder:
                 yield self.cut(moment, data, before, waiting)
 
     def cut(self, moment: Moment, data: bytes, before: Readings, waiting: Waiting) -> Cut:
-        """The cut that the answers to a moment's question tell."""
+        """The cut that the answers to a moment's question show."""
         count = len(self.script(moment))
         answers, printed = answers_before(data, count)
         if len(answers) < count:
@@ -287,7 +287,7 @@ class CutFinder:
         return cut
 
     def seen(self, lines: Sequence[int], before: Readings, printed: bytes) -> Seen:
-        """What reads of these lines printed, line by line, and what `others` tells of it: found once for cuts in a row in which
+        """What reads of these lines printed, line by line, and what `others` shows of it: found once for cuts in a row in which
         they print the same."""
         if self.last_seen is None or self.last_seen[0] is not before or self.last_seen[1:3] != (lines, printed):
             after = readings_of(printed)
@@ -373,7 +373,7 @@ class CutFinder:
                                    "run that is asked there and by a run from the start: use --from-start")
 
     def sample(self, cuts: Sequence[Cut], count: int) -> List[Cut]:
-        """So many of the cuts, in their order. Half of them are from those behind a commit group's end, if other cuts tell
+        """So many of the cuts, in their order. Half of them are from those behind a commit group's end, if other cuts show
         of such."""
         behind = {(moment.index, moment.number) for moment in spread(self.behind, count // 2)}
         places = {place for place, cut in enumerate(cuts) if behind and (cut.index, cut.number) in behind}
@@ -428,7 +428,7 @@ class InPlay:
 
 
 def some_of(moments: Sequence[Moment], places: Sequence[int]) -> List[Moment]:
-    """Of the cuts among these moments those at some places, with the moments before their commands."""
+    """The cuts at some places among these moments, with the moments before their commands."""
     chosen = set(places)
     found: List[Moment] = []
     before: Optional[Moment] = None
@@ -513,7 +513,7 @@ def row_of(cut: Cut) -> List[str]:
 
 
 def summary_lines(cuts: Sequence[Cut], names: Sequence[str]) -> List[str]:
-    """How many cuts there are, and the greatest and the mean recovery, except for where lines lie."""
+    """How many cuts there are, and the greatest and the mean recovery, without the places of lines."""
     every = all_cuts(cuts)
     found = [cut.recovery.numbers for cut in every if cut.recovery.numbers]
     lines = [f"{plural(len(every), 'cut')}, {len(found)} recovered"]

@@ -14,7 +14,7 @@ from .sweep import NUMBERS
 from .trace import TAMPERING_WORDS, number_of
 from .traced import ARMS, EMPTIES, KEPT, LATCH, LOST, SETS, UNSEEN, UNTOLD, Step, Traced
 
-# Colours that are told apart without red and green (Okabe and Ito).
+# Colours that differ without red and green (Okabe and Ito).
 BLUE, SKY, GREEN, ORANGE, VERMILION, PURPLE, BLACK = (
     "#0072B2", "#56B4E9", "#009E73", "#E69F00", "#D55E00", "#CC79A7", "#000000")
 GREY, DARK_GREY, PALE, YELLOW = "#DDDDDD", "#666666", "#F6F6F6", "#FFF3B0"
@@ -35,7 +35,7 @@ LATCHES: Dict[str, Tuple[str, str, str]] = {
     "": ("D", BLACK, "latch of the registers"),
 }
 
-# Where the device lines aren't told: what a cut just before a step does to the command's write.
+# If the device lines aren't known: what a cut just before a step does to the command's write.
 FATES: Dict[str, Tuple[str, str, str, str]] = {
     LOST: ("o", VERMILION, "write lost", "a cut just before this step loses the write"),
     KEPT: ("s", BLUE, "write kept", "a cut just before this step keeps the write"),
@@ -50,7 +50,7 @@ UNIT = 0.15
 NARROWEST, WIDEST = 8.5, 16.0
 BETWEEN_LABELS = 0.12
 LEFT, RIGHT, BOTTOM = 1.95, 0.15, 0.95
-# The kinds of pictures, with what is told in each beside the picture: nothing that another run would tell otherwise.
+# The kinds of pictures, each with its metadata: nothing that would differ in another run.
 KINDS: Dict[str, Dict[str, Any]] = {"svg": {"Date": None}, "png": {"Software": None},
                                     "pdf": {"Creator": None, "Producer": None, "CreationDate": None}}
 
@@ -124,7 +124,7 @@ class Span:
         return self.start + self.width / 2
 
     def step_at(self, number: int) -> float:
-        """Where its step number `number`, counted from 0, stands."""
+        """The place of its step number `number`, counted from 0."""
         return self.start + number + 0.5
 
 
@@ -192,7 +192,7 @@ class Lanes:
                                        key=lambda place: place.line))
 
     def add_fates(self, has_attacker: bool) -> None:
-        """The lanes where device lines aren't told: one for each thing that a cut before a step does."""
+        """The lanes if device lines aren't known: one for each thing that a cut before a step does."""
         for fate, (_, _, name, _) in FATES.items():
             self.fates[fate] = self.add_lane(name, [])
         if has_attacker:
@@ -221,7 +221,7 @@ class Lanes:
 
 
 def verdict(entry: Traced) -> Tuple[str, str]:
-    """A command's verdict in a word or two, and its colour. Nothing where all is well."""
+    """A command's verdict in a word or two, and its colour. Nothing if all is well."""
     answer = entry.reply.answer
     words = answer.split(" ")
     if entry.reply.is_exhibit:
@@ -324,7 +324,7 @@ def draw_fates(axes: Any, spans: Sequence[Span], lanes: Lanes, size: float) -> L
 
 
 def draw_tampering(axes: Any, spans: Sequence[Span], lanes: Lanes, layout: Optional[AnyLayout], size: float) -> bool:
-    """A cross where the attacker changes a device line."""
+    """A cross at each change of a device line by the attacker."""
     points = []
     for span in spans:
         if layout is None:
@@ -482,7 +482,7 @@ def chosen_number(records: Sequence[Dict[str, Any]], along: Optional[str]) -> st
 @dataclass(frozen=True)
 class Curves:
     """The curves of a sweep: one for each choice of the numbers that vary but don't go along it. The first of those
-    numbers, the one with most values, is told by the colour, the next by the mark, the last by the dashes."""
+    numbers, the one with most values, is shown by the colour, the next by the mark, the last by the dashes."""
 
     along: str
     values: Tuple[int, ...]
@@ -501,8 +501,8 @@ class Curves:
         return {"linestyle": LINE_STYLES[number % len(LINE_STYLES)]}
 
     def curve_style(self, number: int) -> Dict[str, Any]:
-        """How a curve looks. Of a few, earlier ones are thicker, so that they show under later ones with the same
-        points."""
+        """How a curve looks. If there are only a few, earlier ones are thicker, so that they show under later ones with the
+        same points."""
         style: Dict[str, Any] = {"color": BLUE, "marker": "o"}
         for place, value in enumerate(self.groups[number][0]):
             style.update(self.style(place, value))
@@ -613,7 +613,7 @@ def trade_off(records: Sequence[Dict[str, Any]], title: str, kind: str) -> bytes
 
 
 def dropped_notes(records: Sequence[Dict[str, Any]]) -> List[str]:
-    """Which settings leave commands out, since these name a place that a smaller memory hasn't: their points are hollow,
+    """Which settings leave commands out, since these name a place that a smaller memory lacks: their points are hollow,
     and stand for another workload."""
     dropped: Dict[Any, List[Dict[str, Any]]] = {}
     for record in records:

@@ -23,7 +23,7 @@ TIMES: Tuple[Tuple[str, float], ...] = (("years", 365.25 * 86400), ("days", 8640
 
 @dataclass(frozen=True)
 class Worn:
-    """The writes of a design's device lines under a workload of so many line writes. `counts` has those that were written."""
+    """The writes of a design's device lines under a workload of `writes` line writes. `counts` has those that were written."""
 
     settings: Settings
     trace_name: str
@@ -58,7 +58,7 @@ class Worn:
 
 
 def seconds_to(limit: int, writes: int, worn: Worn, rate: float) -> Optional[float]:
-    """How long a line lasts that has so many writes in the workload, which comes again and again at so many line writes a
+    """How long a line lasts that has `writes` writes in the workload, if this is repeated at `rate` line writes per
     second."""
     return limit * worn.writes / (writes * rate) if writes and worn.writes else None
 
@@ -80,7 +80,7 @@ def bins_of(counts: Dict[int, int], lines: int) -> Dict[str, int]:
 
 
 def bin_text(length: int) -> str:
-    """The numbers of so many bits."""
+    """The numbers of this many bits."""
     low, high = (1 << length) >> 1, (1 << length) - 1
     return str(low) if low == high or not length else f"{low}-{high}"
 
@@ -105,7 +105,7 @@ class Endurance:
         self.repeat = repeat
 
     def find(self, traces: Sequence[Trace]) -> Tuple[List[Worn], List[str]]:
-        """What each design's lines are written, and what is to be told. What isn't in a workload is told before it runs."""
+        """How often each design's lines are written, and the notes to print. Notes on what isn't in a workload come before it runs."""
         workloads = [self.comparison.workloads(trace) for trace in traces]
         notes = [note for trace, some in zip(traces, workloads) for note in self.comparison.notes(trace, some)]
         for note in notes:
@@ -185,7 +185,7 @@ class Lifetimes:
         return "".join(parts) + ("\n" if self.notes else "") + "".join(f"{note}\n" for note in self.notes)
 
     def histogram(self, rows: Sequence[Dict[str, Any]]) -> str:
-        """How many lines of each part have so many writes."""
+        """How many lines of each part have how many writes."""
         names = max((list(row["histogram"]) for row in rows), key=len)
         return table_text([["lines by number of writes", *names]], [
             [row["part"], *(f"{row['histogram'].get(name, 0):,}" for name in names)] for row in rows], left=(0,))

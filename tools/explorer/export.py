@@ -26,7 +26,7 @@ def accesses_of(recording: LoggedRecording) -> Iterator[Tuple[bool, int]]:
 
 
 def exported(recording: LoggedRecording, to: str, base: int, gap: int) -> str:
-    """The trace for a simulator: line d at address base + 64 d, one access every `gap` cycles where the format has times."""
+    """The trace for a simulator: line d at address base + 64 d, one access every `gap` cycles if the format has times."""
     if gap and to not in TIMED:
         raise ExploreError(f"a trace for {to} has no times: --gap is for {', '.join(TIMED)}", WRONG_WORDS)
     line = FORMATS[to]

@@ -68,7 +68,7 @@ def finish(figure: Any, every: Sequence[Any], choice: Choice, columns: int) -> N
 
 
 def recovery_memory(pyplot: Any, rows: Sequence[Row], choice: Choice, width: float) -> Any:
-    """Bounds: lines where contracts state them, dashes where a formula goes on. Measured means: marks that aren't filled."""
+    """Bounds: lines if contracts state them, dashes if a formula goes on. Measured means: marks that aren't filled."""
     figure, axes = pyplot.subplots(figsize=(width, (SHAPE + 0.08) * width))
     for design in dict.fromkeys(row["design"] for row in rows):
         colour, mark = BOUND_MARKS[design]

@@ -11,7 +11,7 @@ BUNDLED = REPOSITORY / "program" / "pmem"
 
 
 def built_program() -> str:
-    """The program of this repository, or of this bundle. The script `pmem` prints where that is, and says on standard error what it builds
+    """The program of this repository, or of this bundle. The script `pmem` prints its path, and says on standard error what it builds
     for it, or why that fails."""
     if os.access(BUNDLED, os.X_OK):
         return str(BUNDLED)
@@ -30,5 +30,5 @@ def default_program() -> str:
 
 
 def found_program(path: str) -> str:
-    """The program's own file: where the repository's script is named, the file that it would run."""
+    """The program's own file: if the repository's script is named, the file that it would run."""
     return built_program() if os.path.exists(path) and SCRIPT.exists() and os.path.samefile(path, SCRIPT) else path

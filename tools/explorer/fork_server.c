@@ -1,20 +1,20 @@
 /* Loaded before a program that reads commands on standard input and answers them on standard output (LD_PRELOAD), this
-   makes it a server of its own states: it can be asked what it would answer from where it stands, and goes on from there.
-   Nothing of the program changes but what its reads of standard input give, and when its output is handed on. That input
-   holds frames, each a letter, a number, a line end and so many bytes:
+   makes it a server of its states. It can be asked what it would answer in its present state, and then goes on from there.
+   Nothing of the program changes except what its reads of standard input give, and when its output is handed on. That input
+   holds frames. A frame is a letter, a number, a line end, and as many bytes as the number says:
      L  the program gets the bytes;
-     F  the program gets the bytes, and when it has answered them it stands where it stood before them; the first has some.
-   The program answers what it got before it reads again, so its output stands in order, and a program that reads on behind
-   the bytes of F has answered all. To the output are added, each on a line that begins with the byte 1: H before the first
-   read, F before such an answer, E and the wait status after it (0 where it read on).
+     F  the program gets the bytes, and when it has answered them its state is again what it was before; the first has some.
+   The program answers what it got before it reads again. So its output is in order, and a program that reads on behind the
+   bytes of F has answered all of them. To the output are added, each on a line that begins with the byte 1: H before the
+   first read, F before such an answer, E and the wait status after it (0 if it read on).
 
-   How it comes to stand where it stood: before F a snapshot of its memory is taken, and after it that is restored. All
-   pages that can be written are write-protected; the first write to a page faults, and from then on it belongs to the
-   snapshots. (From time to time all are protected anew, so that a snapshot has what was written of late.) For that the
-   program has to have one thread, and to map no memory while it answers; malloc is told to take it from the heap alone.
-   Where that isn't so, with another C library than glibc, and where FORK_SERVER_FORKS is in the environment, a fork of the
-   program answers, and this one waits for it. A program that was found to map memory while it answered is ended with
-   status 98: it has to be asked anew, by forks. */
+   How the state is put back: before F a snapshot of the memory is taken, and after it the snapshot is restored. All pages
+   that can be written are write-protected. The first write to a page faults, and from then on the page belongs to the
+   snapshots. (From time to time all are protected again, so that a snapshot has what was written lately.) For that the
+   program must have one thread, and map no memory while it answers; an option makes malloc use only the heap.
+   Otherwise a fork of the program answers, and this one waits for it. A fork also answers with another C library than
+   glibc, and if FORK_SERVER_FORKS is in the environment. A program that was found to map memory while it answered is
+   ended with status 98: it must be asked again, by forks. */
 #define _GNU_SOURCE
 #include <dlfcn.h>
 #include <errno.h>
@@ -46,7 +46,8 @@
 
 /* Statuses with which the program is ended. */
 enum { MAPPED = 98, BROKEN = 99 };
-/* OF_THREAD: pages before and behind those of the thread's own variables. MOST_COPIED: pages that are copied before all are protected anew. LATENCY: nanoseconds after which an answer is written. */
+/* OF_THREAD: pages before and after those of the thread's own variables. MOST_COPIED: pages that are copied before all are
+   protected again. LATENCY: nanoseconds after which an answer is written. */
 enum { OWN = 3, MOST_AREAS = 256, MOST_PAGES = 1 << 15, OF_THREAD = 32, MOST_COPIED = 1 << 14, STACK_PAGES = 256,
     LATENCY = 10000000 };
 /* How it answers. */
@@ -56,7 +57,7 @@ struct area {
     char *from, *to;
 };
 
-/* All that is the library's own: it stands in memory of its own, which no snapshot has. */
+/* All that is the library's own: it is in separate memory, which no snapshot has. */
 static struct server {
     char input[1 << 16];
     size_t have, at, left; /* bytes of the input that were read and taken, and those of a frame L that are left */
@@ -157,7 +158,7 @@ static size_t number(void)
     return value;
 }
 
-/* Memory of its own: `own` says which. */
+/* Separate memory, which no snapshot has: `own` says which. */
 static char *map(int own, size_t size)
 {
     void *at = next_mmap(NULL, size, PROT_READ | PROT_WRITE, MAP_PRIVATE | MAP_ANONYMOUS | MAP_NORESERVE, -1, 0);
@@ -229,7 +230,7 @@ static int add(char *from, char *to, int own)
     return 1;
 }
 
-/* Finds the memory that can be written; 0 where it can't be known. */
+/* Finds the memory that can be written; 0 if it can't be known. */
 static int find_areas(void)
 {
     size_t have = 0;
@@ -287,7 +288,7 @@ static int protect(void)
     return s->page_count > 0 && s->size > 0;
 }
 
-/* Which way it answers: in place where snapshots can be had. */
+/* Which way it answers: in place if snapshots are possible. */
 static int begin_snapshots(void)
 {
     struct sigaction action = {0}, before;
@@ -313,7 +314,7 @@ static int begin_snapshots(void)
     return IN_PLACE;
 }
 
-/* Where the program went on since the last one. */
+/* Takes a snapshot, unless the last one still stands. */
 static void take_snapshot(void)
 {
     if (s->has_snapshot)
@@ -465,7 +466,7 @@ static void change(ucontext_t *from, const ucontext_t *to)
     }
 }
 
-/* The server's own thread of control, with a stack of its own: the program stands still while a snapshot is taken or restored. */
+/* The server's thread of control, with its own stack: the program stands still while a snapshot is taken or restored. */
 static void serve(void)
 {
     for (;;) {

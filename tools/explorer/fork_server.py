@@ -1,4 +1,4 @@
-"""Where it can be had: the library that makes the program a server of its own states (fork_server.c)."""
+"""The library that makes the program a server of its states (fork_server.c), on systems that can have it."""
 import hashlib
 import os
 import platform
@@ -25,7 +25,7 @@ def compiler() -> Optional[str]:
 
 
 def cache_folder() -> Path:
-    """Where it is kept, so that it is made once."""
+    """The folder that keeps it, so that it is made once."""
     return Path(os.environ.get("XDG_CACHE_HOME") or Path.home() / ".cache") / "pmem-explore"
 
 
@@ -53,7 +53,7 @@ def is_private(folder: Path) -> bool:
 
 
 def writable_folder() -> Path:
-    """The cache folder; or one that is removed at the end, if that can't be written to or isn't this user's alone."""
+    """The cache folder; or one that is removed at the end, if that can't be written to or isn't only this user's."""
     try:
         folder = cache_folder()
         folder.mkdir(mode=0o700, parents=True, exist_ok=True)

@@ -127,7 +127,7 @@ class WriteBackCache(Held):
         self.sets: List["OrderedDict[int, None]"] = [OrderedDict() for _ in range(size // (LINE_BYTES * ways))]
 
     def use(self, line: int) -> Iterator[Reaching]:
-        """A line is used: where it isn't there it is read, and another one is evicted."""
+        """A line is used: if it isn't there, it is read and another one is evicted."""
         lines = self.sets[line % len(self.sets)]
         if line in lines:
             lines.move_to_end(line)

@@ -39,7 +39,7 @@ class Image:
     data: bytes
 
     def line(self, number: int) -> bytes:
-        """Its bytes in a line, zero where it has none."""
+        """Its bytes in a line, zero if it has none."""
         start = LINE_BYTES * number - self.address
         found = self.data[max(0, start):max(0, start + LINE_BYTES)]
         return (bytes(max(0, -start)) + found).ljust(LINE_BYTES, b"\0")[:LINE_BYTES]
@@ -279,7 +279,7 @@ class Maker:
         return commands
 
     def is_fence_at(self, access: Access) -> bool:
-        """Whether a fence was asked for where an access begins; that address is met then."""
+        """Whether a fence was asked for at the address of an access; that address is met then."""
         self.unmet.discard(access.address)
         return access.address in self.fences_at
 
@@ -328,7 +328,7 @@ def within_text(rules: Rules) -> str:
 
 
 def unmet_told(maker: Maker) -> List[str]:
-    """The addresses where a fence was asked for and no access begins."""
+    """The addresses at which a fence was asked for and no access begins."""
     end = " up to the trace's end" if maker.is_cut_off else ""
     return [f"no fence at {address:#x}, as nothing that is looked at begins there{end} {DECIMAL}" for address in sorted(maker.unmet)]
 
@@ -447,7 +447,7 @@ def heading(name: str, kind: str, rules: Rules, maker: Maker, commands: Sequence
 
 
 def places_told(folded: Dict[int, Set[int]]) -> List[str]:
-    """The comments that say which addresses the data lines have, several in a row where they are."""
+    """The comments that say which addresses the data lines have; lines in a row share a comment."""
     runs: List[List[int]] = []
     for line, place in sorted((line, place) for place, lines in folded.items() for line in lines):
         if runs and (runs[-1][0] + runs[-1][1], runs[-1][2] + runs[-1][1]) == (place, line):

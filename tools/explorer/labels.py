@@ -1,4 +1,4 @@
-"""Labels of the points of a picture, each where it lies on no other one."""
+"""Labels of the points of a picture, each at a place that overlaps no other one."""
 from dataclasses import dataclass, field
 from typing import Any, Iterator, List, Sequence, Tuple
 
@@ -16,7 +16,7 @@ Box = Tuple[float, float, float, float]
 
 @dataclass
 class Label:
-    """The texts of the points that lie on each other here, each once: where the first of them is, in data and on paper."""
+    """The texts of the points that lie on each other here, each once, with the place of the first of them in data and on paper."""
 
     point: Tuple[float, float]
     at: Tuple[float, float]
@@ -34,7 +34,7 @@ class Label:
         return LETTER * max(map(len, self.lines)), LINE * len(self.lines)
 
     def places(self) -> Iterator[Tuple[float, float]]:
-        """Where its lower left corner may be, seen from the point, the best first: beside it, and then higher and lower."""
+        """The places of its lower left corner, seen from the point, the best first: next to it, and then higher and lower."""
         width, height = self.size
         for step in range(TRIES):
             for up in (ABOVE + step * LINE, -ABOVE - height - step * LINE):
@@ -68,8 +68,8 @@ def meet(one: Box, other: Box) -> bool:
 
 
 def placed(labels: Sequence[Label], on_paper: Sequence[Tuple[float, float]], room: Box) -> Iterator[Tuple[Label, Tuple[float, float]]]:
-    """Each label with the first of its places that lies within the picture, on no point, and on no label before it; where there
-    is none, with the best one."""
+    """Each label with the first of its places that lies within the picture, on no point, and on no label before it. If no place
+    is free, with the best one."""
     taken: List[Box] = [(x - MARK, y - MARK, x + MARK, y + MARK) for x, y in on_paper]
     for label in labels:
         free = (place for place in label.places() if is_free(label.box(place), taken, room))

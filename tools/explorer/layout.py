@@ -32,7 +32,7 @@ class Place:
 
 
 class Layout:
-    """Where each part of the device of `run`, `wear` and `txn` lies."""
+    """The place of each part of the device of `run`, `wear` and `txn`."""
 
     parts = PARTS
 
@@ -109,7 +109,7 @@ class Layout:
 
 
 class TreeLayout:
-    """Where each part of the device of `tree` lies. Its counters are those of its nodes."""
+    """The place of each part of the device of `tree`. Its counters are those of its nodes."""
 
     parts = (DATA, TAGS, NODES, SHADOWS)
 
@@ -144,7 +144,7 @@ AnyLayout = Union[Layout, TreeLayout]
 
 
 class Parts:
-    """Which part of the device a line belongs to, as its number among `PARTS`, where no name is asked for."""
+    """Which part of the device a line belongs to, as its number among `PARTS`, if no name is asked for."""
 
     def __init__(self, layout: AnyLayout) -> None:
         edges: Sequence[Tuple[int, str]] = (

@@ -76,7 +76,7 @@ def entries_of(data: bytes, path: str) -> List[Entry]:
 
 
 def counted(data: bytes, count: int, path: str) -> Tuple["Counter[int]", "Counter[str]"]:
-    """How often each device line was written in what was printed of so many commands with a log, and how many answers have
+    """How often each device line was written in what was printed of `count` commands with a log, and how many answers have
     which first word: without a list of the commands, as that may be long."""
     if len(WORKS.findall(data)) != count:
         raise wrong(path)
@@ -88,7 +88,7 @@ def counted(data: bytes, count: int, path: str) -> Tuple["Counter[int]", "Counte
 
 
 def wrong(path: str) -> ExploreError:
-    """What is told where a log isn't as it should be."""
+    """The error if a log isn't as it should be."""
     return ExploreError(f"{path} does not tell its accesses as docs/FORMATS.md says")
 
 
@@ -115,8 +115,8 @@ class LoggedRecording(Recording):
 
 
 def logged_again(recording: Recording, data: bytes, sizes: Sequence[int]) -> Recording:
-    """The same trace by the program with its log, which printed this of it, of each reply with its log so many bytes: it can be
-    asked as any recording, and the answers have logs too."""
+    """The same trace by the program with its log, which printed `data`; `sizes` has the length of each reply with its log. It
+    can be asked like any recording, and the answers have logs too."""
     logged = copy.copy(recording)
     logged.program = LoggedProgram(recording.program.path)
     logged.plain_ok = LoggedRecording.plain_ok

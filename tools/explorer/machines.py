@@ -8,11 +8,11 @@ LINES_OF_PAGE = 64
 
 @dataclass(frozen=True)
 class Machine:
-    """A machine: the word that chooses it, and what its commands and replies tell.
+    """A machine: the word that chooses it, and what its commands and replies say.
 
-    stepping: the commands that may take persist steps. writes: those that put lines into memory, when they are done.
-    names: which word of a command names a line of memory. tampers: which word names the device line that is changed.
-    recovery: what `on` tells where recovery goes through. options: those that it takes.
+    `stepping`: the commands that may take persist steps. `writes`: those that put lines into memory, when they are done.
+    `names`: which word of a command names a line of memory. `tampers`: which word names the device line that is changed.
+    `recovery`: what `on` prints after a successful recovery. `options`: those that it takes.
     """
 
     name: str

@@ -21,8 +21,8 @@ LATEX = {"\\": r"\textbackslash{}", "~": r"\textasciitilde{}", "^": r"\textascii
 
 
 def write_file(name: str, data: bytes) -> None:
-    """Writes a file under a name beside it first, so that it is never there by half. What is no plain file, such as
-    a terminal, is written as it stands."""
+    """Writes a file, first under another name in the same folder, so that it is never there by half. What isn't a plain file,
+    such as a terminal, is written directly."""
     INTERRUPTS.check()
     check_writable(name)
     part = ""
@@ -105,7 +105,7 @@ def plain_cell(value: Any) -> Any:
 
 
 def latex_text(heads: Sequence[str], rows: Sequence[Sequence[str]], left: Sequence[int] = ()) -> str:
-    """A table for LaTeX, in its own macros alone; the columns in `left` begin at the left."""
+    """A table for LaTeX, only in its own macros; the columns in `left` begin at the left."""
     def line(row: Sequence[str]) -> str:
         return " & ".join("".join(LATEX.get(letter, letter) for letter in cell) for cell in row) + " \\\\\n"
 

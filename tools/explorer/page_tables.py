@@ -1,4 +1,4 @@
-"""The tables of docs/COSTS.md that come from the tables of `explore figure`, so that the page has no number of its own."""
+"""The tables of docs/COSTS.md that come from the tables of `explore figure`, so that the page has no numbers from elsewhere."""
 import csv
 import io
 from pathlib import Path

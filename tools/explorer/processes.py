@@ -40,7 +40,7 @@ class Interrupts:
             signal.signal(number, self.handle)
 
     def dropped(self, raised: "sys.UnraisableHookArgs") -> None:
-        """What was raised where Python drops it: of an interrupt nothing is told there, as the next check raises it."""
+        """What was raised and Python drops. An interrupt isn't printed there, as the next check raises it."""
         if raised.exc_type is not KeyboardInterrupt:
             sys.__unraisablehook__(raised)
 
@@ -55,7 +55,7 @@ class Interrupts:
 
     @contextmanager
     def at_once(self) -> Iterator[None]:
-        """Within it one ends the command where it stands: no process of it runs then, and during the callbacks of a library an
+        """Within it an interrupt ends the command at once: no process of it runs then, and during the callbacks of a library an
         exception could be lost."""
         self.is_last = True
         try:
@@ -64,7 +64,7 @@ class Interrupts:
             self.is_last = False
 
     def check(self) -> None:
-        """Raises one that came while they were held, or that was raised where Python drops it."""
+        """Raises an interrupt that came while they were held, or that Python dropped."""
         if self.seen and not self.held:
             raise KeyboardInterrupt
 
@@ -110,7 +110,7 @@ def new_selector() -> selectors.BaseSelector:
 
 
 def serve(selector: selectors.BaseSelector, timeout: Optional[float] = None, rest: float = 0) -> None:
-    """Waits until a process tells something or takes something, and serves it; that many seconds pass first, in which none
+    """Waits until a process prints something or takes something, and serves it; that many seconds pass first, in which none
     needs it."""
     INTERRUPTS.check()
     if rest:
@@ -129,7 +129,7 @@ def serve(selector: selectors.BaseSelector, timeout: Optional[float] = None, res
 
 def start(command: Sequence[str], environment: Optional[Dict[str, str]] = None,
           with_errors: bool = False) -> "subprocess.Popen[bytes]":
-    """Begins a process, in a group of its own, with pipes to and from it, its standard error in the output
+    """Begins a process in its own process group, with pipes to and from it, its standard error in the output
     or apart."""
     with INTERRUPTS:
         process = subprocess.Popen(command, stdin=subprocess.PIPE, stdout=subprocess.PIPE, env=environment,
@@ -202,14 +202,14 @@ def children() -> Set[int]:
 
 
 class Listener(Protocol):
-    """Who is told what a process tells."""
+    """Who gets the output of a process."""
 
     def told(self, channel: "Channel", data: bytes) -> None:
         """What it told: nothing (`b""`) at its end."""
 
 
 class Channel:
-    """A process whose pipes are served without waiting. `owner` is who is told of it."""
+    """A process whose pipes are served without waiting. `owner` gets their output."""
 
     def __init__(self, selector: selectors.BaseSelector, process: "subprocess.Popen[bytes]",
                  owner: Listener) -> None:
@@ -236,7 +236,7 @@ class Channel:
         self.write()
 
     def write(self) -> None:
-        """Writes what the pipe takes. A process that reads no more is waited for: its output tells why."""
+        """Writes what the pipe takes. A process that reads no more is waited for: its output says why."""
         if self.is_released:
             return
         try:
@@ -262,7 +262,7 @@ class Channel:
         self.is_writing = writing
 
     def read(self) -> Optional[bytes]:
-        """What it has told, nothing (`b""`) at its end, or None if it tells nothing now."""
+        """What it has printed, nothing (`b""`) at its end, or None if there is nothing now."""
         if self.is_released:
             return None
         try:
@@ -290,7 +290,7 @@ class Channel:
 
 
 class Told:
-    """What one process tells."""
+    """What one process prints."""
 
     def __init__(self) -> None:
         self.pieces: List[bytes] = []
@@ -305,7 +305,7 @@ class Told:
 
 
 def talk(process: "subprocess.Popen[bytes]", given: bytes = b"") -> Tuple[bytes, int]:
-    """All that a process tells to what it is given, and its status."""
+    """All that a process prints for what it is given, and its status."""
     told = Told()
     try:
         with new_selector() as selector:
@@ -318,7 +318,7 @@ def talk(process: "subprocess.Popen[bytes]", given: bytes = b"") -> Tuple[bytes,
 
 
 def widen(file: int) -> None:
-    """A larger pipe where the system has them, so that fewer turns are taken."""
+    """A larger pipe if the system has them, so that fewer turns are taken."""
     try:
         import fcntl
         fcntl.fcntl(file, SET_PIPE_SIZE, PIPE_BYTES)

@@ -104,7 +104,7 @@ def first_word(text: str) -> str:
 
 
 def counts_of(answer: str) -> Counts:
-    """The counts that the answer to `stat` tells."""
+    """The counts that the answer to `stat` reports."""
     counts = [count for count in map(number_of, answer.split(" ")[1:]) if count is not None]
     if first_word(answer) != "stat" or len(counts) != len(fields(Counts)) or answer.count(" ") != len(counts):
         raise ExploreError(f"the program does not answer as pmem does: {shown_line(answer.encode())!r} to 'stat'")
@@ -301,14 +301,14 @@ class Recording:
         return bool(self.replies) and self.replies[-1].is_exhibit
 
     def steps(self, index: int) -> Optional[int]:
-        """The persist steps of a command, as its answer tells them; None with an exhibit."""
+        """The persist steps of a command, as its answer reports them; None with an exhibit."""
         if self.commands[index].word not in self.settings.machine.stepping:
             return 0
         return self.replies[index].steps
 
 
 def ends_of(lengths: Sequence[int]) -> List[int]:
-    """Where each of several pieces in a row ends, the start first."""
+    """The end of each of several pieces in a row, the start first."""
     ends = [0]
     for length in lengths:
         ends.append(ends[-1] + length)

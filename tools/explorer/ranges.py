@@ -9,15 +9,15 @@ from .program import Recording
 from .trace import short_text
 from .traced import ARMS, LATCH, Step, Traced
 
-# What recovery costs, beside what it finds.
+# What recovery costs, besides what it finds.
 WORK = frozenset(("trials", "digests", "steps"))
 START = "its beginning"
 
 
 @dataclass(frozen=True)
 class Range:
-    """Cuts in a row in one command, or power off after the trace. `since` is the step from which on they leave this, where
-    that is told."""
+    """Cuts in a row in one command, or power off after the trace. `since` is the step from which on they leave this, if
+    that is known."""
 
     cuts: Tuple[Cut, ...]
     since: str
@@ -64,7 +64,7 @@ def left_by(cut: Cut) -> Tuple[Any, ...]:
 
 
 def ranges_of(cuts: Sequence[Cut], recording: Recording, verdict_of: Optional[Callable[[Cut], str]] = None) -> List[Range]:
-    """The ranges of a trace's cuts, with what the log tells of the steps that they begin at."""
+    """The ranges of a trace's cuts, with what the log reports of the steps that they begin at."""
     groups: List[List[Cut]] = []
     last: Any = None
     for cut in cuts:
@@ -78,7 +78,7 @@ def ranges_of(cuts: Sequence[Cut], recording: Recording, verdict_of: Optional[Ca
 
 
 def since(cut: Cut, told: Optional[Sequence[Traced]]) -> str:
-    """The step that comes just before a cut; nothing if the program doesn't tell it."""
+    """The step that comes just before a cut; nothing if the program doesn't report it."""
     if told is None or cut.command is None:
         return ""
     return step_text(told[cut.index].steps, cut.number - 1) if cut.number else START

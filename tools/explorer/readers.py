@@ -227,7 +227,7 @@ def csv_fields(text: str, name: str, number: int) -> List[str]:
 
 
 def csv_access(row: Sequence[str], name: str, number: int) -> Access:
-    """The access that a row of a CSV tells."""
+    """The access that a row of a CSV states."""
     kind, word = CSV_WORDS.get(row[0].lower(), ("", ""))
     if not kind:
         raise ExploreError(f"{name}, line {number}: the op is store, load, flush or fence (or ntstore, changed, clwb, clflush, clflushopt, "
@@ -279,7 +279,7 @@ def pmemcheck_accesses(chunks: Chunks, name: str, wanted: Wanted) -> Iterator[Ac
 
 
 def pmemcheck_access(fields: Sequence[bytes], name: str, number: int, row: int) -> Access:
-    """The access that a word of pmemcheck's log tells."""
+    """The access that a word of pmemcheck's log states."""
     if fields[0] == b"FENCE":
         return Access(FENCE, row=row, word="sfence")
     wanted = 3 if fields[0] == b"FLUSH" else 4

@@ -1,5 +1,5 @@
-"""What a worker of a cluster runs: a batch of runs or of questions, in a process of its own that the worker's task starts in
-the folder where this package was put. The batch comes on standard input, and the answers go to standard output, both as
+"""What a worker of a cluster runs: a batch of runs or of questions, in a new process that the worker's task starts in
+the folder of this package. The batch comes on standard input, and the answers go to standard output, both as
 JSON; bytes are texts whose letters are the bytes."""
 import json
 import os
@@ -23,7 +23,7 @@ Batch = Dict[str, Any]
 
 
 def program_of(batch: Batch) -> Program:
-    """The program that was put beside this package, asked for its log where the batch says so."""
+    """The program that was put next to this package, asked for its log if the batch says so."""
     return (LoggedProgram if batch["logged"] else Program)(batch["program"])
 
 
@@ -57,7 +57,7 @@ def bytes_of_text(text: str) -> bytes:
 
 
 def read(name: str) -> bytes:
-    """A file that was put beside this package."""
+    """A file that was put next to this package."""
     with open(name, "rb") as file:
         return file.read()
 

@@ -1,4 +1,4 @@
-"""What an imported program did, row by row, as the comments of its trace say: which stores came when, where they stand in the
+"""What an imported program did, row by row, as the comments of its trace say: which stores came when, from which place of the
 program's source, and what was flushed and fenced. docs/EXPLORE.md has the comments' grammar."""
 import re
 from dataclasses import dataclass, replace
@@ -20,7 +20,7 @@ LONGEST_SOURCE = 200
 @dataclass(frozen=True)
 class Event:
     """A row: its number in the file that was imported, its place in the program's source (or nothing), the section that a mark
-    began, its word, and for a store or a flush the line of memory, for a store the first byte, the bytes and the program's address.
+    began, and its word. A store or a flush has the line of memory; a store also has the first byte, the bytes and the program's address.
     `index` commands of the trace come before it. `has_bytes`: it says what is stored; else the commands behind it do."""
 
     index: int
@@ -40,7 +40,7 @@ class Event:
 
     @property
     def place(self) -> str:
-        """Where it is, in words."""
+        """Its place, in words."""
         return ", ".join(text for text in (f"row {self.row}", self.source, self.section) if text)
 
     @property
@@ -105,7 +105,7 @@ class Rows:
 
 
 def event_of(found: "re.Match[bytes]", index: int, section: str) -> Event:
-    """The event that a comment tells."""
+    """The event that a comment states."""
     source = printable((found[2] or b"").decode("utf-8", "replace"))
     word = next(each for each in (found[3], found[7], found[9], found[11]) if each).decode()
     if found[3]:

@@ -1,4 +1,4 @@
-"""Which line writes give a line the bytes that it had. The log names the lines alone, so they are shown (`peek`) before and
+"""Which line writes give a line the bytes that it had. The log names only the lines, so they are shown (`peek`) before and
 after each command that writes them, and, if it writes one more than once, by a cut in between."""
 from dataclasses import dataclass, replace
 from typing import Dict, Iterator, List, Sequence, Set, Tuple
@@ -15,7 +15,7 @@ SHOWN_BYTES = len("raw ") + 128 + len("\n")
 
 @dataclass(frozen=True)
 class Showing:
-    """The lines that are shown before a command, and after it: not before where they are known, since they were shown and
+    """The lines that are shown before a command, and after it: not before it if they are known, since they were shown and
     nothing has written them, and not after an exhibit, which ends the run."""
 
     index: int
@@ -131,7 +131,7 @@ class SameBytes:
                 done = each.index + 1
 
     def behind(self, data: bytes, at: int, first: int, last: int) -> int:
-        """Where the replies to these commands end that begin at a place in the output."""
+        """The end of the replies to these commands, which begin at `at` in the output."""
         ends = self.recording.output_ends
         replies = self.recording.output[ends[first]:ends[last]]
         if not data.startswith(replies, at):

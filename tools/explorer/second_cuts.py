@@ -1,11 +1,11 @@
-"""Cuts of recoveries (`cuts --twice`) of which one tells what others leave. If a recovery stands for those after several cuts
+"""Cuts of recoveries (`cuts --twice`) of which one shows what others leave. If a recovery stands for those after several cuts
 (`shared.py`), a cut of it stands for the cuts of those, and the log of both recoveries shows which:
 
-Of cuts during a group's lines a recovery that is cut leaves the same chip, and lines alone that it didn't write otherwise: it may not
-have looked at one that it hadn't written, nor may the recovery after it.
+For cuts during a group's lines, a recovery that is cut leaves the same chip, and the same lines except those that it didn't write. So
+neither it nor the recovery after it may have looked at a line that it hadn't written.
 
-Of a cut behind the group's end a recovery that is cut after some steps leaves what the one that finishes the group does that is
-cut after that many more."""
+For a cut behind the group's end, a recovery that is cut after some steps leaves the same as the recovery that finishes the group, if
+that is cut after as many more steps as it needs for this."""
 from dataclasses import dataclass
 from typing import Dict, Iterator, List, Optional, Sequence, Tuple
 
@@ -20,7 +20,7 @@ FIRST_RECOVERY, SECOND_RECOVERY = 3, 4
 
 class Second:
     """What is printed to the question of a cut of the recovery after a stretch's first cut, in which these lines are read, and what
-    that tells of others. `count`: that many lines of the stretch may have been written before; `is_finished`: whether the recovery
+    that shows of others. `count`: that many lines of the stretch may have been written before; `is_finished`: whether the recovery
     began by finishing the group."""
 
     def __init__(self, moment: Moment, stretch: Stretch, lines: Sequence[int], data: bytes, path: str) -> None:
@@ -37,7 +37,7 @@ class Second:
             self.is_finished = stretch.is_emptied and cut_log.startswith(finished(stretch.lines))
 
     def data(self, lines: Sequence[int]) -> Optional[bytes]:
-        """All that is printed to its own question, in which these lines are read, without the log; None if that can't be told."""
+        """All that is printed to its own question, in which these lines are read, without the log; None if that isn't known."""
         if lines == self.lines or not self.readings:
             return b"".join(self.replies)
         return b"".join([*self.replies[:SECOND_RECOVERY + 1], self.read(lines)]) if self.is_whole else None
@@ -74,7 +74,7 @@ class Told:
         return len(self.stretch.lines) + 1 if self.is_behind else 0
 
     def is_told(self, second: Second) -> bool:
-        """Whether a cut of the first one's recovery tells of that of this one's."""
+        """Whether a cut of the first one's recovery stands for that of this one."""
         return second.is_finished if self.is_behind else self.ahead <= second.count
 
 
@@ -104,7 +104,7 @@ class Seconds:
         self.told: List[Moment] = []
 
     def first_of(self, moment: Moment) -> Optional[Moment]:
-        """The cut of a stretch's first recovery that may tell of a moment: the moment itself where it is one."""
+        """The cut of a stretch's first recovery that may stand for a moment: the moment itself if it is one."""
         if moment.recovery_steps is None:
             return None
         if (moment.index, moment.number) in self.stretches:
@@ -115,7 +115,7 @@ class Seconds:
         return Moment("cut", cut.first.index, cut.first.number, cut.first.steps, moment.recovery_steps + cut.more)
 
     def asked(self, moments: Sequence[Moment]) -> Iterator[Second]:
-        """What is printed to the questions of those that tell of others."""
+        """What is printed to the questions of those that stand for others."""
         shared = self.shared
         stretches = [self.stretches[moment.index, moment.number] for moment in moments]
         questions = (shared.finder.question(moment, shared.lines_asked(moment, stretch)) for moment, stretch in zip(moments, stretches))
@@ -124,7 +124,7 @@ class Seconds:
             yield Second(moment, stretch, shared.lines_asked(moment, stretch), data, shared.recording.program.path)
 
     def told_in(self, moment: Moment, first: Optional[Moment], known: Known[Second]) -> Optional[bytes]:
-        """What is printed to a moment's question, if another one tells it."""
+        """What is printed to a moment's question, if another one shows it."""
         if first is None or moment.recovery_steps is None:
             return None
         second, lines = known.first(first), self.shared.finder.lines_at(moment)

@@ -43,7 +43,7 @@ class Settings:
         return words
 
     def check(self) -> None:
-        """That no option is chosen which the machine hasn't."""
+        """Checks that no option is chosen that the machine lacks. Errors: ExploreError."""
         for field in fields(self):
             if field.name not in (*self.machine.options, "machine_name") and getattr(self, field.name) != field.default:
                 raise ExploreError(f"pmem {self.machine_name} has no option --{field.name.replace('_', '-')}",
@@ -55,7 +55,7 @@ class Settings:
         return self.machine.data_lines(self.levels)
 
     def changed(self, **values: Any) -> "Settings":
-        """The same settings but for these fields."""
+        """The same settings except for these fields."""
         return replace(self, **values)
 
     def geometry(self) -> Dict[str, int]:

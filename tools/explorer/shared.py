@@ -1,12 +1,12 @@
-"""Cuts of which one recovery tells what all of them leave; the log shows which.
+"""Cuts of which one recovery shows what all of them leave; the log shows which.
 
-Those between which a command writes lines alone, with the commit group armed, that recovery writes again before it looks at
-them: up to there recovery can't know how far the command came, since the chip was the same and it looked at no line that
-differs; and then no line differs any more.
+During a group: with the commit group armed, the command writes only lines that recovery writes again before it looks at
+them. Recovery can't know how far the command came, since the chip was the same and it looked at no line that differs.
+Once it has written them, no line differs any more.
 
-The one behind the latch that empties the group, and if that was the command's last step the one before the first step of a
-later command, if nothing else reached the device: the recovery that began by finishing the group, with the same lines and
-the same latch, has the same chip and device before it from there on. It made that many more steps."""
+Behind a group: the cut after the latch that empties the group. If that was the command's last step, it is the cut before
+the first step of a later command, if nothing else reached the device. The recovery that began by finishing the group, with
+the same lines and the same latch, has the same chip and device from there on. It made that many more steps."""
 import re
 from dataclasses import dataclass
 from typing import Dict, Generic, Iterator, List, Optional, Protocol, Sequence, Tuple, TypeVar
@@ -37,7 +37,7 @@ class Finder(Protocol):
         """The lines that are read at a moment."""
 
     def question(self, moment: Moment, lines: Optional[Sequence[int]] = None) -> Question:
-        """The question that tells what a moment leaves; with `lines` it reads those."""
+        """The question that shows what a moment leaves; with `lines` it reads those."""
 
 
 @dataclass(frozen=True)
@@ -78,7 +78,7 @@ def stretches_of(accesses: Sequence[Tuple[bytes, int]], is_armed: bool) -> Tuple
 
 
 class First:
-    """What is printed to the question of a stretch's first cut, in which these lines are read, and what that tells of others."""
+    """What is printed to the question of a stretch's first cut, in which these lines are read, and what that shows of others."""
 
     def __init__(self, moment: Moment, stretch: Stretch, lines: Sequence[int], data: bytes, path: str) -> None:
         replies: List[bytes] = []
@@ -102,7 +102,7 @@ class First:
                 self.fewer = len(stretch.lines) + 1
 
     def read(self, lines: Sequence[int]) -> Optional[bytes]:
-        """What is printed to reads of these lines alone; None if that can't be told."""
+        """What is printed to reads of only these lines; None if that isn't known."""
         if lines == self.lines:
             return b"".join(self.readings)
         if not self.is_whole:
@@ -120,18 +120,18 @@ class First:
         return None if read is None else to_the_cut + recovery + read
 
     def is_behind(self, moment: Moment) -> bool:
-        """Whether a cut that this one tells of comes behind the latch that empties the group."""
+        """Whether a cut that this one stands for comes behind the latch that empties the group."""
         return moment.index > self.moment.index or moment.number > self.stretch.last
 
     def tells(self, moment: Moment) -> bool:
-        """Whether it tells of another cut, if the trace's log shows that it may."""
+        """Whether it stands for another cut, if the trace's log shows that it may."""
         if self.is_behind(moment):
             return self.fewer > 0 and RECOVERED.fullmatch(self.recovery) is not None
         return moment.number - self.moment.number <= self.count
 
     def is_between(self, moment: Moment) -> bool:
-        """Whether a cut comes between the first and the last of its stretch, of which all are told: what is printed up to it is
-        known from both."""
+        """Whether a cut comes between the first and the last of its stretch, which stand for all of it: what is printed up to it
+        is known from both."""
         return self.stretch.is_emptied and self.count == len(self.stretch.lines) and moment.index == self.moment.index \
             and self.moment.number < moment.number < self.stretch.last
 
@@ -144,7 +144,7 @@ class First:
         return self.to_the_cut[:-len(start)] + b" %d\n" % moment.number
 
     def same_at(self, moment: Moment, to_the_cut: bytes, marks: bytes, lines: Sequence[int]) -> Optional[bytes]:
-        """What is printed to the question of a cut that it tells of, to which this is printed up to the cut; None if that
+        """What is printed to the question of a cut that it stands for, to which this is printed up to the cut; None if that
         isn't as it should be. `marks` are the replies up to the cut, without the last answer, that it should have had to be one
         of its command."""
         if not (to_the_cut in OFF_REPLIES if moment.kind == "before" else is_cut(to_the_cut)) \
@@ -160,7 +160,7 @@ class First:
 
 
 def replies_of(data: bytes, path: str) -> Iterator[Tuple[bytes, int]]:
-    """Each reply in what was printed with a log, without its log, and where it ends."""
+    """Each reply in what was printed with a log, without its log, and its end."""
     at = 0
     while at < len(data):
         start = data.find(b"\n", data.find(WORK, at)) + 1
@@ -209,7 +209,7 @@ Teller = TypeVar("Teller", bound=HasMoment)
 
 
 class Known(Generic[Teller]):
-    """The first cuts of which is known what is printed, as long as others are told by them."""
+    """The first cuts whose output is known, for as long as it stands for others."""
 
     def __init__(self, asked: Iterator[Teller]) -> None:
         self.asked = asked
@@ -288,7 +288,7 @@ class Shared:
         return None if command.word in TAMPERING_WORDS or reply.marks else ended
 
     def firsts_of(self, moments: Sequence[Moment]) -> List[Optional[Moment]]:
-        """For each of these moments the first cut of the stretch that may tell of it, if that is among them."""
+        """For each of these moments the first cut of the stretch that may stand for it, if that is among them."""
         firsts: List[Optional[Moment]] = []
         first: Optional[Moment] = None
         for moment in moments:
@@ -299,7 +299,7 @@ class Shared:
         return firsts
 
     def first_of(self, moment: Moment) -> Optional[Tuple[int, int]]:
-        """The first cut of the stretch that may tell of a moment: its command, and after how many of its steps."""
+        """The first cut of the stretch that may stand for a moment: its command, and after how many of its steps."""
         if moment.kind == "cut" and moment.recovery_steps is None:
             for stretch in self.stretches.get(moment.index, ()):
                 if stretch.has(moment.number):
@@ -317,7 +317,7 @@ class Shared:
         return self.finder.lines_at(moment) is self.finder.lines_at(Moment("cut", moment.index))
 
     def lines_asked(self, first: Moment, stretch: Stretch) -> Sequence[int]:
-        """The lines that are read at the first cut of a stretch: those of the later command's cut of which it tells are too."""
+        """The lines that are read at the first cut of a stretch: those of the later command's cut that it stands for are too."""
         lines = self.finder.lines_at(first)
         later = self.later.get(first.index)
         if later is None or stretch is not self.stretches[first.index][-1]:
@@ -334,7 +334,7 @@ class Shared:
             yield First(moment, stretch, self.lines_asked(moment, stretch), data, self.recording.program.path)
 
     def questions(self, moments: Sequence[Moment], firsts: Sequence[Optional[Moment]], known: Known[First]) -> Iterator[Question]:
-        """The questions of all but the first cuts, up to the cut where a first one tells of the rest."""
+        """The questions of all but the first cuts, up to the cut from which a first one stands for the rest."""
         for moment, first in zip(moments, firsts):
             if first is moment:
                 continue
@@ -367,14 +367,14 @@ class Shared:
             progress.end()
 
     def other(self, moment: Moment, teller: Optional[First], others: Others) -> Optional[bytes]:
-        """What is printed to the question of a moment that is no first cut; None if that can't be told."""
+        """What is printed to the question of a moment that isn't a first cut; None if that isn't known."""
         if teller is None or not teller.tells(moment):
             return others.take()
         to_the_cut = teller.between(moment, others.next()) if teller.is_between(moment) else others.take()
         return None if to_the_cut is None else self.told(teller, moment, to_the_cut)
 
     def told(self, first: First, moment: Moment, to_the_cut: bytes) -> Optional[bytes]:
-        """What is printed to the question of a cut that a first one tells of, to which this is printed up to the cut."""
+        """What is printed to the question of a cut that a first one stands for, to which this is printed up to the cut."""
         marks = without_answer(to_the_cut) if moment.kind == "cut" else OK
         if moment.index > first.moment.index:
             ends = self.recording.output_ends

@@ -32,7 +32,7 @@ shadow nodes N; for tree: data A, tag A, node X, slot N. A wrong line is reporte
 
 
 class Session:
-    """A trace that grows. `lines` are its lines so far; all that is told of it comes from runs of the program on them."""
+    """A trace that grows. `lines` are its lines so far; everything shown of it comes from runs of the program on them."""
 
     def __init__(self, together: Together, settings: Settings, say: Callable[[str], None]) -> None:
         self.together = together
@@ -91,7 +91,7 @@ class Session:
             self.tell(each, stopped if each.command.number == at else None)
 
     def traced(self, recording: Recording, numbers: range) -> List[Traced]:
-        """The commands on these lines with what became of them, and with their steps where those are looked for."""
+        """The commands on these lines with what became of them, and with their steps if those are asked for."""
         if self.with_steps or self.breaks:
             return trace_steps(recording, self.together, numbers)
         return [Traced(command, reply, ()) for command, reply in zip(recording.commands, recording.replies)
@@ -170,7 +170,7 @@ class Session:
         self.tell_length()
 
     def tell_length(self) -> None:
-        """Tells where the trace stands."""
+        """Shows how far the trace is."""
         commands = commands_of(text_of(self.lines))
         self.say(f"{len(self.lines)} lines" + (f", the last: {commands[-1].short}" if commands else ""))
 
@@ -289,7 +289,7 @@ def read_line(is_terminal: bool) -> Optional[str]:
 
 
 def tried(session: Session, line: str) -> bool:
-    """Does what a line says; answers whether that went well. What didn't is told, and changes nothing."""
+    """Does what a line says; answers whether that went well. An error is reported, and changes nothing."""
     try:
         session.do(line)
     except (ExploreError, ValueError, MemoryError) as error:
@@ -301,12 +301,12 @@ def tried(session: Session, line: str) -> bool:
 
 
 def run_session(together: Together, settings: Settings, begin: Optional[str] = None) -> int:
-    """Reads lines from standard input and does what they say, after those of a trace where one is named; answers the
-    exit status: where standard input is no terminal, a failure if a line was wrong."""
+    """Reads lines from standard input and does what they say, after those of a trace if one is named; answers the
+    exit status: a failure if a line was wrong and standard input is not a terminal."""
     is_terminal = sys.stdin.isatty()
     if is_terminal:
         try:
-            importlib.import_module("readline")  # lines can be edited and called back where it is there
+            importlib.import_module("readline")  # with it, lines can be edited and called back
         except ImportError:
             pass
         say(f"pmem {settings.machine_name}, {settings.text()}; `help` lists the words")

@@ -1,6 +1,6 @@
-"""Each persist step of a trace, as the program's log tells it. Of an older program, which has no log, the steps of `run` are
-found by cutting the trace at each one and comparing the device with `peek`, and those of the other machines are told by
-what a cut after each leaves."""
+"""Each persist step of a trace, from the program's log. An older program has no log. Then the steps of `run` are found by
+cutting the trace at each one and comparing the device with `peek`, and those of the other machines by what a cut after
+each leaves."""
 import sys
 from collections import deque
 from dataclasses import dataclass, replace
@@ -79,7 +79,7 @@ def asks(places: Sequence[int]) -> List[bytes]:
 
 
 def state_in(data: bytes, count: int) -> State:
-    """The state that the end of what was printed tells: the counts and `count` lines."""
+    """The state that the end of what was printed shows: the counts and `count` lines."""
     start = len(data) - SHOWN_BYTES * count
     before = data[:max(0, start)].rsplit(b"\n", 2)
     if start < 0 or data.count(b"raw ", start) != count or len(before) < 2 or not before[-2].startswith(b"stat "):
@@ -110,11 +110,11 @@ class Totals:
         self.before_exhibit: Dict[int, int] = {}
 
     def of(self, index: int) -> int:
-        """The steps of a command, as its answer tells them or as they were counted."""
+        """The steps of a command, as its answer reports them or as they were counted."""
         return self.before_exhibit.get(index, self.recording.steps(index) or 0)
 
     def count(self, indexes: Sequence[int]) -> None:
-        """Counts the steps of a command among these that ends the run with an exhibit: those that the log tells, or with a
+        """Counts the steps of a command among these that ends the run with an exhibit: those that the log reports, or with a
         program without one the least cut that it isn't cut by."""
         for index in indexes:
             if self.recording.steps(index) is None:
@@ -135,7 +135,7 @@ class Totals:
 
 
 def check_layout(recording: Recording) -> None:
-    """That the device ends where the layout says."""
+    """Checks that the device has the size that the layout says. Errors: ExploreError."""
     size = Layout(recording.settings).size
     replies = recording.ask(0, [b"peek %d" % (size - 1), b"peek %d" % size])
     if [reply.answer.split(" ")[0] for reply in replies] != ["raw", "range"]:
@@ -415,7 +415,7 @@ def steps_text(traced: Sequence[Traced], whole: bool) -> str:
 
 
 def access_texts(entry: Traced, places: int) -> Iterator[str]:
-    """The steps of a command, and if they are told what it read between, and how much work it was."""
+    """The steps of a command; if they are known, also what it read between, and how much work it was."""
     reads = deque(entry.work.reads if entry.work else ())
     for step in entry.steps:
         while reads and reads[0][0] < step.number:
@@ -429,7 +429,7 @@ def access_texts(entry: Traced, places: int) -> Iterator[str]:
 
 
 def work_text(traced: Sequence[Traced]) -> str:
-    """The sum of the work of these commands, if it is told."""
+    """The sum of the work of these commands, if it is known."""
     works = [entry.work for entry in traced if entry.work]
     if not works:
         return ""

@@ -57,7 +57,7 @@ class Cost:
     has_counts: bool = True
 
     def record(self) -> Dict[str, Any]:
-        """The numbers by name, in the order of `FIELDS` and `MORE_FIELDS`. What a machine hasn't, or doesn't show, is
+        """The numbers by name, in the order of `FIELDS` and `MORE_FIELDS`. What a machine lacks, or doesn't show, is
         None."""
         writes, reads = self.writes, self.reads
         recovery = {}
@@ -129,8 +129,8 @@ def cost_of(settings: Settings, commands: Sequence[Command], replies: Sequence[R
 
 def cost_by_replies(settings: Settings, commands: Sequence[Command], replies: Sequence[Reply],
                     log: Optional[Sequence[Entry]] = None) -> Cost:
-    """The costs of a run of a machine that doesn't show its counts, with those that its log tells, where it has one: those of
-    a transaction are of all its lines."""
+    """The costs of a run of a machine that doesn't show its counts, with those from its log, if it has one. A transaction's
+    costs are those of all its lines."""
     writes, reads, waiting, line_writes = Tally(), Tally(), Waiting(), 0
     parts = Parts(layout_of(settings))
     for number, (command, reply) in enumerate(zip(commands, replies)):
@@ -156,7 +156,7 @@ def cost_by_replies(settings: Settings, commands: Sequence[Command], replies: Se
 
 
 def script_of(settings: Settings, commands: Sequence[Command]) -> List[bytes]:
-    """The trace, with `stat` before and after each command where that is had, and a cut at its end."""
+    """The trace, with `stat` before and after each command if the machine has it, and a cut at its end."""
     script = [command.text for command in commands]
     if settings.machine.has_counts:
         script = [line for text in script for line in (b"stat", text)] + [b"stat"]
@@ -164,7 +164,7 @@ def script_of(settings: Settings, commands: Sequence[Command]) -> List[bytes]:
 
 
 def cost_in(output: Output, settings: Settings, commands: Sequence[Command], logged_by: Optional[str] = None) -> Cost:
-    """What a trace costs, as the output of its script tells; `logged_by`: the program that told its log in it."""
+    """What a trace costs, as the output of its script shows; `logged_by`: the program that printed its log in it."""
     log = entries_of(output.data, logged_by) if logged_by is not None else None
     replies = replies_of(output.lines) if log is None else [entry.reply for entry in log]
     count = len(script_of(settings, commands)) - 2
@@ -187,7 +187,7 @@ def settings_of(base: Settings, values: Dict[str, Sequence[int]]) -> List[Settin
 
 
 def trace_sweep(trace: Trace, settings: Sequence[Settings], together: Together) -> List[Cost]:
-    """What a trace costs under each setting. The first run stands alone: it tells what is wrong with the trace."""
+    """What a trace costs under each setting. The first run stands alone: it reports what is wrong with the trace."""
     for each in settings:
         each.check()
     check_length(trace)

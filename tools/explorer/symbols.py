@@ -14,7 +14,7 @@ LINES_AT = re.compile(rb"# lines? ([0-9]{1,9})(?: to ([0-9]{1,9}))? (?:is|are) a
 # Names of C++ are longer than those of C.
 LONGEST_NAME = 300
 LARGEST_ELF = 1 << 31
-# Of a file of 64 bits, lowest byte first.
+# How a file of 64 bits, lowest byte first, begins.
 ELF_HEAD = b"\x7fELF\x02\x01"
 SYMBOL_TABLE = 2
 OBJECT = 1
@@ -58,7 +58,7 @@ class Names:
         return ",".join(f"{address:#x}" for address in self.addresses_of(line)) or "-"
 
     def symbol_text(self, line: int) -> str:
-        """The variables that lie in a line of memory, each with the place in it where the line begins."""
+        """The variables that lie in a line of memory, each with the place in it at which the line begins."""
         return ",".join(text for address in self.addresses_of(line) for text in self.symbols_at(address)) or "-"
 
     def symbols_at(self, address: int) -> List[str]:
@@ -70,7 +70,7 @@ class Names:
 
 
 def read_lines_at(text: bytes) -> Tuple[int, int, int]:
-    """The first and the last line that a comment tells, and the address; no line if it tells none."""
+    """The first and the last line that a comment states, and the address; no line if it states none."""
     match = LINES_AT.fullmatch(text.strip())
     if match is None:
         return 0, -1, 0
@@ -79,7 +79,7 @@ def read_lines_at(text: bytes) -> Tuple[int, int, int]:
 
 
 def elf_symbols(name: str, base: int) -> List[Symbol]:
-    """The variables that an ELF file's symbol table lists, `base` being where it was loaded."""
+    """The variables that an ELF file's symbol table lists, `base` being its address in memory."""
     data = read_bytes(name, LARGEST_ELF, ELF_HEAD)
     if not data.startswith(ELF_HEAD):
         raise ExploreError(f"{shown_name(name)} is not a little-endian ELF file of 64 bits")

@@ -27,12 +27,12 @@ LONG = 1_000_000
 
 # What fork_server.c adds to the program's output.
 BEGUN, FORKED, ENDED = b"\1H\n", b"\1F\n", b"\1E"
-# Where this is in the environment, it answers by forks alone.
+# If this is in the environment, it answers only by forks.
 FORKS = "FORK_SERVER_FORKS"
 
 
 class Progress:
-    """A line on standard error that tells how far long work is, and how long it will yet take; nothing if that is no
+    """A line on standard error that says how far long work is, and how long it will yet take; nothing if that isn't a
     terminal, or the work has no name."""
 
     def __init__(self, what: str, total: Optional[int] = None) -> None:
@@ -51,7 +51,7 @@ class Progress:
             sys.stderr.flush()
 
     def left(self, done: int, seconds: float) -> str:
-        """The time left, once it can be told."""
+        """The time left, once it can be estimated."""
         if self.total is None or not done or seconds < 1 or done >= self.total:
             return ""
         return f", {time_text(seconds / done * (self.total - done))} left"
@@ -105,7 +105,7 @@ class Worker(Generic[Task]):
 
 
 class FromStart(Worker[Task]):
-    """Does each task by a process of its own, one after the other. `begin` starts it, and has what it is given."""
+    """Does each task by a new process, one after the other. `begin` starts it, and answers its input."""
 
     def __init__(self, selector: selectors.BaseSelector, done: Dict[int, Output],
                  begin: Callable[[Task], Tuple["subprocess.Popen[bytes]", bytes]]) -> None:
@@ -134,7 +134,7 @@ class NotForked(ExploreError):
 
 class Forked(Worker[Question]):
     """Asks a process that goes along the trace, and answers each question from where it stands (fork_server.c): in place, or by
-    a fork of itself where it ends of that or answers otherwise than before."""
+    a fork of itself if a question ends it or changes its answers."""
 
     def __init__(self, selector: selectors.BaseSelector, recording: Recording, library: str,
                  done: Dict[int, Output]) -> None:
@@ -157,7 +157,7 @@ class Forked(Worker[Question]):
         self.has_begun = False
 
     def begin_anew(self, why: str) -> None:
-        """Starts it again, to be asked what wasn't answered by forks of it; where it was asked so already it can't be asked."""
+        """Starts it again, to answer the rest by forks. If it did so already, it can't be asked: NotForked."""
         if self.is_by_forks:
             raise NotForked(why)
         self.is_by_forks = True
@@ -297,7 +297,7 @@ class Together:
         self.is_log_missed = False
 
     def with_log(self) -> "Together":
-        """The same, of the program that tells its log in all runs."""
+        """The same, of the program that prints its log in all runs."""
         other = copy.copy(self)
         other.program = LoggedProgram(self.program.path)
         return other
@@ -326,7 +326,7 @@ class Together:
 
     def library_for(self, recording: Recording, total: int) -> Optional[str]:
         """The library by which the program is asked, once it is seen to work; None if each question is a run from
-        the trace's start, which is told if that takes long."""
+        the trace's start, which a note says if that takes long."""
         if self.library is None and not self.why_from_start:
             self.library, self.why_from_start = fork_server.library()
             if self.library is not None:

@@ -1,4 +1,4 @@
-"""Reading a trace: which of its lines are commands. The program alone judges what they say."""
+"""Reading a trace: which of its lines are commands. Only the program judges what they say."""
 import sys
 from dataclasses import dataclass
 from functools import cached_property, lru_cache
@@ -60,7 +60,7 @@ class Trace:
 
 
 def words_of(line: bytes) -> List[bytes]:
-    """The words of a line: spaces and tabs alone stand between them."""
+    """The words of a line: only spaces and tabs stand between them."""
     words = (line.replace(b"\t", b" ") if b"\t" in line else line).split(b" ")
     return [word for word in words if word] if b"" in words else words
 
@@ -112,8 +112,8 @@ def commands_of(data: bytes) -> List[Command]:
 
 
 def read_bytes(name: str, most: int = LARGEST_FILE, head: bytes = b"") -> bytes:
-    """The bytes of a file, or of standard input if the name is `-`; an error if there are more than `most`. Of a file that doesn't begin with
-    `head` the first ones."""
+    """The bytes of a file, or of standard input if the name is `-`; an error if there are more than `most`. If the file doesn't begin with
+    `head`, only the first ones."""
     try:
         if name == "-":
             return read_whole(sys.stdin.buffer, name, most, head)

@@ -1,4 +1,4 @@
-"""What is told of a command of a trace: its reply, its persist steps, and what else it took."""
+"""What is known of a command of a trace: its reply, its persist steps, and what else it took."""
 from dataclasses import dataclass
 from typing import Optional, Tuple
 
@@ -13,15 +13,15 @@ UNSEEN = "unseen"
 UNTOLD = "untold"
 LOST, KEPT = "lost", "kept"
 
-# What a latch does, where that is told.
+# What a latch does, if that is known.
 ARMS, EMPTIES, SETS = "arms", "empties", "sets"
 
 
 @dataclass(frozen=True)
 class Step:
     """One persist step: a latch, or a write of a device line. `again`: with the bytes that it had, None if that can't
-    be asked. Of a latch `does` is what it does, if that is told, and `group` how many lines it arms. Of a machine that
-    doesn't show its device `fate` is what a cut just before the step answers: `lost`, `kept` or nothing."""
+    be asked. For a latch, `does` is what it does, if that is known, and `group` how many lines it arms. For a machine that
+    doesn't show its device, `fate` is what a cut just before the step answers: `lost`, `kept` or nothing."""
 
     number: int
     kind: str
@@ -82,8 +82,8 @@ class Work:
 
 @dataclass(frozen=True)
 class Traced:
-    """A command, its reply, and its persist steps, or of a machine that doesn't show its device what cuts in it leave. The
-    work is told where it was asked for."""
+    """A command, its reply, and its persist steps, or for a machine that doesn't show its device what cuts in it leave.
+    `work` is there if it was asked for."""
 
     command: Command
     reply: Reply

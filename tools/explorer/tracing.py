@@ -32,7 +32,7 @@ class Explored:
 
     @property
     def replies(self) -> List[Reply]:
-        """The reply to each command, up to an exhibit where the trace ends in one."""
+        """The reply to each command, up to an exhibit if the trace ends in one."""
         return self.recording.replies
 
     def steps(self, lines: Optional[range] = None, with_work: bool = False) -> List[Traced]:

@@ -22,7 +22,7 @@ class Waiting:
         return [write for queue in self.queues.values() for write in queue]
 
     def lost(self, command: Command, answer: str) -> List[Write]:
-        """The writes that are lost where a command is answered so, by a cut in it or by `off`."""
+        """The writes that are lost by a cut in a command that is answered like this, or by `off`."""
         words = answer.split(" ")
         if words[0] == "cut" and command.word in ("drain", "fence"):
             own, done = port_of(command), int(words[2]) if command.word == "fence" else 0

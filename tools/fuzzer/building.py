@@ -139,7 +139,7 @@ def portable_objects(clang: str, has_threads: bool) -> List[str]:
 
 
 def part_object(number: int, words: Sequence[str], text: str, has_threads: bool) -> Path:
-    """Where the object of a part is kept, by what it is made of. Part 0 has the library's own C, which changes more often than the rest."""
+    """The file of a part's object, by what it is made of. Part 0 has the library's own C, which changes more often than the rest."""
     made_of = text + HEADER.read_text(encoding="utf-8") if number == 0 else text[:text.index(TRANSLATED[1])]
     return ROOM / f"{'threads' if has_threads else 'watched'}-part{number}-{digest_of([*words, made_of], [])}.o"
 

@@ -43,7 +43,7 @@ def _parser() -> argparse.ArgumentParser:
     parser.add_argument("--version", action="version", version=f"fuzz {version()}")
     parser.add_argument("drivers", nargs="*", metavar="DRIVER", help="which drivers run (default: all)")
     parser.add_argument("--seconds", type=int, default=10, metavar="N", help="how long each driver runs, 1 to 1000000 (10)")
-    parser.add_argument("--seed", type=int, default=0, metavar="N", help="where the random numbers begin, 1 to 4294967295 (another each time)")
+    parser.add_argument("--seed", type=int, default=0, metavar="N", help="the start of the random numbers, 1 to 4294967295 (another each time)")
     parser.add_argument("--native", type=Path, metavar="FOLDER", help=f"stand on {ARCHIVE} and {SHARED} of this folder: the native library")
     parser.add_argument("--build", action="store_true", help="build the drivers, and run nothing")
     return parser

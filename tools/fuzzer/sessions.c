@@ -10,7 +10,7 @@ typedef struct text {
     size_t len;
 } text;
 
-/* What a session was told and what it replied. */
+/* What a session was given and what it replied. */
 typedef struct transcript {
     text words, lines, replies;
     bool is_known;     /* each command is in `lines`, and its reply in `replies` */

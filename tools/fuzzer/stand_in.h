@@ -4,7 +4,7 @@
 
 #include "input.h"
 
-/* Sets where its answers come from. */
+/* Sets the source of its answers. */
 void stand_in_answers(input *given);
 
 /* How many of its sessions are open. */

@@ -27,7 +27,7 @@ static void tell_one(input *given, pmem *handle, const uint8_t *line, size_t len
     free(out);
 }
 
-/* Reads the log and the marks of a reply in a block of its own. */
+/* Reads the log and the marks of a reply in a separate block. */
 static void read_marks(const uint8_t *reply, size_t len) {
     pmem_access accesses[4];
     pmem_work work;

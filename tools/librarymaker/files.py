@@ -15,7 +15,7 @@ NATIVE_C = ("session.c", "copy_lines.c")
 PORTABLE_C = ("portable.c", "copy_memory.c", "session.c")
 ARCHIVE, SHARED = "libpmem.a", "libpmem.so"
 STANDARD = "-std=c11"
-# The status where what a build is made of is not there: proved libraries, or exports of the module.
+# The status if what a build is made of is not there: proved libraries, or exports of the module.
 MISSING = 126
 
 

@@ -64,7 +64,7 @@ def page_differs() -> List[str]:
     page = kept()
     if page is None:
         return ["there is no page/pmem.html: run tools/page"]
-    return [] if made_page() == page else ["page/pmem.html isn't what its sources and module/pmem.wasm make: run tools/page"]
+    return [] if made_page() == page else ["page/pmem.html is not what its sources and module/pmem.wasm make: run tools/page"]
 
 
 def module_differs() -> List[str]:

@@ -173,7 +173,7 @@ class Blocks:
         return at, f"<{tag}>" + "".join(f"<li>{self.entry(entry)}</li>" for entry in entries) + f"</{tag}>"
 
     def entry(self, lines: List[str]) -> str:
-        """An entry of a list; if it is one paragraph it has no tags of its own."""
+        """An entry of a list; if it is one paragraph it has no tags around it."""
         text = self.html(lines)
         only = re.fullmatch(r"<p>(.*?)</p>(<[uo]l>.*</[uo]l>)?", text, re.S)
         return only[1] + (only[2] or "") if only and "<p>" not in only[1] else text

@@ -43,7 +43,7 @@ FRAME = """<!doctype html>
 
 
 def address_of(path: str) -> str:
-    """Where a file of the repository is on the site: a page is HTML, and one that is its folder's first is index.html."""
+    """The address of a file of the repository on the site: a page is HTML, and one that is its folder's first is index.html."""
     if path.endswith(".md"):
         folder, name = posixpath.split(path)
         return posixpath.join(folder, "index.html" if name == "README.md" else name[:-3] + ".html")
@@ -66,7 +66,7 @@ class Site:
         self.style = read(f"{SOURCES}/site.css").rstrip()
 
     def made(self) -> Dict[str, str]:
-        """All pages of the site by their addresses, but for the one that runs the program."""
+        """All pages of the site by their addresses, except the one that runs the program."""
         seen: Set[str] = set()
         while self.waiting:
             path = self.waiting.pop()
@@ -126,7 +126,7 @@ class Site:
         return relative(address_of(path), place)
 
     def link(self, address: str, source: str) -> Optional[str]:
-        """Where a link leads on the site; None if it leads to nothing that the repository has."""
+        """The target of a link on the site; None if it leads to nothing that the repository has."""
         if re.match(r"[a-z]+:", address) or address.startswith("#"):
             return address
         name, _, anchor = address.partition("#")
@@ -146,7 +146,7 @@ class Site:
 def write_site(folder: str, page: str, has_answers: bool = True) -> Tuple[int, int]:
     """Writes the site with this page in it into a folder that is new or empty; how many pages and files it has."""
     if os.path.isdir(folder) and os.listdir(folder):
-        raise PageError(f"{folder} isn't empty: name a new folder")
+        raise PageError(f"{folder} is not empty: name a new folder")
     site = Site(has_answers)
     texts = {**site.made(), PAGE: page}
     for place, text in texts.items():

@@ -29,7 +29,7 @@ def read(path: str) -> str:
 
 
 def read_or(path: str, default: str) -> str:
-    """The same, or a default where there is no such file."""
+    """The same, or a default if there is no such file."""
     return read(path) if os.path.isfile(path) else default
 
 
@@ -57,7 +57,7 @@ def commands_of(trace: str) -> List[str]:
 
 
 def part_of(folder: str, machine: str, suffix: str) -> Dict[str, Any]:
-    """A trace with its machine, its words, and the page beside it."""
+    """A trace with its machine, its arguments, and the page next to it."""
     return {"machine": read_or(f"{folder}/machine", machine).strip(), "words": words_of(read_or(f"{folder}/options", "")),
             "trace": read(f"{folder}/trace"), "text": html_in_page(read_or(f"{folder}/README.md", ""), folder, suffix)}
 
@@ -78,7 +78,7 @@ def picture_in_page(says: str, address: str) -> str:
 
 
 def link_in_page(address: str, folder: str, suffix: str) -> Optional[str]:
-    """Where a link of a lesson leads from the page; None if the page has no such place."""
+    """The target of a lesson's link on the page; None if the page has no such place."""
     if re.match(r"https?://", address):
         return address
     path, _, anchor = address.partition("#")

@@ -34,7 +34,7 @@ def processors() -> int:
 
 
 class Interrupts:
-    """Signals that end this process raise a KeyboardInterrupt, but not amid the start of a child, which would be left behind."""
+    """Signals that end this process raise a KeyboardInterrupt, but not during the start of a child, which would be left behind."""
 
     def __init__(self) -> None:
         self.is_held = self.is_seen = False

@@ -42,7 +42,7 @@ int rattle_errno(void) { return error; }
 void rattle_set_errno(int e) { error = e; }
 int main(void);
 int run_main(void) { return main(); }
-/* Memory for whoever calls the exports: its address, or 0. */
+/* Memory for the caller of the exports: its address, or 0. */
 u64 host_alloc(u64 n) { Tried t = rattle_alloc(n, 1); return t.ok ? (u64)t.p : 0; }
 void host_free(u64 p) { rattle_dealloc((u8 *)p); }
 typedef unsigned __int128 u128;

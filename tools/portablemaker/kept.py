@@ -1,4 +1,4 @@
-"""The portable program that ./pmem keeps: where it is, whether it is that of the module, and how it is made."""
+"""The portable program that ./pmem keeps: its folder, whether it is that of the module, and how it is made."""
 import hashlib
 import os
 import stat
@@ -52,7 +52,7 @@ def is_private(folder: str) -> bool:
 
 
 def folders(key: str) -> Iterator[str]:
-    """Where a program may be kept: out/ of the repository, else the user's cache."""
+    """The folders that may keep a program: out/ of the repository, else the user's cache."""
     yield f"{TOP}/out"
     cache = os.environ.get("XDG_CACHE_HOME") or (f"{os.environ['HOME']}/.cache" if os.environ.get("HOME") else "")
     if cache:

@@ -1,6 +1,6 @@
 """The 32-bit form of a module: the same functions over a memory of 32-bit addresses, for every engine.
 
-The module computes addresses as 64-bit numbers, which stay below 4 GiB, as its memory does. In the 32-bit form each address is truncated where it
+The module computes addresses as 64-bit numbers, which stay below 4 GiB, as its memory does. In the 32-bit form each address is truncated when it
 is used (`i32.wrap_i64`), and nothing else changes: functions take and give the same numbers. What the given exports don't reach is left out, and
 so are names.
 """
@@ -23,7 +23,7 @@ MOST_PAGES = 65535
 
 
 class Lowering:
-    """A function on its way into the 32-bit form: its instructions as bytes, in which truncations are put where operands are made."""
+    """A function on its way into the 32-bit form: its instructions as bytes, in which truncations follow what makes the operands."""
 
     def __init__(self, module: Module, numbers: Dict[int, int], place: int) -> None:
         self.module, self.numbers, self.place = module, numbers, place
@@ -76,11 +76,11 @@ class Lowering:
         del self.stack[len(self.stack) - count:]
 
     def push(self, count: int) -> None:
-        """The last instruction made so many operands."""
+        """The last instruction made `count` operands."""
         self.stack += [len(self.out) - 1] * count
 
     def truncate(self, operand: int) -> None:
-        """Truncates an operand, counted from the last one, where it is made."""
+        """Truncates an operand, counted from the last one, right after it is made."""
         made = self.stack[-1 - operand]
         self.out[made] += bytes([WRAP])
 

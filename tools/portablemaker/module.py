@@ -50,12 +50,12 @@ def run(words: List[str], **how: Any) -> str:
 
 
 def crates() -> Dict[str, List[str]]:
-    """The repository's crates, each with the words behind its colon."""
+    """The repository's crates, each with the words after its colon."""
     return {name: [word for word in line.partition(":")[2].split() if "=" not in word] for name, line in crate_lines(TOP).items()}
 
 
 def library(name: str) -> str:
-    """Where a crate's library is kept once it is proved. Errors: PortableError."""
+    """The file of a crate's library once it is proved. Errors: PortableError."""
     folder = f"{TOP}/crates/{name}/out/rlib"
     if not os.path.isfile(f"{folder}/{name}.rlib/format"):
         raise PortableError(f"the library {name} is not proved and built yet: run ./pmem --prove and tools/library, or rt ci, first")
@@ -117,7 +117,7 @@ def proved_bitcode(top: str, room: str, crate: str) -> str:
     words = [f"{top}/bin/rattle", "build", *build_words(top, crate), "--toolchain", stand_in(top, made), "-o", f"{made}/made"]
     said = run(words, cwd=f"{TOP}/crates/{crate}")
     if "logic=proved" not in said:
-        raise PortableError(f"the crate {crate} is not said to be proved:\n{said[-1500:]}")
+        raise PortableError(f"rattle does not report the crate {crate} as proved:\n{said[-1500:]}")
     if not os.path.isfile(f"{made}/bitcode.bc"):
         raise PortableError("the toolchain's clang was not given a file of bitcode (.bc)")
     return f"{made}/bitcode.bc"
@@ -133,11 +133,11 @@ def exports() -> List[str]:
 
 
 def retargeted(text: str) -> str:
-    """The text of LLVM bitcode without what is said of x86-64."""
+    """The text of LLVM bitcode without what it says of x86-64."""
     text = re.sub(r"^target (datalayout|triple).*\n", "", text, flags=re.M)
     for name in NATIVE:
         text = re.sub(rf'"{name}"="[^"]*"', "", text)
-    # clang gives a wasm `main` a name of its own.
+    # clang gives a wasm `main` another name.
     return re.sub(r"@main\b", "@program_main", text)
 
 

@@ -29,7 +29,7 @@ static void begin_streams(void) { _setmode(_fileno(stdin), _O_BINARY); _setmode(
 static void begin_streams(void) {}
 #endif
 
-/* Up to the end of a line, so that whoever writes line by line is answered line by line. */
+/* Up to the end of a line, so that input line by line gets its answers line by line. */
 OF_MODULE u64 host_read(u8 *m, u32 file, u64 to, u64 room) {
     u64 count = 0;
     int byte = 0;

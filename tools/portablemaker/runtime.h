@@ -8,7 +8,7 @@
 _Static_assert(sizeof(size_t) == 8, "pmem.c is for 64-bit systems");
 _Static_assert((-1 >> 1) == -1, "pmem.c needs arithmetic shifts of signed numbers");
 
-/* Compiled with -DPMEM_PART=N, a file has part N of the functions alone: so several compilers can work side by side. */
+/* Compiled with -DPMEM_PART=N, a file has only part N of the functions: so several compilers can work side by side. */
 #ifdef PMEM_PART
 #if defined __GNUC__ && !defined _WIN32
 #define OF_MODULE __attribute__((visibility("hidden")))
@@ -128,7 +128,7 @@ LOCAL u64 grown(u8 *m, u64 pages) {
     return had / PAGE;
 }
 
-/* A memory of zeros that can grow to so many bytes, or to fewer if the system reserves no more; NULL if there is no memory. */
+/* A memory of zeros that can grow to `most` bytes, or to fewer if the system reserves no more; NULL if there is no memory. */
 LOCAL u8 *empty_instance(u64 most, u64 bytes) {
     for (most = most < bytes ? bytes : most; most >= bytes; most /= 2) {
         u8 *block = (u8 *)calloc(1, HEAD + most);

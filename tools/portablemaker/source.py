@@ -58,8 +58,7 @@ LOCAL u8 *new_instance(u64 most) {
     return m;
 }
 
-/* A second memory that stands where this one stands, between calls: the stack, which stands first, holds nothing then. NULL if there is no
- * memory. */
+/* A copy of a memory, made between calls: the stack, which comes first, holds nothing then. NULL if there is no memory. */
 LOCAL u8 *copied_instance(u8 *from) {
     head *its = head_of(from);
     u8 *m = empty_instance(its->most, its->bytes);
@@ -72,7 +71,7 @@ LOCAL u8 *copied_instance(u8 *from) {
 
 
 def text_of(name: str) -> str:
-    """A text that stands beside this file."""
+    """A text from this file's folder."""
     with open(f"{HERE}/{name}", encoding="utf-8") as file:
         return file.read()
 

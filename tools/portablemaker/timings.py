@@ -1,4 +1,4 @@
-"""How long each form of the program takes beside the one that the toolchain built: what `tools/bench --forms` prints."""
+"""How long each form of the program takes next to the one that the toolchain built: what `tools/bench --forms` prints."""
 import os
 import shutil
 import subprocess

@@ -11,11 +11,11 @@ from typing import Callable, Dict, FrozenSet, List, NamedTuple, Optional, Sequen
 from .operators import BINARY, C_TYPES, LOADS, STORES, UNARY, number
 from .wasm import BLOCKS, COPY, Instruction, Module, WasmError
 
-# A longer expression gets a variable of its own.
+# A longer expression gets its own variable.
 LONGEST = 160
 # C promises that a string may have 4,095 bytes.
 LONGEST_STRING = 4000
-# Variables that stand for entries of the operand stack; parameters and local variables; where those are set, and these declared.
+# Variables that stand for entries of the operand stack; parameters and local variables; what sets the former, and what declares the latter.
 VARIABLE = re.compile(r"\b[bt]\d+\b")
 NAMED = re.compile(r"\b(?:m|l\d+)\b")
 SET = re.compile(r"^ *(l\d+) = ", re.M)
@@ -40,12 +40,12 @@ class Value(NamedTuple):
 
     @property
     def operand(self) -> str:
-        """The text as an operand, where an int of C would make the arithmetic signed."""
+        """The text as an operand, if an int of C would make the arithmetic signed."""
         return f"(u32)({self.text})" if self.is_test else self.inner
 
 
 class Frame(NamedTuple):
-    """An open block: where its value goes, and how high the operand stack was."""
+    """An open block: the variable for its value, and how high the operand stack was."""
 
     kind: str
     label: int
@@ -55,7 +55,7 @@ class Frame(NamedTuple):
 
 
 class Names:
-    """What the functions of a module are called in C: exports by their names behind a prefix, others by what the module tells."""
+    """What the functions of a module are called in C: exports by their names behind a prefix, others by what the module says."""
 
     def __init__(self, module: Module, prefix: str) -> None:
         self.module = module
@@ -73,7 +73,7 @@ class Names:
 
 
 def readable(name: str) -> str:
-    """A name of the module as one of C, cut where it is long."""
+    """A name of the module as one of C, cut if it is long."""
     words = re.sub(r"\W+", "_", name, flags=re.ASCII).strip("_")
     return words[:60].strip("_") or "function"
 
@@ -140,7 +140,7 @@ class Function:
                         is_plain, is_test))
 
     def kept(self, value: Value) -> Value:
-        """The value in a variable of its own."""
+        """The value in its own variable."""
         self.variables += 1
         self.put(f"{value.type} t{self.variables} = {value.text};")
         return Value(f"t{self.variables}", value.type)
@@ -212,7 +212,7 @@ class Function:
         return depth - (it.code == 0x0B and depth > 0)
 
     def end_value(self, frame: Frame) -> None:
-        """The value with which a block ends goes where it is expected."""
+        """The value with which a block ends goes into the block's variable."""
         if not self.is_dead and frame.result:
             self.put(f"{frame.result} = {self.stack.pop().text};")
         del self.stack[frame.height:]
@@ -503,10 +503,10 @@ class Translation(NamedTuple):
 def stack_bytes(module: Module) -> int:
     """The bytes of the stack, which stands first in the memory: so a stack that is too deep has an address below 0."""
     if not module.globals or not module.is_long:
-        raise WasmError("a module without a stack's pointer, or whose memory is not of 64 bits")
+        raise WasmError("the module has no stack pointer, or its memory is not of 64 bits")
     top = module.globals[0][1]
     if any(start < top for start, _ in module.data):
-        raise WasmError("data in front of the stack's end")
+        raise WasmError("the module has data below the end of the stack")
     return top
 
 

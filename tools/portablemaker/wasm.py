@@ -89,7 +89,7 @@ def sized(data: bytes) -> bytes:
 
 
 class Instruction(NamedTuple):
-    """An instruction: its opcode, its immediates, and where it stands in its function's body."""
+    """An instruction: its opcode, its immediates, and its place in its function's body."""
 
     code: int
     given: Tuple[int, ...]
@@ -186,7 +186,7 @@ def constant(its: Reader) -> int:
 
 
 class Body(NamedTuple):
-    """A function's code: the types of its own locals, and the bytes of its instructions."""
+    """A function's code: the types of its locals, and the bytes of its instructions."""
 
     locals: Tuple[str, ...]
     code: bytes
@@ -263,7 +263,7 @@ class Module:
         self.functions.append(its.unsigned())
 
     def read_table(self, its: Reader) -> None:
-        """A table's limits, which its elements tell as well."""
+        """A table's limits, which its elements give as well."""
         its.byte()
         self.has_long_table = self.read_limits(its)[0] & 4 != 0
 
@@ -312,7 +312,7 @@ class Module:
         self.data.append((start, its.take(its.unsigned())))
 
     def read_names(self) -> None:
-        """The names of functions, if the module tells them."""
+        """The names of functions, if the module has them."""
         its = Reader(self.customs.get("name", b""))
         while not its.is_at_end:
             kind, part = its.byte(), Reader(its.take(its.unsigned()))

@@ -27,7 +27,7 @@
 
 #define EXPORT __attribute__((visibility("default")))
 enum { LINE = 64, WORD = 8, FILES = 64, REGIONS = 512, PREFIXES = 64, FRAMES = 32, ROW_BYTES = 256 };
-/* Where file k begins in the recorded addresses. */
+/* The first recorded address of file k. */
 #define BASE(file) (((uint64_t)(file) + 1) << 36)
 #define MOST_BYTES ((uint64_t)1 << 36)
 
@@ -102,7 +102,7 @@ static void put(const char *text, size_t size) {
     ssize_t done = syscall(SYS_write, out, text, size);
     if (done < 0 && errno == EINTR) continue;
     if (done <= 0) {
-      static const char told[] = "record: the log can't be written\n";
+      static const char told[] = "record: the log cannot be written\n";
       syscall(SYS_write, 2, told, sizeof told - 1);
       out = -1;
       return;
@@ -270,7 +270,7 @@ static void compare(int number, const uint8_t *now, uint64_t offset, uint64_t si
   }
 }
 
-/* What the mapping still has of its file: a file that became shorter can't be read behind its end. */
+/* What the mapping still has of its file: a file that became shorter can't be read past its end. */
 static uint64_t readable(const struct region *region) {
   struct stat found;
   if (files[region->file].reader < 0 || fstat(files[region->file].reader, &found) || S_ISCHR(found.st_mode)) return region->size;
@@ -327,7 +327,7 @@ static void synced(int number, const char *place) {
 
 /* ---- beginning and end ---- */
 
-/* A process of its own: it is recorded only if no other one is. */
+/* A child process: it is recorded only if no other process is. */
 static void in_child(void) {
   region_count = file_count = 0, out = -1;
   owner = getpid();
@@ -618,7 +618,7 @@ EXPORT void *pmem_memmove_nodrain(void *to, const void *from, size_t size) { ret
 EXPORT void *pmem_memcpy_nodrain(void *to, const void *from, size_t size) { return pmem_memmove(to, from, size, NODRAIN); }
 EXPORT void *pmem_memset_nodrain(void *to, int byte, size_t size) { return pmem_memset(to, byte, size, NODRAIN); }
 
-/* Begins a section with a name; include/pmem_record.h calls it where it is there. */
+/* Begins a section with a name; include/pmem_record.h calls it if it is there. */
 EXPORT void pmem_record_mark(const char *name) {
   char place[PLACE_BYTES], text[256];
   if (!enter(place, sizeof place, out >= 0)) return;

@@ -1,4 +1,4 @@
-"""Archives whose bytes depend on the files alone: sorted names, fixed owners, one time for all."""
+"""Archives whose bytes depend only on the files: sorted names, fixed owners, one time for all."""
 import gzip
 import hashlib
 import io

@@ -7,7 +7,7 @@ from typing import Dict, List
 from .archives import TOP, ReleaseError, gzipped, run
 
 NAME = "pmem-simulator"
-# The library of PMDK is called libpmem too: ours lies in a folder of its own, which pkg-config tells.
+# The library of PMDK is called libpmem too: ours has its own folder, which pkg-config prints.
 FOLDER = "usr/lib/pmem-simulator"
 CONTROL = """\
 Package: {name}

@@ -100,7 +100,7 @@ class Browser:
         raise AssertionError(f"this never came: {script}")
 
     def click(self, css: str) -> None:
-        """Clicks on an element; found again where the page has put another in its place meanwhile."""
+        """Clicks on an element; found again if the page has replaced it meanwhile."""
         for tries in range(20):
             found = self.of_session("/element", {"using": "css selector", "value": css})
             try:
@@ -155,7 +155,7 @@ class Browser:
 
 
 class Firefox:
-    """A headless Firefox, by the socket that it opens with --marionette: open, run and wait alone."""
+    """A headless Firefox, by the socket that it opens with --marionette: only open, run and wait."""
 
     def __init__(self) -> None:
         self.room = tempfile.mkdtemp(prefix="pmem-firefox-")

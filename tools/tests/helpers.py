@@ -19,7 +19,7 @@ WRITE = f"post 0 0 {ONES}\ndrain 0\n"
 TWO_WRITES = WRITE + f"post 1 70 {'22' * 64}\npart 1 70 3 aabb\nfence 1\n"
 FORGED = "flip 5 0\nflip 5 8\nread 0 5\n"
 TWIN = f"post 0 0 {ONES}\ncut 5\ndrain 0\non\n"
-# Where neither the ciphers nor the memory's size play a part: these take a fraction of the time.
+# For tests in which neither the ciphers nor the memory's size matter: these take a fraction of the time.
 QUICK: Dict[str, Any] = {"suite": "weak"}
 SMALL: Dict[str, Any] = {**QUICK, "levels": 1}
 
@@ -48,7 +48,7 @@ def build_of(folder: Path) -> str:
 
 @lru_cache(maxsize=None)
 def library_folder(build: str) -> Path:
-    """The folder of libpmem.a and libpmem.so of a build, `native` or `portable`: PMEM_LIBRARY, else where tools/library makes them; the
+    """The folder of libpmem.a and libpmem.so of a build, `native` or `portable`: PMEM_LIBRARY, else the one that tools/library makes; the
     native build of what is proved. If that, a compiler or the toolchain is missing, the tests that ask are skipped."""
     given = os.environ.get("PMEM_LIBRARY")
     if given:
@@ -74,7 +74,7 @@ def any_library() -> Path:
 
 
 class ExploreTest(unittest.TestCase):
-    """A test with a directory of its own. `explore` is run by a process that has its modules, and these besides."""
+    """A test with its own directory. `explore` is run by a process that has loaded its modules, and these as well."""
 
     modules: Tuple[str, ...] = ()
 
@@ -104,7 +104,7 @@ class ExploreTest(unittest.TestCase):
         return path
 
     def need_logs(self) -> None:
-        """Skips a test where the program tells no log of the machines beside `run`."""
+        """Skips a test if the program has no log of the machines other than `run`."""
         need_log("wear", "txn", "tree")
 
     def older_program(self) -> str:
@@ -117,7 +117,7 @@ exec '{os.path.abspath(program_path())}' "$@"
         return path
 
     def explore(self, *words: str, text: Optional[str] = None, **variables: str) -> "subprocess.CompletedProcess[str]":
-        """Runs `explore` on these words, with text on its standard input. Where variables are given, Python is started with them."""
+        """Runs `explore` on these words, with text on its standard input. If variables are given, Python is started with them."""
         if not variables:
             return starter(*self.modules).run(words, text or "", dict(os.environ))
         return subprocess.run([sys.executable, str(EXPLORE), *words], input=text or "", stdout=subprocess.PIPE,
@@ -125,7 +125,7 @@ exec '{os.path.abspath(program_path())}' "$@"
                               check=False)
 
     def output(self, *words: str, text: Optional[str] = None) -> str:
-        """What `explore` prints where all goes well."""
+        """What `explore` prints if all goes well."""
         result = self.explore(*words, text=text)
         self.assertEqual((result.returncode, result.stderr), (0, ""))
         return result.stdout
@@ -145,14 +145,14 @@ exec '{os.path.abspath(program_path())}' "$@"
 
 @lru_cache(maxsize=None)
 def has_log(machine: str) -> bool:
-    """Whether the program that the tests ask tells the log of a machine."""
+    """Whether the program that the tests ask prints the log of a machine."""
     ran = subprocess.run([program_path(), machine, "--log"], stdin=subprocess.DEVNULL, stdout=subprocess.PIPE, stderr=subprocess.DEVNULL,
                          check=False)
     return ran.returncode == 0
 
 
 def need_log(*machines: str) -> None:
-    """Skips a test where the program doesn't tell the log of these machines."""
+    """Skips a test if the program has no log of these machines."""
     missing = [machine for machine in machines if not has_log(machine)]
     if missing:
         raise unittest.SkipTest(f"the program has no --log of {', '.join(missing)}")

@@ -116,7 +116,7 @@ def read_answer(path: str) -> Any:
 
 
 def read_replies(path: str) -> Any:
-    """Reads what a program prints in place of the replies to `ASKED`, with its log and without, whatever its status."""
+    """Reads what a program prints instead of the replies to `ASKED`, with its log and without, whatever its status."""
     with open(path, "rb") as file:
         data = file.read()
     program, settings, trace, refused = LoggedProgram("pmem"), Settings(levels=1, suite="weak"), trace_of("a", ASKED), 0

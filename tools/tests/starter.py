@@ -1,6 +1,6 @@
 """Runs `explore` again and again from one Python that has its modules: a start takes a fork, and not the time of the imports.
 
-What a run is given and tells is as if the command had been started: it has standard input, output and errors by pipes, its
+What a run is given and prints is as if the command had been started: it has standard input, output and errors by pipes, its
 own words and environment, and ends as Python ends.
 """
 import atexit
@@ -28,7 +28,7 @@ def send(file: IO[bytes], message: Any) -> None:
 
 
 def receive(file: IO[bytes]) -> Any:
-    """The next message; None where there is none any more."""
+    """The next message; None if there are no more."""
     size = file.readline()
     return json.loads(file.read(int(size))) if size else None
 
@@ -46,7 +46,7 @@ class Starter:
         self.process.communicate()
 
     def run(self, words: Sequence[str], text: str, environment: Dict[str, str]) -> "subprocess.CompletedProcess[str]":
-        """What a run with these words, this standard input and this environment tells."""
+        """What a run with these words, this standard input and this environment prints."""
         assert self.process.stdin and self.process.stdout
         send(self.process.stdin, [words, text, environment, os.getcwd()])
         status, out, err = receive(self.process.stdout)

@@ -9,7 +9,7 @@ from typing import Any, Dict, List, Optional
 from .helpers import ONES, ExploreTest, program_path
 
 ZEROS = "00" * 64
-# Of docs/RECOVERY.md: line 0 is written with zeros, the group is done, and power goes off.
+# From docs/RECOVERY.md: line 0 is written with zeros, the group is done, and power goes off.
 ZERO_WRITE = f"post 0 0 {ZEROS}\ndrain 0\n"
 WEAK = ("--suite", "weak", "--tag-key", "10")
 # Answers a read that is refused with zeros, as no controller may.
@@ -31,8 +31,8 @@ NAMES = {1301: {2}, 1302: {0, 8 + 2}}
 class Expected:
     """What the rules say of an attack after `ZERO_WRITE`, with the strong ciphers: no tag fits by chance.
 
-    Line 0 has the minor 1, and the device still has the minor 0. Page 0's block and the nodes 0 and 1 are in the cache, and are made
-    again by a recovery, which tries each line of page 0 and digests the nodes' other children (blocks 1286 to 1288, nodes 1282 to 1284).
+    Line 0 has the minor 1, and the device still has the minor 0. Page 0's block and the nodes 0 and 1 are in the cache. A recovery
+    makes them again: it tries each line of page 0 and digests the nodes' other children (blocks 1286 to 1288, nodes 1282 to 1284).
     """
 
     def __init__(self, attack: Dict[str, Any], reads: List[int]) -> None:

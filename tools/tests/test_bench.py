@@ -12,7 +12,7 @@ BENCH = TOOLS / "bench"
 
 SMALL = ("--commands", "0", "--pages", "1", "--reads", "2")
 
-# A program that does nothing, in place of the one that makes ciphers.
+# A program that does nothing, instead of the one that makes ciphers.
 NOTHING = "import sys\nassert sys.argv[1] in ('hash', 'encrypt') and int(sys.argv[2]) >= 0\n"
 
 # A program that answers each `stat` by other counts: tags rise by 7 and digests by 5. It notes its words.
@@ -42,7 +42,7 @@ class BenchTest(ExploreTest):
                               universal_newlines=True, check=False)
 
     def rows(self, *words: str) -> Dict[str, List[str]]:
-        """The words of each row behind its name."""
+        """The words of each row after its name."""
         result = self.bench(*words)
         self.assertEqual((result.returncode, result.stderr), (0, ""))
         lines = result.stdout.splitlines()
@@ -51,7 +51,7 @@ class BenchTest(ExploreTest):
         return {line[:10].rstrip(): line[10:].split() for line in lines[1:-1]}
 
     def test_ciphers_of_formatting_and_recovery(self) -> None:
-        # A write makes a tag, and fetches a path of five and makes it anew. A recovery tries 16 minors of each of
+        # A write makes a tag, and fetches a path of five and makes it again. A recovery tries 16 minors of each of
         # a page's 64 lines, the second one 15 of the line that was written; its digests are four for each of four
         # nodes, and one.
         tags, digests = 1 + 1024 + 1 + 1023, 2 * (5 + 5 + 17)

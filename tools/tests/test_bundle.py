@@ -26,7 +26,7 @@ class BundleTest(unittest.TestCase):
                               stderr=subprocess.PIPE, universal_newlines=True)
 
     def here(self, *words: str, text: str = "", **variables: str) -> "subprocess.CompletedProcess[str]":
-        """Runs words in the folder, where nothing is on the PATH but python3."""
+        """Runs a command in the folder, with nothing but python3 on the PATH."""
         bin_folder = self.directory / "bin"
         bin_folder.mkdir(exist_ok=True)
         if not (bin_folder / "python3").exists():
@@ -101,7 +101,7 @@ class BundleTest(unittest.TestCase):
         self.assertFalse(self.folder.exists())
 
     def sums(self) -> List[str]:
-        """What the check of the sums says, but for how many passed."""
+        """What the check of the sums says, except how many passed."""
         lines = self.here("./check_sums").stdout.splitlines()
         return [*lines[:-1], lines[-1].split(", ")[1]]
 

@@ -27,7 +27,7 @@ class ChartTest(ExploreTest):
     known: Dict[Tuple[str, ...], str] = {}
 
     def compared(self, *words: str) -> str:
-        """What a comparison finds, with times where that is one of the words."""
+        """What a comparison finds, with times if that is one of the words."""
         if words not in self.known:
             more = [each for word in words for each in (("--cost", self.file("f.toml", FIGURES)) if word == "times" else (word,))]
             self.known[words] = self.output("compare", "-", "--designs", "run", "--json", "--cuts", "0", *more, text=SMALL)

@@ -1,4 +1,4 @@
-"""`--cluster`: sweeps and cuts on two workers over loopback, also where one is killed, against those of this machine."""
+"""`--cluster`: sweeps and cuts on two workers over loopback, also if one is killed, against those of this machine."""
 import json
 import os
 import pickle
@@ -286,7 +286,7 @@ class ClusterTest(ExploreTest):
         self.assert_same("cuts", trace, "--json", "--twice", *WEAK, meanwhile="worker")
 
     def the_scheduler_is_killed(self) -> None:
-        """It is told in one line."""
+        """It is reported in one line."""
         self.workers[0] = self.workers[1]
         result = self.on_cluster("cuts", str(EXAMPLES / "database.trace"), "--lines", "1-2000", *WEAK, meanwhile="scheduler")
         self.assertEqual((result.returncode, result.stdout), (1, ""))

@@ -1,4 +1,4 @@
-"""`explore compare`: one workload on several designs, its counts against sums made by hand, and times by a file of figures."""
+"""`explore compare`: one workload on several designs, its counts against sums made by hand, and times from a file of figures."""
 import csv
 import io
 import json
@@ -223,7 +223,7 @@ class WorkloadTest(CompareCase):
 
 class LogTest(ExploreTest):
     def test_pads_of_a_recovery(self) -> None:
-        # Of the tags of `on` all but the trials, 64 of each named page with a stop-loss number of 1, are of a line with a pad.
+        # Each page that is named has 64 trials with a stop-loss number of 1. All other tags of `on` are of a line with a pad.
         for machine, answer, tags, pads in (("run", "on 64 9 5", 64, 0), ("wear", "on 0 1022 8", 65, 1), ("txn", "on 0 8", 65, 1),
                                             ("txn", "on 1 23", 68, 4), ("tree", "on 85 8", 0, 0), ("txn", "stuck 0 9", 64, 0)):
             (entry,) = entries_of(b"work %d 9\n%s\n" % (tags, answer.encode()), "pmem")
@@ -318,7 +318,7 @@ class CostTest(CompareCase):
         first = 3 * 10 + (3 + 1) * 100 + 2 * 1000 + 3 + 20 + 6 * 7
         second = 10 + 100 + 2 * 1000 + 3 + 20 + 3 * 7
         self.assertEqual((row["fence_ns_greatest"], row["fence_ns_mean"]), (first, (first + second) / 2))
-        # Cipher and tag line at once, the pad beside them.
+        # Cipher and tag line at once, and the pad at the same time.
         self.assertEqual(row["read_ns_mean"], 10 + 20)
 
     def test_percentiles(self) -> None:

@@ -21,7 +21,7 @@ OTHER_TIMES = {"CHANGELOG.md", "CONTRIBUTING.md", "docs/EXPLORE.md", "docs/COSTS
 
 
 def texts() -> Iterator[Tuple[str, str]]:
-    """The pages that tell how to use pmem, and the help of ./pmem."""
+    """The pages that say how to use pmem, and the help of ./pmem."""
     for path in [*TOP.glob("*.md"), *TOP.glob("docs/*.md"), TOP / "lessons" / "README.md", TOP / "python" / "README.md", TOP / "pmem"]:
         yield str(path.relative_to(TOP)), path.read_text(encoding="utf-8")
 
@@ -32,7 +32,7 @@ def page(name: str) -> str:
 
 
 def durations(text: str) -> Iterator[Tuple[str, str]]:
-    """The times that sentences of a text tell of something in TIMES: what was found, and what should stand there."""
+    """The times that sentences of a text state for something in TIMES: what was found, and what should stand there."""
     for sentence in SENTENCE.split(text):
         joined = " ".join(sentence.split())
         due = next((due for pattern, due in TIMES if re.search(pattern, joined)), None)
@@ -95,7 +95,7 @@ class FactsTest(unittest.TestCase):
             self.assertIn(status, page("docs/FAQ.md"))
 
     def test_a_fault_has_one_wording(self) -> None:
-        """What a line at fault is told at the terminal, by the explorer, by the Python package and on the page."""
+        """The message about a line at fault at the terminal, in the explorer, in the Python package and on the page."""
         stops = dict(re.findall(r"^([1-6]): (.+)$", (TOP / "tools" / "explorer" / "stops.txt").read_text(encoding="utf-8"), re.M))
         self.assertEqual(len(stops), 6)
         package = (TOP / "python" / "pmem" / "errors.py").read_text(encoding="utf-8").split("KINDS: ")[1]

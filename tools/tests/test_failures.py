@@ -1,5 +1,5 @@
-"""Sources and sinks that fail amid sessions of each machine, of those that end by a stop and by a twin too: the status, and what
-was printed until then. The source is a connection that is broken off, the sink a file that takes so many bytes and no more."""
+"""Sources and sinks that fail during sessions of each machine, of those that end by a stop and by a twin too: the status, and what
+was printed until then. The source is a connection that is broken off, the sink a file that takes a number of bytes and no more."""
 import resource
 import signal
 import socket
@@ -46,7 +46,7 @@ class FailureTest(ExploreTest):
             return result.returncode, result.stdout
 
     def run_into(self, words: List[str], given: bytes, room: Optional[int]) -> Tuple[int, bytes]:
-        """The same of a run whose sink takes so many bytes, or is full."""
+        """The same of a run whose sink takes `room` bytes, or is full."""
         def bounded() -> None:
             signal.signal(signal.SIGXFSZ, signal.SIG_IGN)
             resource.setrlimit(resource.RLIMIT_FSIZE, (room or 0, room or 0))
@@ -90,7 +90,7 @@ class FailureTest(ExploreTest):
     def test_a_sink_that_fails(self) -> None:
         for name, words, trace, _, output in self.sessions():
             self.assertEqual(self.run_into(words, trace, None), (SINK, b""), name)
-            # Whatever the end, a front of what would have been is put: up to the last byte of the stop or of the twin.
+            # Whatever the end, a prefix of the whole output is written: up to the last byte of the stop or of the twin.
             for room in sorted({1, 2, len(output) // 2, len(output) - 1}):
                 self.assertEqual(self.run_into(words, trace, room), (SINK, output[:room]), (name, room))
 

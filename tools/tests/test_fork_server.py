@@ -1,4 +1,4 @@
-"""The library that makes a program a server of its own states (fork_server.c): a small program in C that is asked through it."""
+"""The library that makes a program a server of its states (fork_server.c): a small program in C that is asked through it."""
 import os
 import shutil
 import subprocess
@@ -117,11 +117,11 @@ class SumRecording(Recording):
     """A trace of it."""
 
     def check_replies(self, output: Output) -> None:
-        """Its replies are none of pmem's."""
+        """Its replies aren't those of pmem."""
 
 
 class ForkServerTest(ExploreTest):
-    """Asks the program in C, by frames of its own."""
+    """Asks the program in C, by frames that the test makes."""
 
     program: str
     library: str

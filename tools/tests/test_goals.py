@@ -185,7 +185,7 @@ class GradeTest(unittest.TestCase):
         status, said, _ = self.grade("5", "-", given=self.wrong("exercise-5").encode())
         self.assertEqual((status, said.split(":")[0]), (1, "not reached"))
         self.assertEqual(self.grade("--lesson", "2", "-", given=b"drain 0\nread x 0\n"),
-                         (1, "not reached: Line 2 of the trace has a word that isn't a number.\n", ""))
+                         (1, "not reached: Line 2 of the trace has a word that is not a number.\n", ""))
         unfit: List[List[str]] = [
             [], ["9", "x"], ["1", "/nowhere"], ["x", "y"], ["--lesson", "2"], ["--lesson", "77", "x"], ["--seconds", "0", "1", "x"]]
         for words in unfit:
@@ -195,7 +195,7 @@ class GradeTest(unittest.TestCase):
         text = self.right("lesson-2")
         for given, says in ((text.encode("utf-8-sig"), "byte order mark"), (text.encode("utf-16"), "UTF-16"), (text.encode("utf-16-le"), "UTF-16"),
                             (b"\xe9 0\n", "not UTF-8"), (b"#" * 2_000_001, "more than 2000000 bytes"),
-                            (b"# pmem: run --log 1\n", "aren't known: --log 1"), (b"# pmem: txn\n", "the task is for `pmem run`")):
+                            (b"# pmem: run --log 1\n", "are not known: --log 1"), (b"# pmem: txn\n", "the task is for `pmem run`")):
             status, said, why = self.grade("--lesson", "2", "-", given=given)
             self.assertEqual((status, said), (2, ""), says)
             self.assertIn(says, why)

@@ -27,7 +27,7 @@ SYMBOL = struct.Struct("<IBBHQQ")
 
 
 def elf(symbols: List[bytes], names: bytes, link: int = 2, offset: int = 0) -> bytes:
-    """An ELF file with a table of symbols and their names; `offset` is added to where that lies."""
+    """An ELF file with a table of symbols and their names; `offset` is added to the table's place."""
     header = 64
     table = b"".join(symbols)
     sections = header + len(table) + len(names)
@@ -97,7 +97,7 @@ class HostileTest(ExploreTest):
                 self.assertEqual(result.stderr.count("\n"), 1)
 
     def test_files_without_an_end(self) -> None:
-        """Each reader stops at its bound, or where it sees that this isn't its kind of file."""
+        """Each reader stops at its bound, or when it sees that this isn't its kind of file."""
         if not os.path.exists("/dev/zero"):
             self.skipTest("there is no /dev/zero")
         first = self.file("first.trace", ONE)

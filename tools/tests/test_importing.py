@@ -23,7 +23,7 @@ I  00401010,1
 
 
 def commands(text: str) -> List[str]:
-    """The lines of a trace but for its comments."""
+    """The lines of a trace without its comments."""
     return [line for line in text.splitlines() if not line.startswith("#")]
 
 

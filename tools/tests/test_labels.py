@@ -1,4 +1,4 @@
-"""Where the labels of a picture's points are put."""
+"""The places of the labels of a picture's points."""
 import unittest
 from typing import List, Tuple
 

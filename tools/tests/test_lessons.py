@@ -1,5 +1,5 @@
-"""The lessons as a teacher needs them: each says how long it takes and what it needs, explains each command and reply where it first
-occurs, and has its answers in another folder."""
+"""The lessons as a teacher needs them: each says how long it takes and what it needs, explains each command and reply at its first
+mention, and has its answers in another folder."""
 import json
 import os
 import re
@@ -178,7 +178,7 @@ class CheckTest(unittest.TestCase):
         self.assertEqual((status, said.count("answers/") > 3, "0 failed" in said), (0, True, True), said)
         shutil.rmtree(str(self.folder / "answers"))
         status, said = self.check()
-        self.assertEqual((status, said.splitlines()[0]), (0, "note: lessons/answers isn't there, so answers are not checked"), said)
+        self.assertEqual((status, said.splitlines()[0]), (0, "note: lessons/answers is not there, so answers are not checked"), said)
 
     def test_what_a_new_lesson_lacks_is_named(self) -> None:
         new = self.folder / "77-new"

@@ -66,7 +66,7 @@ def cases() -> Dict[str, Case]:
 @unittest.skipUnless(compiler_of("gcc", "clang"), "neither gcc nor clang is there")
 class HeaderTest(ExploreTest):
     def compiled(self, compilers: Tuple[str, ...], standard: List[str], name: str) -> None:
-        """The header alone, twice, and a call, without a warning."""
+        """Only the header, twice, and a call, without a warning."""
         path = self.file(name, '#include "pmem.h"\n#include "pmem.h"\nint main(void) { pmem m = PMEM_CLOSED; return pmem_stats(&m).status != 64; }\n')
         for compiler in compilers:
             if shutil.which(compiler):
@@ -83,7 +83,7 @@ class HeaderTest(ExploreTest):
 @unittest.skipUnless(compiler_of("gcc", "clang"), "neither gcc nor clang is there")
 class MarksTest(ExploreTest):
     def test_marks_of_any_text(self) -> None:
-        """pmem_read_mark reads nothing behind its text, which AddressSanitizer sees to, and takes marks alone."""
+        """pmem_read_mark reads nothing past its text, which AddressSanitizer checks, and takes only marks."""
         program = self.path("marks")
         subprocess.run([compiler_of("gcc", "clang") or "cc", *C, *STRICT, "-O1", "-g", *SANITIZED, f"-I{HEADER}", str(SOURCES / "marks.c"),
                         "-o", program], check=True)
@@ -269,7 +269,7 @@ class PortableTest(BuildTest, ExploreTest):
     stacks: Tuple[List[str], ...] = ([], [str(64 * 1024)])
 
     def test_one_file(self) -> None:
-        """The one file of C is the same each time, and its own text alone decides."""
+        """The one file of C is the same each time, and only its own text decides."""
         made = []
         for name in ("1", "2"):
             made.append(subprocess.run([sys.executable, str(TOOLS / "library"), "--source", self.path(name)], stdout=subprocess.PIPE,
@@ -322,7 +322,7 @@ class ScriptTest(ExploreTest):
                     self.assertEqual(command_line._is_native(given), due, words)
 
     def test_no_exports(self) -> None:
-        """A module without the exports of the library is told as that."""
+        """A module without the exports of the library is reported as such."""
         with mock.patch.object(source, "library_exports", return_value=[]), self.assertRaises(LibraryError) as raised:
             source.library_c((TOP / "module" / "pmem.wasm").read_bytes())
         self.assertIn("does not have the exports", str(raised.exception))

@@ -1,4 +1,4 @@
-"""`explore --as`: the machines beside `run`, and the tables of the documents that tell what a cut leaves in them."""
+"""`explore --as`: the machines other than `run`, and the documents' tables of what a cut leaves in them."""
 import json
 import re
 import subprocess

@@ -49,7 +49,7 @@ class ModuleTest(unittest.TestCase):
         example = [line[4:] for line in (explorer.__doc__ or "").splitlines() if line.startswith("    ")]
         result = subprocess.run([sys.executable, "-c", "\n".join(example)], cwd=ROOT, stdout=subprocess.PIPE,
                                 stderr=subprocess.PIPE, universal_newlines=True, check=False)
-        # what the comparison leaves out is told, as on the command line
+        # a note says what the comparison leaves out, as on the command line
         self.assertEqual((result.returncode, result.stderr), (0, "explore: examples/power_cut.trace: left out: 4 cut, 1 stat\n"))
         self.assertIn("drain 0 cut kept 4\n", result.stdout)
 

@@ -17,9 +17,9 @@ from .helpers import ExploreTest, program_path
 
 X, Y = 0x1000, 0x1040
 # Small programs over two variables with what may be left: "fails" if y may be in memory without x. The litmus tests are those of
-# the Px86 model (Raad, Wickerson, Neis, Vafeiadis: Persistency semantics of the Intel-x86 architecture, POPL 2020), which Jaaru (Gorjiara,
-# Xu, Demsky: Jaaru: efficiently model checking persistent memory programs, ASPLOS 2021) explores too; the last ones are the cases of
-# PMDK's pmreorder examples. All verdicts are from memory.
+# the Px86 model (Raad, Wickerson, Neis, Vafeiadis: Persistency semantics of the Intel-x86 architecture, POPL 2020). Jaaru explores
+# them too (Gorjiara, Xu, Demsky: Jaaru: efficiently model checking persistent memory programs, ASPLOS 2021). The last ones are the
+# cases of PMDK's pmreorder examples. All verdicts are from memory.
 PROGRAMS: List[Tuple[str, str, str]] = [
     ("fails", "two lines, no flush", "x; y"),
     ("passes", "one line: stores keep their order", "x; x8"),

@@ -55,7 +55,7 @@ class OutcomesTest(ExploreTest):
         self.assertTrue(text.endswith("\n8 cuts, 2 outcomes\n"))
 
     def test_outcomes_are_those_of_all_lines_read_at_each_cut(self) -> None:
-        """Before a command those lines alone are read that can have changed since the last time."""
+        """Before a command only those lines are read that can have changed since the last time."""
         made = subprocess.run([program_path(), "make", "3", "520"], stdout=subprocess.PIPE, universal_newlines=True, check=True).stdout
         drains = [number for number, line in enumerate(made.splitlines(), 1) if line.startswith("drain")]
         lines = ("--lines", f"{drains[-40]}-{drains[-20]}")

@@ -1,5 +1,5 @@
-"""What the program prints: the examples' outputs, and sessions with their replies, which are another program's of the same rules: random ones;
-`tree-old-lines`, where lines of an older device are put back one by one and together, with power on and off; and `txn-stuck-..`, where a commit of
+"""What the program prints: the examples' outputs, and sessions with their replies, which another program of the same rules gave. Some sessions are
+random. In `tree-old-lines` lines of an older device are put back one by one and together, with power on and off. In `txn-stuck-..` a commit of
 fifteen lines is stuck at each of them in turn."""
 import re
 import subprocess
@@ -11,7 +11,7 @@ from .helpers import EXAMPLES, program_path
 
 SESSIONS = Path(__file__).resolve().parent / "sessions"
 
-# The words of the examples whose trace isn't answered by `run` alone, and the status of those that end with an exhibit.
+# The words of the examples whose command isn't just `run`, and the status of those that end with an exhibit.
 WORDS = {"forged_tag": "run --suite weak", "tree": "tree", "txn": "txn", "wear": "wear --every 1"}
 STATUSES = {"forged_tag": 6}
 

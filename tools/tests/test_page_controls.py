@@ -21,7 +21,7 @@ IDLE = "return document.body.dataset.idle === String(pmem.round)"
 
 
 def logged(words: List[str], trace: str) -> Dict[str, int]:
-    """How much work the program's log tells for a trace."""
+    """How much work the program's log reports for a trace."""
     text, _ = program([*words, "--log"], trace)
     counts = {name: len(re.findall(rf"(?m)^{name} [0-9]+$", text)) for name in ("look", "line", "latch")}
     for tags, digests in re.findall(r"(?m)^work ([0-9]+) ([0-9]+)$", text):

@@ -21,7 +21,7 @@ QUOTE = re.compile(r"`([^`]*)`")
 WHOLE_LINE = re.compile(r"\b([0-9a-f]{2})\.\.\1\b")
 # Stands between the outputs of two commands.
 END = "-- the end of a command --"
-# What the commands of pages need beside Python.
+# What the commands of pages need besides Python.
 NEEDED = {"draw": "matplotlib"}
 
 
@@ -51,7 +51,7 @@ def fits(shown: str, line: str) -> bool:
 
 
 def fit(shown: Sequence[str], lines: Sequence[str]) -> bool:
-    """Whether these are the lines shown, of which `..` on a line of its own stands for any number."""
+    """Whether these are the lines shown, of which `..` alone on a line stands for any number."""
     if not shown:
         return not lines
     if shown[0].strip() == "..":

@@ -74,7 +74,7 @@ def anchors(page: Path) -> Set[str]:
 
 
 def targets(text: str) -> Iterator[Tuple[int, str]]:
-    """Where the links of a page lead, with their lines."""
+    """The targets of a page's links, with their lines."""
     text = SPAN.sub(lambda found: " " * len(found[0]) if "](" in found[0] else found[0], prose(text))
     for found in LINK.finditer(text):
         yield line_of(text, found.start()), found[1]
@@ -148,7 +148,7 @@ def words() -> Set[str]:
 
 
 def missing_paths(page: Path, text: str) -> Iterator[Tuple[int, str]]:
-    """The quoted paths that are no file, nor named in a block of code of the page, as one's own files are."""
+    """The quoted paths that aren't files, and aren't named in a block of code of the page, as a user's own files are."""
     text, code = parted(text)
     for found in SPAN.finditer(text):
         word = found[1].split(" ")[0] if found[1].startswith(("tools/", "./", "lessons/")) else found[1]
@@ -209,7 +209,7 @@ class PagesTest(unittest.TestCase):
                    for line, span in unknown_names(prose(text))])
 
     def test_the_readme_is_read_on_a_screen_and_a_bit(self) -> None:
-        """It has under 120 lines, of 120 columns where they aren't rows of a table or lines of code."""
+        """It has under 120 lines, of 120 columns unless they are rows of a table or lines of code."""
         text = (TOP / "README.md").read_text(encoding="utf-8")
         self.assertLess(len(text.splitlines()), 120)
         self.told([f"README.md:{number}: {len(line)} columns" for number, line in enumerate(prose(text).split("\n"), 1)

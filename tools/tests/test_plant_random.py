@@ -73,7 +73,7 @@ mod tests {
 
 ANSWERS = "pub returns : goal.returns\nreturns c = search rules\n"
 
-# A body that isn't the original one is judged by the rules of the test: a pattern of the whole text, and what is said.
+# A body that isn't the original one is judged by the rules of the test: a pattern of the whole text, and the answer.
 RT = r"""#!/usr/bin/env python3
 import json, os, re, sys, time
 from pathlib import Path

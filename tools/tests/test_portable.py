@@ -130,7 +130,7 @@ class ModuleTest(unittest.TestCase):
         self.made = digest.made_of(kept.module_bytes())
 
     def difference(self, **made: str) -> str:
-        """What the script says of a module that says this of itself, where the toolchain makes the one that is here."""
+        """What the script says of a module that says this of itself, if the toolchain makes the one that is here."""
         data = module.marked(kept.module_bytes(), {**self.made, **made})
         with mock.patch.object(module, "built", kept.module_bytes), mock.patch.object(module, "toolchain", lambda: self.made["toolchain"]), \
                 mock.patch.object(self.script, "sources_digest", lambda top: self.made["sources"]), \
@@ -191,7 +191,7 @@ class DigestTest(unittest.TestCase):
 
 @unittest.skipUnless(has_compiler(), "there is no C compiler")
 class AnswersTest(unittest.TestCase):
-    """What it answers, beside the program that the tests ask, byte for byte; with each access to memory checked, too."""
+    """What it answers, against the program that the tests ask, byte for byte; also with each access to memory checked."""
 
     KINDS: Tuple[Tuple[str, ...], ...] = (("-O1",), ("-O0", "-DPMEM_CHECKED"))
 
@@ -276,7 +276,7 @@ class AnswersTest(unittest.TestCase):
             self.assertEqual(made.wait(), 4)
 
     def test_little_memory(self) -> None:
-        """Where the system reserves little, a smaller memory is taken; where it doesn't suffice, the run ends as the program ends."""
+        """If the system reserves little, a smaller memory is taken; if that doesn't suffice, the run ends as the program ends."""
         import resource
         said = []
         for limit in (200 << 20, 40 << 20, 12 << 20):
@@ -287,7 +287,7 @@ class AnswersTest(unittest.TestCase):
         self.assertEqual(said[-1], (b"stop memory\n", 1))
 
     def test_no_memory_at_the_start(self) -> None:
-        """The system's own loader ends a program that has still less. Where the program's main begins, it has a line for each end."""
+        """The system's own loader ends a program that has still less. Once the program's main runs, it has a line for each end."""
         import resource
         said: List[Tuple[List[bytes], int]] = []
         for kilobytes in range(2500, 9000, 100):
@@ -330,7 +330,7 @@ class AnswersTest(unittest.TestCase):
 
 
 class ArgumentsTest(unittest.TestCase):
-    """The check of the arguments in ./pmem, for as long as no program is built, beside what the program says of them."""
+    """The check of the arguments in ./pmem, for as long as no program is built, against what the program says of them."""
 
     VALUES = {"levels": "1 6 7 0 01 x +2 000000000000000000006 00000000000000000006", "sets": "64 65 0 1", "ways": "8 9", "loss": "1 3 16 04 32 5",
               "major": "18446744073709551615 18446744073709551616 99999999999999999999 00000000000000000001 000000000000000000001 -1",
@@ -371,7 +371,7 @@ class ArgumentsTest(unittest.TestCase):
 
 
 class CloneTest(unittest.TestCase):
-    """A fresh clone without the toolchain: README's first command, the lessons, and what is said if something is missing."""
+    """A fresh clone without the toolchain: README's first command, the lessons, and the messages if something is missing."""
 
     def setUp(self) -> None:
         directory = tempfile.TemporaryDirectory()

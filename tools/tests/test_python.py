@@ -1,4 +1,4 @@
-"""The Python package, by the program and, where it can be built of what is proved, by the library: outputs byte for byte, typed calls,
+"""The Python package, by the program and, if it can be built of what is proved, by the library: outputs byte for byte, typed calls,
 copies, wrong use, random calls."""
 import ast
 import copy
@@ -275,7 +275,7 @@ class WayTest:
             pmem.check(exhibit, tag_key=b"", through=self.by)
 
     def test_line_faults(self: Any) -> None:
-        """A line that isn't in the grammar is told with its kind, and the session goes on."""
+        """A line that isn't in the grammar is reported with its kind, and the session goes on."""
         controller = self.controller()
         controller.post(0, 1, ONES)
         for line, kind in (("READ 0 0", 1), ("read 0", 2), ("read x 0", 3), ("read 9 x", 4), ("post 0 0 " + "1" * 127, 5), ("x" * 1025, 6),
@@ -283,7 +283,7 @@ class WayTest:
             with self.assertRaises(pmem.LineFault) as fault:
                 controller.tell(line)
             self.assertEqual(fault.exception.kind, kind, line[:20])
-            # The package's own rules left out, the same comes from what is told.
+            # Without the package's own rules, the same comes from the program.
             if "\n" not in line and "#" not in line:
                 with mock.patch.object(sessions, "fault_of", return_value=None), self.assertRaises(pmem.LineFault) as fault:
                     controller.tell(line)
@@ -430,7 +430,7 @@ class ProgramTest(WayTest, unittest.TestCase):
         cls.by = ways.Program(os.environ["PMEM_PROGRAM"])
 
     def test_interrupted_child(self) -> None:
-        """Where the child is ended from outside, that is told, and the session goes on with another one."""
+        """If the child is ended from outside, that is reported, and the session goes on with another one."""
         with pmem.Controller(through=self.by) as controller:
             controller.post(0, 0, ONES)
             child = controller._channel._process  # type: ignore[union-attr]
@@ -463,7 +463,7 @@ class LibraryTest(WayTest, unittest.TestCase):
         cls.by = ways.Library(any_library())
 
     def test_faults_of_lines(self) -> None:
-        """What the library answers to lines that the package itself refuses before they are told."""
+        """What the library answers to lines that the package itself refuses before it sends them."""
         channel = self.by.open(["run", "--suite", "weak"])
         told = [channel.tell(line) for line in (b"STAT", b"read 0", b"read x 0", b"read 9 0", b"poke 0 0", b"x" * 1025, b"stat\n", b" # stat", b"")]
         self.assertEqual(told, [(status, b"") for status in (51, 52, 53, 54, 55, 56, 51, 0, 0)])
@@ -474,7 +474,7 @@ class LibraryTest(WayTest, unittest.TestCase):
 
 
 class ChildTest(ExploreTest):
-    """What is said where the program is missing, or isn't pmem."""
+    """The errors if the program is missing, or isn't pmem."""
 
     def raises(self, error: Any, text: str, body: str) -> None:
         with self.assertRaises(error) as raised, pmem.Controller(through=ways.Program(self.script("program", body))) as controller:
@@ -485,8 +485,8 @@ class ChildTest(ExploreTest):
     def test_other_programs(self) -> None:
         stat = "print('stat 1 2 3 4 5', flush=True)\n"
         for error, text, body in (
-            (pmem.ProgramFailed, "isn't one of pmem", "print('stat 01 2 3 4 5')"), (pmem.ProgramFailed, "isn't one of pmem", "print('hello')"),
-            (pmem.ProgramFailed, "isn't one of pmem", "print('seal 0 0.1 xx')\nprint('stat 1 2 3 4 5')"),
+            (pmem.ProgramFailed, "is not one of pmem", "print('stat 01 2 3 4 5')"), (pmem.ProgramFailed, "is not one of pmem", "print('hello')"),
+            (pmem.ProgramFailed, "is not one of pmem", "print('seal 0 0.1 xx')\nprint('stat 1 2 3 4 5')"),
             (pmem.ProgramFailed, "ended with status 3", stat + "import sys\nsys.exit(3)"),
             (pmem.NoMemory, "no memory", stat + "print('stop memory')"),
             (pmem.TooManyLines, "1,000,000", stat + "print('stop lines')"), (pmem.BadWords, "run", "print('stop words')"),
@@ -498,7 +498,7 @@ class ChildTest(ExploreTest):
     def test_nothing_there(self) -> None:
         with self.assertRaises(pmem.ProgramFailed) as failed:
             pmem.Controller(through=ways.Program(self.path("none")))
-        self.assertIn("can't be run: No such file", str(failed.exception))
+        self.assertIn("cannot be run: No such file", str(failed.exception))
         with self.assertRaises(pmem.ProgramFailed):
             ways.Library(self.file("libpmem.so", "no library"))
         with self.assertRaises(ValueError):
@@ -535,7 +535,7 @@ class ChildTest(ExploreTest):
             self.assertEqual((ways.find_program(), ways.find_library()), ("here", str(self.directory / "libpmem.so")))
 
     def test_which_way(self) -> None:
-        """The library comes first, unless the program alone is named."""
+        """The library comes first, unless only the program is named."""
         with mock.patch.object(ways, "Library", lambda path: ("library", path)), mock.patch.object(ways, "Program", lambda path: ("program", path)):
             for library, program, due_way in (("l", "p", "library"), ("", "p", "program"), ("l", "", "library")):
                 with mock.patch.dict(os.environ, {"PMEM_LIBRARY": library, "PMEM_PROGRAM": program}):
@@ -602,7 +602,7 @@ class TextTest(unittest.TestCase):
                 pmem.read_mark(text)
 
     def test_arguments(self) -> None:
-        """What no line could say is refused before anything is told."""
+        """What no line could say is refused before anything is sent."""
         with pmem.Controller(through="program") as controller:
             for call in (lambda: controller.post(8, 0, ONES), lambda: controller.post(0, -1, ONES), lambda: controller.post(0, 0, ONES[1:]),
                          lambda: controller.part(0, 0, 0, b""), lambda: controller.part(0, 0, 0, bytes(65)), lambda: controller.cut(2**64)):
@@ -625,7 +625,7 @@ class TextTest(unittest.TestCase):
             controller.part(0, 0, 0, memoryview(b"ab"))
 
     def test_options(self) -> None:
-        """An option is refused exactly where the program refuses its word."""
+        """An option is refused if and only if the program refuses its word."""
         with mock.patch.object(sessions, "way_of", return_value=mock.Mock()):
             for name, values in (("levels", (0, 1, 6, 7)), ("sets", (0, 1, 64, 65)), ("ways", (0, 1, 8, 9)), ("loss", (0, 1, 3, 16, 32)),
                                  ("major", (0, 2**64 - 1, 2**64)), ("every", (0, 1, 1_000_000, 1_000_001)), ("suite", ("aes", "weak", "blur", "AES")),

@@ -13,8 +13,8 @@ from .helpers import TOOLS, ExploreTest, program_path
 
 TOOL = TOOLS / "refuse_memory"
 
-# In the place of `rt try`: the last command of each case wants memory in growth 2, and none does from 3 on; growth 1 is the
-# words'. What goes wrong otherwise is told by WRONG.
+# Instead of `rt try`: the last command of each case allocates memory in growth 2, and none does from 3 on; growth 1 is the
+# words'. WRONG says what else goes wrong.
 RT = """
 import json, os, sys
 words = sys.argv[1:]
@@ -35,7 +35,7 @@ for name in sorted(os.listdir(folder)):
 
 
 def tool() -> Any:
-    """The tool as a module, of which nothing is kept compiled beside it."""
+    """The tool as a module, without a compiled copy next to it."""
     sys.dont_write_bytecode = True
     loader = importlib.machinery.SourceFileLoader("refuse_memory", str(TOOL))
     spec = importlib.util.spec_from_loader("refuse_memory", loader)

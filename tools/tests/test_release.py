@@ -31,7 +31,7 @@ WHEN = 1_700_000_000
 
 
 def said(words: List[str], folder: Optional[Path] = None) -> str:
-    """What a command prints that ends with status 0, where no variable names a program or a library."""
+    """What a command prints that ends with status 0, if no variable names a program or a library."""
     variables = {name: value for name, value in os.environ.items() if name not in ("PMEM_PROGRAM", "PMEM_LIBRARY")}
     return subprocess.run(words, cwd=folder, env=variables, stdin=subprocess.DEVNULL, stdout=subprocess.PIPE, universal_newlines=True,
                           check=True).stdout

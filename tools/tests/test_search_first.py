@@ -145,7 +145,7 @@ class SearchFirstTest(unittest.TestCase):
         return [sys.executable, str(self.root / "tools" / "search_first"), *words]
 
     def ran(self, *words: str) -> "subprocess.CompletedProcess[str]":
-        """Runs the script; it leaves nothing behind, and touches proofs alone."""
+        """Runs the script; it leaves nothing behind, and touches only proofs."""
         result = subprocess.run(self.words(*words), env=self.environment, stdin=subprocess.DEVNULL, stdout=subprocess.PIPE,
                                 stderr=subprocess.PIPE, universal_newlines=True, check=False)
         self.assertEqual(os.listdir(self.rooms), [])

@@ -1,4 +1,4 @@
-"""Cuts of recoveries that one of them tells of: which they are, and that their rows are those of a question each."""
+"""Cuts of recoveries that one of them stands for: which they are, and that their rows are those of a question each."""
 import unittest
 from dataclasses import replace
 from typing import Any, Dict, List, Sequence, Tuple
@@ -18,7 +18,7 @@ from explorer.trace import trace_of
 # `cut 1`, a command, `cut 4`, `on`, `on` and a read: the first `on` finishes a group of the lines 0 and 9.
 LOG = b"work 0 0\nok\nlook 5\nlatch 2\nwork 1 3\nseal 0 0.1 ab\ncut kept 1\nwork 0 0\nok\nline 0\nline 9\nlatch 0\nlook 0\nline 8\nwork 4 5\n" \
     b"cut 4\nlook 8\nwork 4 5\non 4 5 9\nlook 7\nwork 1 1\nline ff 0\n"
-# The same with `cut 1`, where the second `on` finishes it.
+# The same with `cut 1`: the second `on` finishes it.
 EARLY = LOG.replace(b"line 9\nlatch 0\nlook 0\nline 8\n", b"").replace(b"cut 4", b"cut 1").replace(b"look 8\n", b"line 0\nline 9\nlatch 0\nlook 9\n")
 
 
@@ -80,7 +80,7 @@ class SecondCutsTest(ExploreTest):
         noting = Noting()
         found = self.rows("run", (WRITES + AGAIN).encode(), noting, suite="weak")
         asked = [is_logged for is_logged, script in noting.asked if len(script) == 5]
-        # Of each of the three groups the recovery after its first cut takes eight steps, and before the first group four do.
+        # For each of the three groups, the recovery after its first cut takes eight steps; before the first group, four do.
         self.assertEqual((sum(len(cut.again) for cut in found), sum(asked), len(asked) - sum(asked)), (86, 3 * 8, 4))
 
     def test_questions_grow_as_the_rows(self) -> None:

@@ -165,7 +165,7 @@ class SharedTest(ExploreTest):
 
     def test_recoveries_asked_for(self) -> None:
         self.need_logs()
-        # A write here: three shadow lines where its page isn't named yet, then the latch that arms two lines, they, and the latch
+        # A write here: three shadow lines if its page isn't named yet, then the latch that arms two lines, they, and the latch
         # that empties the group. So four cuts come before the first group is armed, each group takes one recovery, and the end one.
         cases = [(WRITES, 5, 2), (WRITES + AGAIN, 5, 3), (WRITES + "stat\npeek 0\n" + AGAIN, 5, 3), (WRITES + "flip 900 1\n" + AGAIN, 6, 3)]
         for text, own, shared in cases:

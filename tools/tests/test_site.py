@@ -127,7 +127,7 @@ class SiteTest(unittest.TestCase):
                 self.assertNotIn('"answer":{', file.read())
 
     def test_folder_has_to_be_empty(self) -> None:
-        with self.assertRaisesRegex(PageError, "isn't empty"):
+        with self.assertRaisesRegex(PageError, "is not empty"):
             site.write_site(self.top, self.page)
 
     @unittest.skipUnless(browser.is_here(), "chromium or chromedriver isn't there")

@@ -62,7 +62,7 @@ class LauncherTest(unittest.TestCase):
         self.assertEqual(self.made(600 << 10, 600 << 10), (*due, b""))
         for size in (100, 511):
             self.assertEqual(self.made(size << 10, size << 10), (
-                1, b"stop memory\n", b"pmem: the limit of the stack is %d kB and can't be raised, but the program needs 512 kB (ulimit -s 512)\n"
+                1, b"stop memory\n", b"pmem: the limit of the stack is %d kB and cannot be raised, but the program needs 512 kB (ulimit -s 512)\n"
                 % size))
 
     def test_the_program_has_what_was_raised(self) -> None:

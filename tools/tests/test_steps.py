@@ -101,7 +101,7 @@ class StepsTest(ExploreTest):
         self.assertEqual(commands[3]["steps"][2]["latch"], "empties")
 
     def test_the_last_step_before_an_exhibit(self) -> None:
-        """The line is told, but not whether it had those bytes, since nothing can be asked after an exhibit."""
+        """The line is known, but not whether it had those bytes, since nothing can be asked after an exhibit."""
         text = WRITE + "flip 100 0\nflip 100 8\nread 0 100\n"
         read = self.json("steps", "-", "--suite", "weak", "--sets", "1", "--ways", "1", text=text)[4]
         self.assertTrue(read["answer"].startswith("forged 100 0.0 "))
@@ -139,7 +139,7 @@ class StepsTest(ExploreTest):
 
 
 class LogTest(ExploreTest):
-    """What the program's log tells."""
+    """What the program's log reports."""
 
     def test_what_a_latch_does(self) -> None:
         commands = self.json("steps", "-", text=WRITE + "loss 2\nloss 4\n")
@@ -157,8 +157,8 @@ class LogTest(ExploreTest):
                          [[None, None, None, "arms"], [], [None], [None, None, "empties", *[None] * 5]])
 
     def same_steps(self, words: Sequence[str], text: str) -> List[List[Dict[str, Any]]]:
-        """The steps of each command, which are those that cuts find, but for what a latch does, and for the last one before
-        an exhibit, which cuts don't see."""
+        """The steps of each command. They are those that cuts find, except what a latch does, and the last one before an
+        exhibit, which cuts don't see."""
         told = self.json("steps", "-", *words, text=text)
         result = self.explore("steps", "-", *words, "--json", "--program", self.older_program(), text=text)
         self.assertEqual(result.returncode, 0, result.stderr)
@@ -173,7 +173,7 @@ class LogTest(ExploreTest):
         return [command["steps"] for command in told]
 
     def quick(self, words: Sequence[str], text: str) -> List[str]:
-        """The words with the quick ciphers where they play no part in which steps there are: where nobody tampers."""
+        """The words with the quick ciphers, if nobody tampers: then the ciphers don't change which steps there are."""
         is_free = "--suite" not in words and TAMPERING_WORDS.isdisjoint(word for line in text.splitlines() for word in line.split()[:1])
         return [*words, *words_of(QUICK)] if is_free else list(words)
 
@@ -254,7 +254,7 @@ class LogTest(ExploreTest):
         self.assertEqual(lines_of(command), [0, 1024, None])
 
     def test_steps_before_an_exhibit_are_counted_by_the_log(self) -> None:
-        """One run tells them; by cuts there are as many as steps, and more."""
+        """One run reports them; by cuts there are as many as steps, and more."""
         text = WRITE + "flip 100 0\nflip 100 8\nread 0 100\n"
         words = ("--suite", "weak", "--sets", "1", "--ways", "1", "--from-start", "--check-rows", "0", "--lines", "5")
         cuts = self.json("cuts", "-", *words, text=text)

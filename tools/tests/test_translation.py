@@ -1,4 +1,4 @@
-"""The translation of WebAssembly into C, and into its 32-bit form, beside another engine (node) on made-up modules. They need wat2wasm
+"""The translation of WebAssembly into C, and into its 32-bit form, against another engine (node) on generated modules. They need wat2wasm
 (Debian's wabt), node and a C compiler."""
 import json
 import shutil

@@ -50,7 +50,7 @@ class UnbuiltTest(unittest.TestCase):
             self.environment["PMEM_PROGRAM"] = str(self.root / name)
             found = self.run_here("lessons/check")
             self.assertEqual((found.returncode, found.stdout, found.stderr.count("\n")), (1, "", 1), found.stderr)
-            self.assertIn("which is no program", found.stderr)
+            self.assertIn("which is not a program", found.stderr)
 
     def test_the_program_of_a_bundle_is_asked(self) -> None:
         shutil.rmtree(self.root / "crates")

@@ -205,7 +205,7 @@ class CommandsTest(unittest.TestCase):
             verdicts = [(row["student"], row["verdict"]) for row in csv.DictReader(io.StringIO(said))]
             self.assertEqual(verdicts, [("ada", "reached"), ("bob", "not reached"), ("cleo", "no file"), ("dora", "not judged")])
             self.assertEqual(status, 2)
-            self.assertIn("the table of seeds doesn't have this student", said)
+            self.assertIn("the table of seeds does not have this student", said)
 
 
 if __name__ == "__main__":

@@ -1,4 +1,4 @@
-"""The version stands in one place, the file VERSION. What repeats it, and what tells it, has the same."""
+"""The version stands in one place, the file VERSION. What repeats it, and what prints it, has the same."""
 import os
 import re
 import subprocess

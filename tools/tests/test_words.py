@@ -191,7 +191,7 @@ class InterruptsTest(ExploreTest):
             self.assertIn((process.returncode, err), ((130, "explore: interrupted\n"), (0, "")), (number, words))
 
     def test_an_interrupt_amid_the_imports_ends_all(self) -> None:
-        """Where an exception would be dropped, as by the callbacks of imports."""
+        """In a place that would drop an exception, such as the callbacks of imports."""
         text = f"""
 import os, runpy, signal, sys, time
 class Gone:

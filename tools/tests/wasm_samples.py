@@ -41,7 +41,7 @@ class Maker:
         self.functions: Dict[str, Tuple[str, str]] = {}
 
     def sample(self, count: int, calls: int) -> Sample:
-        """A module with a function for each instruction, and so many random ones."""
+        """A module with a function for each instruction, and `count` random ones."""
         self.instructions()
         for _ in range(count):
             kind = self.random.choice(TYPES)
@@ -76,7 +76,7 @@ class Maker:
         return f"${kind}{self.random.randrange(4)}"
 
     def address(self, depth: int) -> str:
-        """An address in the memory, behind its stack."""
+        """An address in the memory, after its stack."""
         return f"(i64.add (i64.const 65536) (i64.and {self.expression('i64', depth - 1)} (i64.const 1023)))"
 
     def expression(self, kind: str, depth: int) -> str:

@@ -1,5 +1,5 @@
-/* The log of a session that is opened with `--log`, as pmem_accesses reads it: `accesses WORD ..` reads a trace from standard input, and prints
- * for each command the accesses, the work, and the lengths of log, marks and answer, each read once whole and once with too little room. */
+/* The log of a session that is opened with `--log`, as pmem_accesses reads it. `accesses WORD ..` reads a trace from standard input. For each
+ * command it prints the accesses, the work, and the lengths of log, marks and answer, each read once whole and once with too little room. */
 #include "pmem.h"
 #include <stdio.h>
 #include <stdlib.h>

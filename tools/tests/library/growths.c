@@ -1,10 +1,10 @@
-/* Refuses the first growth of the proved code's memory, then the second, and so on: each call says so by its status, a session that was refused goes
- * on as if nothing had been, and in the end all memory is given back. */
+/* Refuses the first growth of the proved code's memory, then the second, and so on. Each call reports this by its status. A session that was
+ * refused goes on as if nothing had happened. In the end all memory is given back. */
 #include "pmem.h"
 #include <stdio.h>
 #include <stdlib.h>
 
-/* The heap of the proved code (in place of the toolchain's three functions). */
+/* The heap of the proved code (instead of the toolchain's three functions). */
 typedef struct tried {
     unsigned char is_there;
     void *at;
@@ -50,7 +50,7 @@ static const char *const stores[] = {"begin", "put 0 11", "commit", "read 0"};
 enum { LINES = 8, REPLY_BYTES = 1024 };
 
 typedef struct replies {
-    size_t lens[LINES]; /* 0 where the reply was lost */
+    size_t lens[LINES]; /* 0 if the reply was lost */
     uint8_t texts[LINES][REPLY_BYTES];
     unsigned refused, lost;
 } replies;
@@ -63,7 +63,7 @@ static size_t spelled(uint8_t *line, const char *text) {
     return len;
 }
 
-/* Tells each line; one that is refused is told again, with memory. */
+/* Sends each line; one that is refused is sent again, with memory. */
 static bool told(pmem *memory, const char *const *script, size_t count, replies *all) {
     memset(all, 0, sizeof *all);
     for (size_t i = 0; i < count; i++) {
@@ -117,7 +117,7 @@ static int tried_session(const char *words, const char *const *script, size_t co
     return failures != 0 || closed == 0 || refused == 0 || lost == 0;
 }
 
-/* The same of pmem_answer: status 1 with `stop memory` or nothing, or 4 with a front of what is due. */
+/* The same of pmem_answer: status 1 with `stop memory` or nothing, or 4 with a prefix of what is due. */
 static int tried_answer(void) {
     static const char trace[] = "stat\nturn\nsnap\noff\non\nstat\n";
     uint8_t due[4096], text[4096];

@@ -1,5 +1,5 @@
 /* Sessions opened and copied until memory runs out, under a limit of the process. Each refusal is PMEM_NO_MEMORY and changes nothing, the
- * sessions that are open go on, and memory that was given back can be had again. */
+ * sessions that are open go on, and memory that was given back can be allocated again. */
 #define _DEFAULT_SOURCE
 #include "pmem.h"
 #include <stdio.h>

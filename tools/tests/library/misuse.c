@@ -1,4 +1,4 @@
-/* Handles used wrongly, NULL where the header allows it and where it does not, short buffers, and two sessions side by side. */
+/* Handles used wrongly, NULL as the header allows it and as it does not, short buffers, and two sessions side by side. */
 #include "pmem.h"
 #include <stdio.h>
 
@@ -85,7 +85,7 @@ static void buffers(void) {
     IS(pmem_close(&handle) == PMEM_OK);
 }
 
-/* What one session is told, the other doesn't know; and a handle that was moved goes on. */
+/* What one session is given, the other doesn't know; and a handle that was moved goes on. */
 static void two(void) {
     pmem first = PMEM_CLOSED, second = PMEM_CLOSED, moved;
     uint8_t line[PMEM_LINE_BYTES] = {1};
@@ -96,7 +96,7 @@ static void two(void) {
     IS(pmem_close(&second) == PMEM_OK && pmem_read(&moved, 0, 0).line[0] == 1 && pmem_close(&moved) == PMEM_OK);
 }
 
-/* A copy stands where the session stands, and the two go on by themselves. */
+/* A copy has the session's state, and the two go on by themselves. */
 static void copies(void) {
     pmem first = PMEM_CLOSED, second = PMEM_CLOSED;
     uint8_t line[PMEM_LINE_BYTES] = {2};

@@ -1,4 +1,4 @@
-/* Stands in for the program: `program answer WORD ..` by one call of pmem_answer, `program tell WORD ..` by a session that is told each line.
+/* Stands in for the program: `program answer WORD ..` by one call of pmem_answer, `program tell WORD ..` by a session that gets each line.
  * Reads a trace from standard input, writes what the program would, and ends with its status. */
 #include "pmem.h"
 #include <stdio.h>

@@ -92,7 +92,7 @@ static size_t some_words(uint8_t *words) {
     return len - (below(2) && len > 0 ? 1 : 0);
 }
 
-/* The last `len` bytes before the end, or NULL where there are none and chance wants it. */
+/* The last `len` bytes before the end, or NULL if there are none and chance wants it. */
 static uint8_t *block(uint8_t *end, size_t len) { return len == 0 && below(2) ? NULL : end - len; }
 
 static uint8_t *moved(uint8_t *end, const uint8_t *from, size_t len) {
