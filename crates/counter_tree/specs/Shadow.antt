@@ -1,6 +1,6 @@
 -- The shadow tree: a hash tree over the slot lines, kept on the chip, with its root in the registers.
 use Rattle.pmem_base.specs.Layout.{level_start}
-use Rattle.std.specs.Prelude.{ℕ, zero, suc, ◌≡◌, ◌≢◌, ◌<◌, ◌≤◌, ◌+◌, ◌-◌, ◌^◌, nat_le, List, [], ◌∷◌, find, length, replicate, All}
+use Rattle.std.specs.Prelude.{false, ℕ, zero, suc, ◌≡◌, ◌≢◌, ◌<◌, ◌≤◌, ◌+◌, ◌-◌, ◌^◌, nat_le, true, List, [], ◌∷◌, find, length, replicate, All}
 use Rattle.std.specs.Option.{unwrap_or}
 use Rattle.pmem_base.specs.declared.lines.Line.{Line}
 use Rattle.pmem_base.specs.Lines.{IsLine, line_at, zero_line}
@@ -63,7 +63,7 @@ pub record IsShadowDifference (f : Formulas) (h : ℕ) (first second : List Line
 
 -- a shape whose tree has height h, so that the definitions of hash trees apply to the shadow tree
 abbrev pub shape_of_height : ℕ → Shape
-shape_of_height h = record { levels = h; sets = 1; ways = 1; loss = 1; major = 0 }
+shape_of_height h = record { levels = h; sets = 1; ways = 1; loss = 1; major = 0; persist = 0; shadow = true; durable = false; combines = false }
 
 -- the leaves of these lines of a tree of height h are these slot lines, and zero past them
 abbrev pub AreLeaves : ℕ → List Line → List Line → Type 0

@@ -4,7 +4,7 @@ use Rattle.std.proofs.Common.{ℕ, ◌≡◌, ◌<◌, ◌≤◌, ◌+◌, ◌-�
 use Rattle.std.specs.Prelude.{⊤, MatchOption, All, ◌||◌, ◌==◌, nat_lt, nat_le, unwrap_or, is_none}
 use Rattle.std.specs.List.{list_any}
 use Rattle.std.proofs.lemmas.Option.{same_Some, none-some}
-use Rattle.std.proofs.lemmas.Bool.{true≢false, or_parts, or_from, or_left, or_right, cond-true, eq-eqb, ne_eqb, ltb-true}
+use Rattle.std.proofs.lemmas.Bool.{true≢false, or_parts, or_from, or_left, or_right, cond-true, eq-eqb, ne_eqb, ltb-true, lt-ltb}
 use Rattle.std.proofs.lemmas.List.{append_assoc, length-append, length-map, take_at, take-append-le, take-append-drop, nil_from_length}
 use Rattle.std.proofs.lemmas.List.Elements.{All-head, All-tail, All-cons, All-nil}
 use Rattle.std.proofs.lemmas.List.Folds.{list_any-append}
@@ -26,7 +26,7 @@ use Rattle.suite.specs.Formulas.{Formulas}
 use Rattle.suite.specs.Setup.{Setup}
 use Rattle.plain_model.specs.View.{DeviceView, OpenPage, counter_at, open_page, is_left, view_of}
 use Rattle.plain_model.specs.Asked.{Moment, seal_mark, next_major, reseal_mark, finishing_marks_of, page_to_finish, first_of, marks_of_write}
-use Rattle.plain_model.specs.Bounds.{is_seal, seal_count, begin_count}
+use Rattle.plain_model.specs.Bounds.{is_seal, seal_count, begin_count, is_path_mark, path_mark_count}
 use Rattle.pmem_engine.specs.Invariants.{IsAnchored, register_page}
 use Rattle.pmem_engine.specs.Outcomes.{is_seal_of, is_sealed_by}
 use Rattle.pmem_engine.specs.Calls.{IsPartOf}
@@ -40,7 +40,7 @@ record IsApart (a : ℕ) (opened : OpenPage) : Type 0 where
   few : length opened.left ≤ 64
   free : opened.page ≡ page_of a → list_any (λ i. i == index_in_page a) opened.left ≡ false
 
--- the registers' pages are so, where none has the line left
+-- the registers' pages are so, if none has the line left
 each_apart : (a : ℕ) (registers : List Progress)
     → list_any (λ opened. cond (opened.page == page_of a) (list_any (λ i. i == index_in_page a) opened.left) false) (map register_page registers) ≡ false
     → All (IsApart a) (map register_page registers)
@@ -107,18 +107,30 @@ reseals_count f now page (i ∷ left) =
       reseals_count f now page left,
     )
 
+-- with minors 0, so that their groups have no line of a path
+reseals_unmarked : (f : Formulas) (now : Moment) (page : ℕ) (left : List ℕ) → path_mark_count (map (reseal_mark f now page) left) ≡ 0
+reseals_unmarked f now page [] = refl
+reseals_unmarked f now page (i ∷ left) =
+    omega (
+      arith,
+      sum_by-cons (λ mark. cond (is_path_mark mark) 1 0) (reseal_mark f now page i) (map (reseal_mark f now page) left),
+      reseals_unmarked f now page left,
+    )
+
 record AreFinishing (a : ℕ) (marks : List Mark) : Type 0 where
   apart : is_sealed_by marks a ≡ false
+  unmarked : path_mark_count marks ≡ 0
   seals : seal_count marks ≡ length marks
   few : length marks ≤ 64
 
 finishing_are : (f : Formulas) (now : Moment) (a : ℕ) (opened : Option OpenPage) → MatchOption opened ⊤ (IsApart a)
     → AreFinishing a (finishing_marks_of f now opened)
-finishing_are f now a None it = record { apart = refl; seals = refl; few = omega arith }
+finishing_are f now a None it = record { apart = refl; unmarked = refl; seals = refl; few = omega arith }
 finishing_are f now a (Some opened) it =
     let long = length-map opened.left (reseal_mark f now opened.page) in
     record {
       apart = reseals_apart f now opened.page a opened.left it.small it.free;
+      unmarked = reseals_unmarked f now opened.page opened.left;
       seals = reseals_count f now opened.page opened.left ∙ sym long;
       few = let few = it.few in omega (arith, long, few);
     }
@@ -182,10 +194,11 @@ ends_own f now write P marks none some asked =
     by_case false false true held it = absurd (none-some marks it)
     by_case false false false held it = rolled held it
 
--- no other of an anchored chip's seals the line, and they are at most 64 seals and a begin
+-- no other of an anchored chip's seals the line, and they are at most 64 seals with minor 0 and a begin
 pub record AreBeforeOwn (at : ℕ) (front : List Mark) : Type 0 where
   pub apart : is_sealed_by front at ≡ false
   pub few : 4 * seal_count front + 3 * begin_count front ≤ 259
+  pub few_paths : path_mark_count front ≤ 1
 
 abbrev pub AreAsked : Formulas → ℕ → List Mark → Type 0
 AreAsked f at marks = EndsOwn f at (AreBeforeOwn at) marks
@@ -194,7 +207,7 @@ pub asked_are : (setup : Setup) (regs : Regs) (ledger : LedgerState) → IsAncho
     → now.view ≡ view_of setup.shape ledger.marks → (write : Posted) (marks : List Mark)
     → marks_of_write setup.formulas now write ≡ Some marks → AreAsked setup.formulas write.at marks
 asked_are setup regs ledger anchored now its_view write marks asked =
-    ends_own setup.formulas now write (AreBeforeOwn write.at) marks (record { apart = refl; few = omega arith }) rolled asked
+    ends_own setup.formulas now write (AreBeforeOwn write.at) marks (record { apart = refl; few = omega arith; few_paths = omega arith }) rolled asked
   where
     to_finish : Option OpenPage
     to_finish = page_to_finish now.view (open_page now.view (page_of write.at))
@@ -224,6 +237,11 @@ asked_are setup regs ledger anchored now its_view write marks asked =
               let all = are.seals in
               let few = are.few in
               omega (arith, long, seals, all, few);
+          few_paths =
+              let paths : path_mark_count (finishing ++ ending) ≡ path_mark_count finishing + 1 =
+              sum_by-append (λ mark. cond (is_path_mark mark) 1 0) finishing ending in
+              let none = are.unmarked in
+              omega (arith, paths, none);
         }
 
 -- with the own seal they are one seal more
@@ -236,6 +254,15 @@ few_asked f at marks are =
     let all = ap length are.form in
     let few = are.before.few in
     omega (arith, seals, long, all, few)
+
+-- groups that may have lines of a path are at most the begin's and the own seal's
+pub few_paths_asked : (f : Formulas) (at : ℕ) (marks : List Mark) → AreAsked f at marks → path_mark_count marks ≤ 2
+few_paths_asked f at marks are =
+    let own : List Mark = seal_mark f at are.ctr are.plain ∷ [] in
+    let paths = ap path_mark_count are.form ∙ sum_by-append (λ mark. cond (is_path_mark mark) 1 0) are.front own in
+    let one = ap {B = ℕ} (λ b. cond b 1 0) (lt-ltb 0 are.ctr.minor are.minor) in
+    let few = are.before.few_paths in
+    omega (arith, paths, one, few)
 
 -- all of them seal the line
 pub asked_sealed : (f : Formulas) (at : ℕ) (marks : List Mark) → AreAsked f at marks → is_sealed_by marks at ≡ true

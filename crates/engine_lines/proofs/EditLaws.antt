@@ -189,7 +189,7 @@ sound_after_edits setup edits old new answer it sound =
 
 -- ---- the lines
 
--- a change is made; or it isn't; or, where no line is spent, it is or not
+-- a change is made; or it isn't; or, if no line is spent, it is or not
 abbrev pub LeavesLines : Setup → Result (Unit {0}) Fault → List Line → List Line → Parts → Type 0
 LeavesLines setup (Ok done) before after new = HasLines setup after new
 LeavesLines setup (Err (Fail.Spent page)) before after new = HasLines setup before new
@@ -237,7 +237,7 @@ module _ (setup : Setup) (few : data_lines setup.shape ≤ 2 ^ 32) where
           (same_lines setup fault lines (slice_set lines at (line_at lines from)) new
           (subst (HasLines setup lines) (sym then.1) (lines_after_read setup from old it.between (Err fault) done lines had trusted)))
 
-  -- all are made; or so many, and of the next one what its fault says
+  -- all are made; or the first k, and the next one as its fault says
   pub record StopsAt (edits : List Edit) (lines : List Line) (new : Parts) (fault : Fault) : Type 0 where
     pub k : ℕ
     pub inside : k < length edits

@@ -1,4 +1,4 @@
--- How far a list of changes has come: the lines after so many of them, wherever it ends.
+-- How far a list of changes has come: the lines after the first k of them, wherever it ends.
 use Rattle.std.proofs.Common.{ℕ, suc, ◌≡◌, ◌<◌, ◌≤◌, ◌+◌, ◌^◌, ◌⊎◌, inl, inr, List, [], ◌∷◌, ◌++◌, length, take, Err, refl, ap, subst, ◌∙◌, arith}
 use Rattle.std.proofs.lemmas.Bool.{cases_lt}
 use Rattle.std.proofs.lemmas.List.{take-append-le, take_all, length-append}
@@ -22,7 +22,7 @@ all_edited-append (edit ∷ edits) more lines = all_edited-append edits more (ed
 pub after_last : (edits : List Edit) (last : Edit) (lines : List Line) → all_edited (edits ++ last ∷ []) lines ≡ edited last (all_edited edits lines)
 after_last edits last lines = all_edited-append edits (last ∷ []) lines
 
--- a fault leaves the lines before the change, or, where no line is spent, those after it
+-- a fault leaves the lines before the change, or, if no line is spent, those after it
 pub leaves_cases : (setup : Setup) (fault : Fault) (before after : List Line) (new : Parts)
     → LeavesLines setup (Err fault) before after new → HasLines setup before new ⊎ (IsUnspent fault × HasLines setup after new)
 leaves_cases setup (Fail.Spent page) before after new it = inl it
@@ -32,7 +32,7 @@ leaves_cases setup (Fail.Meta x) before after new it = elim it [ inl same ↦ in
 leaves_cases setup (Fail.Tag at) before after new it = elim it [ inl same ↦ inl same | inr put ↦ inr (tt, put) ]
 leaves_cases setup Fail.Shown before after new it = elim it [ inl same ↦ inl same | inr put ↦ inr (tt, put) ]
 
--- so many of the changes before the last one are made, or all of these, or the last one too, where no line is spent
+-- some of the changes before the last one are made, or all of these, or the last one too if no line is spent
 pub record StopsEditsBy (setup : Setup) (edits : List Edit) (last : Edit) (lines : List Line) (new : Parts) (fault : Fault) : Type 0 where
   pub k : ℕ
   pub within : k ≤ length edits

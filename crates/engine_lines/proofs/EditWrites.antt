@@ -1,4 +1,4 @@
--- The engine writes of changes, and memory once so many of them are done.
+-- The engine writes of changes, and memory once the first k of them are done.
 use Rattle.std.proofs.Common.{ℕ, zero, suc, ◌≡◌, ◌≤◌, ◌^◌, List, [], ◌∷◌, length, take, refl, ap, ◌∙◌, arith}
 use Rattle.std.specs.Prelude.{All}
 use Rattle.std.proofs.lemmas.List.Elements.{All-head, All-tail}

@@ -28,7 +28,7 @@ use Rattle.engine_lines.proofs.EngineWrites.{after_more, memory_now, moment_now,
 
 -- ---- the writes of changes
 
--- a change's, where these are the lines
+-- a change's, if these are the lines
 abbrev pub posted_of : Memory → Edit → Posted
 posted_of memory (Make.Put at line) = whole_write at line
 posted_of memory (Make.Copy from at) = whole_write at (line_at memory from)
@@ -48,7 +48,7 @@ cost g (edit ∷ edits) = cost_of g edit + cost g edits
 
 -- ---- ends
 
--- so many of the writes are done
+-- this number of the writes are done
 pub record AreGone (setup : Setup) (from : Parts) (queue : List Posted) (count most : ℕ) (to : Parts) : Type 0 where
   pub made : List Mark
   pub done : AreDone setup from (take count queue) made most to
@@ -62,7 +62,7 @@ pub record IsSpentAt (setup : Setup) (from : Parts) (queue : List Posted) (first
   pub done : AreDone setup from (take count queue) made most to
   pub next : IsSpentNext setup.formulas (moment_now setup from) queue count page made
 
--- power was cut with so many done, from the first on
+-- power was cut with this number done, from the first on
 pub record IsCutAt (setup : Setup) (from : Parts) (queue : List Posted) (first last most : ℕ) (to : Parts) : Type 0 where
   pub writing : Writing
   pub low : first ≤ writing.done
@@ -70,7 +70,7 @@ pub record IsCutAt (setup : Setup) (from : Parts) (queue : List Posted) (first l
   pub came : IsCutAmong setup.formulas (moment_now setup from) queue writing
   pub cut : AreCut setup from (take writing.done queue) writing.made most to
 
--- power was cut in the next one after so many
+-- power was cut in the next one after these
 pub record IsStoppedAt (setup : Setup) (from : Parts) (queue : List Posted) (count most : ℕ) (to : Parts) : Type 0 where
   pub made : List Mark
   pub came : IsStopped setup.formulas (moment_now setup from) queue count made

@@ -1,5 +1,5 @@
 -- The engine's calls of a command, one after the other: the marks, memory and steps of those that are done, and what a cut leaves.
-use Rattle.std.proofs.Common.{ℕ, ◌≡◌, ◌<◌, ◌≤◌, ◌+◌, ◌*◌, ◌++◌, ◌⊎◌, inl, inr, true, false, cond, List, [], ◌∷◌, length, Option, Some, None, Result, Ok, Err, refl, sym, ap, ap₂, subst, ◌∙◌, arith, rules}
+use Rattle.std.proofs.Common.{ℕ, ◌≡◌, ◌<◌, ◌≤◌, ◌+◌, ◌-◌, ◌*◌, ◌++◌, ◌⊎◌, inl, inr, true, false, cond, List, [], ◌∷◌, length, mul-le-mul_left, Option, Some, None, Result, Ok, Err, refl, sym, ap, ap₂, subst, ◌∙◌, arith, rules}
 use Rattle.std.specs.Prelude.{unwrap_or, option_map}
 use Rattle.std.proofs.lemmas.List.{append-nil, append_assoc, length-set}
 use Rattle.pmem_base.specs.declared.lines.Line.{Line}
@@ -16,7 +16,7 @@ use Rattle.suite.specs.Setup.{Setup}
 use Rattle.plain_model.specs.State.{Memory, memory_with}
 use Rattle.plain_model.specs.View.{DeviceView, IsMemoryOf, start_view, view_of, view_after_marks, plain_memory}
 use Rattle.plain_model.specs.Asked.{Moment, marks_of_write, marks_of_writes, moment_after, moment_after_writes}
-use Rattle.plain_model.specs.Bounds.{path_length, seal_count, begin_count}
+use Rattle.plain_model.specs.Bounds.{path_length, begun_lines, path_mark_count, writing_bound, group_bound}
 use Rattle.plain_model.proofs.PlainMemory.{memory_is}
 use Rattle.plain_model.proofs.Views.{view_after_marks-append}
 use Rattle.plain_model.proofs.WriteMarks.{marks_of_writes-more}
@@ -26,10 +26,11 @@ use Rattle.pmem_engine.specs.Parts.{Parts, regs_of, AreTrusted, AreSound, AreDur
 use Rattle.call_effects.specs.Outcomes.{going, cut_short}
 use Rattle.pmem_engine.specs.Outcomes.{is_sealed_by, OneLossEffect, TakesAtMost, TakesFewer}
 use Rattle.pmem_engine.specs.Calls.{IsMemory, IsPartOf, TakesOfWrite, moment_in, HasReadLine, HasWrittenLine}
+use Rattle.pmem_engine.proofs.Laws.PolicyBounds.{begun_some}
 use Rattle.pmem_engine.proofs.CallEnds.StillParts.{sound_trusted}
 use Rattle.engine_lines.specs.Writes.{write_steps, read_steps}
 use Rattle.engine_lines.proofs.SealedLines.{places_of, sealed_in}
-use Rattle.engine_lines.proofs.AskedWrites.{asked_are, few_asked, asked_sealed, part_apart}
+use Rattle.engine_lines.proofs.AskedWrites.{asked_are, few_asked, few_paths_asked, asked_sealed, part_apart}
 
 -- ---- plain memory, as the marks have it
 
@@ -87,7 +88,7 @@ most_within a b n m few it =
 
 -- ---- the calls that are done
 
--- these writes were done, with these marks, in at most so many steps, and all is sound
+-- these writes were done, with these marks, in at most this number of steps, and all is sound
 pub record AreDone (setup : Setup) (from : Parts) (writes : List Posted) (made : List Mark) (most : ℕ) (to : Parts) : Type 0 where
   pub asked : marks_of_writes setup.formulas (moment_now setup from) writes ≡ Some made
   pub moment : moment_now setup to ≡ moment_after_writes setup.formulas (moment_now setup from) writes
@@ -109,14 +110,14 @@ none_done setup from sound live =
       takes = record { writes = omega arith; latches = omega arith; sum = λ writes latches. omega arith };
     }
 
--- power was cut, with these writes done, these marks made, and fewer than so many steps
+-- power was cut, with these writes done, these marks made, and fewer than this number of steps
 pub record AreCut (setup : Setup) (from : Parts) (writes : List Posted) (made : List Mark) (most : ℕ) (to : Parts) : Type 0 where
   pub memory : memory_now setup to ≡ (moment_after_writes setup.formulas (moment_now setup from) writes).memory
   pub marks : to.ledger.marks ≡ from.ledger.marks ++ made
   pub loss : (regs_of to).loss ≡ (regs_of from).loss
   pub durable : AreDurable setup to
   pub dark : to.device.live ≡ false
-  pub small_group : length (regs_of to).group.items ≤ 3
+  pub small_group : length (regs_of to).group.items ≤ group_bound setup.shape
   pub takes : TakesFewer most from.device to.device
 
 -- a write was cut after its own seal, or before it
@@ -319,7 +320,7 @@ module _ (setup : Setup) (from parts : Parts) (writes : List Posted) (made : Lis
         → AreDone setup from writes made (most + write_steps setup.shape) to
     spent_done page it = spent_still (write_steps setup.shape) page it it.few_steps
 
-    -- where it is the first call, in the steps of its path
+    -- if it is the first call, in the steps of its path
     pub spent_path : (page : ℕ) → HasWrittenLine setup write parts to (Err (Fail.Spent page))
         → AreDone setup from writes made (most + path_length setup.shape) to
     spent_path page it =
@@ -334,8 +335,10 @@ module _ (setup : Setup) (from parts : Parts) (writes : List Posted) (made : Lis
     cut_within (Some marks) more there takes =
         let are = asked_are setup (regs_of parts) parts.ledger trusted.anchored (moment_now setup parts) refl write marks there in
         let few = few_asked f write.at marks are in
-        fewer_within parts.device to.device (1 * (2 * path_length setup.shape + 1) + 4 * seal_count marks + 3 * begin_count marks) (write_steps setup.shape)
-        (omega (arith, few)) takes
+        let paths : (begun_lines setup.shape - 1) * path_mark_count marks ≤ (begun_lines setup.shape - 1) * 2 =
+        mul-le-mul_left (begun_lines setup.shape - 1) (few_paths_asked f write.at marks are) in
+        fewer_within parts.device to.device (writing_bound setup.shape 1 marks) (write_steps setup.shape)
+        (omega (arith, few, paths, begun_some setup.shape)) takes
     cut_within None more there takes =
         fewer_within parts.device to.device (path_length setup.shape) (write_steps setup.shape) (omega arith) takes.0
 

@@ -24,7 +24,7 @@ and_false : (b : Bool) → (b && false) ≡ false
 and_false true = refl
 and_false false = refl
 
--- a line that is only sealed anew has no own seal
+-- a line that is only resealed has no own seal
 reseals_none : (f : Formulas) (now : Moment) (page a : ℕ) (left : List ℕ) → list_any (is_own_seal a) (map (reseal_mark f now page) left) ≡ false
 reseals_none f now page a [] = refl
 reseals_none f now page a (i ∷ left) =

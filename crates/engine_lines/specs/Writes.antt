@@ -5,13 +5,13 @@ use Rattle.pmem_base.specs.declared.answers.Mark.{Mark}
 use Rattle.pmem_base.specs.declared.answers.Mark.TheVariants.{Begin, Seal}
 use Rattle.pmem_base.specs.Shape.{Shape}
 use Rattle.suite.specs.Formulas.{Formulas}
-use Rattle.plain_model.specs.Bounds.{path_length}
+use Rattle.plain_model.specs.Bounds.{path_length, begun_lines}
 use Rattle.plain_model.specs.Asked.{Moment}
 use Rattle.plain_model.specs.Fits.{drained_marks, IsStopped}
 
 -- the most steps of an engine's write, which are those of 65 seals, a begin and its path, and of its read
 abbrev pub write_steps : Shape → ℕ
-write_steps g = 2 * path_length g + 264
+write_steps g = 2 * path_length g + 262 + 2 * begun_lines g
 
 abbrev pub read_steps : Shape → ℕ
 read_steps g = path_length g

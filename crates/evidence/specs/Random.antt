@@ -1,5 +1,5 @@
 -- Traces with the replies that a reference program of the rules gave: random commands. Made by `tools/evidence --make Random.antt`.
-use Rattle.std.specs.Prelude.{[], ◌∷◌, ◌++◌, replicate, Some, None}
+use Rattle.std.specs.Prelude.{false, true, [], ◌∷◌, ◌++◌, replicate, Some, None}
 use Rattle.std.specs.List.{range_with_len}
 use Rattle.pmem_base.specs.declared.commands.Command.TheVariants as Do
 use Rattle.pmem_base.specs.declared.answers.Mark.TheVariants.{Begin, Seal}
@@ -15,7 +15,7 @@ use Rattle.evidence.specs.Traces.{Trace, answered, answered_with}
 abbrev pub calm_one_setup : Setup
 calm_one_setup =
     record {
-      shape = record { levels = 1; sets = 1; ways = 1; loss = 4; major = 0 };
+      shape = record { levels = 1; sets = 1; ways = 1; loss = 4; major = 0; persist = 0; shadow = true; durable = false; combines = false };
       formulas = weak;
     }
 
@@ -107,7 +107,7 @@ calm_one =
 abbrev pub calm_two_setup : Setup
 calm_two_setup =
     record {
-      shape = record { levels = 2; sets = 1; ways = 1; loss = 2; major = 0 };
+      shape = record { levels = 2; sets = 1; ways = 1; loss = 2; major = 0; persist = 0; shadow = true; durable = false; combines = false };
       formulas = weak;
     }
 
@@ -454,7 +454,7 @@ calm_pages_before =
 abbrev pub calm_pages_setup : Setup
 calm_pages_setup =
     record {
-      shape = record { levels = 1; sets = 1; ways = 1; loss = 4; major = 0 };
+      shape = record { levels = 1; sets = 1; ways = 1; loss = 4; major = 0; persist = 0; shadow = true; durable = false; combines = false };
       formulas = weak;
     }
 
@@ -536,7 +536,7 @@ calm_pages =
 abbrev pub tampered_one_setup : Setup
 tampered_one_setup =
     record {
-      shape = record { levels = 1; sets = 1; ways = 1; loss = 4; major = 0 };
+      shape = record { levels = 1; sets = 1; ways = 1; loss = 4; major = 0; persist = 0; shadow = true; durable = false; combines = false };
       formulas = weak;
     }
 
@@ -628,7 +628,7 @@ tampered_one =
 abbrev pub tampered_two_setup : Setup
 tampered_two_setup =
     record {
-      shape = record { levels = 1; sets = 1; ways = 2; loss = 2; major = 7 };
+      shape = record { levels = 1; sets = 1; ways = 2; loss = 2; major = 7; persist = 0; shadow = true; durable = false; combines = false };
       formulas = weak;
     }
 
@@ -720,7 +720,7 @@ tampered_two =
 abbrev pub tampered_three_setup : Setup
 tampered_three_setup =
     record {
-      shape = record { levels = 2; sets = 2; ways = 1; loss = 4; major = 0 };
+      shape = record { levels = 2; sets = 2; ways = 1; loss = 4; major = 0; persist = 0; shadow = true; durable = false; combines = false };
       formulas = weak;
     }
 
@@ -812,7 +812,7 @@ tampered_three =
 abbrev pub tampered_four_setup : Setup
 tampered_four_setup =
     record {
-      shape = record { levels = 1; sets = 1; ways = 1; loss = 8; major = 0 };
+      shape = record { levels = 1; sets = 1; ways = 1; loss = 8; major = 0; persist = 0; shadow = true; durable = false; combines = false };
       formulas = weak;
     }
 
@@ -904,7 +904,7 @@ tampered_four =
 abbrev pub tampered_five_setup : Setup
 tampered_five_setup =
     record {
-      shape = record { levels = 1; sets = 1; ways = 1; loss = 1; major = 0 };
+      shape = record { levels = 1; sets = 1; ways = 1; loss = 1; major = 0; persist = 0; shadow = true; durable = false; combines = false };
       formulas = weak;
     }
 
@@ -1249,7 +1249,7 @@ tampered_pages_before =
 abbrev pub tampered_pages_setup : Setup
 tampered_pages_setup =
     record {
-      shape = record { levels = 1; sets = 1; ways = 1; loss = 4; major = 0 };
+      shape = record { levels = 1; sets = 1; ways = 1; loss = 4; major = 0; persist = 0; shadow = true; durable = false; combines = false };
       formulas = weak;
     }
 
@@ -1331,7 +1331,7 @@ tampered_pages =
 abbrev pub blurred_setup : Setup
 blurred_setup =
     record {
-      shape = record { levels = 1; sets = 1; ways = 1; loss = 4; major = 0 };
+      shape = record { levels = 1; sets = 1; ways = 1; loss = 4; major = 0; persist = 0; shadow = true; durable = false; combines = false };
       formulas = blur;
     }
 

@@ -1,5 +1,5 @@
 -- Further traces of the reference program, picked so that rarer answers come. Made by `tools/evidence --make Rare.antt`.
-use Rattle.std.specs.Prelude.{[], ◌∷◌, ◌++◌, replicate, Some, None}
+use Rattle.std.specs.Prelude.{false, true, [], ◌∷◌, ◌++◌, replicate, Some, None}
 use Rattle.std.specs.List.{range_with_len}
 use Rattle.pmem_base.specs.declared.commands.Command.TheVariants as Do
 use Rattle.pmem_base.specs.declared.answers.Mark.TheVariants.{Begin, Seal}
@@ -15,7 +15,7 @@ use Rattle.evidence.specs.Traces.{Trace, answered, answered_with}
 abbrev pub rare_1_setup : Setup
 rare_1_setup =
     record {
-      shape = record { levels = 2; sets = 1; ways = 1; loss = 4; major = 0 };
+      shape = record { levels = 2; sets = 1; ways = 1; loss = 4; major = 0; persist = 0; shadow = true; durable = false; combines = false };
       formulas = weak;
     }
 
@@ -87,7 +87,7 @@ rare_1 =
 abbrev pub rare_2_setup : Setup
 rare_2_setup =
     record {
-      shape = record { levels = 1; sets = 2; ways = 1; loss = 8; major = 0 };
+      shape = record { levels = 1; sets = 2; ways = 1; loss = 8; major = 0; persist = 0; shadow = true; durable = false; combines = false };
       formulas = weak;
     }
 
@@ -412,7 +412,7 @@ rare_3_before =
 abbrev pub rare_3_setup : Setup
 rare_3_setup =
     record {
-      shape = record { levels = 1; sets = 1; ways = 1; loss = 4; major = 18446744073709551615 };
+      shape = record { levels = 1; sets = 1; ways = 1; loss = 4; major = 18446744073709551615; persist = 0; shadow = true; durable = false; combines = false };
       formulas = weak;
     }
 
@@ -488,7 +488,7 @@ rare_3 =
 abbrev pub rare_4_setup : Setup
 rare_4_setup =
     record {
-      shape = record { levels = 1; sets = 1; ways = 1; loss = 4; major = 0 };
+      shape = record { levels = 1; sets = 1; ways = 1; loss = 4; major = 0; persist = 0; shadow = true; durable = false; combines = false };
       formulas = weak;
     }
 
@@ -812,7 +812,7 @@ rare_4 =
 abbrev pub rare_5_setup : Setup
 rare_5_setup =
     record {
-      shape = record { levels = 1; sets = 1; ways = 1; loss = 4; major = 0 };
+      shape = record { levels = 1; sets = 1; ways = 1; loss = 4; major = 0; persist = 0; shadow = true; durable = false; combines = false };
       formulas = blur;
     }
 
@@ -847,7 +847,7 @@ rare_5 =
 abbrev pub rare_6_setup : Setup
 rare_6_setup =
     record {
-      shape = record { levels = 1; sets = 1; ways = 1; loss = 4; major = 0 };
+      shape = record { levels = 1; sets = 1; ways = 1; loss = 4; major = 0; persist = 0; shadow = true; durable = false; combines = false };
       formulas = weak;
     }
 
@@ -919,7 +919,7 @@ rare_6 =
 abbrev pub rare_7_setup : Setup
 rare_7_setup =
     record {
-      shape = record { levels = 1; sets = 1; ways = 1; loss = 4; major = 0 };
+      shape = record { levels = 1; sets = 1; ways = 1; loss = 4; major = 0; persist = 0; shadow = true; durable = false; combines = false };
       formulas = weak;
     }
 
@@ -1243,7 +1243,7 @@ rare_7 =
 abbrev pub rare_8_setup : Setup
 rare_8_setup =
     record {
-      shape = record { levels = 1; sets = 2; ways = 1; loss = 8; major = 0 };
+      shape = record { levels = 1; sets = 2; ways = 1; loss = 8; major = 0; persist = 0; shadow = true; durable = false; combines = false };
       formulas = weak;
     }
 
@@ -1315,7 +1315,7 @@ rare_8 =
 abbrev pub rare_9_setup : Setup
 rare_9_setup =
     record {
-      shape = record { levels = 1; sets = 1; ways = 1; loss = 4; major = 0 };
+      shape = record { levels = 1; sets = 1; ways = 1; loss = 4; major = 0; persist = 0; shadow = true; durable = false; combines = false };
       formulas = weak;
     }
 

@@ -5,7 +5,7 @@ ghost use Rattle.pmem_base.specs.Lines.{zero_line, filled_line, line_at};
 ghost use Rattle.pmem_base.specs.Layout as layout;
 ghost use Rattle.commit_regs.specs.Groups.{redone};
 ghost use Rattle.plain_model.specs.View.{true_line};
-ghost use Rattle.pmem_engine.specs.Invariants.{is_named};
+ghost use Rattle.pmem_engine.specs.Invariants.{is_doubted};
 ghost use Rattle.pmem_recovery.specs.Trials.{tried_minors, lines_tried, first_undecided};
 ghost use Rattle.pmem_recovery.specs.Fixed.{fixed_line, found_root};
 ghost use Rattle.evidence.specs.Samples.{small_shape, weak, short_tag};
@@ -14,9 +14,9 @@ ghost use Rattle.evidence.specs.Devices.{line_1_twice, three_lines, three_lines_
 /// What recovery finds after one seal: the block and the top are named, and are made again.
 pub fn recovered_device()
     ensures whole { length (device_sealed small_weak) ≡ layout.device_lines small_shape }
-    ensures block_named { is_named small_shape (device_sealed small_weak) 1 ≡ true }
-    ensures top_named { is_named small_shape (device_sealed small_weak) 0 ≡ true }
-    ensures other_unnamed { is_named small_shape (device_sealed small_weak) 2 ≡ false }
+    ensures block_named { is_doubted small_shape (device_sealed small_weak) 1 ≡ true }
+    ensures top_named { is_doubted small_shape (device_sealed small_weak) 0 ≡ true }
+    ensures other_unnamed { is_doubted small_shape (device_sealed small_weak) 2 ≡ false }
     ensures tried { length (lines_tried small_shape (device_sealed small_weak)) ≡ 64 }
     ensures minor { tried_minors small_weak (device_sealed small_weak) (regs_sealed small_weak) 0 ≡ 1 ∷ [] }
     ensures other_minor { tried_minors small_weak (device_sealed small_weak) (regs_sealed small_weak) 63 ≡ 0 ∷ [] }

@@ -1,5 +1,5 @@
 //! Pads, tags, digests, counter blocks, paths and the layout at worked values.
-ghost use Rattle.std.specs.Prelude.{true, ℕ, ◌≡◌, ◌+◌, ◌-◌, ◌/◌, ◌^◌, ◌≤◌, ◌<◌, List, [], ◌∷◌, ◌++◌, replicate, slice_index};
+ghost use Rattle.std.specs.Prelude.{true, false, ℕ, ◌≡◌, ◌+◌, ◌-◌, ◌/◌, ◌^◌, ◌≤◌, ◌<◌, List, [], ◌∷◌, ◌++◌, replicate, slice_index};
 ghost use Rattle.std.specs.List.{range_with_len};
 ghost use Rattle.pmem_base.specs.Lines.{line_of, zero_line, filled_line};
 ghost use Rattle.pmem_base.specs.Layout as layout;
@@ -57,5 +57,5 @@ pub fn layout_examples()
     ensures counter_shadow { layout.shadow_line default_shape 0 ≡ 1301 }
     ensures tree_shadow { layout.shadow_line default_shape 1 ≡ 1302 }
     ensures size { layout.device_lines default_shape ≡ 1303 }
-    ensures largest { layout.device_lines (record { levels = 6; sets = 64; ways = 8; loss = 4; major = 0 }) ≡ 333365 }
+    ensures largest { layout.device_lines (record { levels = 6; sets = 64; ways = 8; loss = 4; major = 0; persist = 0; shadow = true; durable = false; combines = false }) ≡ 333365 }
 {}

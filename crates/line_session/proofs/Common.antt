@@ -25,7 +25,7 @@ pub use Rattle.line_session.specs.declared.starts.StartFault.{StartFault}
 pub use Rattle.meta_path.specs.Fetching.{spilled}
 pub use Rattle.plain_model.proofs.PlainMemory.{memory_is}
 pub use Rattle.plain_model.specs.Asked.{Moment, moment_after_writes, marks_of_writes}
-pub use Rattle.plain_model.specs.Bounds.{recovery_bound, path_length}
+pub use Rattle.plain_model.specs.Bounds.{recovery_bound, group_bound, path_length}
 pub use Rattle.plain_model.specs.Fits.{IsSpentNext, drained_marks}
 pub use Rattle.plain_model.specs.State.{Memory, memory_with}
 pub use Rattle.plain_model.specs.View.{IsMemoryOf, plain_memory, counter_at, plain_of_seal, view_of, plain_line}

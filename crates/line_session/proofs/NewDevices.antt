@@ -1,9 +1,10 @@
 -- A formatted device: its cache is empty, and its lines are few, as are the steps of its recovery.
-use Rattle.std.proofs.Common.{ℕ, zero, suc, ◌≡◌, ◌<◌, ◌≤◌, ◌^◌, [], refl, rules, ◌+◌, mul-le-mul_left, mul-le-mul_right}
+use Rattle.std.proofs.Common.{ℕ, zero, suc, ◌≡◌, ◌<◌, ◌≤◌, ◌^◌, [], refl, rules, arith, ◌+◌}
 use Rattle.line_session.proofs.Common.{pow-le-pow_right, Shape, IsShape, spilled, recovery_bound, read_steps}
 use Rattle.pmem_base.specs.Layout as layout
 use Rattle.meta_cache.specs.State.{empty_banks}
 use Rattle.meta_path.proofs.PathFacts.{set_of-empty_banks}
+use Rattle.pmem_recovery.proofs.NamedLaws.{recovery_bound-small}
 
 -- an empty cache has nothing to write back
 pub none_to_write : (g : Shape) (page n : ℕ) → spilled g (empty_banks g) page n ≡ []
@@ -15,4 +16,4 @@ few_data g shape = search (rules, pow-le-pow_right)
 
 -- the steps of recovery and of one read
 pub few_of_start : (g : Shape) → IsShape g → recovery_bound g + read_steps g ≤ 16384
-few_of_start g shape = search (rules, mul-le-mul_left, mul-le-mul_right)
+few_of_start g shape = omega (arith, recovery_bound-small g shape, shape.at_most_six_levels)

@@ -1,11 +1,11 @@
 -- A formatted device of whose lines one was read: what is new in every session.
-use Rattle.std.proofs.Common.{ℕ, ◌≡◌, true, [], replicate, Option, Some, None, Ok, refl, sym, ap, subst₂, ◌∙◌, rules}
+use Rattle.std.proofs.Common.{ℕ, ◌≡◌, true, [], length, replicate, Option, Some, None, Ok, refl, sym, ap, subst₂, ◌∙◌, arith, rules}
 use Rattle.std.specs.Prelude.{is_none}
 use Rattle.std.proofs.lemmas.Bool.{true≢false, and_parts}
 use Rattle.std.proofs.lemmas.List.{append-nil, length-replicate, get_or-replicate}
 use Rattle.pmem_base.specs.declared.lines.Line.{Line}
 use Rattle.pmem_base.specs.declared.registers.Regs.{Regs}
-use Rattle.line_session.proofs.Common.{Setup, Device, BoardMemory, LedgerState, EngineState, HasFormatted, device_of, plain_memory, memory_is, zero_line, HasReadLine, parts_of, IsSound, OneLossEffect, going, RisesBy, on_chip}
+use Rattle.line_session.proofs.Common.{Setup, Device, BoardMemory, LedgerState, EngineState, HasFormatted, device_of, plain_memory, memory_is, zero_line, HasReadLine, parts_of, IsSound, OneLossEffect, going, RisesBy, on_chip, spilled, path_length}
 use Rattle.pmem_base.specs.Layout as layout
 use Rattle.line_session.specs.State.{LineSession, IsNewSession}
 use Rattle.line_session.proofs.NewDevices.{none_to_write}
@@ -35,7 +35,11 @@ module _ (setup : Setup) (start : Device) (middle : BoardMemory) (ledger_middle 
 
     -- no line was written back
     no_write : left.board.writes ≡ middle.writes
-    no_write = search (rules, none_to_write)
+    no_write =
+        let none : spilled setup.shape engine.cache (layout.page_of n) (path_length setup.shape) ≡ [] =
+        ap (λ (e : EngineState). spilled setup.shape e.cache (layout.page_of n) (path_length setup.shape)) formatted.engine_new
+        ∙ none_to_write setup.shape (layout.page_of n) (path_length setup.shape) in
+        (was.work (search rules)).work.no_write (omega (arith, ap length none))
 
     no_latch : left.board.latches ≡ middle.latches
     no_latch = (was.work (search rules)).work.no_latch refl

@@ -2,7 +2,7 @@
 -- durable device.
 use Rattle.std.proofs.lemmas.Grind.{common_steps}
 use Rattle.std.proofs.Common.{ℕ, ◌≡◌, ◌<◌, ◌≤◌, true, List, [], length, inl, inr, Option, Some, None, Ok, Err, refl, sym, ap, ◌∙◌, arith, rules}
-use Rattle.line_session.proofs.Common.{is_some, MatchOption, true≢false, append-nil, Line, Regs, Device, BoardMemory, LedgerState, Setup, recovery_bound, EngineState, Parts, parts_of, AreSound, IsDurable, IsSound, Work, SuiteState, IsTwinOfLastSeal, HasRecovered, most_recovery_steps, Taken, device_during, none_taken, most_within, AreDone, on_chip}
+use Rattle.line_session.proofs.Common.{is_some, MatchOption, true≢false, append-nil, Line, Regs, Device, BoardMemory, LedgerState, Setup, recovery_bound, group_bound, EngineState, Parts, parts_of, AreSound, IsDurable, IsSound, Work, SuiteState, IsTwinOfLastSeal, HasRecovered, most_recovery_steps, Taken, device_during, none_taken, most_within, AreDone, on_chip}
 use Rattle.pmem_base.specs.Layout as layout
 use Rattle.pmem_base.specs.Registers.{without_group}
 use Rattle.pmem_recovery.specs.declared.faults.RecFault.TheVariants as Rec
@@ -10,7 +10,7 @@ use Rattle.commit_regs.proofs.GroupLemmas.{one_latch}
 use Rattle.pmem_recovery.proofs.UndecidedLaws.{undecided_line}
 
 -- its steps
-pub few_recovery : (setup : Setup) (regs : Regs) → length regs.group.items ≤ 3 → most_recovery_steps setup regs ≤ recovery_bound setup.shape
+pub few_recovery : (setup : Setup) (regs : Regs) → length regs.group.items ≤ group_bound setup.shape → most_recovery_steps setup regs ≤ recovery_bound setup.shape
 few_recovery setup regs few = omega (arith, one_latch regs.group.items, few)
 
 -- ---- it is done
@@ -33,7 +33,7 @@ module _ (setup : Setup) (ledger : LedgerState) (lit : BoardMemory) (between : D
       go (Some now) there = (it.lines lit.lines refl now there).from_durable durable
 
   -- no write is done yet
-  pub recovered : lit.powered ≡ true → length lit.regs.group.items ≤ 3 → AreDone setup start [] [] (recovery_bound setup.shape) middle
+  pub recovered : lit.powered ≡ true → length lit.regs.group.items ≤ group_bound setup.shape → AreDone setup start [] [] (recovery_bound setup.shape) middle
   recovered on few =
       record {
         asked = refl;
@@ -50,18 +50,18 @@ module _ (setup : Setup) (ledger : LedgerState) (lit : BoardMemory) (between : D
 -- the device is durable, and the stop-loss number as it was
 pub record IsLeftDurable (setup : Setup) (old : BoardMemory) (new : BoardMemory) (ledger : LedgerState) : Type 0 where
   pub durable : IsDurable setup new.lines new.regs ledger
-  pub few_armed : length new.regs.group.items ≤ 3
+  pub few_armed : length new.regs.group.items ≤ group_bound setup.shape
   pub loss : new.regs.loss ≡ old.regs.loss
 
 module _ (setup : Setup) (ledger after : LedgerState) (lit board : BoardMemory) (taken : Taken) (suite_old suite_between : SuiteState) (same : after ≡ ledger)
-    (durable : IsDurable setup lit.lines lit.regs ledger) (few : length lit.regs.group.items ≤ 3) where
+    (durable : IsDurable setup lit.lines lit.regs ledger) (few : length lit.regs.group.items ≤ group_bound setup.shape) where
   abbrev from : Device
   from = device_during lit none_taken
 
   abbrev to : Device
   to = device_during board taken
 
-  left_durable : (regs : Regs) → board.regs ≡ regs → length regs.group.items ≤ 3 → regs.loss ≡ lit.regs.loss → IsDurable setup board.lines board.regs ledger
+  left_durable : (regs : Regs) → board.regs ≡ regs → length regs.group.items ≤ group_bound setup.shape → regs.loss ≡ lit.regs.loss → IsDurable setup board.lines board.regs ledger
       → IsLeftDurable setup lit board after
   left_durable regs is armed loss made = grind (arith, common_steps)
 

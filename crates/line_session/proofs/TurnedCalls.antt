@@ -157,7 +157,7 @@ module _ {L O F : Type 0} (c : TurnedCall L O F) where
           few =
               subst (λ n. n < recovery_bound setup.shape) (sym c.counted) (fewer c.taken (recovery_bound setup.shape) watched.follows.few
               (fewer_within from to (most_recovery_steps setup lit.regs) (recovery_bound setup.shape) (few_recovery setup lit.regs c.world.few_armed)
-              it.steps).sum);
+              (it.steps.1 (inl refl))).sum);
           shape = refl;
           keys = c.same_keys;
         },

@@ -1,6 +1,6 @@
 -- What a session holds after a call that goes on or is cut.
 use Rattle.std.proofs.Common.{rules, ℕ, ◌≡◌, ◌≤◌, true, false, length, List, Some, None, sym, ap, subst, arith, ap₂}
-use Rattle.line_session.proofs.Common.{IsShape, AreInRange, Setup, Formulas, EngineState, IsDurable, IsSound, sealed_in, places_of, setup_under, option_map, on_chip}
+use Rattle.line_session.proofs.Common.{IsShape, AreInRange, group_bound, Setup, Formulas, EngineState, IsDurable, IsSound, sealed_in, places_of, setup_under, option_map, on_chip}
 use Rattle.line_session.specs.State.{LineSession, setup_in}
 use Rattle.line_session.specs.World.{StoreSession, IsLineWorld, IsLineOn, IsLineBy}
 
@@ -35,7 +35,7 @@ module _ {L : Type 0} (engine_of : L → EngineState) (setup : Setup) (session :
   pub off_of : session.store ≡ None → IsShape setup.shape → AreInRange setup.formulas
       → session.state.engine ≡ option_map (λ store. on_chip (engine_of store)) session.store → session.state.board.powered ≡ false
       → IsDurable setup session.state.board.lines session.state.board.regs session.state.ledger
-      → length session.state.board.regs.group.items ≤ 3 → IsLineWorld engine_of setup session
+      → length session.state.board.regs.group.items ≤ group_bound setup.shape → IsLineWorld engine_of setup session
   off_of none shape formulas engine unpowered durable few =
       let anchored = durable.mendable.anchored in
       record {

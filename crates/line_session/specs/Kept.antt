@@ -3,6 +3,7 @@ use Rattle.std.specs.Prelude.{◌≡◌, ◌≤◌, Bool, true, false, List, len
 use Rattle.pmem_base.specs.declared.answers.Mark.{Mark}
 use Rattle.pmem_base.specs.Shape.{IsShape}
 use Rattle.suite.specs.Setup.{Setup}
+use Rattle.plain_model.specs.Bounds.{group_bound}
 use Rattle.pmem_engine.specs.declared.fault.Fault.{Fault}
 use Rattle.pmem_engine.specs.declared.fault.Fault.TheVariants as Fail
 use Rattle.pmem_engine.specs.Engine.{EngineState}
@@ -17,7 +18,7 @@ pub record IsLeftOn (setup : Setup) (engine : EngineState) (parts : Parts) : Typ
 pub record IsLeftOff (setup : Setup) (parts : Parts) : Type 0 where
   pub durable : AreDurable setup parts
   pub dark : parts.device.live ≡ false
-  pub small_group : length (regs_of parts).group.items ≤ 3
+  pub small_group : length (regs_of parts).group.items ≤ group_bound setup.shape
 
 pub record IsLeft (setup : Setup) (cut : Bool) (engine : EngineState) (old new : Parts) : Type 0 where
   pub marks : length old.ledger.marks ≤ length new.ledger.marks

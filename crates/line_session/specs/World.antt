@@ -9,6 +9,7 @@ use Rattle.seal_ledger.specs.Ledger.{LedgerState, IsOfShape}
 use Rattle.suite.specs.Formulas.{AreInRange}
 use Rattle.suite.specs.Setup.{Setup}
 use Rattle.plain_model.specs.View.{IsMemoryOf, plain_memory}
+use Rattle.plain_model.specs.Bounds.{group_bound}
 use Rattle.pmem_engine.specs.Engine.{EngineState, on_chip}
 use Rattle.pmem_engine.specs.Invariants.{IsDurable, IsSound}
 use Rattle.pmem_engine.specs.Calls.{IsUsable}
@@ -64,7 +65,7 @@ pub record IsLineWorld {L : Type 0} (engine_of : L → EngineState) (setup : Set
   pub whole_formulas : AreInRange setup.formulas
   pub whole_lines : AreLinesOf (layout.device_lines setup.shape) session.state.board.lines
   pub valid_regs : IsValidRegs setup.shape session.state.board.regs
-  pub few_armed : length session.state.board.regs.group.items ≤ 3
+  pub few_armed : length session.state.board.regs.group.items ≤ group_bound setup.shape
   pub ledger : IsOfShape setup.shape session.state.ledger
   pub no_exhibit : IsTrue (is_none session.state.ledger.exhibit)
   pub places : IsMemoryOf setup session.state.ledger.marks (plain_memory setup session.state.ledger.marks)

@@ -51,7 +51,7 @@ module _ (setup : Setup) (n : ℕ) (txn : List (ℕ × Line)) (lines : List Line
       ∙ ap (λ l. slice_set l n zero_line) (after_all_targets txn (lines_decided n txn lines))
       ∙ ap (slice_set (put_lines txn (lines_decided n txn lines)) n) (sym zero_header)
 
-  -- the header isn't written, or it is where no line is spent
+  -- the header isn't written, or it is if no line is spent
   refused_left : (to : Parts) (fault : Fault)
       → StopsEditsBy setup (body_edits (n + 1) (bodies_of txn)) (Make.Put n (header_of (targets_of txn))) lines to fault
       → Left to (Err (record { fault = fault; committed = false }))
@@ -66,7 +66,7 @@ module _ (setup : Setup) (n : ℕ) (txn : List (ℕ × Line)) (lines : List Line
             (subst (λ l. HasLines setup l to) (ap (with_header n (targets_of txn)) (after_all_bodies (n + 1) (bodies_of txn) lines)) put.2)
       ]
 
-  -- the targets are written, or so many of them, and then the zero header
+  -- the targets are written, or the first k of them, and then the zero header
   applied_left : (to : Parts) (applied : Result (Unit {0}) Fault)
       → LeavesAll setup small applied (applying_edits n txn) (lines_decided n txn lines) to → Left to (commit_answer_by applied)
   applied_left to (Ok done) holds =
@@ -158,7 +158,7 @@ AfterCommit P E (Ok Do.Applied) to = P to
 AfterCommit P E (Ok (Do.Stuck page)) to = E (Fail.Spent page) to
 AfterCommit P E (Err fault) to = E fault.fault to
 
--- where changes leave that, so does a commit
+-- if changes leave that, so does a commit
 pub commit_ends : (setup : Setup) (P : Parts → Type 0) (E : Fault → Parts → Type 0)
     → ((edits : List Edit) (old new : Parts) (answer : Result (Unit {0}) Fault) → AreEdited setup edits old new answer → P old → AfterEdits P E answer new)
     → (txn : List (ℕ × Line)) (old new : Store) (from to : Parts) (answer : Result Committed CommitFault) → P from

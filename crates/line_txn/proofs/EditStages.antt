@@ -1,11 +1,11 @@
--- The lines after so many of the changes that a commit or a redo is made of, and which changes these are.
+-- The lines after the first k changes that a commit or a redo is made of, and which changes these are.
 use Rattle.std.proofs.Common.{subst, Result, Err, ℕ, zero, suc, ◌≡◌, ◌<◌, ◌≤◌, ◌+◌, List, [], ◌∷◌, ◌++◌, length, take, drop, drop-cons, refl, sym, ap, ◌∙◌, arith, rules}
 use Rattle.line_txn.proofs.Common.{Setup, Parts, Fault, AreEdited, All, slice_set, zip, length-append, length-map, All-nil, All-cons, All-head, All-tail, All-append, Line, IsLine, line_at, put_lines, IsLine-zero_line, line_at-set_other, Edit, AreDistinctBelow, redone_to, with_bodies, targets_of, bodies_of, IsEditOf, all_edited, body_edits, target_edits, copy_edits, deciding_edits, applying_edits, redoing_edits}
 use Rattle.pmem_base.specs.Lines.{zero_line}
 use Rattle.engine_lines.specs.declared.edits.Edit.TheVariants as Make
 use Rattle.line_txn.specs.Header.{header_of}
 
--- ---- the lines after so many of them
+-- ---- the lines after the first k of them
 
 pub after_bodies : (p k : ℕ) (bodies lines : List Line) → all_edited (take k (body_edits p bodies)) lines ≡ with_bodies p (take k bodies) lines
 after_bodies p zero bodies lines = refl

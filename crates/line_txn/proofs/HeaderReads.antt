@@ -1,4 +1,4 @@
--- The header of a line, as it is read: it is found exactly where the line is one.
+-- The header of a line, as it is read: it is found exactly if the line is one.
 use Rattle.std.proofs.Common.{ℕ, suc, nat_le, length, ◌≡◌, ◌≢◌, ◌<◌, ◌^◌, Bool, true, false, not, cond, eqb, List, [], ◌∷◌, get_or, Option, Some, None, refl, sym, ap, subst, ◌∙◌, arith, rules}
 use Rattle.line_txn.proofs.Common.{All, ◌==◌, nat_lt, ◌&&◌, AllPairs, list_any, cases_Bool, lt-ltb, ltb-true, le-leb, leb-true, ne_eqb, eq-eqb, and_parts, and_from, not_from_false, not-true, false≢true, All-cons, All-head, All-tail, list_any_none, list_any_at, AllPairs-cons, Line, AreDistinctBelow, IsHeader, are_distinct_below, is_header_of, header_in}
 use Rattle.pmem_base.specs.Lines.{same_bytes, line_of}

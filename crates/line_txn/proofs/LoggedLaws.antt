@@ -132,7 +132,7 @@ redo_keeps n lines memory targets k old =
 no_targets : (n : ℕ) → AreTargets n []
 no_targets n = record { few = omega arith; below = below_none n }
 
--- the zero header, where every target holds its body
+-- the zero header, if every target holds its body
 clear_keeps : (n : ℕ) (lines memory : List Line) (targets : List ℕ) → IsLogged n lines targets memory
     → IsLogged n (with_header n [] (redone_to 15 n targets lines)) [] memory
 clear_keeps n lines memory targets old =

@@ -6,7 +6,7 @@ use Rattle.std.proofs.lemmas.List.{length-append}
 use Rattle.pmem_base.proofs.LayoutLemmas.{number_low}
 use Rattle.pmem_base.specs.declared.lines.Line.{Line}
 use Rattle.pmem_base.specs.Counts.{HasRisen}
-use Rattle.pmem_base.specs.Shape.{Shape}
+use Rattle.pmem_base.specs.Shape.{Shape, named_levels}
 use Rattle.pmem_base.specs.Layout.{slots, shadow_line}
 use Rattle.board.specs.Counts.{RisesBy}
 use Rattle.board.proofs.CountLemmas.{HasRisen-once}
@@ -85,7 +85,7 @@ module _ {g : Shape} {banks : Banks} {page n : ℕ} {old_mirror mid_mirror new_m
             old new) before.mirror (HasWorked-then 0 0 _ _ old mid new before.work level.1));
       }
 
-  pub IsNamingCut-at : {new : Device} → n ≤ g.levels
+  pub IsNamingCut-at : {new : Device} → n < named_levels g
       → Follows (slot_plan g n (path_number g banks page n) (path_at g page n) mid_mirror) mid new (Err (new_mirror, the_cut))
       → IsNamingCut g banks page old_mirror new_mirror old new
   IsNamingCut-at {new} le it =

@@ -1,7 +1,7 @@
 -- New lines are stored, level by level.
 use Rattle.std.proofs.lemmas.Grind.{common_steps}
 use Rattle.std.proofs.Common.{rules, ◌≡◌, ◌≢◌, ℕ, ◌+◌, ◌<◌, ◌≤◌, Bool, true, cond, List, [], ◌∷◌, ◌++◌, length, get_or, take, map, set, sym, ap, subst, ◌∙◌, inl, inr, arith}
-use Rattle.std.specs.Prelude.{◌==◌, ◌||◌, nat_lt, not, Contains}
+use Rattle.std.specs.Prelude.{◌==◌, ◌-◌, nat_lt, Contains}
 use Rattle.std.proofs.lemmas.Bool.{cases_eq, cases_Bool, cond-true, cond-false, eq-eqb, eqb-true, false≢true}
 use Rattle.std.proofs.lemmas.List.{map-id, length-map, take_more, get_or-map}
 use Rattle.std.proofs.lemmas.List.Elements.{All-contains}
@@ -56,16 +56,16 @@ position_of g page lines j d path h = search (rules, get_or-map)
 
 -- ---- level by level
 
-pub IsStoredTo-none : (g : Shape) (page : ℕ) (persisted : Bool) (lines : List (ℕ × Line)) (cache : CacheState)
-    → IsStoredTo g page persisted lines 0 cache cache
-IsStoredTo-none g page persisted lines cache = search rules
+pub IsStoredTo-none : (g : Shape) (page : ℕ) (grouped : ℕ) (lines : List (ℕ × Line)) (cache : CacheState)
+    → IsStoredTo g page grouped lines 0 cache cache
+IsStoredTo-none g page grouped lines cache = search rules
 
-pub IsStoredTo-more : {g : Shape} {page : ℕ} {persisted : Bool} {lines : List (ℕ × Line)} {n : ℕ} {old mid new : CacheState}
-    → IsStoredTo g page persisted lines n old mid
+pub IsStoredTo-more : {g : Shape} {page : ℕ} {grouped : ℕ} {lines : List (ℕ × Line)} {n : ℕ} {old mid new : CacheState}
+    → IsStoredTo g page grouped lines n old mid
     → ChangesSet mid new n (set_index g (path_at g page n))
-    (stored_set (slots_at g mid.banks n (path_at g page n)) (path_at g page n) (new_line lines n) (stored_mark g persisted n))
-    → IsStoredTo g page persisted lines (n + 1) old new
-IsStoredTo-more {g} {page} {persisted} {lines} {n} {old} {mid} {new} before level =
+    (stored_set (slots_at g mid.banks n (path_at g page n)) (path_at g page n) (new_line lines n) (stored_mark g grouped n))
+    → IsStoredTo g page grouped lines (n + 1) old new
+IsStoredTo-more {g} {page} {grouped} {lines} {n} {old} {mid} {new} before level =
     record {
       exact = search rules;
       shape = level.shape ∙ before.shape;
@@ -83,20 +83,20 @@ IsStoredTo-more {g} {page} {persisted} {lines} {n} {old} {mid} {new} before leve
     }
 
 -- the change of a level, in the path's words
-pub level_stored : (g : Shape) (page : ℕ) (persisted : Bool) (lines : List (ℕ × Line)) (n : ℕ) (entry d : ℕ × Line) (mark : Bool)
+pub level_stored : (g : Shape) (page : ℕ) (grouped : ℕ) (lines : List (ℕ × Line)) (n : ℕ) (entry d : ℕ × Line) (mark : Bool)
     (mid new : CacheState) → IsPathOf g page lines → n < length lines → mid.shape ≡ g → entry ≡ get_or lines n d
-    → mark ≡ stored_mark g persisted n
+    → mark ≡ stored_mark g grouped n
     → ChangesSet mid new n (set_index mid.shape entry.0) (stored_set (slots_at mid.shape mid.banks n entry.0) entry.0 entry.1 mark)
     → ChangesSet mid new n (set_index g (path_at g page n))
-    (stored_set (slots_at g mid.banks n (path_at g page n)) (path_at g page n) (new_line lines n) (stored_mark g persisted n))
-level_stored g page persisted lines n entry d mark mid new path h its is mark_is changes = grind (arith, common_steps)
+    (stored_set (slots_at g mid.banks n (path_at g page n)) (path_at g page n) (new_line lines n) (stored_mark g grouped n))
+level_stored g page grouped lines n entry d mark mid new path h its is mark_is changes = grind (arith, common_steps)
 
 -- the next position is cached still
-pub next_cached : (g : Shape) (page : ℕ) (persisted : Bool) (lines : List (ℕ × Line)) (n : ℕ) (entry d : ℕ × Line)
+pub next_cached : (g : Shape) (page : ℕ) (grouped : ℕ) (lines : List (ℕ × Line)) (n : ℕ) (entry d : ℕ × Line)
     (old mid : CacheState) → IsPathOf g page lines → n < length lines → old.shape ≡ g → entry ≡ get_or lines n d
-    → IsStoredTo g page persisted lines n old mid → IsPathCached g old.banks page
+    → IsStoredTo g page grouped lines n old mid → IsPathCached g old.banks page
     → is_cached mid.shape mid.banks n entry.0 ≡ true
-next_cached g page persisted lines n entry d old mid path h its is stored cached = search (rules, position_of, length-path_lines)
+next_cached g page grouped lines n entry d old mid path h its is stored cached = search (rules, position_of, length-path_lines)
 
 -- and on the tree
 pub next_on_tree : (g : Shape) (page : ℕ) (lines : List (ℕ × Line)) (n : ℕ) (entry d : ℕ × Line)
@@ -106,9 +106,9 @@ next_on_tree g page lines n entry d path h is =
     (path_at-lt g page n path.its_page (omega (arith, h, length-path_lines g page lines path)))
 
 -- the mark that the code computes
-pub mark_is : (levels n last : ℕ) (persisted mark : Bool) → last ≡ levels → mark ≡ (nat_lt n last || not persisted)
-    → mark ≡ (nat_lt n levels || not persisted)
-mark_is levels n last persisted mark same is = is ∙ ap (λ k. nat_lt n k || not persisted) same
+pub mark_is : (levels n count grouped : ℕ) (mark : Bool) → count ≡ levels + 1 → mark ≡ nat_lt n (count - grouped)
+    → mark ≡ nat_lt n (levels + 1 - grouped)
+mark_is levels n count grouped mark same is = is ∙ ap (λ k. nat_lt n (k - grouped)) same
 
 -- ---- the ledger
 
@@ -160,45 +160,45 @@ unfolding with_slot_line with_mark
 stored_map slots x line dirty = map-map (mark_at x dirty) (line_of_at x line) slots
 
 -- a slot of a set that is stored
-stored_slot : (g : Shape) (page : ℕ) (persisted : Bool) (lines : List (ℕ × Line)) (bank : ℕ) (before now : Slot)
-    → IsStoreOf (path_at g page bank) (new_line lines bank) (stored_mark g persisted bank) before now
-    → bank ≤ g.levels → IsStoredSlot g page persisted lines bank before now
-stored_slot g page persisted lines bank before now of low = search rules
+stored_slot : (g : Shape) (page : ℕ) (grouped : ℕ) (lines : List (ℕ × Line)) (bank : ℕ) (before now : Slot)
+    → IsStoreOf (path_at g page bank) (new_line lines bank) (stored_mark g grouped bank) before now
+    → bank ≤ g.levels → IsStoredSlot g page grouped lines bank before now
+stored_slot g page grouped lines bank before now of low = search rules
 
 -- a slot of any other set
-kept_slot : (g : Shape) (page : ℕ) (persisted : Bool) (lines : List (ℕ × Line)) (bank set : ℕ) (slot : Slot)
+kept_slot : (g : Shape) (page : ℕ) (grouped : ℕ) (lines : List (ℕ × Line)) (bank set : ℕ) (slot : Slot)
     → set_index g slot.position ≡ set → ((bank < g.levels + 1) × (set ≡ set_index g (path_at g page bank)) → ⊥)
-    → IsStoredSlot g page persisted lines bank slot slot
-kept_slot g page persisted lines bank set slot its apart = search rules
+    → IsStoredSlot g page grouped lines bank slot slot
+kept_slot g page grouped lines bank set slot its apart = search rules
 
-module _ {g : Shape} {page : ℕ} {persisted : Bool} {lines : List (ℕ × Line)} {old new : CacheState}
-    (stored : IsStoredTo g page persisted lines (g.levels + 1) old new) where
-  pub KeepsSlots-stored : AreSets g old.banks → KeepsSlots g page persisted lines old.banks new.banks
+module _ {g : Shape} {page : ℕ} {grouped : ℕ} {lines : List (ℕ × Line)} {old new : CacheState}
+    (stored : IsStoredTo g page grouped lines (g.levels + 1) old new) where
+  pub KeepsSlots-stored : AreSets g old.banks → KeepsSlots g page grouped lines old.banks new.banks
   KeepsSlots-stored sets =
       record {
-        slots_now = slots_from (IsStoredSlot g page persisted lines) (set_of old.banks) (set_of new.banks) each;
-        slots_before = slots_to (IsStoredSlot g page persisted lines) (set_of old.banks) (set_of new.banks) each;
+        slots_now = slots_from (IsStoredSlot g page grouped lines) (set_of old.banks) (set_of new.banks) each;
+        slots_before = slots_to (IsStoredSlot g page grouped lines) (set_of old.banks) (set_of new.banks) each;
       }
     where
       each : (bank set : ℕ) → (f : Slot → Slot) × (set_of new.banks bank set ≡ map f (set_of old.banks bank set))
-          × ((slot : Slot) → Contains (set_of old.banks bank set) slot → IsStoredSlot g page persisted lines bank slot (f slot))
+          × ((slot : Slot) → Contains (set_of old.banks bank set) slot → IsStoredSlot g page grouped lines bank slot (f slot))
       each bank set =
           let x : ℕ = path_at g page bank in
           let line = new_line lines bank in
-          let mark = stored_mark g persisted bank in
+          let mark = stored_mark g grouped bank in
           elim (path_set_or_not g page (g.levels + 1) bank set) [
             | inl at ↦ (
               store_at x line mark,
               ap (set_of new.banks bank) at.its_set ∙ stored.stored bank at.reached
                   ∙ ap (λ slots. stored_set slots x line mark) (ap (set_of old.banks bank) (sym at.its_set))
                   ∙ stored_map (set_of old.banks bank set) x line mark,
-              λ slot found. stored_slot g page persisted lines bank slot _ (store_at-is x line mark slot) (omega (arith, at.reached)),
+              λ slot found. stored_slot g page grouped lines bank slot _ (store_at-is x line mark slot) (omega (arith, at.reached)),
             )
             | inr apart ↦ (
               λ slot. slot,
               stored.elsewhere bank set apart ∙ sym (map-id (set_of old.banks bank set)),
               λ slot found.
-                  kept_slot g page persisted lines bank set slot
+                  kept_slot g page grouped lines bank set slot
                   (All-contains (λ (s : Slot). set_index g s.position ≡ set) (set_of old.banks bank set) slot
                   (sets.each bank set).its_positions found)
                   apart,
@@ -213,9 +213,9 @@ module _ {g : Shape} {page : ℕ} {persisted : Bool} {lines : List (ℕ × Line)
   IsPathCached-stored {other} cached =
       record { each = λ j le. is_cached-stored j (path_at g other j) ∙ cached.each j le }
 
-pub AreInTheirBanks-stored : {g : Shape} {page : ℕ} {persisted : Bool} {lines : List (ℕ × Line)} {old new : Banks}
-    → KeepsSlots g page persisted lines old new → AreInTheirBanks g old → AreInTheirBanks g new
-AreInTheirBanks-stored {g} {page} {persisted} {lines} {old} {new} keeps its =
+pub AreInTheirBanks-stored : {g : Shape} {page : ℕ} {grouped : ℕ} {lines : List (ℕ × Line)} {old new : Banks}
+    → KeepsSlots g page grouped lines old new → AreInTheirBanks g old → AreInTheirBanks g new
+AreInTheirBanks-stored {g} {page} {grouped} {lines} {old} {new} keeps its =
     record {
       each = λ bank set.
           all_of (IsOfItsBank g bank) (set_of new bank set)

@@ -2,7 +2,7 @@
 use Rattle.std.specs.Prelude.{ℕ, zero, suc, ◌≡◌, ◌≢◌, ◌≤◌, ◌<◌, ◌+◌, ◌==◌, Bool, false, List, [], ◌∷◌, ◌++◌, length, if◌then◌else◌}
 use Rattle.pmem_base.specs.declared.lines.Line.{Line}
 use Rattle.pmem_base.specs.Counts.{HasRisen}
-use Rattle.pmem_base.specs.Shape.{Shape}
+use Rattle.pmem_base.specs.Shape.{Shape, named_levels}
 use Rattle.pmem_base.specs.Layout.{slots, shadow_line}
 use Rattle.board.specs.Counts.{RisesBy}
 use Rattle.board.specs.Device.{Device}
@@ -65,7 +65,7 @@ pub record IsNamedTo (g : Shape) (banks : Banks) (page n : ℕ) (old_mirror new_
 pub record IsNamingCut (g : Shape) (banks : Banks) (page : ℕ) (old_mirror new_mirror : List Line)
     (old new : Device) : Type 0 where
   pub n : ℕ
-  pub on_path : n ≤ g.levels
+  pub on_path : n < named_levels g
   pub mirror : new_mirror ≡ named_path g banks page old_mirror (n + 1)
   pub entries : ArePathEntries g banks page (n + 1) old_mirror new_mirror
   pub unnamed : slot_entry g old_mirror n (path_number g banks page n) ≢ path_at g page n + 1

@@ -1,9 +1,9 @@
 -- What naming a page's path in the shadow tables does, as a plan over the copy of the shadow lines; and what writing a
 -- block back does, as a plan over the cache.
-use Rattle.std.specs.Prelude.{ℕ, ◌+◌, false, List, Option, Some, None, if◌then◌else◌}
+use Rattle.std.specs.Prelude.{ℕ, false, List, Option, Some, None, if◌then◌else◌}
 use Rattle.pmem_base.specs.declared.faults.Cut.{Cut}
 use Rattle.pmem_base.specs.declared.lines.Line.{Line}
-use Rattle.pmem_base.specs.Shape.{Shape}
+use Rattle.pmem_base.specs.Shape.{Shape, named_levels}
 use Rattle.pmem_base.specs.Layout.{shadow_line, meta_line}
 use Rattle.call_plan.specs.Plans.{Plan, done, write, bind, repeated, the_cut}
 use Rattle.shadow_tables.specs.Naming.{entry_line, naming_line, with_named}
@@ -28,9 +28,9 @@ abbrev pub naming_turn : Shape → Banks → ℕ → ℕ → List Line × Unit {
 naming_turn g banks page j before =
     slot_plan g j (path_number g banks page j) (path_at g page j) before.0
 
--- the slots of the whole path, from the top down
+-- the slots of the path's blocks that may get dirty, from the top down: none without shadow tables
 abbrev pub naming_plan : Shape → Banks → ℕ → List Line → Plan (List Line × Cut) (List Line × Unit {0})
-naming_plan g banks page mirror = repeated (naming_turn g banks page) 0 (g.levels + 1) (mirror, tt)
+naming_plan g banks page mirror = repeated (naming_turn g banks page) 0 (named_levels g) (mirror, tt)
 
 -- ---- writing back
 

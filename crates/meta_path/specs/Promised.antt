@@ -1,12 +1,12 @@
 -- What the functions of a page's path promise of what they are called with: a clause names the geometry, the cache or the
 -- mirror, the board, the suite and the audit, before and after.
-use Rattle.std.specs.Prelude.{ℕ, ◌≡◌, ◌≤◌, ◌<◌, ◌+◌, Bool, List, Result, IfErr}
+use Rattle.std.specs.Prelude.{ℕ, ◌≡◌, ◌<◌, ◌+◌, List, Result, IfErr}
 use Rattle.pmem_base.specs.declared.faults.Cut.{Cut}
 use Rattle.pmem_base.specs.declared.geometry.Geo.{Geo}
 use Rattle.pmem_base.specs.declared.lines.Line.{Line}
 use Rattle.pmem_base.specs.Geo.{shape_of}
 use Rattle.pmem_base.specs.Layout.{slots}
-use Rattle.pmem_base.specs.Shape.{Shape}
+use Rattle.pmem_base.specs.Shape.{Shape, named_levels}
 use Rattle.board.specs.Device.{Device}
 use Rattle.board.specs.declared.device.Board.{Ghosts as BoardOf}
 use Rattle.suite.specs.Formulas.{Formulas}
@@ -95,10 +95,10 @@ module _ {B S A : Type 0} (board : BoardOf B) (suite : SuiteOf S) (audit : Audit
 
 -- ---- naming
 
--- the slots of the page's path apart, each entry is as it was
+-- the slots of the page's path that may get dirty apart, each entry is as it was
 abbrev pub KeepsOtherEntries : Shape → Banks → ℕ → List Line → List Line → Type 0
 KeepsOtherEntries g banks page mirror later_mirror =
-    (bank n : ℕ) → n < slots g → ((bank ≤ g.levels) × (n ≡ path_number g banks page bank) → ⊥)
+    (bank n : ℕ) → n < slots g → ((bank < named_levels g) × (n ≡ path_number g banks page bank) → ⊥)
     → slot_entry g later_mirror bank n ≡ slot_entry g mirror bank n
 
 module _ {B : Type 0} (board : BoardOf B) (geo : Geo) (cache : CacheState) (mirror : List Line) (b : B)
@@ -121,7 +121,7 @@ RenewsTruth suite geo cache s page block path =
     → IsRenewed (shape_of geo) (suite.formulas_of (suite.keys s)) truth page block path.lines.items path.root
 
 -- whatever page these lines are the path of, they were stored
-abbrev pub StoresPath : Bool → Path → CacheState → CacheState → Type 0
-StoresPath persisted path cache later_cache =
+abbrev pub StoresPath : ℕ → Path → CacheState → CacheState → Type 0
+StoresPath grouped path cache later_cache =
     (page : ℕ) → IsPathOf cache.shape page path.lines.items
-    → IsStoredTo cache.shape page persisted path.lines.items (cache.shape.levels + 1) cache later_cache
+    → IsStoredTo cache.shape page grouped path.lines.items (cache.shape.levels + 1) cache later_cache

@@ -1,5 +1,5 @@
 -- New lines of a page's path are stored in the cache and told to the audit; a block is written back.
-use Rattle.std.specs.Prelude.{ℕ, zero, suc, ◌≡◌, ◌≤◌, ◌<◌, ◌+◌, ◌||◌, nat_lt, not, Bool, false, List, length, map, Option, Some, None, slice_index_or, Contains}
+use Rattle.std.specs.Prelude.{ℕ, zero, suc, ◌≡◌, ◌≤◌, ◌<◌, ◌+◌, ◌-◌, nat_lt, Bool, false, List, length, map, Option, Some, None, slice_index_or, Contains}
 use Rattle.pmem_base.specs.declared.lines.Line.{Line}
 use Rattle.pmem_base.specs.Shape.{Shape}
 use Rattle.pmem_base.specs.Layout.{pages, meta_line}
@@ -43,29 +43,29 @@ pub record IsRenewed (g : Shape) (f : Formulas) (truth : List Line) (page : ℕ)
 abbrev pub stored_set : List Slot → ℕ → Line → Bool → List Slot
 stored_set slots x line dirty = with_mark (with_slot_line slots x line) x dirty
 
--- the mark of level j after its new line was stored: nodes are dirty, the counter block is unless it
--- was persisted
-abbrev pub stored_mark : Shape → Bool → ℕ → Bool
-stored_mark g persisted j = nat_lt j g.levels || not persisted
+-- the mark of level j after its new line was stored: the path's lowest lines, as many as stood in the group, are clean,
+-- and those above dirty
+abbrev pub stored_mark : Shape → ℕ → ℕ → Bool
+stored_mark g grouped j = nat_lt j (g.levels + 1 - grouped)
 
 -- the cache once the path's first n levels have their new lines
-abbrev pub stored_levels : Shape → ℕ → Bool → List (ℕ × Line) → ℕ → CacheState → CacheState
-stored_levels g page persisted lines zero cache = cache
-stored_levels g page persisted lines (suc n) cache =
-    let below = stored_levels g page persisted lines n cache in
+abbrev pub stored_levels : Shape → ℕ → ℕ → List (ℕ × Line) → ℕ → CacheState → CacheState
+stored_levels g page grouped lines zero cache = cache
+stored_levels g page grouped lines (suc n) cache =
+    let below = stored_levels g page grouped lines n cache in
     with_slots below n (set_index g (path_at g page n))
-    (stored_set (slots_at g below.banks n (path_at g page n)) (path_at g page n) (new_line lines n) (stored_mark g persisted n))
+    (stored_set (slots_at g below.banks n (path_at g page n)) (path_at g page n) (new_line lines n) (stored_mark g grouped n))
 
 -- the path's first n levels have their new lines, and every other set is as it was
-pub record IsStoredTo (g : Shape) (page : ℕ) (persisted : Bool) (lines : List (ℕ × Line)) (n : ℕ)
+pub record IsStoredTo (g : Shape) (page : ℕ) (grouped : ℕ) (lines : List (ℕ × Line)) (n : ℕ)
     (old new : CacheState) : Type 0 where
-  pub exact : new ≡ stored_levels g page persisted lines n old
+  pub exact : new ≡ stored_levels g page grouped lines n old
   pub shape : new.shape ≡ old.shape
   pub stored :
       (j : ℕ) → j < n
       → slots_at g new.banks j (path_at g page j)
       ≡ stored_set (slots_at g old.banks j (path_at g page j)) (path_at g page j) (new_line lines j)
-      (stored_mark g persisted j)
+      (stored_mark g grouped j)
   pub elsewhere :
       (bank set : ℕ) → ((bank < n) × (set ≡ set_index g (path_at g page bank)) → ⊥)
       → set_of new.banks bank set ≡ set_of old.banks bank set
@@ -80,25 +80,25 @@ pub record HasMetaLines (lines : List (ℕ × Line)) (old new : LedgerState) : T
 
 -- a slot of a bank, before and now: it keeps its way and position; that of the path's position has the
 -- new line and its mark, and every other one is unchanged
-pub record IsStoredSlot (g : Shape) (page : ℕ) (persisted : Bool) (lines : List (ℕ × Line)) (bank : ℕ)
+pub record IsStoredSlot (g : Shape) (page : ℕ) (grouped : ℕ) (lines : List (ℕ × Line)) (bank : ℕ)
     (before now : Slot) : Type 0 where
   pub way : now.way ≡ before.way
   pub position : now.position ≡ before.position
   pub off_path : ((bank ≤ g.levels) × (now.position ≡ path_at g page bank) → ⊥) → now ≡ before
   pub line : bank ≤ g.levels → now.position ≡ path_at g page bank → now.line ≡ new_line lines bank
-  pub mark : bank ≤ g.levels → now.position ≡ path_at g page bank → now.dirty ≡ stored_mark g persisted bank
+  pub mark : bank ≤ g.levels → now.position ≡ path_at g page bank → now.dirty ≡ stored_mark g grouped bank
 
 -- what storing a path keeps: each slot now is one from before, and each one from before is there
-pub record KeepsSlots (g : Shape) (page : ℕ) (persisted : Bool) (lines : List (ℕ × Line)) (old new : Banks) :
+pub record KeepsSlots (g : Shape) (page : ℕ) (grouped : ℕ) (lines : List (ℕ × Line)) (old new : Banks) :
     Type 0 where
   pub slots_now :
       (bank set : ℕ) (now : Slot) → Contains (set_of new bank set) now
       → (before : Slot) × Contains (set_of old bank set) before
-      × IsStoredSlot g page persisted lines bank before now
+      × IsStoredSlot g page grouped lines bank before now
   pub slots_before :
       (bank set : ℕ) (before : Slot) → Contains (set_of old bank set) before
       → (now : Slot) × Contains (set_of new bank set) now
-      × IsStoredSlot g page persisted lines bank before now
+      × IsStoredSlot g page grouped lines bank before now
 
 -- ---- writing back
 

@@ -1,5 +1,6 @@
 //! The blocks of a path are named in the shadow tables.
-ghost use Rattle.std.specs.Prelude.{◌≡◌, ◌<◌, ◌≤◌, ◌+◌, length, IsTrue, OnOk, OnErr};
+ghost use Rattle.std.specs.Prelude.{◌≡◌, ◌<◌, ◌≤◌, true, length, IsTrue, OnOk, OnErr};
+ghost use Rattle.pmem_base.specs.Shape.{named_levels};
 ghost use Rattle.pmem_base.specs.Geo.{shape_of};
 ghost use Rattle.pmem_base.specs.Layout.{pages, meta_lines, shadow_lines, device_lines};
 ghost use Rattle.call_plan.specs.Plans.{ended};
@@ -17,9 +18,9 @@ use meta_cache::Cache;
 use pmem_base::{Cut, Geo};
 use shadow_tables::Mirror;
 
-/// Names the blocks of a page's path, which are cached, from the top down: if the entry of a block's slot doesn't name
-/// the block, the entry is changed and its shadow line written. Errors: `Cut`, before such a write; the mirror has that
-/// entry already.
+/// Names the blocks of a page's path that may get dirty, which are cached, from the top down: those of lazy levels, and
+/// none on a device without shadow tables. If the entry of a block's slot doesn't name the block, the entry is changed
+/// and its shadow line written. Errors: `Cut`, before such a write; the mirror has that entry already.
 pub fn make_dirty<B: Board>(
     geo: &Geo,
     cache: &Cache,
@@ -32,20 +33,20 @@ pub fn make_dirty<B: Board>(
     requires cached { IsPathCached (shape_of geo.now) cache.now.banks page }
     requires mirror { length mirror.old ≡ shadow_lines (shape_of geo.now) }
     requires size { (B.device board.old).size ≡ device_lines (shape_of geo.now) }
-    ensures ok { OnOk result (IsNamedTo (shape_of geo.now) cache.now.banks page ((shape_of geo.now).levels + 1)
+    ensures ok { OnOk result (IsNamedTo (shape_of geo.now) cache.now.banks page (named_levels (shape_of geo.now))
         mirror.old mirror.new (B.device board.old) (B.device board.new)) }
     ensures cut { OnErr result (IsNamingCut (shape_of geo.now) cache.now.banks page
         mirror.old mirror.new (B.device board.old) (B.device board.new)) }
     ensures others { KeepsOtherEntries (shape_of geo.now) cache.now.banks page mirror.old mirror.new }
     ensures one_a_level { length (naming_writes (shape_of geo.now) cache.now.banks page mirror.old
-        ((shape_of geo.now).levels + 1)) ≤ (shape_of geo.now).levels + 1 }
+        (named_levels (shape_of geo.now))) ≤ named_levels (shape_of geo.now) }
     ensures long { length mirror.new ≡ shadow_lines (shape_of geo.now) }
     ensures plan { Follows (naming_plan (shape_of geo.now) cache.now.banks page mirror.old)
         (B.device board.old) (B.device board.new) (ended result mirror.new) }
 {
     cache.are_banks();
     let path = path(geo, page);
-    'levels: for bank in 0..geo.levels() + 1 {
+    'levels: for bank in 0..geo.named_levels() {
         let x = path.as_slice()[usize::from(bank)];
         name_level(geo, cache, mirror, board, bank, x)?;
     }
@@ -61,6 +62,7 @@ fn name_level<B: Board>(
     bank: u8,
     x: u32,
 ) -> Result<(), Cut>
+    requires tables { (shape_of geo.now).shadow ≡ true }
     requires shape { cache.now.shape ≡ shape_of geo.now }
     requires mirror { length mirror.old ≡ shadow_lines (shape_of geo.now) }
     requires size { (B.device board.old).size ≡ device_lines (shape_of geo.now) }

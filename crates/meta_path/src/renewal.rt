@@ -1,5 +1,5 @@
 //! New lines of a path: computed over the cached ones, and stored.
-ghost use Rattle.std.specs.Prelude.{◌≡◌, ◌||◌, nat_lt, not, ◌<◌, ◌≤◌, ◌+◌, ℕ, length, All, IsTrue};
+ghost use Rattle.std.specs.Prelude.{◌≡◌, ◌<◌, ◌≤◌, ◌+◌, ◌-◌, nat_lt, ℕ, length, All, IsTrue};
 ghost use Rattle.pmem_base.specs.declared.lines.Line.{Line};
 ghost use Rattle.pmem_base.specs.Counts.{risen, risen_times};
 ghost use Rattle.pmem_base.specs.Geo.{shape_of};
@@ -86,15 +86,14 @@ fn node_above<S: Suite>(cache: &Cache, suite: &mut S, bank: u8, x: u32, line: &L
     node
 }
 
-/// Stores the new lines of a path, whose positions are cached, and tells them to the audit. The nodes
-/// are dirty then, and the counter block is unless it was `persisted`, which means that the device has
-/// it.
-pub fn store_path<A: Audit>(cache: &mut Cache, audit: &mut A, path: &Path, persisted: bool)
+/// Stores the new lines of a path, whose positions are cached, and tells them to the audit. The lowest
+/// `grouped` of them, which stand in the commit group, are clean then, and those above are dirty.
+pub fn store_path<A: Audit>(cache: &mut Cache, audit: &mut A, path: &Path, grouped: u8)
     requires path { IsOfCachedPath cache.old.shape cache.old.banks path.now.lines.items }
     requires truth { length (A.ledger audit.old).truth ≡ meta_lines cache.old.shape }
-    ensures cache { StoresPath persisted path.now cache.old cache.new }
+    ensures cache { StoresPath grouped path.now cache.old cache.new }
     ensures slots { (page : ℕ) → IsPathOf cache.old.shape page path.now.lines.items
-        → KeepsSlots cache.old.shape page persisted path.now.lines.items cache.old.banks cache.new.banks }
+        → KeepsSlots cache.old.shape page grouped path.now.lines.items cache.old.banks cache.new.banks }
     ensures cached { (page : ℕ) → IsPathCached cache.old.shape cache.old.banks page
         → IsPathCached cache.old.shape cache.new.banks page }
     ensures banks { AreInTheirBanks cache.old.shape cache.old.banks → AreInTheirBanks cache.old.shape cache.new.banks }
@@ -103,18 +102,18 @@ pub fn store_path<A: Audit>(cache: &mut Cache, audit: &mut A, path: &Path, persi
     ensures capacity { A.capacity audit.new ≡ A.capacity audit.old }
 {
     cache.are_banks();
-    let last = path.lines.len() - 1;
+    let count = path.lines.len();
     'levels: for (bank, (x, line)) in path.lines.as_slice().iter().enumerate() {
-        let dirty = is_left_dirty(bank, last, persisted);
+        let dirty = is_left_dirty(bank, count, grouped);
         store_level(cache, audit, bank as u8, *x, line, dirty);
     }
 }
 
 /// Whether the block of a level is dirty after its new line was stored.
-fn is_left_dirty(bank: usize, last: usize, persisted: bool) -> bool
-    ensures { result ≡ (nat_lt bank last || not persisted) }
+fn is_left_dirty(bank: usize, count: usize, grouped: u8) -> bool
+    ensures { result ≡ nat_lt bank (count - grouped) }
 {
-    bank < last || !persisted
+    bank < count.saturating_sub(usize::from(grouped))
 }
 
 /// Stores the new line of position `x`, which is cached, with this mark, and tells it to the audit.

@@ -1,5 +1,5 @@
 -- Writes one after the other: their marks, the view after them, and the bounds of their work.
-use Rattle.std.proofs.Common.{ℕ, ◌≡◌, ◌+◌, ◌++◌, cond, List, [], ◌∷◌, length, Option, Some, None, refl, sym, ap, ◌∙◌, arith}
+use Rattle.std.proofs.Common.{ℕ, ◌≡◌, ◌+◌, ◌-◌, ◌*◌, ◌++◌, cond, List, [], ◌∷◌, length, Option, Some, None, refl, sym, ap, ◌∙◌, mul-add, arith}
 use Rattle.std.specs.Prelude.{unwrap_or, option_map, option_and_then}
 use Rattle.std.proofs.lemmas.Option.{same_Some, none-some}
 use Rattle.std.proofs.lemmas.List.{append-nil, append_assoc, length-append}
@@ -11,7 +11,7 @@ use Rattle.suite.specs.Formulas.{Formulas}
 use Rattle.plain_model.specs.View.{view_after_marks}
 use Rattle.plain_model.proofs.Views.{view_after_marks-append}
 use Rattle.plain_model.specs.Asked.{Moment, marks_of_write, marks_of_writes, moment_after, moment_after_writes}
-use Rattle.plain_model.specs.Bounds.{is_seal, seal_count, writing_bound}
+use Rattle.plain_model.specs.Bounds.{is_seal, is_path_mark, seal_count, path_mark_count, begun_lines, writing_bound}
 
 -- ---- marks of writes
 
@@ -102,4 +102,7 @@ count-append a b = sum_by-append (λ mark. cond (is_seal mark) 1 0) a b
 -- the bounds of writes add up
 pub writing_bound-append : (g : Shape) (n m : ℕ) (a b : List Mark) → writing_bound g (n + m) (a ++ b) ≡ writing_bound g n a + writing_bound g m b
 writing_bound-append g n m a b =
-    omega (arith, count-append a b, length-append a b, count_by-le-length is_seal a, count_by-le-length is_seal b)
+    let lines : (begun_lines g - 1) * path_mark_count (a ++ b) ≡ (begun_lines g - 1) * path_mark_count a + (begun_lines g - 1) * path_mark_count b =
+    ap (λ count. (begun_lines g - 1) * count) (sum_by-append (λ mark. cond (is_path_mark mark) 1 0) a b)
+    ∙ mul-add (begun_lines g - 1) (path_mark_count a) (path_mark_count b) in
+    omega (arith, count-append a b, lines, length-append a b, count_by-le-length is_seal a, count_by-le-length is_seal b)

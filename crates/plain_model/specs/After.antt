@@ -12,7 +12,7 @@ use Rattle.pmem_base.specs.Shape.{Shape}
 use Rattle.pmem_base.specs.Layout as layout
 use Rattle.pmem_base.specs.Layout.{page_of, Content, data_line, tags_from, content_of}
 use Rattle.pmem_base.specs.Lines.{zero_line, put_bytes}
-use Rattle.pmem_base.specs.WaitingWrites.{no_writes, queue_of}
+use Rattle.pmem_base.specs.WaitingWrites.{queue_of, queue_posted, queues_after_loss}
 use Rattle.plain_model.specs.State.{PlainState, Reply, no_flags, is_flagged, has_flags, with_flag, without_flag, memory_with}
 
 -- ---- what an answer says
@@ -91,12 +91,16 @@ after_writes state port (Say.Spent drained page steps) =
     after_drop (after_drains state port (unwrap_or drained 0)) port
 after_writes state port answer = state
 
-abbrev pub after_post : PlainState → ℕ → Posted → PlainState
-after_post state port write =
-    record state { queues = slice_set state.queues port (queue_of state.queues port ++ write ∷ []) }
+abbrev pub after_post : Shape → PlainState → ℕ → Posted → PlainState
+after_post g state port write =
+    record state {
+      queues = slice_set state.queues port (queue_posted g.combines (queue_of state.queues port) write);
+    }
 
-abbrev pub after_power_loss : PlainState → PlainState
-after_power_loss state = record state { queues = no_writes; power = false; fuse = None }
+-- what waits is lost, unless the queues are durable
+abbrev pub after_power_loss : Shape → PlainState → PlainState
+after_power_loss g state =
+    record state { queues = queues_after_loss g.durable state.queues; power = false; fuse = None }
 
 -- nothing can be dirty
 abbrev pub after_clean : Shape → PlainState → PlainState
@@ -156,14 +160,14 @@ posted_part at from count line =
 -- the command's effect, by its answer
 abbrev pub after_command : Shape → PlainState → Command → Answer → PlainState
 after_command g state (Do.Post port at line) Say.Ok =
-    after_post state port (posted_line at line)
+    after_post g state port (posted_line at line)
 after_command g state (Do.Part port at from count line) Say.Ok =
-    after_post state port (posted_part at from count line)
+    after_post g state port (posted_part at from count line)
 after_command g state (Do.Drain port) answer = after_writes state port answer
 after_command g state (Do.Fence port) answer = after_writes state port answer
 after_command g state Do.Flush answer = after_flush g state answer
 after_command g state (Do.Cut n) Say.Ok = record state { fuse = Some n }
-after_command g state Do.Off Say.Ok = after_power_loss state
+after_command g state Do.Off Say.Ok = after_power_loss g state
 after_command g state Do.On answer = after_on g state answer
 after_command g state (Do.Poke d line) Say.Ok = after_tampering g state false d
 after_command g state (Do.Flip d bit) Say.Ok = after_tampering g state true d
@@ -178,14 +182,14 @@ abbrev pub steps_with : ℕ → ℕ → ℕ
 steps_with steps more = min (steps + more) (2 ^ 64 - 1)
 
 -- the steps are summed and taken off the fuse; a cut ends the power
-abbrev pub after_steps : PlainState → Answer → PlainState
-after_steps state answer =
+abbrev pub after_steps : Shape → PlainState → Answer → PlainState
+after_steps g state answer =
     let counted =
     record state {
       steps = steps_with state.steps (steps_of answer);
       fuse = option_map (λ n. n - steps_of answer) state.fuse;
     } in
-    if is_cut answer then after_power_loss counted else counted
+    if is_cut answer then after_power_loss g counted else counted
 
 -- the page that a mark may leave with dirty blocks
 abbrev pub after_mark : Shape → PlainState → Mark → PlainState
@@ -206,4 +210,4 @@ after_marks g state (mark ∷ marks) = after_marks g (after_mark g state mark) m
 -- the state after a command and its reply
 abbrev pub state_after : Shape → PlainState → Command → Reply → PlainState
 state_after g state command reply =
-    after_marks g (after_steps (after_command g state command reply.answer) reply.answer) reply.marks
+    after_marks g (after_steps g (after_command g state command reply.answer) reply.answer) reply.marks

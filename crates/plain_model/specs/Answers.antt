@@ -3,6 +3,7 @@
 use Rattle.std.specs.Prelude.{ℕ, ◌+◌, ◌==◌, nat_lt, nat_le, Bool, true, false, ◌&&◌, ◌||◌, length, is_some, is_none, Option, Some, None, if◌then◌else◌}
 use Rattle.std.specs.List.{list_all, list_any, range_with_len}
 use Rattle.pmem_base.specs.declared.lines.Line.{Line}
+use Rattle.pmem_base.specs.declared.commands.Posted.{Posted}
 use Rattle.pmem_base.specs.declared.commands.Command.{Command}
 use Rattle.pmem_base.specs.declared.commands.Command.TheVariants as Do
 use Rattle.pmem_base.specs.declared.answers.Answer.{Answer}
@@ -10,8 +11,9 @@ use Rattle.pmem_base.specs.declared.answers.Answer.TheVariants as Say
 use Rattle.pmem_base.specs.Shape.{Shape, is_loss}
 use Rattle.pmem_base.specs.Layout as layout
 use Rattle.pmem_base.specs.Lines.{line_at}
-use Rattle.pmem_base.specs.WaitingWrites.{queue_of, put_writes, writes_to, has_byte}
+use Rattle.pmem_base.specs.WaitingWrites.{queue_of, put_writes, writes_to, has_byte, is_queue_full}
 use Rattle.plain_model.specs.State.{PlainState}
+use Rattle.plain_model.specs.After.{posted_line, posted_part}
 
 -- ---- reads of waiting writes
 
@@ -35,19 +37,19 @@ powered state answer = if state.power then answer else Some Say.Off
 abbrev pub in_range : Bool → Option Answer → Option Answer
 in_range holds answer = if holds then answer else Some Say.Range
 
-abbrev pub posting_answer : Shape → PlainState → ℕ → ℕ → ℕ → Option Answer
-posting_answer g state port at end =
+abbrev pub posting_answer : Shape → PlainState → ℕ → Posted → Option Answer
+posting_answer g state port write =
     powered state
-    (in_range (nat_lt at (layout.data_lines g) && nat_le end 64)
-    (if nat_le 16 (length (queue_of state.queues port)) then Some Say.Full else Some Say.Ok))
+    (in_range (nat_lt write.at (layout.data_lines g) && nat_le (write.from + write.len) 64)
+    (if is_queue_full g.combines (queue_of state.queues port) write then Some Say.Full else Some Say.Ok))
 
 abbrev pub is_on_device : Shape → ℕ → Bool
 is_on_device g d = nat_lt d (layout.device_lines g)
 
 -- the answer that the state alone decides, by the first condition that holds; none if the engine decides
 abbrev pub decided_answer : Shape → PlainState → Command → Option Answer
-decided_answer g state (Do.Post port at line) = posting_answer g state port at 64
-decided_answer g state (Do.Part port at from count line) = posting_answer g state port at (from + count)
+decided_answer g state (Do.Post port at line) = posting_answer g state port (posted_line at line)
+decided_answer g state (Do.Part port at from count line) = posting_answer g state port (posted_part at from count line)
 decided_answer g state (Do.Drain port) =
     powered state (if length (queue_of state.queues port) == 0 then Some Say.Empty else None)
 decided_answer g state (Do.Fence port) = powered state None

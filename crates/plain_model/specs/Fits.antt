@@ -11,7 +11,7 @@ use Rattle.pmem_base.specs.declared.answers.Mark.TheVariants.{Seal}
 use Rattle.pmem_base.specs.declared.answers.Answer.{Answer}
 use Rattle.pmem_base.specs.declared.answers.Answer.TheVariants as Say
 use Rattle.pmem_base.specs.declared.answers.Place.{Place}
-use Rattle.pmem_base.specs.Shape.{Shape}
+use Rattle.pmem_base.specs.Shape.{Shape, counter_window}
 use Rattle.pmem_base.specs.Layout as layout
 use Rattle.pmem_base.specs.Layout.{page_of, Content, data_line, tags_from, metadata, shadow, nothing, content_of}
 use Rattle.pmem_base.specs.Lines.{line_at, line_of}
@@ -179,7 +179,7 @@ abbrev pub ShowsCounterBlock : Shape → PlainState → DeviceView → ℕ → L
 ShowsCounterBlock g state view page shown =
     state.power ≡ true → state.loose ≡ false
     → is_flagged state.named (layout.meta_line g (counter_position g page)) ≡ false
-    → IsStoredBlock state.loss (unpacked shown) (counter_block_of view page)
+    → IsStoredBlock (counter_window g state.loss) (unpacked shown) (counter_block_of view page)
     × (has_flags state.touched ≡ false → shown ≡ packed (counter_block_of view page))
 
 -- a tree node may be shown as anything

@@ -14,6 +14,7 @@ use Rattle.bonsai_tree.specs.Positions.{is_on_path, counter_position}
 use Rattle.suite.specs.Setup.{Setup}
 use Rattle.plain_model.specs.State.{PlainState, is_flagged, has_flags}
 use Rattle.plain_model.specs.View.{DeviceView, true_line}
+use Rattle.plain_model.specs.Bounds.{dirty_blocks}
 use Rattle.plain_model.specs.After.{steps_of, is_cut, drained_of, after_drain, after_drains}
 use Rattle.plain_model.specs.Answers.{seen_line, is_engine_answer}
 
@@ -102,7 +103,7 @@ pub record IsWrongRootCaused (setup : Setup) (state : PlainState) (view : Device
 abbrev pub IsLossSteps : Setup → PlainState → Command → ℕ → Type 0
 IsLossSteps setup state (Do.Loss n) steps =
     MatchBool (nat_lt state.loss n) (steps ≡ 1)
-    ((1 ≤ steps) × (steps ≤ layout.slots setup.shape + 1))
+    ((1 ≤ steps) × (steps ≤ dirty_blocks setup.shape + 1))
 IsLossSteps setup state command steps = ⊥
 
 -- what the answer needs next to the fuse

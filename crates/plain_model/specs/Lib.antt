@@ -2,6 +2,7 @@ pub mod State
 pub mod View
 pub mod Asked
 pub mod After
+pub mod Waiting
 pub mod Answers
 pub mod Legal
 pub mod Bounds

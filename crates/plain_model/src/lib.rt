@@ -1,6 +1,8 @@
 //! The plain machine that a user sees, the language of its traces, and what a run prints.
-//! Definitions alone: nothing here is executed.
+//! Definitions and a law of them: nothing here is executed.
 #![tactic(auto)]
+
+ghost use Rattle.plain_model.specs.Waiting.{DurableWritesStay};
 
 use pmem_base::Kind;
 
@@ -24,3 +26,9 @@ pub enum Stop {
     /// A byte follows the greatest number of lines.
     TooManyLines,
 }
+
+/// A law: in a durable queue a write stays in its place until a drain or a fence answers for it, or a
+/// posted one takes its place. No cut, `off` or recovery takes it away.
+pub fn durable_writes_stay()
+    ensures { DurableWritesStay }
+{}

@@ -30,9 +30,9 @@ shadow_counter_lines g = (slots g + 15) / 16
 abbrev pub shadow_tree_lines : Shape → ℕ
 shadow_tree_lines g = (g.levels * slots g + 15) / 16
 
--- all shadow lines, the counter lines first
+-- all shadow lines, the counter lines first; none on a device without shadow tables
 abbrev pub shadow_lines : Shape → ℕ
-shadow_lines g = shadow_counter_lines g + shadow_tree_lines g
+shadow_lines g = if g.shadow then shadow_counter_lines g + shadow_tree_lines g else 0
 
 -- the device line with the tag of data line a
 abbrev pub tag_line : Shape → ℕ → ℕ

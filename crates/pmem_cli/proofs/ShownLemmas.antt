@@ -3,17 +3,19 @@ use Rattle.std.proofs.Common.{◌≡◌, ◌∙◌, ◌+◌, ℕ, Bool, true, fa
 use Rattle.std.specs.Prelude.{⊤, Option, None, Some, IfSome, MatchOption, length, nat_lt, nat_le, ◌==◌, ◌&&◌, if◌then◌else◌}
 use Rattle.std.proofs.lemmas.Bool.{true≢false}
 use Rattle.pmem_base.specs.declared.commands.Command.{Command}
+use Rattle.pmem_base.specs.declared.commands.Posted.{Posted}
 use Rattle.pmem_base.specs.declared.commands.Command.TheVariants as Do
 use Rattle.pmem_base.specs.declared.answers.Answer.{Answer}
 use Rattle.pmem_base.specs.declared.answers.Answer.TheVariants as Say
 use Rattle.pmem_base.specs.declared.answers.Exhibit.{Exhibit}
 use Rattle.pmem_base.specs.Shape.{Shape, is_loss}
 use Rattle.pmem_base.specs.Layout as layout
-use Rattle.pmem_base.specs.WaitingWrites.{queue_of}
+use Rattle.pmem_base.specs.WaitingWrites.{queue_of, is_queue_full}
 use Rattle.collision_witness.specs.Exhibits.{IsExhibit}
 use Rattle.suite.specs.Setup.{Setup}
 use Rattle.plain_model.specs.State.{PlainState, Reply}
 use Rattle.plain_model.specs.View.{DeviceView}
+use Rattle.plain_model.specs.After.{posted_line, posted_part}
 use Rattle.plain_model.specs.Answers.{is_shown, is_covered, is_on_device, posting_answer, decided_answer}
 use Rattle.plain_model.specs.Shown.{IsEngineReply, IsShownAnswer, IsLegal}
 
@@ -36,12 +38,15 @@ tabled_if : (b : Bool) (o p : Option Answer) → IfSome o IsTabled → IfSome p 
 tabled_if true o p first second = first
 tabled_if false o p first second = second
 
-tabled-posting : (g : Shape) (s : PlainState) (port at end : ℕ) → IfSome (posting_answer g s port at end) IsTabled
-tabled-posting g s port at end = tabled_if s.power _ _ (tabled_if (nat_lt at (layout.data_lines g) && nat_le end 64) _ _ (tabled_if (nat_le 16 (length (queue_of s.queues port))) _ _ tt tt) tt) tt
+tabled-posting : (g : Shape) (s : PlainState) (port : ℕ) (write : Posted) → IfSome (posting_answer g s port write) IsTabled
+tabled-posting g s port write =
+    tabled_if s.power _ _
+    (tabled_if (nat_lt write.at (layout.data_lines g) && nat_le (write.from + write.len) 64) _ _
+    (tabled_if (is_queue_full g.combines (queue_of s.queues port) write) _ _ tt tt) tt) tt
 
 pub tabled-decided : (g : Shape) (s : PlainState) (command : Command) → IfSome (decided_answer g s command) IsTabled
-tabled-decided g s (Do.Post port at line) = tabled-posting g s port at 64
-tabled-decided g s (Do.Part port at from count line) = tabled-posting g s port at (from + count)
+tabled-decided g s (Do.Post port at line) = tabled-posting g s port (posted_line at line)
+tabled-decided g s (Do.Part port at from count line) = tabled-posting g s port (posted_part at from count line)
 tabled-decided g s (Do.Drain port) = tabled_if s.power _ _ (tabled_if (length (queue_of s.queues port) == 0) _ _ tt tt) tt
 tabled-decided g s (Do.Fence port) = tabled_if s.power _ _ tt tt
 tabled-decided g s (Do.Read port at) = tabled_if s.power _ _ (tabled_if (nat_lt at (layout.data_lines g)) _ _ (tabled_if (is_covered s port at) _ _ tt tt) tt) tt

@@ -103,8 +103,8 @@ quiet-marks : (g : Shape) (s : PlainState) (marks : List Mark) → IsQuiet s (af
 quiet-marks g s [] = quiet-refl s
 quiet-marks g s (mark ∷ marks) = quiet-trans s (after_mark g s mark) (after_marks g (after_mark g s mark) marks) (quiet-mark g s mark) (quiet-marks g (after_mark g s mark) marks)
 
-quiet-steps : (s : PlainState) (answer : Answer) → IsQuiet s (after_steps s answer)
-quiet-steps s answer =
+quiet-steps : (g : Shape) (s : PlainState) (answer : Answer) → IsQuiet s (after_steps g s answer)
+quiet-steps g s answer =
     quiet_if (is_cut answer) s _ _ (record { named = refl; hurt = λ a is. is; loose = λ none is. is }) (record { named = refl; hurt = λ a is. is; loose = λ none is. is })
 
 -- ---- drains
@@ -247,9 +247,9 @@ moves-after : (setup : Setup) (s : PlainState) (view : DeviceView) (command : Co
 moves-after setup s view command reply long legal =
     let g = setup.shape in
     let t = after_command g s command reply.answer in
-    let u = after_steps t reply.answer in
+    let u = after_steps g t reply.answer in
     moves-quiet s u (after_marks g u reply.marks)
-    (moves-quiet s t u (moves-command g s command reply.answer (IsEngineReply setup s view command reply) long legal) (quiet-steps t reply.answer))
+    (moves-quiet s t u (moves-command g s command reply.answer (IsEngineReply setup s view command reply) long legal) (quiet-steps g t reply.answer))
     (quiet-marks g u reply.marks)
 
 -- ---- answers over a clean state

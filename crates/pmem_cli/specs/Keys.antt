@@ -45,7 +45,8 @@ suite_keys_chosen c = suite_keys_named (unwrap_or c.suite Aes) (chosen_key c ++ 
 unfoldable pub formulas_of : Choices → Formulas
 formulas_of c = formulas_named (unwrap_or c.suite Aes) (chosen_key c ++ chosen_tag_key c)
 
--- the geometry: two levels of nodes, four sets of two ways, windows of four minors and major 0 at first, if nothing is chosen
+-- the geometry: two levels of nodes, four sets of two ways, windows of four minors, major 0 at first, no line of a path in
+-- each group, shadow tables, and volatile queues that combine nothing, if nothing is chosen
 unfoldable pub shape_chosen : Choices → Shape
 shape_chosen c =
     record {
@@ -54,6 +55,10 @@ shape_chosen c =
       ways = unwrap_or c.ways 2;
       loss = unwrap_or c.loss 4;
       major = unwrap_or c.major 0;
+      persist = unwrap_or c.persist 0;
+      shadow = unwrap_or c.shadow true;
+      durable = unwrap_or c.durable false;
+      combines = unwrap_or c.combines false;
     }
 
 unfoldable pub setup_chosen : Choices → Setup

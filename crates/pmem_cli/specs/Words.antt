@@ -1,5 +1,5 @@
 -- What the words of the command line ask for.
-use Rattle.std.specs.Prelude.{ℕ, ◌≤◌, ◌+◌, ◌==◌, ⊤, nat_lt, nat_le, Bool, true, false, ◌&&◌, List, [], ◌∷◌, length, take, drop, codes, Option, Some, None, IfSome, IsTrue, Result, Ok, Err, if◌then◌else◌}
+use Rattle.std.specs.Prelude.{ℕ, ◌≤◌, ◌+◌, ◌==◌, ⊤, nat_lt, nat_le, Bool, true, false, ◌&&◌, List, [], ◌∷◌, length, take, drop, codes, Option, Some, None, IfSome, IsTrue, unwrap_or, Result, Ok, Err, if◌then◌else◌}
 use Rattle.std.specs.List.{position_or_len}
 use Rattle.std.specs.Str.{bytes_eq}
 use Rattle.pmem_base.specs.declared.commands.Kind.{Kind}
@@ -43,6 +43,13 @@ suite_named word =
     else if bytes_eq word (codes "blur") then Some Blur
     else None
 
+-- the second of two words, or the first
+abbrev pub is_second : List ℕ → List ℕ → Word → Option Bool
+is_second first second word =
+    if bytes_eq word first then Some false
+    else if bytes_eq word second then Some true
+    else None
+
 -- ---- options
 
 -- an option that wasn't chosen yet, by a value that it may have
@@ -64,7 +71,11 @@ no_choices =
       key = None;
       tag_key = None;
       every = None;
+      durable = None;
+      combines = None;
       log = false;
+      persist = None;
+      shadow = None;
     }
 
 -- the options of the suite
@@ -82,18 +93,41 @@ choose_tree c name value =
     else if bytes_eq name (codes "sets") then once c.sets (number_where (is_up_to 64) value) (λ n. record c { sets = Some n })
     else choose_suite c name value
 
+-- on or off
+abbrev pub switch_named : Word → Option Bool
+switch_named word =
+    if bytes_eq word (codes "on") then Some true
+    else if bytes_eq word (codes "off") then Some false
+    else None
+
+-- and the persistence policy
+abbrev pub choose_policy : Choices → Word → Word → Option Choices
+choose_policy c name value =
+    if bytes_eq name (codes "persist") then once c.persist (number_where (λ n. nat_le n 7) value) (λ n. record c { persist = Some n })
+    else if bytes_eq name (codes "shadow") then once c.shadow (switch_named value) (λ on. record c { shadow = Some on })
+    else choose_tree c name value
+
 -- and of a run's
 abbrev pub choose_run : Choices → Word → Word → Option Choices
 choose_run c name value =
     if bytes_eq name (codes "ways") then once c.ways (number_where (is_up_to 8) value) (λ n. record c { ways = Some n })
     else if bytes_eq name (codes "loss") then once c.loss (number_where is_loss value) (λ n. record c { loss = Some n })
     else if bytes_eq name (codes "major") then once c.major (value_of (number_of value)) (λ n. record c { major = Some n })
-    else choose_tree c name value
+    else choose_policy c name value
 
 -- and of a levelled memory: after how many writes its gap moves
 abbrev pub choose_wear : Choices → Word → Word → Option Choices
 choose_wear c name value =
     if bytes_eq name (codes "every") then once c.every (number_where (is_up_to 1_000_000) value) (λ n. record c { every = Some n })
+    else choose_run c name value
+
+-- and of a run's write queues: whether they outlive power, and whether they combine posted lines
+abbrev pub choose_queues : Choices → Word → Word → Option Choices
+choose_queues c name value =
+    if bytes_eq name (codes "queue")
+    then once c.durable (is_second (codes "volatile") (codes "durable") value) (λ b. record c { durable = Some b })
+    else if bytes_eq name (codes "combine")
+    then once c.combines (switch_named value) (λ b. record c { combines = Some b })
     else choose_run c name value
 
 -- that the log is printed
@@ -106,6 +140,7 @@ choose Allowed.Suite c name value = choose_suite c name value
 choose Allowed.Tree c name value = choose_tree c name value
 choose Allowed.Run c name value = choose_run c name value
 choose Allowed.Wear c name value = choose_wear c name value
+choose Allowed.Queues c name value = choose_queues c name value
 
 -- ---- the words of options
 
@@ -152,6 +187,14 @@ take_options allowed c (word ∷ next ∷ words) =
     (λ value. choose allowed c parts.0 value >>= λ more. take_options allowed more (next ∷ words))
     (choose allowed c parts.0 next >>= λ more. take_options allowed more words))
 
+-- at most all lines of a path stand in each group
+abbrev pub is_of_path : Choices → Bool
+is_of_path c = nat_le (unwrap_or c.persist 0) (unwrap_or c.levels 2 + 1)
+
+-- what is chosen by these words
+unfoldable pub options_of : Allowed → List Word → Option Choices
+options_of allowed words = take_options allowed no_choices words >>= λ c. if is_of_path c then Some c else None
+
 -- ---- the whole command line
 
 -- a seed, and a count up to 999,999
@@ -164,14 +207,14 @@ seed_and_count words = None
 
 -- a run with these options, and whether its log is printed
 abbrev pub run_asked : List Word → Option Task
-run_asked words = take_options Allowed.Run no_choices words >>= λ c. Some (if c.log then Task.Log c else Task.Run c)
+run_asked words = options_of Allowed.Queues words >>= λ c. Some (if c.log then Task.Log c else Task.Run c)
 
 -- a session of the memory of this name, with these options
 abbrev pub session_asked : Word → List Word → Option Task
 session_asked name words =
-    if bytes_eq name (codes "wear") then (take_options Allowed.Wear no_choices words >>= λ c. Some (Task.Wear c))
-    else if bytes_eq name (codes "tree") then (take_options Allowed.Tree no_choices words >>= λ c. Some (Task.Tree c))
-    else if bytes_eq name (codes "txn") then (take_options Allowed.Run no_choices words >>= λ c. Some (Task.Txn c))
+    if bytes_eq name (codes "wear") then (options_of Allowed.Wear words >>= λ c. Some (Task.Wear c))
+    else if bytes_eq name (codes "tree") then (options_of Allowed.Tree words >>= λ c. Some (Task.Tree c))
+    else if bytes_eq name (codes "txn") then (options_of Allowed.Run words >>= λ c. Some (Task.Txn c))
     else None
 
 -- what the words ask for, or nothing if they break the rules
@@ -179,19 +222,23 @@ unfoldable pub task_of : List Word → Option Task
 task_of [] = None
 task_of (name ∷ words) =
     if bytes_eq name (codes "run") then run_asked words
-    else if bytes_eq name (codes "check") then (take_options Allowed.Suite no_choices words >>= λ c. Some (Task.Check c))
+    else if bytes_eq name (codes "check") then (options_of Allowed.Suite words >>= λ c. Some (Task.Check c))
     else if bytes_eq name (codes "make") then (seed_and_count words >>= λ found. Some (Task.Make found.0 found.1))
     else if bytes_eq name (codes "sample") then (seed_and_count words >>= λ found. Some (Task.Sample found.0 found.1))
     else session_asked name words
 
 -- ---- what is known of them
 
--- chosen numbers are in their ranges, and a chosen tag key's bytes are the first of its line
-abbrev pub AreChosen : Choices → Type 0
-AreChosen c =
+-- numbers taken so far are in their ranges, and a chosen tag key's bytes are the first of its line
+abbrev pub AreTaken : Choices → Type 0
+AreTaken c =
     IfSome c.levels HasLevels × IfSome c.sets HasSets × IfSome c.ways HasWays
     × IfSome c.loss (λ n. IsTrue (is_loss n)) × IfSome c.tag_key (λ key. IsPartLine key.0 key.1)
-    × IfSome c.every (λ n. (1 ≤ n) × (n ≤ 1_000_000))
+    × IfSome c.every (λ n. (1 ≤ n) × (n ≤ 1_000_000)) × IfSome c.persist (λ n. n ≤ 7)
+
+-- all that is chosen is, and at most all lines of a path stand in each group
+abbrev pub AreChosen : Choices → Type 0
+AreChosen c = AreTaken c × (unwrap_or c.persist 0 ≤ unwrap_or c.levels 2 + 1)
 
 abbrev pub HasChosen : Task → Type 0
 HasChosen (Task.Run c) = AreChosen c

@@ -1,12 +1,12 @@
 //! What the words of the command line ask for.
-ghost use Rattle.std.specs.Prelude.{◌≡◌, ◌≤◌, ◌∷◌, ◌++◌, [], length, map, string_bytes, Some, None, IfSome, IfNone, IsTrue, take, unwrap_or, false};
+ghost use Rattle.std.specs.Prelude.{◌≡◌, ◌≤◌, ◌∷◌, ◌++◌, [], length, map, string_bytes, codes, Some, None, IfSome, IfNone, IsTrue, take, unwrap_or, nat_le, false};
 ghost use Rattle.std.specs.List.{position_or_len};
 ghost use Rattle.pmem_base.specs.Shape.{is_loss};
 ghost use Rattle.pmem_base.specs.Geo.{shape_of};
 ghost use Rattle.suite.specs.Suites.{aes_counts, aes_keys, weak_counts, weak_keys};
 ghost use Rattle.suite.specs.Weak.{blur_flag};
 ghost use Rattle.pmem_cli.specs.Keys.{chosen_key, chosen_tag_key, shape_chosen, every_chosen};
-ghost use Rattle.pmem_cli.specs.Words.{suite_named, number_where, value_of, is_up_to, choose_log, is_flag, choose_suite, choose_tree, choose_run, choose_wear, choose, no_choices, is_equals, option_parts, next_value, take_options, seed_and_count, run_asked, session_asked, task_of, AreChosen, HasChosen, map_some};
+ghost use Rattle.pmem_cli.specs.Words.{suite_named, is_second, number_where, value_of, is_up_to, choose_log, is_flag, choose_suite, choose_tree, choose_policy, choose_run, switch_named, choose_wear, choose_queues, choose, no_choices, is_equals, option_parts, next_value, take_options, options_of, seed_and_count, run_asked, session_asked, task_of, AreTaken, AreChosen, HasChosen, map_some};
 
 use collision_witness::{read_number, read_number_up_to, read_tag};
 use pmem_base::{Geo, Line};
@@ -43,20 +43,26 @@ pub struct Choices {
     pub key: Option<[u8; 16]>,
     pub tag_key: Option<(u8, Line)>,
     pub every: Option<u32>,
+    pub durable: Option<bool>,
+    pub combines: Option<bool>,
     pub log: bool,
+    pub persist: Option<u8>,
+    pub shadow: Option<bool>,
 }
 
-/// Which options a task takes: each kind takes those of the kinds before it, and more.
+/// Which options a task takes: each kind but the last takes those of the kinds before it, and more.
 #[derive(Clone, Copy)]
 pub(crate) enum Allowed {
     /// The options of the suite.
     Suite,
     /// The options of a counter tree.
     Tree,
-    /// The options of a run.
+    /// The options of a run's memory.
     Run,
     /// The options of a levelled memory.
     Wear,
+    /// The options of a run: of its memory, and of its write queues.
+    Queues,
 }
 
 /// What the program is to do.
@@ -95,6 +101,19 @@ fn read_suite(word: &[u8]) -> Option<SuiteName>
     }
 }
 
+/// Whether queues outlive power, by the name of their kind.
+fn read_queue(word: &[u8]) -> Option<bool>
+    ensures { result ≡ is_second (codes "volatile") (codes "durable") word.now }
+{
+    if word == b"volatile".as_slice() {
+        Some(false)
+    } else if word == b"durable".as_slice() {
+        Some(true)
+    } else {
+        None
+    }
+}
+
 /// A number from 1 up to a greatest one.
 fn read_up_to(most: u32, word: &[u8]) -> Option<u32>
     ensures number { result ≡ number_where (is_up_to most) word.now }
@@ -123,6 +142,30 @@ fn read_loss(word: &[u8]) -> Option<u8>
     }
 }
 
+/// How many lines of a path stand in each group: at most 7, the lines of the longest path.
+fn read_persist(word: &[u8]) -> Option<u8>
+    ensures number { result ≡ number_where (λ n. nat_le n 7) word.now }
+    ensures range { IfSome result (λ n. n ≤ 7) }
+{
+    match read_number(word) {
+        Ok(number) if number <= 7 => Some(number as u8),
+        _ => None,
+    }
+}
+
+/// On or off.
+fn read_switch(word: &[u8]) -> Option<bool>
+    ensures { result ≡ switch_named word.now }
+{
+    if word == b"on".as_slice() {
+        Some(true)
+    } else if word == b"off".as_slice() {
+        Some(false)
+    } else {
+        None
+    }
+}
+
 impl Choices {
     /// Nothing is chosen.
     #[tactic(auto, unfolding(crate::specs::Words::no_choices))]
@@ -140,7 +183,11 @@ impl Choices {
             key: None,
             tag_key: None,
             every: None,
+            durable: None,
+            combines: None,
             log: false,
+            persist: None,
+            shadow: None,
         }
     }
 
@@ -196,7 +243,8 @@ impl Choices {
         WeakSuite::new(&key, line.0.as_slice().split_at(usize::from(count)).0, blur)
     }
 
-    /// The geometry. By default: two levels, four sets of two ways, windows of four minors and the first major 0.
+    /// The geometry. By default: two levels, four sets of two ways, windows of four minors, the first major 0, no line
+    /// of a path in each group, shadow tables, and volatile queues that combine nothing.
     #[tactic(auto, unfolding(crate::specs::Keys::shape_chosen))]
     pub fn geometry(&self) -> Geo
         requires { AreChosen self.now }
@@ -209,7 +257,14 @@ impl Choices {
         let Ok(geo) = Geo::new(levels, sets, ways, loss, self.major.unwrap_or(0)) else {
             unreachable!()
         };
-        geo
+        let persist = self.persist.unwrap_or(0);
+        let Ok(geo) = geo.with_policy(persist, self.shadow.unwrap_or(true)) else {
+            unreachable!()
+        };
+        geo.with_queues(
+            self.durable.unwrap_or(false),
+            self.combines.unwrap_or(false),
+        )
     }
 
     /// After how many writes the gap of a levelled memory moves: 100 by default.
@@ -223,9 +278,9 @@ impl Choices {
 
     /// These choices, and an option of the suite that wasn't chosen yet.
     fn with_suite(self, name: &[u8], value: &[u8]) -> Option<Choices>
-        requires { AreChosen self }
+        requires { AreTaken self }
         ensures choices { result ≡ choose_suite self name.now value.now }
-        ensures chosen { IfSome result AreChosen }
+        ensures taken { IfSome result AreTaken }
     {
         let mut more = self;
         if name == b"suite".as_slice() && self.suite.is_none() {
@@ -242,9 +297,9 @@ impl Choices {
 
     /// These choices, and an option of a counter tree that wasn't chosen yet.
     fn with_tree(self, name: &[u8], value: &[u8]) -> Option<Choices>
-        requires { AreChosen self }
+        requires { AreTaken self }
         ensures choices { result ≡ choose_tree self name.now value.now }
-        ensures chosen { IfSome result AreChosen }
+        ensures taken { IfSome result AreTaken }
     {
         let mut more = self;
         if name == b"levels".as_slice() {
@@ -263,11 +318,11 @@ impl Choices {
         Some(more)
     }
 
-    /// These choices, and an option of a run that wasn't chosen yet.
+    /// These choices, and an option of a run's memory that wasn't chosen yet.
     fn with_run(self, name: &[u8], value: &[u8]) -> Option<Choices>
-        requires { AreChosen self }
+        requires { AreTaken self }
         ensures choices { result ≡ choose_run self name.now value.now }
-        ensures chosen { IfSome result AreChosen }
+        ensures taken { IfSome result AreTaken }
     {
         let mut more = self;
         if name == b"ways".as_slice() {
@@ -286,6 +341,29 @@ impl Choices {
             }
             more.major = Some(read_number(value).ok()?);
         } else {
+            return self.with_policy(name, value);
+        }
+        Some(more)
+    }
+
+    /// These choices, and an option of the persistence policy that wasn't chosen yet.
+    fn with_policy(self, name: &[u8], value: &[u8]) -> Option<Choices>
+        requires { AreTaken self }
+        ensures choices { result ≡ choose_policy self name.now value.now }
+        ensures taken { IfSome result AreTaken }
+    {
+        let mut more = self;
+        if name == b"persist".as_slice() {
+            if self.persist.is_some() {
+                return None;
+            }
+            more.persist = Some(read_persist(value)?);
+        } else if name == b"shadow".as_slice() {
+            if self.shadow.is_some() {
+                return None;
+            }
+            more.shadow = Some(read_switch(value)?);
+        } else {
             return self.with_tree(name, value);
         }
         Some(more)
@@ -293,9 +371,9 @@ impl Choices {
 
     /// These choices, and an option of a levelled memory that wasn't chosen yet.
     fn with_wear(self, name: &[u8], value: &[u8]) -> Option<Choices>
-        requires { AreChosen self }
+        requires { AreTaken self }
         ensures choices { result ≡ choose_wear self name.now value.now }
-        ensures chosen { IfSome result AreChosen }
+        ensures taken { IfSome result AreTaken }
     {
         if name != b"every".as_slice() {
             return self.with_run(name, value);
@@ -308,26 +386,50 @@ impl Choices {
         Some(more)
     }
 
+    /// These choices, and an option of a run that wasn't chosen yet.
+    fn with_queues(self, name: &[u8], value: &[u8]) -> Option<Choices>
+        requires { AreTaken self }
+        ensures choices { result ≡ choose_queues self name.now value.now }
+        ensures taken { IfSome result AreTaken }
+    {
+        let mut more = self;
+        if name == b"queue".as_slice() {
+            if self.durable.is_some() {
+                return None;
+            }
+            more.durable = Some(read_queue(value)?);
+        } else if name == b"combine".as_slice() {
+            if self.combines.is_some() {
+                return None;
+            }
+            more.combines = Some(read_switch(value)?);
+        } else {
+            return self.with_run(name, value);
+        }
+        Some(more)
+    }
+
     /// These choices, and one more that a task takes.
     fn with(self, allowed: Allowed, name: &[u8], value: &[u8]) -> Option<Choices>
-        requires { AreChosen self }
+        requires { AreTaken self }
         ensures choices { result ≡ choose allowed self name.now value.now }
-        ensures chosen { IfSome result AreChosen }
+        ensures taken { IfSome result AreTaken }
     {
         match allowed {
             Allowed::Suite => self.with_suite(name, value),
             Allowed::Tree => self.with_tree(name, value),
             Allowed::Run => self.with_run(name, value),
             Allowed::Wear => self.with_wear(name, value),
+            Allowed::Queues => self.with_queues(name, value),
         }
     }
 }
 
 /// These choices, with the log chosen if a word asks for it.
 fn with_log(choices: Choices) -> Option<Choices>
-    requires { AreChosen choices }
+    requires { AreTaken choices }
     ensures choices { result ≡ choose_log choices }
-    ensures chosen { IfSome result AreChosen }
+    ensures taken { IfSome result AreTaken }
 {
     if choices.log {
         return None;
@@ -396,13 +498,13 @@ fn take_option<'a>(
     word: &'a str,
     words: &'a [String],
 ) -> Option<(Choices, &'a [String])>
-    requires chosen { AreChosen choices }
+    requires taken { AreTaken choices }
     requires valued { is_flag allowed word.now ≡ false }
     ensures none { IfNone result (take_options allowed choices (word.now ∷ map string_bytes words.now) ≡ None) }
     ensures more { IfSome result (λ found. take_options allowed choices (word.now ∷ map string_bytes words.now)
         ≡ take_options allowed found.0 (map string_bytes found.1.now)) }
     ensures fewer { IfSome result (λ found. length found.1.now ≤ length words.now) }
-    ensures chosen { IfSome result (λ found. AreChosen found.0) }
+    ensures taken { IfSome result (λ found. AreTaken found.0) }
 {
     let (name, own) = split_option(word.as_bytes())?;
     let (value, rest) = take_value(own, words)?;
@@ -417,12 +519,12 @@ fn take_choice<'a>(
     word: &'a str,
     words: &'a [String],
 ) -> Option<(Choices, &'a [String])>
-    requires chosen { AreChosen choices }
+    requires taken { AreTaken choices }
     ensures none { IfNone result (take_options allowed choices (word.now ∷ map string_bytes words.now) ≡ None) }
     ensures more { IfSome result (λ found. take_options allowed choices (word.now ∷ map string_bytes words.now)
         ≡ take_options allowed found.0 (map string_bytes found.1.now)) }
     ensures fewer { IfSome result (λ found. length found.1.now ≤ length words.now) }
-    ensures chosen { IfSome result (λ found. AreChosen found.0) }
+    ensures taken { IfSome result (λ found. AreTaken found.0) }
 {
     if !is_log_flag(allowed, word) {
         return take_option(allowed, choices, word, words);
@@ -432,10 +534,23 @@ fn take_choice<'a>(
 }
 
 /// What is chosen by words.
-#[tactic(auto, unfolding(crate::specs::Words::take_options))]
+#[tactic(auto, unfolding(crate::specs::Words::options_of))]
 fn read_options(allowed: Allowed, words: &[String]) -> Option<Choices>
-    ensures choices { result ≡ take_options allowed no_choices (map string_bytes words.now) }
+    ensures choices { result ≡ options_of allowed (map string_bytes words.now) }
     ensures chosen { IfSome result AreChosen }
+{
+    let choices = take_choices(allowed, words)?;
+    if choices.persist.unwrap_or(0) > choices.levels.unwrap_or(2) + 1 {
+        return None;
+    }
+    Some(choices)
+}
+
+/// What is taken of words.
+#[tactic(auto, unfolding(crate::specs::Words::take_options))]
+fn take_choices(allowed: Allowed, words: &[String]) -> Option<Choices>
+    ensures choices { result ≡ take_options allowed no_choices (map string_bytes words.now) }
+    ensures taken { IfSome result AreTaken }
 {
     let mut choices = Choices::none();
     let mut rest = words;
@@ -468,7 +583,7 @@ fn read_run(words: &[String]) -> Option<Task>
     ensures task { result ≡ run_asked (map string_bytes words.now) }
     ensures chosen { IfSome result HasChosen }
 {
-    let choices = read_options(Allowed::Run, words)?;
+    let choices = read_options(Allowed::Queues, words)?;
     if choices.log {
         Some(Task::Log(choices))
     } else {

@@ -9,6 +9,9 @@ pub mod AskedCounters
 pub mod AnchoredFormats
 pub mod DeviceRegions
 pub mod CounterBlocks
+pub mod PolicyBounds
+pub mod PathEntries
+pub mod GroupForms
 pub mod DeviceSteps
 pub mod TruthSteps
 pub mod NameLaws

@@ -1,5 +1,5 @@
 -- What the relations of the engine's calls are made of: what a call asks, how it ends, its work, marks and steps.
-use Rattle.std.specs.Prelude.{ℕ, Bool, ◌≡◌, ◌≢◌, ◌<◌, ◌≤◌, ◌+◌, ◌*◌, ◌%◌, ◌-◌, ◌==◌, ◌⊎◌, true, false, not, All, map, ◌||◌, nat_lt, List, [], ◌++◌, length, unwrap_or, is_none, Option, Some, None, option_map, IsSome, IsTrue, Result, Ok, Err, MatchBool, ⊤, if◌then◌else◌}
+use Rattle.std.specs.Prelude.{ℕ, Bool, ◌≡◌, ◌<◌, ◌≤◌, ◌+◌, ◌*◌, ◌%◌, ◌-◌, ◌==◌, ◌⊎◌, true, false, not, All, map, ◌||◌, ◌&&◌, nat_lt, nat_le, List, [], ◌++◌, length, unwrap_or, is_none, Option, Some, None, option_map, IsSome, IsTrue, Result, Ok, Err, MatchBool, ⊤, if◌then◌else◌}
 use Rattle.pmem_base.specs.declared.lines.Line.{Line}
 use Rattle.pmem_base.specs.declared.lines.Ctr.{Ctr}
 use Rattle.pmem_base.specs.declared.commands.Posted.{Posted}
@@ -7,7 +7,7 @@ use Rattle.pmem_base.specs.declared.answers.Mark.{Mark}
 use Rattle.pmem_base.specs.declared.answers.Place.{Place}
 use Rattle.pmem_base.specs.declared.answers.Exhibit.{Exhibit}
 use Rattle.pmem_base.specs.declared.answers.Exhibit.TheVariants.{Forged}
-use Rattle.pmem_base.specs.Shape.{Shape}
+use Rattle.pmem_base.specs.Shape.{Shape, named_levels}
 use Rattle.pmem_base.specs.Layout as layout
 use Rattle.pmem_base.specs.Layout.{page_of}
 use Rattle.pmem_base.specs.Lines.{line_at, zero_line}
@@ -15,7 +15,7 @@ use Rattle.pmem_base.specs.Counts.{risen, risen_times}
 use Rattle.pmem_base.specs.Marks.{last_seal}
 use Rattle.pmem_base.specs.declared.answers.Mark.TheVariants.{Begin, Seal}
 use Rattle.pmem_base.specs.Registers.{IsValidRegs}
-use Rattle.bonsai_tree.specs.Positions.{level_of, counter_position}
+use Rattle.bonsai_tree.specs.Positions.{level_of, is_on_path, counter_position}
 use Rattle.board.specs.Counts.{RisesBy}
 use Rattle.board.specs.Device.{Device}
 use Rattle.seal_ledger.specs.Ledger.{LedgerState}
@@ -33,7 +33,7 @@ use Rattle.suite.specs.Formulas.{Formulas}
 use Rattle.plain_model.specs.State.{Memory, memory_with}
 use Rattle.plain_model.specs.View.{view_of, plain_line}
 use Rattle.plain_model.specs.Asked.{Moment}
-use Rattle.plain_model.specs.Bounds.{path_length, seal_count, begin_count, writing_bound}
+use Rattle.plain_model.specs.Bounds.{path_length, begun_lines, seal_count, begin_count, writing_bound}
 use Rattle.plain_model.specs.Fits.{IsResealOf, IsLeftAfterTurn, IsLowestLeft, IsTurnMark, oldest_page}
 use Rattle.pmem_engine.specs.declared.fault.Fault.{Fault}
 use Rattle.pmem_engine.specs.declared.fault.Fault.TheVariants as Fail
@@ -64,10 +64,10 @@ IsReady g engine device = IsReadyWith g engine.down device
 abbrev pub IsUsable : Shape → EngineState → Device → LedgerState → Type 0
 IsUsable g engine device ledger = IsUsableWith g engine.down device ledger
 
--- the slot of each block of the page's path is named in the mirror
+-- the slot of each block of the page's path that may get dirty is named in the mirror, if there are shadow tables
 pub record IsPathNamedInMirror (g : Shape) (engine : ChipState) (page : ℕ) : Type 0 where
   pub each :
-      (j : ℕ) → j ≤ g.levels
+      (j : ℕ) → j < named_levels g
       → slot_entry g engine.mirror j (path_number g engine.cache page j) ≡ path_at g page j + 1
 
 -- ---- ends of a call
@@ -201,6 +201,13 @@ IsPathFetchedInto g page old fetched =
 abbrev pub IsPathFetched : Shape → ℕ → Parts → Parts → Type 0
 IsPathFetched g page old new = IsPathFetchedInto g page old new.engine.cache
 
+-- ---- the lines of a path in a group
+
+-- how many of a path's lowest lines stand in the group of a seal with this minor: those that the policy persists, and at
+-- least the counter block if the stop-loss number divides the minor
+abbrev pub grouped_lines : Shape → ℕ → ℕ → ℕ
+grouped_lines g loss minor = if minor % loss == 0 then begun_lines g else g.persist
+
 -- ---- the exact work of unsealing and sealing
 
 -- that many lines unsealed: for each the line and its tag line are read, and a tag is made
@@ -215,18 +222,18 @@ reseal_work n = record { reads = 2 * n; writes = 2 * n; latches = 2 * n; tags = 
 abbrev pub naming_work : ℕ → Work
 naming_work n = record { reads = 0; writes = n; latches = 0; tags = 0; digests = 0 }
 
--- that many pages begun: for each the path is made again, and the group has the counter block
+-- that many pages begun: for each the path is made again, and the group has its lowest lines
 abbrev pub begin_work : Shape → ℕ → Work
 begin_work g n =
-    record { reads = 0; writes = n; latches = 2 * n; tags = 0; digests = path_length g * n }
+    record { reads = 0; writes = begun_lines g * n; latches = 2 * n; tags = 0; digests = path_length g * n }
 
--- a line sealed under its next counter: the path is made again, and the tag line is read; the group has the line, its tag line, and the
--- counter block if the stop-loss number divides the new minor
+-- a line sealed under its next counter: the path is made again, and the tag line is read; the group has the line, its tag line, and
+-- the lowest lines of the path
 abbrev pub seal_work : Shape → ℕ → Ctr → Work
 seal_work g loss ctr =
     record {
       reads = 1;
-      writes = if ctr.minor % loss == 0 then 3 else 2;
+      writes = 2 + grouped_lines g loss ctr.minor;
       latches = 2;
       tags = 1;
       digests = path_length g;
@@ -390,6 +397,10 @@ AnswersWrite setup asked made write old new (Err Fail.Shown) =
     ⊎ IsForgedInWrite setup asked made write new
 AnswersWrite setup asked made write old new answer = ⊤
 
+-- whether metadata line x is among that many lowest lines of the page's path
+abbrev pub is_grouped : Shape → ℕ → ℕ → ℕ → Bool
+is_grouped g page grouped x = is_on_path g page x && nat_le (path_length g - grouped) (level_of x)
+
 -- the page's counter block is true on the device, and not dirty in the cache
 pub record IsBlockTrue (setup : Setup) (new : Parts) (page : ℕ) : Type 0 where
   pub line :
@@ -465,19 +476,19 @@ KeepsMetaLines g old new =
     (x : ℕ) → x < layout.meta_lines g
     → told_line new (layout.meta_line g x) ≡ told_line old (layout.meta_line g x)
 
--- so is each one but the page's counter block
+-- so is each one but the lowest lines of the page's path that stand in a group
 abbrev pub KeepsOtherMeta : Shape → ℕ → Option (List Line) → Option (List Line) → Type 0
 KeepsOtherMeta g page old new =
-    (x : ℕ) → x < layout.meta_lines g → x ≢ counter_position g page
+    (x : ℕ) → x < layout.meta_lines g → is_grouped g page (begun_lines g) x ≡ false
     → told_line new (layout.meta_line g x) ≡ told_line old (layout.meta_line g x)
 
 -- a write that is shorter than a line unseals it
 abbrev pub unsealed_count : Posted → ℕ
 unsealed_count write = if nat_lt write.len 64 then 1 else 0
 
--- how many shadow lines are written to name the page's path, by the cache once it is fetched
+-- how many shadow lines are written to name the page's path, by the cache once it is fetched: none without shadow tables
 abbrev pub path_unnamed : Shape → Parts → ℕ → Banks → ℕ
-path_unnamed g old page fetched = length (naming_writes g fetched page old.engine.mirror (path_length g))
+path_unnamed g old page fetched = length (naming_writes g fetched page old.engine.mirror (named_levels g))
 
 -- what a write does, part by part: the path is fetched, the line unsealed, a page finished, the path
 -- named, the page begun, and the line sealed; the marks made are the seals and the begin of these parts

@@ -1,5 +1,5 @@
 -- What each call of an engine that is up makes of its parts: one relation a call. It followed its plan, and what that comes to.
-use Rattle.std.specs.Prelude.{ℕ, ◌≡◌, ◌≢◌, ◌<◌, ◌≤◌, ◌+◌, ◌*◌, ◌%◌, ◌⊎◌, ◌↔◌, false, List, [], length, Option, None, option_map, IfOk, IsOk, IsSome, IsTrue, Result, Ok}
+use Rattle.std.specs.Prelude.{ℕ, ◌≡◌, ◌≢◌, ◌<◌, ◌≤◌, ◌+◌, ◌*◌, ◌⊎◌, ◌↔◌, false, List, [], length, Option, None, option_map, IfOk, IsOk, IsSome, IsTrue, Result, Ok}
 use Rattle.pmem_base.specs.declared.lines.Line.{Line}
 use Rattle.pmem_base.specs.declared.lines.Ctr.{Ctr}
 use Rattle.pmem_base.specs.declared.commands.Posted.{Posted}
@@ -13,7 +13,7 @@ use Rattle.meta_path.specs.Blocks.{IsPathCached, dirty_count}
 use Rattle.suite.specs.Setup.{Setup}
 use Rattle.plain_model.specs.State.{Memory}
 use Rattle.plain_model.specs.Asked.{marks_of_write}
-use Rattle.plain_model.specs.Bounds.{path_length}
+use Rattle.plain_model.specs.Bounds.{path_length, begun_lines}
 use Rattle.pmem_engine.specs.declared.fault.Fault.{Fault}
 use Rattle.pmem_engine.specs.Parts.{Parts, regs_of, AreTrusted, AreSound, HoldsSeal, HoldsCounters, HoldsMeta}
 use Rattle.pmem_engine.specs.Outcomes.{outcome_of, is_sealed_by, CallEffect, OneLossEffect, TakesAtMost}
@@ -21,7 +21,7 @@ use Rattle.call_plan.specs.Plans.{ended}
 use Rattle.call_plan.specs.Following.{Follows}
 use Rattle.pmem_engine.specs.Plans.{chip_in, read_plan, turn_plan, flush_plan, set_loss_plan}
 use Rattle.pmem_engine.specs.WritePlans.{write_plan}
-use Rattle.pmem_engine.specs.CallFacts.{IsDownAnswer, IsPathNamedInMirror, TakesWithinOfLive, IsPastFetch, IsAnswerOfRead, IsReadWork, IsAnswerOfTurn, IsTurnWork, CountsTurn, IsFlushWork, AreMarksOfWrite, IsBlockTrue, AreInWriteOrder, IsWriteWork}
+use Rattle.pmem_engine.specs.CallFacts.{IsDownAnswer, IsPathNamedInMirror, TakesWithinOfLive, IsPastFetch, IsAnswerOfRead, IsReadWork, IsAnswerOfTurn, IsTurnWork, CountsTurn, IsFlushWork, AreMarksOfWrite, IsBlockTrue, AreInWriteOrder, IsWriteWork, grouped_lines}
 -- what the crates above cite with them
 pub use Rattle.pmem_engine.specs.CallFacts.{IsReadyWith, IsReady, IsUsableWith, IsUsable, IsUnrefused, IsLeftAlone, IsGuarded, IsEngineCall, AnswersRead, IsMemory, moment_in, AreMarksOfTurn, AnswersTurn, AnswersFlush, whole_write, memory_after, IsPartOf, IsRefusedLine, IsForgedInWrite, AnswersWrite, write_bound, TakesSpent, TakesOfWrite, AnswersLoss}
 
@@ -116,7 +116,7 @@ pub record HasWrittenLine (setup : Setup) (write : Posted) (old new : Parts) (an
   pub order : AreInWriteOrder write.at made
   pub few_marks : length made ≤ 66
   pub own_sealed : IsOk answer → IsTrue (is_sealed_by made write.at)
-  pub few_steps : TakesAtMost (2 * path_length setup.shape + 264) old.device new.device
+  pub few_steps : TakesAtMost (2 * path_length setup.shape + 262 + 2 * begun_lines setup.shape) old.device new.device
   pub work : IfOk answer (λ ctr. IsWriteWork setup.shape write ctr made old new)
   pub steps :
       AreTrusted setup old → (memory : Memory) → IsMemory setup memory old
@@ -128,7 +128,7 @@ pub record HasWrittenLine (setup : Setup) (write : Posted) (old new : Parts) (an
       → marks_of_write setup.formulas (moment_in setup memory old) write ≡ None
       → TakesSpent setup.shape (outcome_of answer) old new
   pub block_written :
-      AreTrusted setup old → IfOk answer (λ ctr. ctr.minor % (regs_of old).loss ≡ 0
+      AreTrusted setup old → IfOk answer (λ ctr. 0 < grouped_lines setup.shape (regs_of old).loss ctr.minor
       → IsBlockTrue setup new (page_of write.at))
 
 pub record HasSetLoss (setup : Setup) (n : ℕ) (old new : Parts) (answer : Result ℕ Fault) : Type 0 where

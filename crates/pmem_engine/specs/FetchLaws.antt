@@ -217,12 +217,12 @@ abbrev pub is_persisting : ℕ → ℕ → Mark → Bool
 is_persisting loss a (Begin page) = true
 is_persisting loss a (Seal at ctr cipher tag) = at == a && ctr.minor % loss == 0
 
--- marks were made, and unless one of them begins a page, or seals the line under a minor that the stop-loss number divides, the counter
--- block's line is as it was, if exposed
+-- marks were made, and unless one of them begins a page, or seals the line under a minor that the stop-loss number
+-- divides, the counter block's line is as it was, if exposed; under a policy with lazy counter blocks
 pub record IsBlockWrittenWhereDue (write : Posted) (loss : ℕ) (before after : Chip) (old new : Device) : Type 0 where
   pub made : IsFront before.ledger.marks after.ledger.marks
   pub kept :
-      list_any (is_persisting loss write.at) made.later ≡ false
+      before.engine.shape.persist ≡ 0 → list_any (is_persisting loss write.at) made.later ≡ false
       → told_line new.lines (layout.meta_line before.engine.shape (counter_position before.engine.shape (page_of write.at)))
       ≡ told_line old.lines (layout.meta_line before.engine.shape (counter_position before.engine.shape (page_of write.at)))
 

@@ -4,7 +4,7 @@ use Rattle.pmem_base.specs.declared.faults.Cut.{Cut}
 use Rattle.pmem_base.specs.declared.lines.Ctr.{Ctr}
 use Rattle.pmem_base.specs.declared.registers.Regs.{Regs}
 use Rattle.pmem_base.specs.Counts.{risen}
-use Rattle.pmem_base.specs.Shape.{Shape}
+use Rattle.pmem_base.specs.Shape.{Shape, named_levels}
 use Rattle.pmem_base.specs.Layout as layout
 use Rattle.pmem_base.specs.Layout.{page_of}
 use Rattle.pmem_base.specs.Marks.{last_seal}
@@ -121,7 +121,7 @@ pub record HasNamedPath (setup : Setup) (page : ℕ) (old new : Parts) (answer :
       IsOk answer
       → IsWork
       (naming_work
-      (length (naming_writes setup.shape old.engine.cache page old.engine.mirror (path_length setup.shape))))
+      (length (naming_writes setup.shape old.engine.cache page old.engine.mirror (named_levels setup.shape))))
       old new
   pub meta_lines : IsOk answer → KeepsMetaLines setup.shape old.device.lines new.device.lines
   pub cache : new.engine.cache ≡ old.engine.cache

@@ -6,7 +6,7 @@ use Rattle.pmem_base.specs.declared.registers.Progress.{Progress}
 use Rattle.pmem_base.specs.declared.registers.Regs.{Regs}
 use Rattle.pmem_base.specs.declared.answers.Mark.{Mark}
 use Rattle.pmem_base.specs.declared.answers.Mark.TheVariants.{Begin, Seal}
-use Rattle.pmem_base.specs.Shape.{Shape}
+use Rattle.pmem_base.specs.Shape.{Shape, is_lazy, named_levels, counter_window}
 use Rattle.pmem_base.specs.Layout as layout
 use Rattle.pmem_base.specs.Lines.{line_at, tag_slot}
 use Rattle.pmem_base.specs.Marks.{last_seal, IsFresh}
@@ -18,7 +18,7 @@ use Rattle.bonsai_tree.specs.Nodes.{IsHashTree}
 use Rattle.board.specs.Device.{AreLinesOf}
 use Rattle.seal_ledger.specs.Ledger.{LedgerState, IsOfShape}
 use Rattle.commit_regs.specs.Groups.{redone}
-use Rattle.shadow_tables.specs.Entries.{slot_entry, is_named_in, shadow_of}
+use Rattle.shadow_tables.specs.Entries.{slot_entry, is_doubted_in, shadow_of}
 use Rattle.meta_cache.specs.declared.slot.Slot.{Slot}
 use Rattle.meta_cache.specs.Banks.{set_of, set_index, slot_number, is_cached_dirty}
 use Rattle.suite.specs.Setup.{Setup}
@@ -91,14 +91,15 @@ pub record IsSealStored (g : Shape) (lines : List Line) (marks : List Mark) (a :
 abbrev pub stored_meta : Shape → List Line → ℕ → Line
 stored_meta g lines x = line_at lines (layout.meta_line g x)
 
--- whether position x is named by an entry of its level's shadow table
-abbrev pub is_named : Shape → List Line → ℕ → Bool
-is_named g lines x = is_named_in g (shadow_of g lines) (level_of x) x
+-- whether recovery has to make position x again, over a device's lines: its level is lazy, and, if there are shadow
+-- tables, an entry of its level's table names it
+abbrev pub is_doubted : Shape → List Line → ℕ → Bool
+is_doubted g lines x = is_doubted_in g (shadow_of g lines) (level_of x) x
 
 -- what a counter block on the device keeps of the true one
 abbrev pub IsCounterStored : Setup → List Line → ℕ → List Line → ℕ → Type 0
 IsCounterStored setup lines loss truth page =
-    IsStoredBlock loss
+    IsStoredBlock (counter_window setup.shape loss)
     (unpacked (stored_meta setup.shape lines (counter_position setup.shape page)))
     (true_block setup.shape truth page)
 
@@ -108,10 +109,10 @@ pub record IsMendable (setup : Setup) (lines : List Line) (regs : Regs) (ledger 
   pub anchored : IsAnchored setup regs ledger
   pub seals_stored :
       (a : ℕ) → a < layout.data_lines setup.shape → IsSealStored setup.shape lines ledger.marks a
-  pub true_or_named :
+  pub true_or_doubted :
       (x : ℕ) → x < layout.meta_lines setup.shape
       → (stored_meta setup.shape lines x ≡ line_at ledger.truth x)
-      ⊎ IsTrue (is_named setup.shape lines x)
+      ⊎ IsTrue (is_doubted setup.shape lines x)
   pub counters_stored :
       (page : ℕ) → page < layout.pages setup.shape
       → IsCounterStored setup lines regs.loss ledger.truth page
@@ -124,10 +125,12 @@ pub record IsDurable (setup : Setup) (lines : List Line) (regs : Regs) (ledger :
 
 -- ---- sound
 
--- a dirty slot's entry names its position
-abbrev pub IsDirtyNamed : Shape → List Line → ℕ → ℕ → Slot → Type 0
-IsDirtyNamed g shadow bank set slot =
-    slot.dirty ≡ true → slot_entry g shadow bank (slot_number g set slot) ≡ slot.position + 1
+-- a dirty slot is of a lazy level, and, if there are shadow tables, its entry names its position
+pub record IsDirtyNamed (g : Shape) (shadow : List Line) (bank set : ℕ) (slot : Slot) : Type 0 where
+  pub lazy : slot.dirty ≡ true → IsTrue (is_lazy g bank)
+  pub named :
+      slot.dirty ≡ true → bank < named_levels g
+      → slot_entry g shadow bank (slot_number g set slot) ≡ slot.position + 1
 
 pub record IsSound (setup : Setup) (engine : ChipState) (lines : List Line) (regs : Regs)
     (ledger : LedgerState) : Type 0 where

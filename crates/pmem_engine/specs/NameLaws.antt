@@ -1,8 +1,9 @@
 -- Which blocks of a page's path are named, wherever naming it ends.
-use Rattle.std.specs.Prelude.{ℕ, ◌≡◌, ◌≤◌, ◌+◌, List, length, Result, Ok, Err}
+use Rattle.std.specs.Prelude.{ℕ, ◌≡◌, ◌<◌, ◌+◌, List, length, Result, Ok, Err}
 use Rattle.pmem_base.specs.declared.faults.Cut.{Cut}
 use Rattle.pmem_base.specs.declared.lines.Line.{Line}
 use Rattle.pmem_base.specs.Counts.{risen_times}
+use Rattle.pmem_base.specs.Shape.{named_levels}
 use Rattle.board.specs.Device.{Device}
 use Rattle.call_plan.specs.Following.{Follows}
 use Rattle.commit_regs.specs.Groups.{redone_told}
@@ -28,10 +29,11 @@ pub record AreNamed (page named written : ℕ) (engine left : ChipState) (old ne
   pub reads : new.reads ≡ old.reads
   pub latches : new.latches ≡ old.latches
 
--- the whole path, or if power is cut the first of its blocks, and on the device one fewer
+-- all of the path's blocks that may get dirty, or if power is cut the first of them, and on the device one fewer
 abbrev pub IsNamedInOrder : ℕ → ChipState → Device → Device → Result (ChipState × Unit {0}) (ChipState × Cut) → Type 0
-IsNamedInOrder page engine old new (Ok end) = AreNamed page (engine.shape.levels + 1) (engine.shape.levels + 1) engine end.0 old new
-IsNamedInOrder page engine old new (Err left) = (n : ℕ) × (n ≤ engine.shape.levels) × AreNamed page (n + 1) n engine left.0 old new
+IsNamedInOrder page engine old new (Ok end) =
+    AreNamed page (named_levels engine.shape) (named_levels engine.shape) engine end.0 old new
+IsNamedInOrder page engine old new (Err left) = (n : ℕ) × (n < named_levels engine.shape) × AreNamed page (n + 1) n engine left.0 old new
 
 abbrev pub PathsAreNamedInOrder : Type 0
 PathsAreNamedInOrder =

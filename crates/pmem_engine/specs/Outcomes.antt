@@ -1,16 +1,17 @@
 -- How a call of the engine ends, and what each end leaves.
-use Rattle.std.specs.Prelude.{ℕ, ◌≡◌, ◌≢◌, ◌<◌, ◌≤◌, ◌+◌, ◌==◌, ◌⊎◌, Bool, true, false, ◌&&◌, nat_lt, List, [], ◌++◌, length, is_some, IsTrue, Result, Ok, Err, ⊤}
+use Rattle.std.specs.Prelude.{ℕ, ◌≡◌, ◌≢◌, ◌<◌, ◌≤◌, ◌+◌, ◌==◌, ◌⊎◌, Bool, true, false, ◌&&◌, nat_lt, List, [], ◌++◌, length, is_some, IsTrue, IfSome, Result, Ok, Err, ⊤}
 use Rattle.std.specs.List.{list_any}
 use Rattle.pmem_base.specs.declared.answers.Mark.{Mark}
 use Rattle.pmem_base.specs.declared.faults.Cut.{Cut}
 use Rattle.pmem_base.specs.declared.answers.Mark.TheVariants.{Begin, Seal}
-use Rattle.pmem_base.specs.Shape.{Shape}
+use Rattle.pmem_base.specs.Shape.{Shape, is_lazy}
 use Rattle.pmem_base.specs.Layout as layout
 use Rattle.pmem_base.specs.Layout.{page_of}
 use Rattle.pmem_base.specs.Counts.{last_count}
+use Rattle.pmem_base.specs.Lines.{line_at}
 use Rattle.pmem_base.specs.Marks.{IsFresh}
 use Rattle.pmem_base.specs.Registers.{IsValidRegs}
-use Rattle.bonsai_tree.specs.Positions.{is_on_path}
+use Rattle.bonsai_tree.specs.Positions.{is_on_path, level_of}
 use Rattle.board.specs.Device.{Device}
 use Rattle.meta_cache.specs.Banks.{is_cached_dirty}
 use Rattle.meta_path.specs.declared.faults.PathFault.{PathFault}
@@ -21,8 +22,9 @@ use Rattle.pmem_engine.specs.declared.fault.Fault.{Fault}
 use Rattle.pmem_engine.specs.declared.fault.Fault.TheVariants as Fail
 use Rattle.pmem_engine.specs.declared.fault.LineFault.{LineFault}
 use Rattle.pmem_engine.specs.declared.fault.LineFault.TheVariants as AtLine
-use Rattle.pmem_engine.specs.Invariants.{IsAnchored}
-use Rattle.pmem_engine.specs.Parts.{Parts, regs_of, AreTrusted, AreSound, AreDurable, HoldsSeal, HoldsCounters, HoldsMeta, data_line_in, tag_slot_in, meta_line_in}
+use Rattle.plain_model.specs.Bounds.{group_bound}
+use Rattle.pmem_engine.specs.Invariants.{IsAnchored, stored_meta}
+use Rattle.pmem_engine.specs.Parts.{Parts, regs_of, lines_redone, AreTrusted, AreSound, AreDurable, HoldsSeal, HoldsCounters, HoldsMeta, data_line_in, tag_slot_in, meta_line_in}
 
 -- a part's fault as the engine's
 abbrev pub fault_of_cut : Cut → Fault
@@ -77,10 +79,10 @@ abbrev pub is_touching : ℕ → Mark → Bool
 is_touching page (Begin begun) = begun == page
 is_touching page (Seal at ctr cipher tag) = page_of at == page && nat_lt 0 ctr.minor
 
--- x is on the path of a page that one of these marks touches
+-- x is on the path of a page that one of these marks touches, and its level is lazy
 abbrev pub IsTouchedBy : Shape → List Mark → ℕ → Type 0
 IsTouchedBy g made x =
-    (page : ℕ) × IsTrue (list_any (is_touching page) made) × IsTrue (is_on_path g page x)
+    (page : ℕ) × IsTrue (list_any (is_touching page) made) × IsTrue (is_on_path g page x) × IsTrue (is_lazy g (level_of x))
 
 -- ---- the whole
 
@@ -98,6 +100,11 @@ LeavesSound setup shown new = ⊥
 
 -- ---- place by place
 
+-- metadata line x is the true one on the device
+abbrev pub HoldsTruth : Shape → Parts → ℕ → Type 0
+HoldsTruth g parts x =
+    IfSome (lines_redone parts) (λ lines. stored_meta g lines x ≡ line_at parts.ledger.truth x)
+
 -- what stays stored if these marks were made, whatever the end
 pub record KeepsPlaces (setup : Setup) (made : List Mark) (old new : Parts) : Type 0 where
   -- the last seal of each data line, and each seal made
@@ -112,6 +119,10 @@ pub record KeepsPlaces (setup : Setup) (made : List Mark) (old new : Parts) : Ty
   pub tag_slots :
       (a : ℕ) → a < layout.data_lines setup.shape → is_sealed_by made a ≡ false
       → tag_slot_in setup.shape new a ≡ tag_slot_in setup.shape old a
+  -- each line of a strict level that was the true one
+  pub strict :
+      (x : ℕ) → x < layout.meta_lines setup.shape → is_lazy setup.shape (level_of x) ≡ false
+      → HoldsTruth setup.shape old x → HoldsTruth setup.shape new x
 
 -- what the metadata lines keep, whatever the end but a cut
 pub record KeepsMeta (setup : Setup) (made : List Mark) (old new : Parts) : Type 0 where
@@ -134,10 +145,10 @@ KeepsMetaWhere setup outcome made old new = KeepsMeta setup made old new
 
 -- ---- power
 
--- after a cut at most three lines are armed
-abbrev pub HasSmallGroup : Outcome → Parts → Type 0
-HasSmallGroup cut_short new = length (regs_of new).group.items ≤ 3
-HasSmallGroup outcome new = ⊤
+-- after a cut the armed group has at most as many lines as the bound
+abbrev pub HasSmallGroup : Shape → Outcome → Parts → Type 0
+HasSmallGroup g cut_short new = length (regs_of new).group.items ≤ group_bound g
+HasSmallGroup g outcome new = ⊤
 
 -- ---- persist steps: line writes and latches, whose counts stand still at their end
 
@@ -177,7 +188,7 @@ pub record CallEffect (setup : Setup) (outcome : Outcome) (made : List Mark) (ol
   pub told : is_some new.device.lines ≡ is_some old.device.lines
   pub valid : IsValidRegs setup.shape (regs_of old) → IsValidRegs setup.shape (regs_of new)
   pub group : outcome ≢ cut_short → (regs_of new).group ≡ (regs_of old).group
-  pub small_group : (regs_of old).group.items ≡ [] → HasSmallGroup outcome new
+  pub small_group : (regs_of old).group.items ≡ [] → HasSmallGroup setup.shape outcome new
   pub power : HasPower outcome old.device new.device
   pub reads : old.device.reads ≤ new.device.reads
   pub tags : NeverFalls old.tags new.tags

@@ -167,30 +167,30 @@ module _ {B A : Type 0} (board : BoardOf B) (audit : AuditOf A) (engine : ChipSt
       Follows (commit_plan engine.shape next (board.device b).regs (audit.ledger a)) (board.device b) (board.device later_b)
       (ended answer (audit.ledger later_a))
 
-  abbrev pub EndsSeal : NextSeal → Bool → Line → Path → Result (Unit {0}) Cut → Type 0
-  EndsSeal next persisted block path answer =
-      HasSealEnded engine.shape next persisted block path.lines.items path.root engine later_engine (board.device b)
+  abbrev pub EndsSeal : NextSeal → ℕ → Path → Result (Unit {0}) Cut → Type 0
+  EndsSeal next grouped path answer =
+      HasSealEnded engine.shape next grouped path.lines.items path.root engine later_engine (board.device b)
       (board.device later_b) (audit.ledger a) (audit.ledger later_a) answer
 
-  abbrev pub FollowsSealGroup : NextSeal → Bool → Line → Path → Result (Unit {0}) Cut → Type 0
-  FollowsSealGroup next persisted block path answer =
+  abbrev pub FollowsSealGroup : NextSeal → ℕ → Path → Result (Unit {0}) Cut → Type 0
+  FollowsSealGroup next grouped path answer =
       (tags digests : ℕ)
       → Follows
-      (commit_seal_plan engine.shape next persisted block path.lines.items path.root (board.device b).regs
+      (commit_seal_plan engine.shape next grouped path.lines.items path.root (board.device b).regs
       (chip_with engine (audit.ledger a) tags digests))
       (board.device b) (board.device later_b)
       (ended_with answer (chip_with later_engine (audit.ledger later_a) tags digests) (board.device later_b).regs)
 
-  abbrev pub EndsBegin : ℕ → Progress → Line → Path → Result (Unit {0}) Cut → Type 0
-  EndsBegin page register block path answer =
-      HasBeginEnded engine.shape page register block path.lines.items path.root engine later_engine (board.device b)
+  abbrev pub EndsBegin : ℕ → Progress → Path → Result (Unit {0}) Cut → Type 0
+  EndsBegin page register path answer =
+      HasBeginEnded engine.shape page register path.lines.items path.root engine later_engine (board.device b)
       (board.device later_b) (audit.ledger a) (audit.ledger later_a) answer
 
-  abbrev pub FollowsBeginGroup : ℕ → Progress → Line → Path → Result (Unit {0}) Cut → Type 0
-  FollowsBeginGroup page register block path answer =
+  abbrev pub FollowsBeginGroup : ℕ → Progress → Path → Result (Unit {0}) Cut → Type 0
+  FollowsBeginGroup page register path answer =
       (tags digests : ℕ)
       → Follows
-      (commit_begin_plan engine.shape page register block path.lines.items path.root (board.device b).regs
+      (commit_begin_plan engine.shape page register path.lines.items path.root (board.device b).regs
       (chip_with engine (audit.ledger a) tags digests))
       (board.device b) (board.device later_b)
       (ended_with answer (chip_with later_engine (audit.ledger later_a) tags digests) (board.device later_b).regs)

@@ -1,5 +1,5 @@
 -- What a commit with a page's new path makes: a seal of a line under its next counter, and a page's begin.
-use Rattle.std.specs.Prelude.{ℕ, ◌≡◌, ◌+◌, ◌%◌, ◌==◌, ◌⊎◌, Bool, true, List, [], ◌∷◌, ◌++◌, length, if◌then◌else◌, Some, IfOk, IsOk, Result, Ok, Err}
+use Rattle.std.specs.Prelude.{ℕ, ◌≡◌, ◌<◌, ◌+◌, ◌-◌, ◌⊎◌, List, [], ◌∷◌, ◌++◌, length, map, drop, if◌then◌else◌, Some, IfOk, IsOk, Result, Ok, Err}
 use Rattle.pmem_base.specs.declared.faults.Cut.{Cut}
 use Rattle.pmem_base.specs.declared.lines.Line.{Line}
 use Rattle.pmem_base.specs.declared.lines.Ctr.{Ctr}
@@ -24,26 +24,26 @@ use Rattle.seal_ledger.specs.Ledger.{LedgerState, IsSealValue}
 use Rattle.page_reencrypt.specs.Registers.{registers_with_done, begun}
 use Rattle.plain_model.specs.View.{plain_line}
 use Rattle.plain_model.specs.Asked.{seal_mark}
+use Rattle.plain_model.specs.Bounds.{path_length, begun_lines}
 use Rattle.pmem_engine.specs.declared.fault.Fault.{Fault}
 use Rattle.pmem_engine.specs.declared.fault.Fault.TheVariants as Fail
 use Rattle.pmem_engine.specs.declared.resealing.NextSeal.{NextSeal}
 use Rattle.pmem_engine.specs.Engine.{ChipState}
-use Rattle.pmem_engine.specs.Steps.{block_entry}
 use Rattle.pmem_engine.specs.Parts.{Parts, regs_of, AreTrusted}
 use Rattle.pmem_engine.specs.Outcomes.{of_cut, outcome_of, is_sealed_by, OneLossEffect, TakesSteps, TakesFewer}
-use Rattle.pmem_engine.specs.CallFacts.{IsPathNamedInMirror, IsBlockTrue, IsWork, begin_work, seal_work, KeepsButPath, KeepsOtherMeta}
+use Rattle.pmem_engine.specs.CallFacts.{IsPathNamedInMirror, IsBlockTrue, IsWork, grouped_lines, begin_work, seal_work, KeepsButPath, KeepsOtherMeta}
 use Rattle.pmem_engine.specs.Inner.{cached_block}
 use Rattle.pmem_engine.specs.Committing.{entries_of, HasGroupEnded}
 
 -- ---- parts of a commit
 
 -- the cache has the path's new lines, and the engine is else as it was
-pub record HasStoredPath (g : Shape) (page : ℕ) (persisted : Bool) (lines : List (ℕ × Line)) (old new : ChipState) :
+pub record HasStoredPath (g : Shape) (page grouped : ℕ) (lines : List (ℕ × Line)) (old new : ChipState) :
     Type 0 where
   pub path : IsPathOf g page lines
   pub shape : new.shape ≡ old.shape
   pub mirror : new.mirror ≡ old.mirror
-  pub slots : KeepsSlots g page persisted lines old.cache new.cache
+  pub slots : KeepsSlots g page grouped lines old.cache new.cache
   pub kept : KeepsButPath g page old.cache new.cache
   pub cached : IsPathCached g new.cache page
   pub banks_before : IsBanksOf g old.cache
@@ -57,54 +57,59 @@ pub record HasNotedPath (lines : List (ℕ × Line)) (mark : Mark) (old new : Le
   pub data_lines : new.data_lines ≡ old.data_lines
   pub exhibit : new.exhibit ≡ old.exhibit
 
--- a seal's group, with its page's counter block if that is written too
-abbrev pub seal_group : Shape → NextSeal → Bool → Line → List (ℕ × Line)
-seal_group g next persisted block =
-    if persisted then entries_of g next ++ block_entry g (page_of next.at) block ∷ [] else entries_of g next
+-- that many lowest lines of a path, from the top down, in their places
+abbrev pub path_entries : Shape → ℕ → List (ℕ × Line) → List (ℕ × Line)
+path_entries g grouped lines =
+    map (λ entry. (layout.meta_line g entry.0, entry.1)) (drop (path_length g - grouped) lines)
+
+-- a seal's group: its lines, and that many lowest lines of its page's path
+abbrev pub seal_group : Shape → NextSeal → ℕ → List (ℕ × Line) → List (ℕ × Line)
+seal_group g next grouped lines = entries_of g next ++ path_entries g grouped lines
 
 -- ---- a seal
 
 -- what both a commit and a cut during it leave of the chip
-pub record HasPathSealed (g : Shape) (next : NextSeal) (persisted : Bool) (block : Line) (lines : List (ℕ × Line))
-    (root : List ℕ) (old new : ChipState) (old_regs new_regs : Regs) (before after : LedgerState) : Type 0 where
-  pub is_group : IsGroup (layout.device_lines g) (seal_group g next persisted block)
+pub record HasPathSealed (g : Shape) (next : NextSeal) (grouped : ℕ) (lines : List (ℕ × Line)) (root : List ℕ)
+    (old new : ChipState) (old_regs new_regs : Regs) (before after : LedgerState) : Type 0 where
+  pub is_group : IsGroup (layout.device_lines g) (seal_group g next grouped lines)
   pub fits : IsSealValue next.ctr next.cipher next.tag
   pub root_now : new_regs.root ≡ root
   pub progress : new_regs.progress.items ≡ registers_with_done old_regs.progress.items next.at
   pub loss : new_regs.loss ≡ old_regs.loss
-  pub stored : HasStoredPath g (page_of next.at) persisted lines old new
+  pub stored : HasStoredPath g (page_of next.at) grouped lines old new
   pub noted : HasNotedPath lines (Seal next.at next.ctr next.cipher next.tag) before after
 
 -- ---- a begin
 
-abbrev pub begin_group : Shape → ℕ → Line → List (ℕ × Line)
-begin_group g page block = block_entry g page block ∷ []
+-- a begin's group: the lowest lines of its page's path, at least the counter block
+abbrev pub begin_group : Shape → List (ℕ × Line) → List (ℕ × Line)
+begin_group g lines = path_entries g (begun_lines g) lines
 
-pub record HasPageBegun (g : Shape) (page : ℕ) (register : Progress) (block : Line) (lines : List (ℕ × Line))
-    (root : List ℕ) (old new : ChipState) (old_regs new_regs : Regs) (before after : LedgerState) : Type 0 where
-  pub is_group : IsGroup (layout.device_lines g) (begin_group g page block)
+pub record HasPageBegun (g : Shape) (page : ℕ) (register : Progress) (lines : List (ℕ × Line)) (root : List ℕ)
+    (old new : ChipState) (old_regs new_regs : Regs) (before after : LedgerState) : Type 0 where
+  pub is_group : IsGroup (layout.device_lines g) (begin_group g lines)
   pub root_now : new_regs.root ≡ root
   pub progress : new_regs.progress.items ≡ old_regs.progress.items ++ register ∷ []
   pub loss : new_regs.loss ≡ old_regs.loss
-  pub stored : HasStoredPath g page true lines old new
+  pub stored : HasStoredPath g page (begun_lines g) lines old new
   pub noted : HasNotedPath lines (Begin page) before after
 
 -- ---- ends
 
 abbrev pub HasSealEnded :
-    Shape → NextSeal → Bool → Line → List (ℕ × Line) → List ℕ → ChipState → ChipState → Device → Device
+    Shape → NextSeal → ℕ → List (ℕ × Line) → List ℕ → ChipState → ChipState → Device → Device
     → LedgerState → LedgerState → Result (Unit {0}) Cut → Type 0
-HasSealEnded g next persisted block lines root old new old_device new_device before after =
-    HasGroupEnded (seal_group g next persisted block) ((new ≡ old) × (after ≡ before))
-    (HasPathSealed g next persisted block lines root old new old_device.regs new_device.regs before after)
+HasSealEnded g next grouped lines root old new old_device new_device before after =
+    HasGroupEnded (seal_group g next grouped lines) ((new ≡ old) × (after ≡ before))
+    (HasPathSealed g next grouped lines root old new old_device.regs new_device.regs before after)
     old_device new_device
 
 abbrev pub HasBeginEnded :
-    Shape → ℕ → Progress → Line → List (ℕ × Line) → List ℕ → ChipState → ChipState → Device → Device
+    Shape → ℕ → Progress → List (ℕ × Line) → List ℕ → ChipState → ChipState → Device → Device
     → LedgerState → LedgerState → Result (Unit {0}) Cut → Type 0
-HasBeginEnded g page register block lines root old new old_device new_device before after =
-    HasGroupEnded (begin_group g page block) ((new ≡ old) × (after ≡ before))
-    (HasPageBegun g page register block lines root old new old_device.regs new_device.regs before after)
+HasBeginEnded g page register lines root old new old_device new_device before after =
+    HasGroupEnded (begin_group g lines) ((new ≡ old) × (after ≡ before))
+    (HasPageBegun g page register lines root old new old_device.regs new_device.regs before after)
     old_device new_device
 
 -- ---- the whole
@@ -120,9 +125,9 @@ raised_block g engine a =
     let block = cached_block g engine (page_of a) in
     with_minor block (index_in_page a) (minor_of block (index_in_page a) + 1)
 
--- the steps of a seal: five if its page's counter block is written too
-abbrev pub seal_steps : ℕ → Ctr → ℕ
-seal_steps loss ctr = if ctr.minor % loss == 0 then 5 else 4
+-- the steps of a seal: four, and one for each line of the path in its group
+abbrev pub seal_steps : Shape → ℕ → Ctr → ℕ
+seal_steps g loss ctr = 4 + grouped_lines g loss ctr.minor
 
 -- the marks of a seal of a plain line, by its answer
 abbrev pub HasNextMarks : Formulas → ℕ → Ctr → Line → List Mark → Result Ctr Cut → Type 0
@@ -147,13 +152,13 @@ pub record HasSealedNext (setup : Setup) (at : ℕ) (plain : Line) (old new : Pa
   pub path_cached : IsOk answer → IsPathCached setup.shape new.engine.cache (page_of at)
   pub path_named : IsOk answer → IsPathNamedInMirror setup.shape new.engine (page_of at)
   pub steps :
-      TakesSealSteps (seal_steps (regs_of old).loss (next_counter_of setup.shape old.engine at)) old new answer
+      TakesSealSteps (seal_steps setup.shape (regs_of old).loss (next_counter_of setup.shape old.engine at)) old new answer
   pub work : IfOk answer (λ ctr. IsWork (seal_work setup.shape (regs_of old).loss ctr) old new)
   pub cache : KeepsButPath setup.shape (page_of at) old.engine.cache new.engine.cache
   pub meta_lines : IsOk answer → KeepsOtherMeta setup.shape (page_of at) old.device.lines new.device.lines
   pub block_written :
       AreTrusted setup old → IsOk answer
-      → ((next_counter_of setup.shape old.engine at).minor % (regs_of old).loss == 0) ≡ true
+      → 0 < grouped_lines setup.shape (regs_of old).loss (next_counter_of setup.shape old.engine at).minor
       → IsBlockTrue setup new (page_of at)
 
 -- ---- a page begun
@@ -163,9 +168,9 @@ HasBeginMarks page made (Ok value) = made ≡ Begin page ∷ []
 HasBeginMarks page made (Err Fail.Cut) = (made ≡ []) ⊎ (made ≡ Begin page ∷ [])
 HasBeginMarks page made (Err fault) = ⊥
 
-abbrev pub TakesBeginSteps : Parts → Parts → Result Unit Fault → Type 0
-TakesBeginSteps old new (Ok value) = TakesSteps 3 old.device new.device
-TakesBeginSteps old new (Err fault) = TakesFewer 3 old.device new.device
+abbrev pub TakesBeginSteps : Shape → Parts → Parts → Result Unit Fault → Type 0
+TakesBeginSteps g old new (Ok value) = TakesSteps (2 + begun_lines g) old.device new.device
+TakesBeginSteps g old new (Err fault) = TakesFewer (2 + begun_lines g) old.device new.device
 
 -- the page's register stands last, and its next counter block is the cached one
 pub record IsPageOpened (setup : Setup) (page : ℕ) (old new : Parts) : Type 0 where
@@ -185,7 +190,7 @@ pub record HasBegunPage (setup : Setup) (page : ℕ) (old new : Parts) (answer :
   pub done : OneLossEffect setup (outcome_of answer) made old new
   pub marks : HasBeginMarks page made answer
   pub opened : IsOk answer → IsPageOpened setup page old new
-  pub steps : TakesBeginSteps old new answer
+  pub steps : TakesBeginSteps setup.shape old new answer
   pub work : IsOk answer → IsWork (begin_work setup.shape 1) old new
   pub cache : KeepsButPath setup.shape page old.engine.cache new.engine.cache
   pub meta_lines : IsOk answer → KeepsOtherMeta setup.shape page old.device.lines new.device.lines

@@ -1,19 +1,20 @@
 //! Sealing with a page's new path: a line under its next counter, and a page's begin. What belongs to
 //! the group is armed by one latch together with the registers.
-ghost use Rattle.std.specs.Prelude.{◌≡◌, ◌≢◌, ◌<◌, ◌-◌, ◌^◌, None, false, ◌%◌, ◌++◌, ◌∷◌, [], true, length, OnOk};
-ghost use Rattle.pmem_base.specs.Lines.{IsCtr};
-ghost use Rattle.pmem_base.specs.Layout.{page_of, index_in_page, data_lines, device_lines, meta_lines, pages, meta_line};
+ghost use Rattle.std.specs.Prelude.{◌≡◌, ◌≢◌, ◌<◌, ◌-◌, ◌^◌, None, false, ◌%◌, ◌+◌, ◌≤◌, ◌++◌, ◌∷◌, [], true, length, All, IsTrue, OnOk};
+ghost use Rattle.pmem_base.specs.Shape.{is_loss};
+ghost use Rattle.pmem_base.specs.Lines.{IsCtr, IsLine};
+ghost use Rattle.pmem_base.specs.Layout.{page_of, index_in_page, data_lines, device_lines, meta_lines, pages};
 ghost use Rattle.pmem_base.specs.Registers.{IsGroup, IsValidRegs};
 ghost use Rattle.seal_ledger.specs.Notes.{HasRoom};
-ghost use Rattle.bonsai_tree.specs.Positions.{counter_position};
 ghost use Rattle.meta_path.specs.Blocks.{IsPathCached};
 ghost use Rattle.meta_path.specs.Storing.{IsPathOf, HasMetaLines};
 ghost use Rattle.page_reencrypt.specs.Registers.{registers_with_done, register_of};
 ghost use Rattle.split_counters.specs.Blocks.{packed, minor_of, next_block};
 ghost use Rattle.pmem_engine.specs.SealPlans.{with_path, with_true_path};
-ghost use Rattle.pmem_engine.specs.CallFacts.{IsUsableWith, IsPathNamedInMirror};
+ghost use Rattle.plain_model.specs.Bounds.{begun_lines};
+ghost use Rattle.pmem_engine.specs.CallFacts.{IsUsableWith, IsPathNamedInMirror, grouped_lines};
 ghost use Rattle.pmem_engine.specs.Inner.{cached_block};
-ghost use Rattle.pmem_engine.specs.Sealing.{next_counter_of, raised_block, HasStoredPath, seal_group, begin_group};
+ghost use Rattle.pmem_engine.specs.Sealing.{next_counter_of, raised_block, HasStoredPath, path_entries, seal_group, begin_group};
 ghost use Rattle.pmem_engine.specs.Promised.{SealsNext, FollowsSeal, BeginsPage, FollowsBegin, EndsSeal, FollowsSealGroup, EndsBegin, FollowsBeginGroup};
 
 use crate::engine::OnChip;
@@ -59,8 +60,8 @@ impl OnChip {
         let tag_line = board.read_line(self.geo.tag_line(at))?;
         tag_line.is_whole();
         let next = next_seal(suite, at, ctr, plain, &tag_line);
-        let persisted = due(ctr.minor, board.regs().loss);
-        self.commit_seal(board, audit, &next, &path, &block, persisted)?;
+        let grouped = self.grouped_lines(ctr.minor, board.regs().loss);
+        self.commit_seal(board, audit, &next, &path, grouped)?;
         Ok(ctr)
     }
 
@@ -105,23 +106,23 @@ impl OnChip {
         let (block, register) = begin(&self.block(page), page)?;
         let block = pack(&block);
         let path = next_path(&self.geo, &self.cache, suite, page, &block);
-        self.commit_begin(board, audit, page, &path, &block, &register)?;
+        self.commit_begin(board, audit, page, &path, &register)?;
         Ok(())
     }
 
-    // Commits a seal with its page's new path, whose counter block is in the group if it is
-    // persisted.
+    // Commits a seal with its page's new path, whose lowest `grouped` lines are in the group.
     fn commit_seal<B: Board, A: Audit>(
         &mut self,
         board: &mut B,
         audit: &mut A,
         next: &NextSeal,
         path: &Path,
-        block: &Line,
-        persisted: bool,
+        grouped: u8,
     ) -> Result<(), Cut>
         requires line { next.now.at < data_lines self.old.shape }
+        requires grouped { grouped ≤ self.old.shape.levels + 1 }
         requires path { IsPathOf self.old.shape (page_of next.now.at) path.now.lines.items }
+        requires whole { All (λ entry. IsLine entry.1) path.now.lines.items }
         requires cached { IsPathCached self.old.shape self.old.cache (page_of next.now.at) }
         requires size { (B.device board.old).size ≡ device_lines self.old.shape }
         requires valid { IsValidRegs self.old.shape (B.device board.old).regs }
@@ -130,45 +131,38 @@ impl OnChip {
         requires truth { length (A.ledger audit.old).truth ≡ meta_lines self.old.shape }
         requires room { HasRoom (A.ledger audit.old) (A.capacity audit.old) 1 }
         ensures ended { EndsSeal B.Board A.Audit self.old board.old audit.old
-            self.new board.new audit.new next.now persisted block.now path.now result }
+            self.new board.new audit.new next.now grouped path.now result }
         ensures plan { FollowsSealGroup B.Board A.Audit self.old board.old audit.old
-            self.new board.new audit.new next.now persisted block.now path.now result }
+            self.new board.new audit.new next.now grouped path.now result }
         ensures capacity { A.capacity audit.new ≡ A.capacity audit.old }
     {
         let mut regs = Regs::empty();
         regs.set(board.regs());
-        self.put_seal_and_path(&mut regs, next, path, block, persisted);
+        self.put_seal_and_path(&mut regs, next, path, grouped);
         arm(board, &regs)?;
         audit.note_seal(next.at, next.ctr, &next.cipher, &next.tag);
-        self.store(audit, next.at / 64, path, persisted);
+        self.store(audit, next.at / 64, path, grouped);
         finish_armed(board, &mut regs)
     }
 
     // Lets registers with no group arm a seal with its page's new path.
-    fn put_seal_and_path(
-        &self,
-        regs: &mut Regs,
-        next: &NextSeal,
-        path: &Path,
-        block: &Line,
-        persisted: bool,
-    )
+    fn put_seal_and_path(&self, regs: &mut Regs, next: &NextSeal, path: &Path, grouped: u8)
         requires line { next.now.at < data_lines self.now.shape }
+        requires grouped { grouped ≤ self.now.shape.levels + 1 }
+        requires path { IsPathOf self.now.shape (page_of next.now.at) path.now.lines.items }
+        requires whole { All (λ entry. IsLine entry.1) path.now.lines.items }
         requires valid { IsValidRegs self.now.shape regs.old }
         requires no_group { regs.old.group.items ≡ [] }
         ensures root { regs.new.root ≡ path.now.root }
         ensures progress { regs.new.progress.items ≡ registers_with_done regs.old.progress.items next.now.at }
         ensures loss { regs.new.loss ≡ regs.old.loss }
-        ensures group { regs.new.group.items ≡ seal_group self.now.shape next.now persisted block.now }
-        ensures is_group { IsGroup (device_lines self.now.shape) (seal_group self.now.shape next.now persisted block.now) }
+        ensures group { regs.new.group.items ≡ seal_group self.now.shape next.now grouped path.now.lines.items }
+        ensures is_group { IsGroup (device_lines self.now.shape) (seal_group self.now.shape next.now grouped path.now.lines.items) }
         ensures armed { regs.new.group.items ≢ [] }
     {
         self.put_seal(regs, next);
         regs.root = path.root;
-        block.is_whole();
-        if persisted {
-            regs.group.push((self.block_place(next.at / 64), *block));
-        }
+        self.put_path(regs, path, grouped);
     }
 
     // Commits a page's begin.
@@ -178,11 +172,11 @@ impl OnChip {
         audit: &mut A,
         page: u32,
         path: &Path,
-        block: &Line,
         register: &Progress,
     ) -> Result<(), Cut>
         requires page { page < pages self.old.shape }
         requires path { IsPathOf self.old.shape page path.now.lines.items }
+        requires whole { All (λ entry. IsLine entry.1) path.now.lines.items }
         requires cached { IsPathCached self.old.shape self.old.cache page }
         requires size { (B.device board.old).size ≡ device_lines self.old.shape }
         requires not_full { length (B.device board.old).regs.progress.items < 4 }
@@ -190,61 +184,98 @@ impl OnChip {
         requires truth { length (A.ledger audit.old).truth ≡ meta_lines self.old.shape }
         requires room { HasRoom (A.ledger audit.old) (A.capacity audit.old) 1 }
         ensures ended { EndsBegin B.Board A.Audit self.old board.old audit.old
-            self.new board.new audit.new page register.now block.now path.now result }
+            self.new board.new audit.new page register.now path.now result }
         ensures plan { FollowsBeginGroup B.Board A.Audit self.old board.old audit.old
-            self.new board.new audit.new page register.now block.now path.now result }
+            self.new board.new audit.new page register.now path.now result }
         ensures capacity { A.capacity audit.new ≡ A.capacity audit.old }
     {
         let mut regs = Regs::empty();
         regs.set(board.regs());
-        self.put_begin(&mut regs, page, path, block, register);
+        self.put_begin(&mut regs, page, path, register);
         arm(board, &regs)?;
         audit.note_begin(page);
-        self.store(audit, page, path, true);
+        self.store(audit, page, path, self.begun_lines());
         finish_armed(board, &mut regs)
     }
 
-    // Lets registers with no group arm a page's begin: its register last, its counter block in the
-    // group.
-    fn put_begin(&self, regs: &mut Regs, page: u32, path: &Path, block: &Line, register: &Progress)
-        requires page { page < pages self.now.shape }
+    // Lets registers with no group arm a page's begin: its register last, the lowest lines of its path in
+    // the group.
+    fn put_begin(&self, regs: &mut Regs, page: u32, path: &Path, register: &Progress)
+        requires path { IsPathOf self.now.shape page path.now.lines.items }
+        requires whole { All (λ entry. IsLine entry.1) path.now.lines.items }
         requires not_full { length regs.old.progress.items < 4 }
         requires no_group { regs.old.group.items ≡ [] }
         ensures root { regs.new.root ≡ path.now.root }
         ensures progress { regs.new.progress.items ≡ regs.old.progress.items ++ register.now ∷ [] }
         ensures loss { regs.new.loss ≡ regs.old.loss }
-        ensures group { regs.new.group.items ≡ begin_group self.now.shape page block.now }
-        ensures is_group { IsGroup (device_lines self.now.shape) (begin_group self.now.shape page block.now) }
+        ensures group { regs.new.group.items ≡ begin_group self.now.shape path.now.lines.items }
+        ensures is_group { IsGroup (device_lines self.now.shape) (begin_group self.now.shape path.now.lines.items) }
         ensures armed { regs.new.group.items ≢ [] }
     {
         regs.root = path.root;
         regs.progress.push(*register);
-        block.is_whole();
-        regs.group.push((self.block_place(page), *block));
+        self.put_path(regs, path, self.begun_lines());
+    }
+
+    // Puts the lowest `grouped` lines of a path into a group, from the top down.
+    fn put_path(&self, regs: &mut Regs, path: &Path, grouped: u8)
+        requires grouped { grouped ≤ self.now.shape.levels + 1 }
+        requires long { length path.now.lines.items ≡ self.now.shape.levels + 1 }
+        requires on_tree { All (λ entry. entry.0 < meta_lines self.now.shape) path.now.lines.items }
+        requires room { length regs.old.group.items ≤ 5 }
+        ensures group { regs.new.group.items ≡ regs.old.group.items ++ path_entries self.now.shape grouped path.now.lines.items }
+        ensures few { self.now.shape.levels ≤ 6 }
+        ensures policy { self.now.shape.persist ≤ self.now.shape.levels + 1 }
+        ensures root { regs.new.root ≡ regs.old.root }
+        ensures progress { regs.new.progress ≡ regs.old.progress }
+        ensures loss { regs.new.loss ≡ regs.old.loss }
+    {
+        let geo = &self.geo;
+        let count = path.lines.len();
+        let first = count - usize::from(grouped);
+        'lines: for bank in first..count {
+            let (x, line) = path.lines.as_slice()[bank];
+            regs.group.push((geo.meta_line(x), line));
+        }
+    }
+
+    // How many of the path's lowest lines are in the group of a seal with this minor.
+    fn grouped_lines(&self, minor: u8, loss: u8) -> u8
+        requires loss { IsTrue (is_loss loss) }
+        ensures value { result ≡ grouped_lines self.now.shape loss minor }
+        ensures bound { result ≤ self.now.shape.levels + 1 }
+    {
+        if due(minor, loss) {
+            self.begun_lines()
+        } else {
+            self.geo.persist()
+        }
+    }
+
+    // How many of the path's lowest lines are in the group of a begin.
+    fn begun_lines(&self) -> u8
+        ensures value { result ≡ begun_lines self.now.shape }
+        ensures bound { result ≤ self.now.shape.levels + 1 }
+    {
+        match self.geo.persist() {
+            0 => 1,
+            persist => persist,
+        }
     }
 
     // Stores a page's new path, and tells it to the audit.
-    fn store<A: Audit>(&mut self, audit: &mut A, page: u32, path: &Path, persisted: bool)
+    fn store<A: Audit>(&mut self, audit: &mut A, page: u32, path: &Path, grouped: u8)
         requires path { IsPathOf self.old.shape page path.now.lines.items }
         requires cached { IsPathCached self.old.shape self.old.cache page }
         requires truth { length (A.ledger audit.old).truth ≡ meta_lines self.old.shape }
-        ensures stored { HasStoredPath self.old.shape page persisted path.now.lines.items self.old self.new }
-        ensures exact { self.new ≡ with_path self.old.shape page persisted path.now.lines.items self.old }
+        ensures stored { HasStoredPath self.old.shape page grouped path.now.lines.items self.old self.new }
+        ensures exact { self.new ≡ with_path self.old.shape page grouped path.now.lines.items self.old }
         ensures told { HasMetaLines path.now.lines.items (A.ledger audit.old) (A.ledger audit.new) }
         ensures true_path { A.ledger audit.new ≡ with_true_path path.now.lines.items (A.ledger audit.old) }
         ensures capacity { A.capacity audit.new ≡ A.capacity audit.old }
     {
         self.cache.are_banks();
-        store_path(&mut self.cache, audit, path, persisted);
+        store_path(&mut self.cache, audit, path, grouped);
         self.cache.are_banks();
-    }
-
-    // The device line of a page's counter block.
-    fn block_place(&self, page: u32) -> u32
-        requires { page < pages self.now.shape }
-        ensures place { result ≡ meta_line self.now.shape (counter_position self.now.shape page) }
-        ensures inside { result < device_lines self.now.shape }
-    {
-        self.geo.meta_line(self.block_position(page))
     }
 }

@@ -32,7 +32,7 @@ use Rattle.pmem_recovery.proofs.FixedLaws.{found_root_true}
 
 -- ---- refusals of a device that can be mended
 
--- no counter never comes where the line's seal and its page's counter block are stored
+-- no counter never comes if the line's seal and its page's counter block are stored
 pub no_counter-caused : (setup : Setup) (lines : List Line) (regs : Regs) (ledger : LedgerState) (at : ℕ) → tried_minors setup lines regs at ≡ [] → IsLineMendable setup lines regs ledger at → ⊥
 no_counter-caused setup lines regs ledger at none d = tried_minors_some setup lines regs ledger at d (ap length none)
 
@@ -82,7 +82,7 @@ IsNewEngine-fresh setup lines whole zero =
       its_mirror = sym (shadow_of-zero setup lines whole zero);
     }
 
--- ---- lines that are told
+-- ---- lines that are exposed
 
 pub redone_told-told : (group : List (ℕ × Line)) (told : Option (List Line)) (lines : List Line) → told ≡ Some lines → redone_told group told ≡ Some (redone group lines)
 redone_told-told group told lines e = ap (redone_told group) e

@@ -15,18 +15,18 @@ use Rattle.split_counters.specs.declared.Block.{Block}
 use Rattle.split_counters.specs.Blocks.{packed, unpacked}
 use Rattle.split_counters.proofs.Packing.{unpacked-IsBlock}
 use Rattle.suite.specs.Setup.{Setup}
-use Rattle.pmem_engine.specs.Invariants.{stored_meta, is_named}
+use Rattle.pmem_engine.specs.Invariants.{stored_meta, is_doubted}
 use Rattle.pmem_recovery.specs.declared.entries.MadeEntry.{MadeEntry}
 use Rattle.pmem_recovery.specs.declared.faults.RecFault.{RecFault}
-use Rattle.pmem_recovery.specs.Named.{names, count_named, IsNextAt}
+use Rattle.pmem_recovery.specs.Named.{doubts, count_doubted, IsNextAt}
 use Rattle.pmem_recovery.specs.Trials.{trials_below}
 use Rattle.pmem_recovery.specs.Fixed.{fixed_block}
-use Rattle.pmem_recovery.specs.Reads.{sum_named, page_reads, block_reads}
+use Rattle.pmem_recovery.specs.Reads.{sum_doubted, page_reads, block_reads}
 use Rattle.pmem_recovery.specs.Upward.{block_made}
 use Rattle.pmem_recovery.specs.Parts.{IfLinesTold}
 use Rattle.pmem_recovery.specs.Plans.{SuiteCounts, RecoveryParts, recovery_parts, made_over, minors_plan, fixed_block_plan, block_turn, blocks_plan}
-use Rattle.pmem_recovery.proofs.NamedLaws.{count_named-gap, count_named-next, count_named-last}
-use Rattle.pmem_recovery.proofs.ReadLaws.{page_reads-none, sum_named-next, sum_named-last, sum_named-none}
+use Rattle.pmem_recovery.proofs.NamedLaws.{count_doubted-gap, count_doubted-next, count_doubted-last}
+use Rattle.pmem_recovery.proofs.ReadLaws.{page_reads-none, sum_doubted-next, sum_doubted-last, sum_doubted-none}
 use Rattle.pmem_recovery.proofs.WorkLaws.{trials_below-none, trials_below-pages}
 use Rattle.pmem_recovery.proofs.CounterSteps.{AreBlocksTo, AreBlocksTo-none, AreBlocksTo-gap, AreBlocksTo-next}
 use Rattle.pmem_recovery.proofs.MakingEnds.{after_work, IsStop, IsCutEnd}
@@ -51,9 +51,9 @@ module _ (setup : Setup) (regs : Regs) (told : Option (List Line)) (shadow : Lis
   -- to position x, with the blocks before it made
   pub record AtBlock (x : ℕ) (parts : RecoveryParts) (trials n : ℕ) : Type 0 where
     pub counted : parts.counts ≡ after_work trials 0 first
-    pub few : trials ≤ count_named setup.shape shadow (level_start setup.shape.levels) x * (64 * regs.loss)
-    pub reads : n ≡ shadow_lines setup.shape + sum_named setup.shape shadow (block_reads setup.shape regs) (level_start setup.shape.levels) x
-    pub many : length parts.made ≡ count_named setup.shape shadow (level_start setup.shape.levels) x
+    pub few : trials ≤ count_doubted setup.shape shadow (level_start setup.shape.levels) x * (64 * regs.loss)
+    pub reads : n ≡ shadow_lines setup.shape + sum_doubted setup.shape shadow (block_reads setup.shape regs) (level_start setup.shape.levels) x
+    pub many : length parts.made ≡ count_doubted setup.shape shadow (level_start setup.shape.levels) x
     pub on_tree : All (λ entry. entry.at < meta_lines setup.shape) parts.made
     pub over :
         IfLinesTold told
@@ -61,10 +61,10 @@ module _ (setup : Setup) (regs : Regs) (told : Option (List Line)) (shadow : Lis
         × (trials ≡ trials_below setup.shape lines regs (64 * (x - level_start setup.shape.levels))))
 
   module _ (valid : IsShape setup.shape) (loss : IsTrue (is_loss regs.loss)) (its_shadow : IfLinesTold told (λ lines. shadow ≡ shadow_of setup.shape lines)) where
-    -- ---- a named counter block, and one that isn't
+    -- ---- a doubted counter block, and one that isn't
 
     module _ (x : ℕ) (parts : RecoveryParts) (trials n : ℕ) (low : level_start setup.shape.levels ≤ x) (inside : x < meta_lines setup.shape)
-        (named : names setup.shape shadow x ≡ true) (so_far : AtBlock x parts trials n) where
+        (named : doubts setup.shape shadow x ≡ true) (so_far : AtBlock x parts trials n) where
       abbrev page : ℕ
       page = x - level_start setup.shape.levels
 
@@ -74,19 +74,19 @@ module _ (setup : Setup) (regs : Regs) (told : Option (List Line)) (shadow : Lis
       in_page : page < pages g
       in_page = omega (arith, low, inside, meta_lines-counters g)
 
-      named_there : names g shadow (counter_position g page) ≡ true
-      named_there = subst (λ y. names g shadow y ≡ true) (sym place) named
+      named_there : doubts g shadow (counter_position g page) ≡ true
+      named_there = subst (λ y. doubts g shadow y ≡ true) (sym place) named
 
       its_line : (line : Line) → Tells told (meta_line g x) line → (lines : List Line) → told ≡ Some lines → line ≡ stored_meta g lines (counter_position g page)
       its_line line tells lines its = subst (λ o. Tells o (meta_line g x) line) its tells ∙ ap (stored_meta g lines) (sym place)
 
       at_start : AtLine setup regs told shadow first page 0 parts.counts trials (n + 1)
       at_start =
-          let count = ap (count_named g shadow start) place in
-          let sum = ap (sum_named g shadow (block_reads g regs) start) place in
+          let count = ap (count_doubted g shadow start) place in
+          let sum = ap (sum_doubted g shadow (block_reads g regs) start) place in
           record {
             counted = so_far.counted;
-            few = subst (λ y. trials ≤ count_named g shadow start y * (64 * regs.loss) + 0 * regs.loss) (sym place) (omega (arith, so_far.few));
+            few = subst (λ y. trials ≤ count_doubted g shadow start y * (64 * regs.loss) + 0 * regs.loss) (sym place) (omega (arith, so_far.few));
             reads = omega (arith, so_far.reads, sum, page_reads-none regs.progress.items page);
             over = λ lines its.
                 let o = so_far.over lines its in
@@ -98,7 +98,7 @@ module _ (setup : Setup) (regs : Regs) (told : Option (List Line)) (shadow : Lis
                 };
           }
 
-      next : IsNextAt (names g shadow) x (meta_lines g) x
+      next : IsNextAt (doubts g shadow) x (meta_lines g) x
       next = record { low = omega arith; high = inside; passes = named; before = λ y up less. absurd (omega (arith, up, less)) }
 
       made_so : (line : Line) → ((lines : List Line) → told ≡ Some lines → line ≡ stored_meta g lines (counter_position g page))
@@ -106,10 +106,10 @@ module _ (setup : Setup) (regs : Regs) (told : Option (List Line)) (shadow : Lis
           → AtLine setup regs told shadow first page 64 end.0 (trials + end.1.1) m × IfLinesTold told (λ lines. end.1.0 ≡ fixed_block setup lines regs page)
           → AtBlock (x + 1) (recovery_parts (parts.made ++ made_over x line (packed end.1.0) ∷ []) end.0) (trials + end.1.1) m
       made_so line its_bytes end m it =
-          let more = count_named-next g shadow start x (meta_lines g) x low next in
-          let sum = sum_named-next g shadow (block_reads g regs) start x (meta_lines g) x low next in
-          let count_there = ap (count_named g shadow start) place in
-          let sum_there = ap (sum_named g shadow (block_reads g regs) start) place in
+          let more = count_doubted-next g shadow start x (meta_lines g) x low next in
+          let sum = sum_doubted-next g shadow (block_reads g regs) start x (meta_lines g) x low next in
+          let count_there = ap (count_doubted g shadow start) place in
+          let sum_there = ap (sum_doubted g shadow (block_reads g regs) start) place in
           let same_page : x - counter_position g 0 ≡ page = omega arith in
           let of_page = ap (λ p. page_reads regs.progress.items p 64) same_page in
           let entry : MadeEntry = made_over x line (packed end.1.0) in
@@ -150,13 +150,13 @@ module _ (setup : Setup) (regs : Regs) (told : Option (List Line)) (shadow : Lis
             (λ end m it. made_so line (its_line line tells) end m it)),
       )
 
-    unnamed : (x : ℕ) (parts : RecoveryParts) (trials n : ℕ) → start ≤ x → x < meta_lines g → names g shadow x ≡ false → AtBlock x parts trials n
+    unnamed : (x : ℕ) (parts : RecoveryParts) (trials n : ℕ) → start ≤ x → x < meta_lines g → doubts g shadow x ≡ false → AtBlock x parts trials n
         → AtBlock (x + 1) parts trials n
     unnamed x parts trials n low inside other so_far =
-        let none : (y : ℕ) → x ≤ y → y < x + 1 → names g shadow y ≡ false = λ y from to.
-        let same : x ≡ y = omega arith in subst (λ z. names g shadow z ≡ false) same other in
-        let count = count_named-last g shadow start x (x + 1) low (omega arith) none in
-        let sum = sum_named-last g shadow (block_reads g regs) start x (x + 1) low (omega arith) none in
+        let none : (y : ℕ) → x ≤ y → y < x + 1 → doubts g shadow y ≡ false = λ y from to.
+        let same : x ≡ y = omega arith in subst (λ z. doubts g shadow z ≡ false) same other in
+        let count = count_doubted-last g shadow start x (x + 1) low (omega arith) none in
+        let sum = sum_doubted-last g shadow (block_reads g regs) start x (x + 1) low (omega arith) none in
         record {
           counted = so_far.counted;
           few = subst (λ c. trials ≤ c * (64 * regs.loss)) (sym count) so_far.few;
@@ -165,8 +165,8 @@ module _ (setup : Setup) (regs : Regs) (told : Option (List Line)) (shadow : Lis
           on_tree = so_far.on_tree;
           over = λ lines its.
               let o = so_far.over lines its in
-              let gap : (p : ℕ) → x - start ≤ p → p < x + 1 - start → is_named g lines (counter_position g p) ≡ false = λ p from to.
-              subst (λ s. names g s (counter_position g p) ≡ false) (its_shadow lines its) (none (counter_position g p) (omega (arith, from)) (omega (arith, to, low))) in (
+              let gap : (p : ℕ) → x - start ≤ p → p < x + 1 - start → is_doubted g lines (counter_position g p) ≡ false = λ p from to.
+              subst (λ s. doubts g s (counter_position g p) ≡ false) (its_shadow lines its) (none (counter_position g p) (omega (arith, from)) (omega (arith, to, low))) in (
                 AreBlocksTo-gap setup lines regs (x - start) (x + 1 - start) parts.made (omega arith) gap o.0,
                 o.1 ∙ sym (trials_below-pages g lines regs (x - start) (x + 1 - start) (omega arith) gap),
               );
@@ -178,15 +178,15 @@ module _ (setup : Setup) (regs : Regs) (told : Option (List Line)) (shadow : Lis
         → Reading told (λ end m. AtBlock (meta_lines g) end.0 end.1 m) (λ left. Stops (left.0.counts, left.1))
         (λ left. Cuts (left.0.counts, left.1)) (blocks_plan setup regs shadow (recovery_parts [] first)) n
     blocks_end n is =
-        reading_positions _ (λ x t m. AtBlock x t.0 t.1 m) _ _ (block_turn setup regs) (λ x. names g shadow x) start (meta_lines g)
+        reading_positions _ (λ x t m. AtBlock x t.0 t.1 m) _ _ (block_turn setup regs) (λ x. doubts g shadow x) start (meta_lines g)
         (λ x t m low inside named so_far. reading_mapped _ _ _ _ _ _ (fixed_block_plan setup regs x t.0) _ (block_ends x t.0 t.1 m low inside named so_far))
         (λ x t m low inside other so_far. unnamed x t.0 t.1 m low inside other so_far)
         start (meta_lines g - start) (recovery_parts [] first, 0) n (omega arith) (omega (arith, meta_lines-counters g))
         (record {
           counted = refl;
           few = omega arith;
-          reads = omega (arith, is, sum_named-none g shadow (block_reads g regs) start start refl);
-          many = sym (count_named-gap g shadow start start (λ x low high. absurd (omega (arith, low, high))));
+          reads = omega (arith, is, sum_doubted-none g shadow (block_reads g regs) start start refl);
+          many = sym (count_doubted-gap g shadow start start (λ x low high. absurd (omega (arith, low, high))));
           on_tree = All-nil (λ (entry : MadeEntry). entry.at < meta_lines g);
           over = λ lines its.
               let none : start - start ≡ 0 = omega arith in

@@ -1,4 +1,4 @@
--- The steps of making the named counter blocks, upwards.
+-- The steps of making the doubted counter blocks, upwards.
 use Rattle.std.proofs.Common.{rules, ℕ, zero, suc, ◌≡◌, ◌≢◌, ◌<◌, ◌≤◌, ◌+◌, ◌-◌, true, false, List, [], ◌∷◌, ◌++◌, length, Some, ap, sym, subst, ◌∙◌, inl, inr, arith}
 use Rattle.std.proofs.lemmas.Bool.{true≢false}
 use Rattle.std.proofs.lemmas.List.Elements.{All-nil}
@@ -9,7 +9,7 @@ use Rattle.pmem_base.specs.Layout.{pages, meta_lines, level_start}
 use Rattle.bonsai_tree.specs.Positions.{counter_position}
 use Rattle.bonsai_tree.proofs.Levels.{meta_lines-level}
 use Rattle.suite.specs.Setup.{Setup}
-use Rattle.pmem_engine.specs.Invariants.{is_named}
+use Rattle.pmem_engine.specs.Invariants.{is_doubted}
 use Rattle.pmem_recovery.specs.declared.entries.MadeEntry.{MadeEntry}
 use Rattle.pmem_recovery.specs.declared.faults.RecFault.{RecFault}
 use Rattle.pmem_recovery.specs.declared.faults.RecFault.TheVariants.{NoCounter, Root, Twin}
@@ -43,8 +43,8 @@ AreBlocksTo-none setup lines regs page e =
     go x inside (inl low) = omega (arith, inside, low, meta_lines-level setup.shape)
     go x inside (inr d) = omega (arith, d.0, d.1, e)
 
--- pages that aren't named
-decided_gap : (setup : Setup) (lines : List Line) (regs : Regs) (page n : ℕ) → ((p : ℕ) → page ≤ p → p < page + n → is_named setup.shape lines (counter_position setup.shape p) ≡ false) → AreDecided setup lines regs page → AreDecided setup lines regs (page + n)
+-- pages that aren't doubted
+decided_gap : (setup : Setup) (lines : List Line) (regs : Regs) (page n : ℕ) → ((p : ℕ) → page ≤ p → p < page + n → is_doubted setup.shape lines (counter_position setup.shape p) ≡ false) → AreDecided setup lines regs page → AreDecided setup lines regs (page + n)
 decided_gap setup lines regs page zero none d =
     let same : page ≡ page + 0 = omega arith in
     subst (AreDecided setup lines regs) same d
@@ -54,7 +54,7 @@ decided_gap setup lines regs page (suc n) none d =
     (decided_gap setup lines regs (page + 1) n (λ p low high. none p (omega arith) (omega arith))
     (AreDecided-more setup lines regs page d (λ named i small. absurd (true≢false (sym named ∙ none page (omega arith) (omega arith))))))
 
-pub AreBlocksTo-gap : (setup : Setup) (lines : List Line) (regs : Regs) (page next : ℕ) (made : List MadeEntry) → page ≤ next → ((p : ℕ) → page ≤ p → p < next → is_named setup.shape lines (counter_position setup.shape p) ≡ false) → AreBlocksTo setup lines regs page made → AreBlocksTo setup lines regs next made
+pub AreBlocksTo-gap : (setup : Setup) (lines : List Line) (regs : Regs) (page next : ℕ) (made : List MadeEntry) → page ≤ next → ((p : ℕ) → page ≤ p → p < next → is_doubted setup.shape lines (counter_position setup.shape p) ≡ false) → AreBlocksTo setup lines regs page made → AreBlocksTo setup lines regs next made
 AreBlocksTo-gap setup lines regs page next made low none b =
     let g = setup.shape in
     let same : page + (next - page) ≡ next = omega (arith, low) in
@@ -66,12 +66,12 @@ AreBlocksTo-gap setup lines regs page next made low none b =
           AreMadeTo-upto setup lines regs g.levels (counter_position g page) (counter_position g next) made (omega arith) (omega (arith, low))
           (λ x from to.
           let its : level_start g.levels + (x - level_start g.levels) ≡ x = omega (arith, from) in
-          subst (λ z. is_named g lines z ≡ false) its (none (x - level_start g.levels) (omega (arith, from)) (omega (arith, from, to))))
+          subst (λ z. is_doubted g lines z ≡ false) its (none (x - level_start g.levels) (omega (arith, from)) (omega (arith, from, to))))
           b.blocks;
     }
 
--- the next named page, made
-pub AreBlocksTo-next : (setup : Setup) (lines : List Line) (regs : Regs) (page : ℕ) (made : List MadeEntry) → IsShape setup.shape → page < pages setup.shape → is_named setup.shape lines (counter_position setup.shape page) ≡ true → AreOneTried setup lines regs page → AreBlocksTo setup lines regs page made → AreBlocksTo setup lines regs (page + 1) (made ++ block_made setup lines regs page ∷ [])
+-- the next doubted page, made
+pub AreBlocksTo-next : (setup : Setup) (lines : List Line) (regs : Regs) (page : ℕ) (made : List MadeEntry) → IsShape setup.shape → page < pages setup.shape → is_doubted setup.shape lines (counter_position setup.shape page) ≡ true → AreOneTried setup lines regs page → AreBlocksTo setup lines regs page made → AreBlocksTo setup lines regs (page + 1) (made ++ block_made setup lines regs page ∷ [])
 AreBlocksTo-next setup lines regs page made shape inside named one b =
     let more : counter_position setup.shape page + 1 ≡ counter_position setup.shape (page + 1) = omega arith in
     record {
@@ -87,8 +87,8 @@ no_elements xs e one = let zero : length xs ≡ 0 = ap length e in omega (arith,
 two_elements : {X : Type 0} (xs : List X) (a b : X) (more : List X) → xs ≡ a ∷ b ∷ more → length xs ≢ 1
 two_elements xs a b more e one = search rules
 
--- a stop at the next named page is the first there is
-pub stopped_at : (setup : Setup) (lines : List Line) (regs : Regs) (page : ℕ) (fault : RecFault) → page < pages setup.shape → is_named setup.shape lines (counter_position setup.shape page) ≡ true → AreDecided setup lines regs page → IsPageRefusal setup lines regs page fault → IsRefusal setup lines regs fault
+-- a stop at the next doubted page is the first there is
+pub stopped_at : (setup : Setup) (lines : List Line) (regs : Regs) (page : ℕ) (fault : RecFault) → page < pages setup.shape → is_doubted setup.shape lines (counter_position setup.shape page) ≡ true → AreDecided setup lines regs page → IsPageRefusal setup lines regs page fault → IsRefusal setup lines regs fault
 stopped_at setup lines regs page (NoCounter at) inside named d r =
     let here = r.here in (
       first_undecided_at setup lines regs page r.place inside named r.in_page d r.before (no_elements _ here.1)

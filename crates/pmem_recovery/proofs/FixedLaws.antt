@@ -1,4 +1,4 @@
--- Laws of the fixed lines: on a device that can be mended, where every line tried has one minor, they are
+-- Laws of the fixed lines: on a device that can be mended, if every line tried has one minor, they are
 -- the ledger's true lines, and so the found root is the register's.
 use Rattle.std.proofs.Common.{ℕ, zero, suc, ◌≡◌, ◌<◌, ◌≤◌, ◌+◌, ◌-◌, ◌*◌, Bool, true, false, cond, List, length, map, None, refl, ap, sym, ◌∙◌, subst, inl, inr, ◌⊎◌, IsTrue, arith}
 use Rattle.std.specs.Prelude.{slice_get, unwrap_or}
@@ -23,7 +23,7 @@ use Rattle.bonsai_tree.proofs.NodeLaws.{node_over-same}
 use Rattle.seal_ledger.specs.Ledger.{LedgerState}
 use Rattle.suite.specs.Setup.{Setup}
 use Rattle.pmem_engine.specs.Truth.{true_block}
-use Rattle.pmem_engine.specs.Invariants.{stored_meta, is_named, IsMendable}
+use Rattle.pmem_engine.specs.Invariants.{stored_meta, is_doubted, IsMendable}
 use Rattle.pmem_engine.specs.Mendable.{IsLineMendable}
 use Rattle.pmem_engine.proofs.Laws.SealLaws.{IsLineMendable-at}
 use Rattle.pmem_recovery.specs.Trials.{stored_block, tried_minors, true_minor, first_undecided}
@@ -31,7 +31,7 @@ use Rattle.pmem_recovery.specs.Fixed.{fixed_minor, fixed_block, fixed_line_above
 use Rattle.pmem_recovery.proofs.TrialLaws.{tried_minors_single}
 use Rattle.pmem_recovery.proofs.UndecidedLaws.{decided_lines}
 
--- ---- a named counter block
+-- ---- a doubted counter block
 
 -- a minor tried alone is the true one
 pub fixed_minor_true : (setup : Setup) (lines : List Line) (regs : Regs) (ledger : LedgerState) (a : ℕ) → IsLineMendable setup lines regs ledger a → length (tried_minors setup lines regs a) ≡ 1 → fixed_minor setup lines regs a ≡ true_minor setup.shape ledger.truth a
@@ -59,7 +59,7 @@ fixed_block_true setup lines regs ledger page d h one =
         ∙ ap (λ j. minor_of (true_block setup.shape ledger.truth (page_of (64 * page + k))) j) same_place
         ∙ sym (fixed_minor_true setup lines regs ledger (64 * page + k) (IsLineMendable-at setup lines regs ledger (64 * page + k) d (omega arith)) (one k l))
 
--- a named block made so, packed, is the true line of the page
+-- a doubted block made so, packed, is the true line of the page
 pub packed_fixed_block : (setup : Setup) (lines : List Line) (regs : Regs) (ledger : LedgerState) (page : ℕ) → IsMendable setup lines regs ledger → page < layout.pages setup.shape → ((i : ℕ) → i < 64 → length (tried_minors setup lines regs (64 * page + i)) ≡ 1) → packed (fixed_block setup lines regs page) ≡ line_at ledger.truth (counter_position setup.shape page)
 packed_fixed_block setup lines regs ledger page d h one =
     ap packed (fixed_block_true setup lines regs ledger page d h one)
@@ -67,9 +67,9 @@ packed_fixed_block setup lines regs ledger page d h one =
 
 -- ---- every position
 
--- a line that isn't named is the true one already
-pub true_or_made : (setup : Setup) (lines : List Line) (regs : Regs) (ledger : LedgerState) (x : ℕ) (made : Line) → IsMendable setup lines regs ledger → x < layout.meta_lines setup.shape → (is_named setup.shape lines x ≡ true → made ≡ line_at ledger.truth x) → cond (is_named setup.shape lines x) made (stored_meta setup.shape lines x) ≡ line_at ledger.truth x
-true_or_made setup lines regs ledger x made d h named = go (is_named setup.shape lines x) named (d.true_or_named x h)
+-- a line that isn't doubted is the true one already
+pub true_or_made : (setup : Setup) (lines : List Line) (regs : Regs) (ledger : LedgerState) (x : ℕ) (made : Line) → IsMendable setup lines regs ledger → x < layout.meta_lines setup.shape → (is_doubted setup.shape lines x ≡ true → made ≡ line_at ledger.truth x) → cond (is_doubted setup.shape lines x) made (stored_meta setup.shape lines x) ≡ line_at ledger.truth x
+true_or_made setup lines regs ledger x made d h named = go (is_doubted setup.shape lines x) named (d.true_or_doubted x h)
   where
     go : (b : Bool) → (b ≡ true → made ≡ line_at ledger.truth x) → (stored_meta setup.shape lines x ≡ line_at ledger.truth x) ⊎ IsTrue b → cond b made (stored_meta setup.shape lines x) ≡ line_at ledger.truth x
     go true made_true stored = made_true refl
@@ -88,7 +88,7 @@ fixed_line_above_true setup lines regs ledger d decided zero i x e l =
     true_or_made setup lines regs ledger x (packed (fixed_block setup lines regs page)) d (on_tree_of_level setup.shape i x (omega arith) l)
     (λ named.
     packed_fixed_block setup lines regs ledger page d at.0
-    (λ k small. decided_lines setup lines regs page k decided at.0 (subst (λ z. is_named setup.shape lines z ≡ true) (sym at.1) named) small)
+    (λ k small. decided_lines setup lines regs page k decided at.0 (subst (λ z. is_doubted setup.shape lines z ≡ true) (sym at.1) named) small)
     ∙ ap (line_at ledger.truth) at.1)
 fixed_line_above_true setup lines regs ledger d decided (suc j) i x e l =
     true_or_made setup lines regs ledger x (node_over setup.formulas x (fixed_line_above setup lines regs j)) d (on_tree_of_level setup.shape i x (omega arith) l)

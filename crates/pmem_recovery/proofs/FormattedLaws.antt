@@ -7,7 +7,7 @@ use Rattle.std.proofs.lemmas.List.FromFn.{length-range_with_len}
 use Rattle.std.proofs.lemmas.List.Elements.{All-nil}
 use Rattle.pmem_base.specs.declared.lines.Line.{Line}
 use Rattle.pmem_base.specs.declared.registers.Regs.{Regs}
-use Rattle.pmem_base.specs.Shape.{IsShape, is_loss}
+use Rattle.pmem_base.specs.Shape.{IsShape, is_loss, counter_window}
 use Rattle.pmem_base.specs.Layout as layout
 use Rattle.pmem_base.specs.Lines.{IsLine, line_at, tag_slot, zero_line}
 use Rattle.pmem_base.specs.Marks.{SealOf, last_seal}
@@ -176,11 +176,11 @@ put_mendable setup truth now l0 l1 l2 regs anchored made l p =
             cipher = ap (option_map (λ seal. seal.cipher)) last ∙ ap (λ line. Some line) (sym (p.seals a inside).cipher);
             tag = ap (option_map (λ seal. seal.tag)) last ∙ ap (λ tag. Some tag) (sym (p.seals a inside).tag);
           };
-      true_or_named = λ x inside. inl (meta x inside);
+      true_or_doubted = λ x inside. inl (meta x inside);
       counters_stored = λ page inside.
-          subst (λ line. IsStoredBlock regs.loss (unpacked line) (true_block setup.shape l2.truth page))
+          subst (λ line. IsStoredBlock (counter_window setup.shape regs.loss) (unpacked line) (true_block setup.shape l2.truth page))
           (sym (meta (counter_position setup.shape page) (counter_position-lt setup.shape page inside)))
-          (IsStoredBlock-same regs.loss (true_block setup.shape l2.truth page));
+          (IsStoredBlock-same (counter_window setup.shape regs.loss) (true_block setup.shape l2.truth page));
     }
 
 pub HasFormatted-of : (setup : Setup) (truth : List Line) (l0 l1 l2 : LedgerState) (d0 d1 d2 d3 d4 : Device) (engine : EngineState) → IsShape setup.shape → AreInRange setup.formulas → engine ≡ new_engine setup.shape → IsFirstTruth setup truth → HasNoted setup truth l0 l1 l2 → HasPut setup truth d0 d1 d2 d3 d4 → HasFormatted setup l2 d0 d4 engine

@@ -6,6 +6,7 @@ pub mod UpwardLaws
 pub mod UpwardSteps
 pub mod WrittenLaws
 pub mod NamedLaws
+pub mod MadeIndex
 pub mod PartLaws
 pub mod WritePlans
 pub mod ReadOnlyPlans

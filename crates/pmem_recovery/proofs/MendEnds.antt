@@ -1,13 +1,13 @@
 -- What is known of a board that followed recovery's plan once the group is redone, from the plan alone.
-use Rattle.std.proofs.Common.{ℕ, ◌≡◌, ◌≤◌, ◌<◌, ◌+◌, ◌*◌, ◌⊎◌, inl, inr, IsTrue, List, length, All, Some, Result, Ok, Err, refl, ap, sym, subst, ◌∙◌, arith}
+use Rattle.std.proofs.Common.{ℕ, ◌≡◌, ◌≤◌, ◌<◌, ◌+◌, ◌*◌, ◌⊎◌, inl, inr, true, IsTrue, List, length, All, Some, Result, Ok, Err, refl, ap, sym, subst, ◌∙◌, arith}
 use Rattle.std.specs.Prelude.{is_some}
 use Rattle.std.proofs.lemmas.Option.{same_Some}
 use Rattle.pmem_base.specs.declared.lines.Line.{Line}
-use Rattle.std.proofs.lemmas.Nat.{mul-le}
+use Rattle.std.proofs.lemmas.Bool.{true≢false}
 use Rattle.pmem_base.specs.declared.faults.Cut.{Cut}
 use Rattle.pmem_base.specs.declared.registers.Regs.{Regs}
 use Rattle.pmem_base.specs.Shape.{Shape, IsShape, is_loss}
-use Rattle.pmem_base.specs.Layout.{slots, data_lines, meta_lines, device_lines, shadow_lines}
+use Rattle.pmem_base.specs.Layout.{data_lines, meta_lines, device_lines, shadow_lines}
 use Rattle.board.specs.Counts.{RisesBy}
 use Rattle.board.specs.Device.{Device, AreToldLines}
 use Rattle.call_plan.specs.Plans.{bind, mapped_end}
@@ -17,15 +17,16 @@ use Rattle.call_plan.proofs.Leaves.{leaves}
 use Rattle.commit_regs.specs.Groups.{RisesAtMost}
 use Rattle.shadow_tables.specs.Entries.{shadow_of}
 use Rattle.suite.specs.Setup.{Setup}
+use Rattle.plain_model.specs.Bounds.{most_blocks, most_nodes}
 use Rattle.pmem_engine.specs.Mendable.{IsShadowZero}
 use Rattle.call_effects.proofs.ToldLines.{whole_lines}
 use Rattle.call_effects.specs.declared.recovery.Work.{Work}
 use Rattle.pmem_recovery.specs.declared.faults.RecFault.{RecFault}
 use Rattle.pmem_recovery.specs.declared.faults.RecFault.TheVariants as Fault
-use Rattle.pmem_recovery.specs.Reads.{all_reads, named_reads}
+use Rattle.pmem_recovery.specs.Reads.{all_reads, doubted_reads}
 use Rattle.pmem_recovery.specs.Parts.{IfLinesTold, KeepsDevice, IsUncut, IsCutOff, StopsBy, HasRoot, IsAllWork}
 use Rattle.pmem_recovery.specs.Writing.{IfBothLinesTold, HasOnlyWritten, differing, DueWrite, writes_due, count_changed, HasWrittenTo}
-use Rattle.pmem_recovery.specs.Mending.{most_reads, most_writes, IsWrittenTo, IsPartlyMended, IsRecovered, HasMadeWrites, IsStoppedShort}
+use Rattle.pmem_recovery.specs.Mending.{most_reads, most_writes, IsWrittenTo, IsPartlyMended, IsRecovered, HasMadeWrites, MayLackSteps, IsStoppedShort}
 use Rattle.pmem_recovery.specs.Plans.{SuiteCounts, MadeLines, entries_plan, clear_plan, writes_plan, making_plan, mend_plan}
 use Rattle.pmem_recovery.proofs.PartLaws.{IsUncut-then, IsCutOff-after}
 use Rattle.pmem_recovery.proofs.ReadLaws.{RisesBy-as}
@@ -42,8 +43,8 @@ use Rattle.pmem_recovery.proofs.ReadOnlyPlans.{HasOnlyRead, only_reads}
 pub record IsMended (setup : Setup) (regs : Regs) (old new : Device) (first left : SuiteCounts) (work : Work) : Type 0 where
   pub goes : IsUncut old new
   pub counted : left ≡ after_work work.trials work.digests first
-  pub few_trials : work.trials ≤ 64 * regs.loss * slots setup.shape
-  pub few_digests : work.digests ≤ 4 * setup.shape.levels * slots setup.shape + 1
+  pub few_trials : work.trials ≤ 64 * regs.loss * most_blocks setup.shape
+  pub few_digests : work.digests ≤ 4 * most_nodes setup.shape + 1
   pub recovered :
       IfBothLinesTold old new
       (λ lines now. length lines ≡ device_lines setup.shape → IsRecovered setup lines regs now × HasRoot setup lines regs)
@@ -65,27 +66,30 @@ EndsMending setup regs old new first (Err left) = IsLeftBy setup regs old new fi
 pub record HasFollowedMending (setup : Setup) (regs : Regs) (old new : Device) (first : SuiteCounts)
     (end : Result (SuiteCounts × Work) (SuiteCounts × RecFault)) : Type 0 where
   pub written : HasMadeWrites setup regs old new
-  pub few_reads : IfLinesTold old.lines (λ lines. RisesAtMost (named_reads setup.shape (shadow_of setup.shape lines)) old.reads new.reads)
+  pub few_reads : IfLinesTold old.lines (λ lines. RisesAtMost (doubted_reads setup.shape (shadow_of setup.shape lines)) old.reads new.reads)
   pub ends : EndsMending setup regs old new first end
 
 -- ---- the law
 
--- where lines are told, there are as many as the device has
+-- if lines are exposed, there are as many as the device has
 pub all_told : (d : Device) (n : ℕ) → AreToldLines d.size d.lines → d.size ≡ n → IfLinesTold d.lines (λ lines. length lines ≡ n)
 all_told d n whole size = λ lines told. (whole_lines d.size d.lines lines whole told).count ∙ size
 
 at_most : (n most before after : ℕ) → n ≤ most → RisesBy n before after → RisesAtMost most before after
 at_most n most before after few r = record { never_falls = r.never_falls; bound = λ below. omega (arith, few, r.exact below) }
 
-short_none : (g : Shape) (fault : RecFault) (old new : Device) → IsShape g → KeepsDevice old new → IsStoppedShort g fault old new
-short_none g Fault.Memory old new valid kept = kept
-short_none g Fault.Cut old new valid kept =
-    let ways = mul-le 1 1 g.sets g.ways valid.at_least_one_set valid.at_least_one_way in
-    let all = mul-le 1 1 (g.levels + 1) (slots g) (omega arith) (omega (arith, ways)) in
-    λ below. omega (arith, kept.writes, all)
-short_none g (Fault.NoCounter at) old new valid kept = kept
-short_none g (Fault.Root k found) old new valid kept = kept
-short_none g (Fault.Twin at major low high cipher tag) old new valid kept = kept
+-- nothing was written: a device that has power was not cut then
+short_none : (g : Shape) (fault : RecFault) (old new : Device) → KeepsDevice old new → (old.live ≡ true → new.live ≡ true) → StopsBy fault old new
+    → IsStoppedShort g fault old new
+short_none g Fault.Memory old new kept lasting stops = kept
+short_none g Fault.Cut old new kept lasting stops = λ lacks below. by lacks
+  where
+    by : MayLackSteps g old → new.writes < old.writes + most_writes g
+    by (inl lit) = absurd (true≢false (sym (lasting lit) ∙ stops.off))
+    by (inr some) = omega (arith, kept.writes, some)
+short_none g (Fault.NoCounter at) old new kept lasting stops = kept
+short_none g (Fault.Root k found) old new kept lasting stops = kept
+short_none g (Fault.Twin at major low high cipher tag) old new kept lasting stops = kept
 
 module _ (setup : Setup) (regs : Regs) (first : SuiteCounts) (valid : IsShape setup.shape) (loss : IsTrue (is_loss regs.loss)) (old : Device)
     (whole : IfLinesTold old.lines (λ lines. length lines ≡ device_lines setup.shape)) where
@@ -109,12 +113,12 @@ module _ (setup : Setup) (regs : Regs) (first : SuiteCounts) (valid : IsShape se
       → All (λ entry. entry.at < meta_lines setup.shape) made.1.made × (length made.1.shadow ≡ shadow_lines setup.shape)
   made_ready it = let made = (made_so it).ends.1 in (made.on_tree, made.long)
 
-  -- so many lines are written after the reads
+  -- the first k lines are written after the reads
   made_writes : (mid new : Device) (count : ℕ) → KeepsDevice old mid → RisesAtMost (most_reads g) old.reads mid.reads → count ≤ most_writes g
       → HasOnlyWritten count mid new
       → IfBothLinesTold old new
       (λ lines now. length lines ≡ device_lines g
-      → IsPartlyMended setup lines regs now × (differing lines now ≡ count) × (IsShadowZero setup lines → count ≡ 0))
+      → IsPartlyMended setup lines regs now × (differing lines now ≡ count) × (setup.shape.shadow ≡ true → IsShadowZero setup lines → count ≡ 0))
       → HasMadeWrites setup regs old new
   made_writes mid new count kept reads few s lines =
       record {
@@ -134,21 +138,23 @@ module _ (setup : Setup) (regs : Regs) (first : SuiteCounts) (valid : IsShape se
   stopped : (new : Device) (left : SuiteCounts × RecFault) → Reads new (Err left) → HasFollowedMending setup regs old new first (Err left)
   stopped new left r = by r.ends
     where
-      with_stop : StopsWith setup regs old.lines first left r.count → StopsBy left.1 old new → HasFollowedMending setup regs old new first (Err left)
-      with_stop s device =
+      with_stop : StopsWith setup regs old.lines first left r.count → StopsBy left.1 old new → (old.live ≡ true → new.live ≡ true)
+          → HasFollowedMending setup regs old new first (Err left)
+      with_stop s device lasting =
           record {
             written =
                 made_writes new new 0 r.kept (at_most r.count (most_reads g) old.reads new.reads s.few_reads r.reads) (omega arith) (HasOnlyWritten-none new)
                 (λ lines told now after long.
                 let same : now ≡ lines = same_Some now lines (sym after ∙ r.kept.lines ∙ told) in
-                (inl same, ap (differing lines) same ∙ differing-none lines, λ cleared. refl));
-            few_reads = λ lines its. at_most r.count (named_reads g (shadow_of g lines)) old.reads new.reads (s.over lines its).few_reads r.reads;
-            ends = record { reads = r.count; its_reads = r.reads; stops = s; device = device; short = short_none g left.1 old new valid r.kept };
+                (inl same, ap (differing lines) same ∙ differing-none lines, λ tables cleared. refl));
+            few_reads = λ lines its. at_most r.count (doubted_reads g (shadow_of g lines)) old.reads new.reads (s.over lines its).few_reads r.reads;
+            ends = record { reads = r.count; its_reads = r.reads; stops = s; device = device; short = short_none g left.1 old new r.kept lasting device };
           }
 
-      by : (IsUncut old new × Stops left r.count) ⊎ (IsCutOff old new × Cuts left r.count) → HasFollowedMending setup regs old new first (Err left)
-      by (inl it) = with_stop it.1.0 (it.1.1 old new it.0)
-      by (inr it) = with_stop it.1.0 (it.1.1 old new it.0)
+      by : (IsUncut old new × Stops left r.count) ⊎ (IsCutOff old new × (old.live ≡ true → ⊥) × Cuts left r.count)
+          → HasFollowedMending setup regs old new first (Err left)
+      by (inl it) = with_stop it.1.0 (it.1.1 old new it.0) it.0.live
+      by (inr it) = with_stop it.2.0 (it.2.1 old new it.0) (λ lit. absurd (it.1 lit))
 
   -- all was made
   module _ (mid : Device) (made : SuiteCounts × MadeLines) (r : Reads mid (Ok made)) where
@@ -175,10 +181,10 @@ module _ (setup : Setup) (regs : Regs) (first : SuiteCounts) (valid : IsShape se
         let w = ((its).over lines told).1 in
         record { lines_tried = data_lines g; within = omega arith; its_trials = w.its_trials; few_digests = omega (arith, w.its_digests); in_order = inl refl })).0
 
-    named_at : (new : Device) → new.reads ≡ mid.reads → IfLinesTold old.lines (λ lines. RisesAtMost (named_reads g (shadow_of g lines)) old.reads new.reads)
+    named_at : (new : Device) → new.reads ≡ mid.reads → IfLinesTold old.lines (λ lines. RisesAtMost (doubted_reads g (shadow_of g lines)) old.reads new.reads)
     named_at new same lines told =
-        subst (λ n. RisesAtMost (named_reads g (shadow_of g lines)) old.reads n) (sym same)
-        (at_most r.count (named_reads g (shadow_of g lines)) old.reads mid.reads ((its).over lines told).3 r.reads)
+        subst (λ n. RisesAtMost (doubted_reads g (shadow_of g lines)) old.reads n) (sym same)
+        (at_most r.count (doubted_reads g (shadow_of g lines)) old.reads mid.reads ((its).over lines told).3 r.reads)
 
     reads_at : (new : Device) → new.reads ≡ mid.reads → RisesBy r.count old.reads new.reads
     reads_at new same = subst (λ n. RisesBy r.count old.reads n) (sym same) r.reads
@@ -201,7 +207,7 @@ module _ (setup : Setup) (regs : Regs) (first : SuiteCounts) (valid : IsShape se
         let written = written_to new k few w lines now told after long in (
           inr (made.1.shadow, made.1.made, k, written),
           written.are_written.differ,
-          λ cleared. none_changed setup lines regs made.1.shadow made.1.made written.all cleared k few,
+          λ tables cleared. none_changed setup lines regs made.1.shadow made.1.made written.all tables cleared k few,
         ))
 
     -- all of them, or not
@@ -242,7 +248,7 @@ module _ (setup : Setup) (regs : Regs) (first : SuiteCounts) (valid : IsShape se
                 its_reads = reads_at new same;
                 stops = cut_then;
                 device = IsCutOff-after old mid new r.ends.0 z.off;
-                short = λ below. omega (arith, writes.exact below, count_changed-le due z.place, z.within, (its).few_made, (its).long);
+                short = λ lacks below. omega (arith, writes.exact below, count_changed-le due z.place, z.within, (its).few_made, (its).long);
               };
         }
 

@@ -1,4 +1,4 @@
--- What recovery's plan leaves while it makes the named nodes.
+-- What recovery's plan leaves while it makes the doubted nodes.
 use Rattle.std.proofs.Common.{ℕ, suc, ◌≡◌, ◌≤◌, ◌<◌, ◌+◌, ◌-◌, ◌*◌, true, false, List, [], ◌∷◌, ◌++◌, length, map, All, Option, Some, None, refl, sym, ap, ap₂, subst, ◌∙◌, inl, add-one, arith}
 use Rattle.std.specs.Prelude.{is_some, unwrap_or, if◌then◌else◌}
 use Rattle.std.specs.List.{range_with_len}
@@ -8,7 +8,7 @@ use Rattle.pmem_base.specs.declared.faults.Cut.{Cut}
 use Rattle.pmem_base.specs.declared.lines.Line.{Line}
 use Rattle.pmem_base.specs.declared.registers.Regs.{Regs}
 use Rattle.pmem_base.specs.Shape.{Shape, IsShape}
-use Rattle.pmem_base.specs.Layout.{slots, data_lines, meta_lines, meta_line, level_start}
+use Rattle.pmem_base.specs.Layout.{data_lines, meta_lines, meta_line, level_start}
 use Rattle.pmem_base.proofs.ListLaws.{range_more}
 use Rattle.board.specs.Steps.{Tells}
 use Rattle.bonsai_tree.specs.Positions.{counter_position}
@@ -17,18 +17,19 @@ use Rattle.bonsai_tree.proofs.Levels.{IsAtLevel, IsAtLevel-inner, level_start-le
 use Rattle.call_plan.specs.Plans.{repeated, for_each, the_cut}
 use Rattle.shadow_tables.specs.Entries.{shadow_of}
 use Rattle.suite.specs.Setup.{Setup}
+use Rattle.plain_model.specs.Bounds.{most_blocks}
 use Rattle.pmem_engine.specs.Invariants.{stored_meta}
 use Rattle.pmem_recovery.specs.declared.entries.MadeEntry.{MadeEntry}
 use Rattle.pmem_recovery.specs.declared.faults.RecFault.TheVariants as Fault
-use Rattle.pmem_recovery.specs.Named.{names, count_named, IsNextAt}
+use Rattle.pmem_recovery.specs.Named.{doubts, count_doubted, IsNextAt}
 use Rattle.pmem_recovery.specs.Trials.{trials_below}
-use Rattle.pmem_recovery.specs.Reads.{sum_named, block_reads, unmade_reads, children_reads, node_reads, named_reads}
+use Rattle.pmem_recovery.specs.Reads.{sum_doubted, block_reads, unmade_reads, children_reads, node_reads, doubted_reads}
 use Rattle.pmem_recovery.specs.Upward.{line_made, made_or_stored, node_made, AreMade, AreMadeTo, IsDoneTo}
 use Rattle.pmem_recovery.specs.Parts.{IfLinesTold}
-use Rattle.pmem_recovery.specs.Plans.{SuiteCounts, RecoveryParts, recovery_parts, after_digest, made_over, named_positions, line_made_or, made_plan, child_turn, children_plan, fixed_node_plan, node_turn, fixed_level_plan, level_turn, nodes_plan}
+use Rattle.pmem_recovery.specs.Plans.{SuiteCounts, RecoveryParts, recovery_parts, after_digest, made_over, doubted_positions, line_made_or, made_plan, child_turn, children_plan, fixed_node_plan, node_turn, fixed_level_plan, level_turn, nodes_plan}
 use Rattle.pmem_recovery.proofs.PartLaws.{few_in_all}
-use Rattle.pmem_recovery.proofs.NamedLaws.{count_named-gap, count_named-parts, count_named-within, count_named-next, count_named-last, count_named-le, count_named-counters, count_named-nodes}
-use Rattle.pmem_recovery.proofs.ReadLaws.{page_reads-le, children_reads-none, children_reads-more, node_reads_are, sum_named-parts, sum_named-next, sum_named-last, sum_named-le, sum_named-none}
+use Rattle.pmem_recovery.proofs.NamedLaws.{count_doubted-gap, count_doubted-parts, count_doubted-within, count_doubted-next, count_doubted-last, count_doubted-le, count_doubted-counters, count_doubted-nodes}
+use Rattle.pmem_recovery.proofs.ReadLaws.{page_reads-le, children_reads-none, children_reads-more, node_reads_are, sum_doubted-parts, sum_doubted-next, sum_doubted-last, sum_doubted-le, sum_doubted-none}
 use Rattle.pmem_recovery.proofs.UpwardSteps.{AreMadeTo-upto, AreMadeTo-node, AreMadeTo-next}
 use Rattle.pmem_recovery.proofs.MakingEnds.{after_work, IsStop, IsCutEnd, few_reads, cut_end}
 use Rattle.pmem_recovery.proofs.BlockEnds.{AtBlock}
@@ -43,12 +44,12 @@ module _ (setup : Setup) (regs : Regs) (told : Option (List Line)) (shadow : Lis
   abbrev bottom : ℕ
   bottom = level_start setup.shape.levels
 
-  -- how many nodes are named, and how many lines are read for those of a part of the tree
+  -- how many nodes are doubted, and how many lines are read for those of a part of the tree
   abbrev all : ℕ
-  all = count_named setup.shape shadow 0 (level_start setup.shape.levels)
+  all = count_doubted setup.shape shadow 0 (level_start setup.shape.levels)
 
   abbrev reads_of : ℕ → ℕ → ℕ
-  reads_of a b = sum_named setup.shape shadow (node_reads setup.shape shadow) a b
+  reads_of a b = sum_doubted setup.shape shadow (node_reads setup.shape shadow) a b
 
   abbrev Stops : SuiteCounts × Cut → ℕ → Type 0
   Stops left = IsStop setup regs told first (left.0, Fault.Cut)
@@ -62,7 +63,7 @@ module _ (setup : Setup) (regs : Regs) (told : Option (List Line)) (shadow : Lis
   abbrev NodeCuts : RecoveryParts × Cut → ℕ → Type 0
   NodeCuts left = IsCutEnd setup regs told first (left.0.counts, Fault.Cut)
 
-  -- so many nodes are made, those of the positions that are done
+  -- the nodes made, those of the positions that are done
   pub record HasNodes (nodes sum : ℕ) (done : ℕ → Type 0) (parts : RecoveryParts) (digests n : ℕ) : Type 0 where
     pub counted : parts.counts ≡ after_work trials digests first
     pub its_digests : digests ≡ 4 * nodes
@@ -71,28 +72,28 @@ module _ (setup : Setup) (regs : Regs) (told : Option (List Line)) (shadow : Lis
     pub on_tree : All (λ entry. entry.at < meta_lines setup.shape) parts.made
     pub over : IfLinesTold told (λ lines. AreMade setup lines regs done parts.made × (n ≡ start + sum))
 
-  pub few_trials : trials ≤ 64 * regs.loss * slots setup.shape
+  pub few_trials : trials ≤ 64 * regs.loss * most_blocks setup.shape
   few_trials =
-      few_in_all trials (64 * regs.loss) (count_named g shadow bottom (meta_lines g)) (slots g) made_blocks.few (count_named-counters g shadow valid)
+      few_in_all trials (64 * regs.loss) (count_doubted g shadow bottom (meta_lines g)) (most_blocks g) made_blocks.few (count_doubted-counters g shadow valid)
 
   pub all_tried : (lines : List Line) → told ≡ Some lines → trials ≡ trials_below setup.shape lines regs (data_lines setup.shape)
   all_tried lines its =
       let whole : 64 * (meta_lines g - bottom) ≡ data_lines g = omega (arith, meta_lines-counters g) in
       (made_blocks.over lines its).1 ∙ ap (trials_below g lines regs) whole
 
-  pub few_read : (n : ℕ) → n ≤ start + 5 * all + 1 → n ≤ named_reads setup.shape shadow
+  pub few_read : (n : ℕ) → n ≤ start + 5 * all + 1 → n ≤ doubted_reads setup.shape shadow
   few_read n few =
-      let blocks = sum_named-le g shadow (block_reads g regs) 129 (λ x. omega (arith, page_reads-le regs.progress.items (x - (bottom + 0)) 64)) bottom (meta_lines g) in
+      let blocks = sum_doubted-le g shadow (block_reads g regs) 129 (λ x. omega (arith, page_reads-le regs.progress.items (x - (bottom + 0)) 64)) bottom (meta_lines g) in
       omega (arith, few, made_blocks.reads, blocks)
 
   -- a cut after the trials
   pub cut_after : (counts : SuiteCounts) (digests n : ℕ) → counts ≡ after_work trials digests first → digests ≤ 4 * all + 1 → n ≤ start + 5 * all + 1
       → IsCutEnd setup regs told first (counts, Fault.Cut) n
   cut_after counts digests n counted few reads =
-      cut_end setup regs told first counts trials digests n counted few_trials (omega (arith, few, count_named-nodes g shadow valid))
+      cut_end setup regs told first counts trials digests n counted few_trials (omega (arith, few, count_doubted-nodes g shadow valid))
       (few_reads setup told shadow n valid its_shadow (few_read n reads))
       (λ lines its.
-      let same = ap (λ s. count_named g s 0 bottom) (its_shadow lines its) in
+      let same = ap (λ s. count_doubted g s 0 bottom) (its_shadow lines its) in
       record { lines_tried = data_lines g; within = omega arith; its_trials = all_tried lines its; few_digests = omega (arith, few, same); in_order = inl refl })
 
   -- ---- a line that was made, or is read
@@ -119,7 +120,7 @@ module _ (setup : Setup) (regs : Regs) (told : Option (List Line)) (shadow : Lis
 
   -- ---- a node
 
-  module _ (level x : ℕ) (above : level < setup.shape.levels) (at : IsAtLevel level x) (named : names setup.shape shadow x ≡ true) (nodes sum : ℕ)
+  module _ (level x : ℕ) (above : level < setup.shape.levels) (at : IsAtLevel level x) (named : doubts setup.shape shadow x ≡ true) (nodes sum : ℕ)
       (room : nodes + 1 ≤ all) (parts : RecoveryParts) (digests n : ℕ) (so_far : HasNodes nodes sum (IsDoneTo level x) parts digests n) where
     -- its first children's digests are made
     record HasChildren (i : ℕ) (counts : SuiteCounts) (made : List (List ℕ)) (m : ℕ) : Type 0 where
@@ -213,7 +214,7 @@ module _ (setup : Setup) (regs : Regs) (told : Option (List Line)) (shadow : Lis
                   let reads = node_reads_are setup lines regs level x x parts.made above at o.0 in
                   let shadows = ap (λ s. node_reads g s x) (its_shadow lines its) in (
                     subst (λ (e : MadeEntry). AreMadeTo setup lines regs level (x + 1) (parts.made ++ e ∷ [])) (sym same)
-                        (AreMadeTo-node setup lines regs level x parts.made valid above at (subst (λ s. names g s x ≡ true) (its_shadow lines its) named) o.0),
+                        (AreMadeTo-node setup lines regs level x parts.made valid above at (subst (λ s. doubts g s x ≡ true) (its_shadow lines its) named) o.0),
                     omega (arith, c.0, o.1, reads, shadows),
                   );
             }
@@ -227,7 +228,7 @@ module _ (setup : Setup) (regs : Regs) (told : Option (List Line)) (shadow : Lis
   -- ---- a level
 
   module _ (level : ℕ) (above : level < setup.shape.levels) (nodes sum : ℕ)
-      (room : nodes + count_named setup.shape shadow (level_start level) (level_start (suc level)) ≤ all) (digests : ℕ) where
+      (room : nodes + count_doubted setup.shape shadow (level_start level) (level_start (suc level)) ≤ all) (digests : ℕ) where
     abbrev low : ℕ
     low = level_start level
 
@@ -235,17 +236,17 @@ module _ (setup : Setup) (regs : Regs) (told : Option (List Line)) (shadow : Lis
     end = level_start (suc level)
 
     Holds : ℕ → RecoveryParts × ℕ → ℕ → Type 0
-    Holds x t m = HasNodes (nodes + count_named g shadow low x) (sum + reads_of low x) (IsDoneTo level x) t.0 (digests + t.1) m
+    Holds x t m = HasNodes (nodes + count_doubted g shadow low x) (sum + reads_of low x) (IsDoneTo level x) t.0 (digests + t.1) m
 
-    node_turns : (x : ℕ) (t : RecoveryParts × ℕ) (n : ℕ) → low ≤ x → x < end → names g shadow x ≡ true → Holds x t n
+    node_turns : (x : ℕ) (t : RecoveryParts × ℕ) (n : ℕ) → low ≤ x → x < end → doubts g shadow x ≡ true → Holds x t n
         → Reading told (Holds (x + 1)) NodeStops NodeCuts (node_turn setup x t) n
     unfolding Holds
     node_turns x t n from inside named now =
-        let next : IsNextAt (names g shadow) x end x = record { low = omega arith; high = inside; passes = named; before = λ y up less. absurd (omega (arith, up, less)) } in
-        let count = count_named-next g shadow low x end x from next in
-        let reads = sum_named-next g shadow (node_reads g shadow) low x end x from next in
-        let few = count_named-le g shadow low (x + 1) end (omega (arith, from)) (omega (arith, inside)) in
-        let here : ℕ = nodes + count_named g shadow low x in
+        let next : IsNextAt (doubts g shadow) x end x = record { low = omega arith; high = inside; passes = named; before = λ y up less. absurd (omega (arith, up, less)) } in
+        let count = count_doubted-next g shadow low x end x from next in
+        let reads = sum_doubted-next g shadow (node_reads g shadow) low x end x from next in
+        let few = count_doubted-le g shadow low (x + 1) end (omega (arith, from)) (omega (arith, inside)) in
+        let here : ℕ = nodes + count_doubted g shadow low x in
         let so_far : ℕ = sum + reads_of low x in
         let more : digests + t.1 + 4 ≡ digests + (t.1 + 4) = omega arith in
         reading_mapped _ _ _ _ _ _ (fixed_node_plan setup x t.0) _
@@ -253,13 +254,13 @@ module _ (setup : Setup) (regs : Regs) (told : Option (List Line)) (shadow : Lis
         (node_ends level x above (record { from = from; below = inside }) named here so_far (omega (arith, count, few, room)) t.0 (digests + t.1) n now)
         (λ done m it. same_nodes (omega (arith, count)) (omega (arith, reads)) more it))
 
-    unnamed : (x : ℕ) (t : RecoveryParts × ℕ) (n : ℕ) → low ≤ x → x < end → names g shadow x ≡ false → Holds x t n → Holds (x + 1) t n
+    unnamed : (x : ℕ) (t : RecoveryParts × ℕ) (n : ℕ) → low ≤ x → x < end → doubts g shadow x ≡ false → Holds x t n → Holds (x + 1) t n
     unfolding Holds
     unnamed x t n from inside none now =
-        let gap : (y : ℕ) → x ≤ y → y < x + 1 → names g shadow y ≡ false = λ y up to.
-        let same : x ≡ y = omega arith in subst (λ z. names g shadow z ≡ false) same none in
-        let count = count_named-last g shadow low x (x + 1) from (omega arith) gap in
-        let reads = sum_named-last g shadow (node_reads g shadow) low x (x + 1) from (omega arith) gap in
+        let gap : (y : ℕ) → x ≤ y → y < x + 1 → doubts g shadow y ≡ false = λ y up to.
+        let same : x ≡ y = omega arith in subst (λ z. doubts g shadow z ≡ false) same none in
+        let count = count_doubted-last g shadow low x (x + 1) from (omega arith) gap in
+        let reads = sum_doubted-last g shadow (node_reads g shadow) low x (x + 1) from (omega arith) gap in
         let it = same_nodes {done = IsDoneTo level x} {parts = t.0} {n = n} (ap (λ k. nodes + k) (sym count)) (ap (λ k. sum + k) (sym reads)) refl now in
         record {
           counted = it.counted;
@@ -269,27 +270,27 @@ module _ (setup : Setup) (regs : Regs) (told : Option (List Line)) (shadow : Lis
           on_tree = it.on_tree;
           over = λ lines its.
               let o = it.over lines its in
-              (AreMadeTo-upto setup lines regs level x (x + 1) t.0.made from (omega arith) (λ y up to. subst (λ s. names g s y ≡ false) (its_shadow lines its) (gap y up to)) o.0, o.1);
+              (AreMadeTo-upto setup lines regs level x (x + 1) t.0.made from (omega arith) (λ y up to. subst (λ s. doubts g s y ≡ false) (its_shadow lines its) (gap y up to)) o.0, o.1);
         }
 
     pub level_ends : (parts : RecoveryParts) (n : ℕ) → HasNodes nodes sum (IsDoneTo level low) parts digests n
-        → Reading told (λ done m. HasNodes (nodes + count_named setup.shape shadow (level_start level) (level_start (suc level))) (sum + reads_of (level_start level) (level_start (suc level))) (IsDoneTo level (level_start (suc level))) done.0 (digests + done.1) m)
+        → Reading told (λ done m. HasNodes (nodes + count_doubted setup.shape shadow (level_start level) (level_start (suc level))) (sum + reads_of (level_start level) (level_start (suc level))) (IsDoneTo level (level_start (suc level))) done.0 (digests + done.1) m)
         NodeStops NodeCuts (fixed_level_plan setup shadow level parts) n
     unfolding Holds
     level_ends parts n now =
         let up = level_start-le level (suc level) (omega arith) in
         let none : digests ≡ digests + 0 = omega arith in
-        let count = count_named-gap g shadow low low (λ y from to. absurd (omega (arith, from, to))) in
-        let reads = sum_named-none g shadow (node_reads g shadow) low low refl in
-        subst (λ k. Reading told (Holds end) NodeStops NodeCuts (for_each (node_turn setup) (named_positions g shadow low (level_start k)) (parts, 0)) n) (sym (add-one level))
-        (reading_positions _ Holds _ _ (node_turn setup) (λ x. names g shadow x) low end node_turns unnamed low (end - low) (parts, 0) n (omega arith) (omega (arith, up))
+        let count = count_doubted-gap g shadow low low (λ y from to. absurd (omega (arith, from, to))) in
+        let reads = sum_doubted-none g shadow (node_reads g shadow) low low refl in
+        subst (λ k. Reading told (Holds end) NodeStops NodeCuts (for_each (node_turn setup) (doubted_positions g shadow low (level_start k)) (parts, 0)) n) (sym (add-one level))
+        (reading_positions _ Holds _ _ (node_turn setup) (λ x. doubts g shadow x) low end node_turns unnamed low (end - low) (parts, 0) n (omega arith) (omega (arith, up))
         (same_nodes (omega (arith, count)) (omega (arith, reads)) none now))
 
   -- ---- all levels
 
   Levels : ℕ → RecoveryParts × ℕ → ℕ → Type 0
   Levels i t m =
-      HasNodes (count_named g shadow (level_start (setup.shape.levels - i)) bottom) (reads_of (level_start (setup.shape.levels - i)) bottom)
+      HasNodes (count_doubted g shadow (level_start (setup.shape.levels - i)) bottom) (reads_of (level_start (setup.shape.levels - i)) bottom)
       (IsDoneTo (setup.shape.levels - i) (level_start (suc (setup.shape.levels - i)))) t.0 t.1 m
 
   level_turns : (i : ℕ) (t : RecoveryParts × ℕ) (n : ℕ) → i < setup.shape.levels → Levels i t n → Reading told (Levels (i + 1)) NodeStops NodeCuts (level_turn setup shadow i t) n
@@ -298,15 +299,15 @@ module _ (setup : Setup) (regs : Regs) (told : Option (List Line)) (shadow : Lis
       let level : ℕ = setup.shape.levels - 1 - i in
       let below : setup.shape.levels - i ≡ suc level = omega (arith, inside) in
       let again : level ≡ setup.shape.levels - (i + 1) = omega (arith, inside) in
-      let rest : ℕ = count_named g shadow (level_start (suc level)) bottom in
+      let rest : ℕ = count_doubted g shadow (level_start (suc level)) bottom in
       let sum : ℕ = reads_of (level_start (suc level)) bottom in
       let first_le = level_start-le level (suc level) (omega arith) in
       let rest_le = level_start-le (suc level) setup.shape.levels (omega (arith, inside)) in
-      let parts = count_named-parts g shadow (level_start level) (level_start (suc level)) bottom first_le rest_le in
-      let sums = sum_named-parts g shadow (node_reads g shadow) (level_start level) (level_start (suc level)) bottom first_le rest_le in
-      let few = count_named-within g shadow (level_start level) bottom bottom (omega (arith, first_le, rest_le)) (omega arith) in
+      let parts = count_doubted-parts g shadow (level_start level) (level_start (suc level)) bottom first_le rest_le in
+      let sums = sum_doubted-parts g shadow (node_reads g shadow) (level_start level) (level_start (suc level)) bottom first_le rest_le in
+      let few = count_doubted-within g shadow (level_start level) bottom bottom (omega (arith, first_le, rest_le)) (omega arith) in
       let so_far : HasNodes rest sum (IsDoneTo (suc level) (level_start (suc (suc level)))) t.0 t.1 n =
-      subst (λ k. HasNodes (count_named g shadow (level_start k) bottom) (reads_of (level_start k) bottom) (IsDoneTo k (level_start (suc k))) t.0 t.1 n) below now in
+      subst (λ k. HasNodes (count_doubted g shadow (level_start k) bottom) (reads_of (level_start k) bottom) (IsDoneTo k (level_start (suc k))) t.0 t.1 n) below now in
       let next : HasNodes rest sum (IsDoneTo level (level_start level)) t.0 t.1 n =
       record {
         counted = so_far.counted;
@@ -319,7 +320,7 @@ module _ (setup : Setup) (regs : Regs) (told : Option (List Line)) (shadow : Lis
       reading_mapped _ _ _ _ _ _ (fixed_level_plan setup shadow level t.0) _
       (reading_more _ _ _ _ _ (fixed_level_plan setup shadow level t.0) _ (level_ends level (omega (arith, inside)) rest sum (omega (arith, parts, few)) t.1 t.0 n next)
       (λ done m it.
-      subst (λ k. HasNodes (count_named g shadow (level_start k) bottom) (reads_of (level_start k) bottom) (IsDoneTo k (level_start (suc k))) done.0 (t.1 + done.1) m) again
+      subst (λ k. HasNodes (count_doubted g shadow (level_start k) bottom) (reads_of (level_start k) bottom) (IsDoneTo k (level_start (suc k))) done.0 (t.1 + done.1) m) again
       (same_nodes (omega (arith, parts)) (omega (arith, sums)) refl it)))
 
   pub nodes_end : Reading told (λ done m. HasNodes all (reads_of 0 (level_start setup.shape.levels)) (IsDoneTo 0 1) done.0 done.1 m) NodeStops NodeCuts (nodes_plan setup shadow blocks) start
@@ -327,11 +328,11 @@ module _ (setup : Setup) (regs : Regs) (told : Option (List Line)) (shadow : Lis
   nodes_end =
       let last : setup.shape.levels - setup.shape.levels ≡ 0 = omega arith in
       let none_yet : setup.shape.levels ≡ setup.shape.levels - 0 = omega arith in
-      let none : count_named g shadow bottom bottom ≡ 0 = count_named-gap g shadow bottom bottom (λ y from to. absurd (omega (arith, from, to))) in
-      let no_reads : reads_of bottom bottom ≡ 0 = sum_named-none g shadow (node_reads g shadow) bottom bottom refl in
+      let none : count_doubted g shadow bottom bottom ≡ 0 = count_doubted-gap g shadow bottom bottom (λ y from to. absurd (omega (arith, from, to))) in
+      let no_reads : reads_of bottom bottom ≡ 0 = sum_doubted-none g shadow (node_reads g shadow) bottom bottom refl in
       reading_more _ _ _ _ _ (nodes_plan setup shadow blocks) _
       (reading_repeated _ Levels _ _ (level_turn setup shadow) setup.shape.levels 0 setup.shape.levels _ _ (omega arith) level_turns
-      (subst (λ k. HasNodes (count_named g shadow (level_start k) bottom) (reads_of (level_start k) bottom) (IsDoneTo k (level_start (suc k))) blocks 0 start) none_yet
+      (subst (λ k. HasNodes (count_doubted g shadow (level_start k) bottom) (reads_of (level_start k) bottom) (IsDoneTo k (level_start (suc k))) blocks 0 start) none_yet
       (record {
         counted = made_blocks.counted;
         its_digests = omega (arith, none);
@@ -344,4 +345,4 @@ module _ (setup : Setup) (regs : Regs) (told : Option (List Line)) (shadow : Lis
             (subst (λ m. AreMadeTo setup lines regs setup.shape.levels m blocks.made) place o.0.blocks, omega (arith, no_reads));
       })))
       (λ done m it.
-      subst (λ k. HasNodes (count_named g shadow (level_start k) bottom) (reads_of (level_start k) bottom) (IsDoneTo k (level_start (suc k))) done.0 done.1 m) last it)
+      subst (λ k. HasNodes (count_doubted g shadow (level_start k) bottom) (reads_of (level_start k) bottom) (IsDoneTo k (level_start (suc k))) done.0 done.1 m) last it)

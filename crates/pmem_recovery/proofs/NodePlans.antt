@@ -1,4 +1,4 @@
--- The plans of a named node and of the root, at each of their ends.
+-- The plans of a doubted node and of the root, at each of their ends.
 use Rattle.std.proofs.Common.{ℕ, ◌≡◌, ◌+◌, ◌*◌, Bool, false, List, [], ◌∷◌, ◌++◌, Some, None, Result, Ok, Err, sym, ap, ap₂, subst, ◌∙◌}
 use Rattle.std.specs.Prelude.{if◌then◌else◌}
 use Rattle.pmem_base.specs.declared.faults.Cut.{Cut}
@@ -81,7 +81,7 @@ module _ (setup : Setup) (made : List MadeEntry) (x : ℕ) (counts after : Suite
   unfolding children_plan
   children_cut it = mapped_follows _ _ it
 
--- ---- a named node
+-- ---- a doubted node
 
 module _ (setup : Setup) (x : ℕ) (at : RecoveryParts) where
   abbrev over : Line → Plan (RecoveryParts × Cut) (RecoveryParts × Unit {0})

@@ -1,8 +1,9 @@
 -- What a plan that only reads leaves: shown once for each read, with the number of lines read, over a board that may
 -- tell its lines.
-use Rattle.std.proofs.Common.{ℕ, zero, suc, ◌≡◌, ◌≤◌, ◌<◌, ◌+◌, Bool, true, false, List, ◌∷◌, Option, Result, Ok, Err, refl, sym, subst, ◌⊎◌, inl, inr, arith}
+use Rattle.std.proofs.Common.{ℕ, zero, suc, ◌≡◌, ◌≤◌, ◌<◌, ◌+◌, Bool, true, false, List, ◌∷◌, Option, Result, Ok, Err, refl, sym, ◌∙◌, subst, ◌⊎◌, inl, inr, arith}
 use Rattle.std.specs.Prelude.{filter, cond}
 use Rattle.std.specs.List.{range_with_len}
+use Rattle.std.proofs.lemmas.Bool.{true≢false}
 use Rattle.pmem_base.specs.declared.lines.Line.{Line}
 use Rattle.pmem_base.specs.Lines.{IsLine}
 use Rattle.board.specs.Counts.{RisesBy}
@@ -14,7 +15,7 @@ use Rattle.call_plan.specs.Following.{Took, Follows}
 use Rattle.pmem_recovery.specs.Parts.{KeepsDevice, IsUncut, IsCutOff}
 use Rattle.pmem_recovery.proofs.PartLaws.{KeepsDevice-none, KeepsDevice-then, KeepsDevice-read, IsUncut-none, IsUncut-then, IsUncut-read, IsCutOff-after, IsCutOff-cut}
 
--- From n reads on, where the board tells these lines if any: the plan only reads, is done with `ok`, stops with `err`,
+-- From n reads on, on a board that exposes these lines, if any: the plan only reads, is done with `ok`, stops with `err`,
 -- and is cut with `cut`, each with the number of reads up to there.
 unfoldable pub Reading : {E T : Type 0} → Option (List Line) → (T → ℕ → Type 0) → (E → ℕ → Type 0) → (E → ℕ → Type 0) → Plan E T → ℕ → Type 0
 Reading told ok err cut (done t) n = ok t n
@@ -35,7 +36,8 @@ pub record IsReadFrom (first : Device) (n : ℕ) (now : Device) : Type 0 where
 -- how such a plan ends
 abbrev pub EndsReading : {E T : Type 0} → (T → ℕ → Type 0) → (E → ℕ → Type 0) → (E → ℕ → Type 0) → Device → Device → ℕ → Result T E → Type 0
 EndsReading ok err cut first new n (Ok t) = IsUncut first new × ok t n
-EndsReading ok err cut first new n (Err left) = (IsUncut first new × err left n) ⊎ (IsCutOff first new × cut left n)
+EndsReading ok err cut first new n (Err left) =
+    (IsUncut first new × err left n) ⊎ (IsCutOff first new × (first.live ≡ true → ⊥) × cut left n)
 
 pub record HasOnlyRead {E T : Type 0} (ok : T → ℕ → Type 0) (err cut : E → ℕ → Type 0) (first new : Device) (end : Result T E) : Type 0 where
   pub count : ℕ
@@ -77,7 +79,7 @@ module _ {E T : Type 0} (ok : T → ℕ → Type 0) (err cut : E → ℕ → Typ
   reading_took (read left at later) old new end n so_far its (inr s) =
       let c = cut_read first old new n so_far s.0.cut in
       subst (λ (e : Result T E). HasOnlyRead ok err cut first new e) (sym s.0.ends)
-      (record { count = n; kept = c.0; reads = c.2; ends = inr (c.1, its.0) })
+      (record { count = n; kept = c.0; reads = c.2; ends = inr (c.1, λ lit. true≢false (sym (so_far.goes.live lit) ∙ s.1), its.0) })
   reading_took (write left at line later) old new end n so_far its it = absurd its
   reading_took (latch left regs later) old new end n so_far its it = absurd its
 

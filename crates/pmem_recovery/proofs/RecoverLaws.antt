@@ -1,8 +1,8 @@
 -- Laws of recovery as a whole: the relation that it keeps, from those of its stages.
-use Rattle.std.proofs.Common.{rules, ℕ, ◌≡◌, ◌<◌, ◌+◌, ◌*◌, List, [], length, Some, Ok, Err, refl, ap, sym, subst, ◌∙◌, inr, arith}
+use Rattle.std.proofs.Common.{rules, ℕ, ◌≡◌, ◌<◌, ◌+◌, ◌*◌, List, [], length, Some, Ok, Err, refl, ap, sym, subst, ◌∙◌, true, false, inl, inr, arith}
 use Rattle.std.specs.Prelude.{is_some}
 use Rattle.pmem_base.specs.declared.lines.Line.{Line}
-use Rattle.pmem_base.specs.Shape.{IsShape}
+use Rattle.pmem_base.specs.Shape.{IsShape, is_lazy}
 use Rattle.pmem_base.specs.Layout as layout
 use Rattle.pmem_base.specs.Lines.{line_at}
 use Rattle.pmem_base.specs.Registers.{IsValidRegs, without_group}
@@ -12,9 +12,10 @@ use Rattle.call_effects.proofs.ToldLines.{whole_lines}
 use Rattle.commit_regs.proofs.GroupLemmas.{told_redone}
 use Rattle.commit_regs.specs.Groups.{redone, finishing_latches, RisesAtMost, HasFinished, IsInterrupted}
 use Rattle.suite.specs.Setup.{Setup}
+use Rattle.bonsai_tree.specs.Positions.{level_of}
 use Rattle.seal_ledger.specs.Ledger.{LedgerState}
 use Rattle.pmem_engine.specs.Engine.{on_chip}
-use Rattle.pmem_engine.specs.Invariants.{IsAnchored, IsSealStored, IsMendable, IsDurable}
+use Rattle.pmem_engine.specs.Invariants.{IsAnchored, IsSealStored, IsMendable, IsDurable, stored_meta}
 use Rattle.pmem_engine.specs.Mendable.{IsShadowZero, new_engine}
 use Rattle.pmem_engine.specs.Steps.{IsEmptied}
 use Rattle.pmem_engine.proofs.Laws.MendableLaws.{IsValidRegs-emptied, IsAnchored-emptied, IsDurable-no_group, IsMendable-emptied, IsSealStored-same, IsSound-new_engine}
@@ -25,7 +26,7 @@ use Rattle.pmem_recovery.specs.declared.faults.RecFault.TheVariants.{Memory, Cut
 use Rattle.pmem_recovery.specs.Writing.{differing}
 use Rattle.call_effects.specs.SuiteStates.{SuiteState}
 use Rattle.pmem_recovery.specs.Parts.{IfLinesTold, KeepsDevice, IsUncut, StopsBy, SuiteWork, IsFaultShown, IsRefusal, StoppedWork}
-use Rattle.pmem_recovery.specs.Mending.{IsPartlyMended, most_reads, most_writes, HasMadeWrites, IsStoppedShort}
+use Rattle.pmem_recovery.specs.Mending.{IsPartlyMended, most_reads, most_writes, HasMadeWrites, MayLackSteps, IsStoppedShort}
 use Rattle.pmem_recovery.specs.Recovered.{RegsAfter, PowerAfter, HasOnlyRedone, IsUnchanged, most_recovery_steps, StepsAfter, IsTwinValid, IsNoCounterUnmendable, IsMendedAs, PlanAfter, HasRecovered, IsUncounted}
 use Rattle.call_plan.specs.Following.{Follows}
 use Rattle.pmem_recovery.specs.Plans.{SuiteCounts, counts_of, recover_plan}
@@ -35,9 +36,9 @@ use Rattle.pmem_recovery.specs.Fronts.{IsFrontWritten}
 use Rattle.pmem_recovery.proofs.PartLaws.{IsUncut-then, IsCutOff-after}
 use Rattle.board.specs.Counts.{RisesBy}
 use Rattle.shadow_tables.specs.Entries.{shadow_of}
-use Rattle.pmem_recovery.specs.Reads.{all_reads, named_reads, IsReadUntil}
+use Rattle.pmem_recovery.specs.Reads.{all_reads, doubted_reads, IsReadUntil}
 use Rattle.pmem_recovery.proofs.WorkLaws.{stopped_memory, stopped_at_once}
-use Rattle.pmem_recovery.proofs.WrittenLaws.{partly-data, partly-mendable, partly-front, are_fixed, true_recovered, zero_recovered, top_recovered}
+use Rattle.pmem_recovery.proofs.WrittenLaws.{partly-data, partly-strict, partly-mendable, partly-front, are_fixed, true_recovered, zero_recovered, top_recovered}
 use Rattle.pmem_recovery.proofs.AnswerLaws.{no_counter-caused, IsTrueRefusal, true_refusal, IsEmptied-without, IsTrusted-fresh, IsNewEngine-fresh, redone_told-told, RisesAtMost-then}
 
 -- ---- no memory, and a cut while the group is redone
@@ -52,7 +53,7 @@ recovered_interrupted setup ledger old new suite shape size whole valid armed cu
     let work : (lines : List Line) → StoppedWork setup.shape (redone old.regs.group.items lines) old.regs Cut suite suite = λ lines. stopped_at_once setup.shape (redone old.regs.group.items lines) old.regs suite in
     search rules
 
--- ---- the group redone, and the named lines made and written
+-- ---- the group redone, and the doubted lines made and written
 
 -- the stages of a recovery that has its memory
 pub record IsRecoveryRun (setup : Setup) (old mid new : Device) : Type 0 where
@@ -66,7 +67,7 @@ pub record IsRecoveryRun (setup : Setup) (old mid new : Device) : Type 0 where
   pub written : HasMadeWrites setup old.regs mid new
   pub few_reads :
       IfLinesTold mid.lines
-      (λ lines. RisesAtMost (named_reads setup.shape (shadow_of setup.shape lines)) mid.reads new.reads)
+      (λ lines. RisesAtMost (doubted_reads setup.shape (shadow_of setup.shape lines)) mid.reads new.reads)
 
 module _ (setup : Setup) (ledger : LedgerState) (old mid new : Device) (run : IsRecoveryRun setup old mid new) where
   pub new_regs : new.regs ≡ without_group old.regs
@@ -99,7 +100,7 @@ module _ (setup : Setup) (ledger : LedgerState) (old mid new : Device) (run : Is
   pub its_anchored : IsAnchored setup old.regs ledger → IsAnchored setup new.regs ledger
   its_anchored = IsAnchored-emptied setup old.regs new.regs ledger emptied
 
-  -- where the lines are told
+  -- if the lines are exposed
   pub record AreItsLines (lines now : List Line) : Type 0 where
     pub long : length (redone old.regs.group.items lines) ≡ layout.device_lines setup.shape
     pub whole : AreLinesOf (layout.device_lines setup.shape) now
@@ -107,7 +108,7 @@ module _ (setup : Setup) (ledger : LedgerState) (old mid new : Device) (run : Is
     pub partly : IsPartlyMended setup (redone old.regs.group.items lines) old.regs now
     pub kept : redone new.regs.group.items now ≡ now
     pub count : differing (redone old.regs.group.items lines) now ≡ run.written.count
-    pub no_count : IsShadowZero setup (redone old.regs.group.items lines) → run.written.count ≡ 0
+    pub no_count : setup.shape.shadow ≡ true → IsShadowZero setup (redone old.regs.group.items lines) → run.written.count ≡ 0
 
   -- the lines with the group redone
   pub its_mid : (lines : List Line) → old.lines ≡ Some lines → (mid.lines ≡ Some (redone old.regs.group.items lines)) × (length (redone old.regs.group.items lines) ≡ layout.device_lines setup.shape)
@@ -117,10 +118,10 @@ module _ (setup : Setup) (ledger : LedgerState) (old mid new : Device) (run : Is
         length-put_lines old.regs.group.items lines ∙ before.count,
       )
 
-  pub its_few_reads : (lines : List Line) → old.lines ≡ Some lines → RisesAtMost (named_reads setup.shape (shadow_of setup.shape (redone old.regs.group.items lines))) old.reads new.reads
+  pub its_few_reads : (lines : List Line) → old.lines ≡ Some lines → RisesAtMost (doubted_reads setup.shape (shadow_of setup.shape (redone old.regs.group.items lines))) old.reads new.reads
   its_few_reads lines told =
       let at = its_mid lines told in
-      subst (λ n. RisesAtMost (named_reads setup.shape (shadow_of setup.shape (redone old.regs.group.items lines))) n new.reads) run.finished.reads
+      subst (λ n. RisesAtMost (doubted_reads setup.shape (shadow_of setup.shape (redone old.regs.group.items lines))) n new.reads) run.finished.reads
       (run.few_reads (redone old.regs.group.items lines) at.0)
 
   pub its_lines : (lines now : List Line) → old.lines ≡ Some lines → new.lines ≡ Some now → AreItsLines lines now
@@ -142,6 +143,11 @@ module _ (setup : Setup) (ledger : LedgerState) (old mid new : Device) (run : Is
   its_data lines now m n low =
       ap (λ l. line_at l n) m.kept ∙ partly-data setup (redone old.regs.group.items lines) old.regs now n m.partly low
 
+  pub its_strict : (lines now : List Line) → AreItsLines lines now → (x : ℕ) → x < layout.meta_lines setup.shape → is_lazy setup.shape (level_of x) ≡ false
+      → stored_meta setup.shape (redone new.regs.group.items now) x ≡ stored_meta setup.shape (redone old.regs.group.items lines) x
+  its_strict lines now m x on_tree strict =
+      ap (λ l. stored_meta setup.shape l x) m.kept ∙ partly-strict setup (redone old.regs.group.items lines) old.regs now x m.partly on_tree strict
+
   pub its_front : (lines now : List Line) → AreItsLines lines now → IsFrontWritten setup (redone old.regs.group.items lines) old.regs (redone new.regs.group.items now)
   its_front lines now m =
       subst (IsFrontWritten setup (redone old.regs.group.items lines) old.regs) (sym m.kept)
@@ -154,8 +160,8 @@ module _ (setup : Setup) (ledger : LedgerState) (old mid new : Device) (run : Is
   pub its_steps : (lines now : List Line) → AreItsLines lines now → RisesAtMost (length old.regs.group.items + differing (redone old.regs.group.items lines) now) old.writes new.writes
   its_steps lines now m = search rules
 
-  pub its_no_steps : (lines now : List Line) → AreItsLines lines now → old.regs.group.items ≡ [] → IsShadowZero setup lines → (new.writes ≡ old.writes) × (new.latches ≡ old.latches)
-  its_no_steps lines now m none zero = search rules
+  pub its_no_steps : (lines now : List Line) → AreItsLines lines now → setup.shape.shadow ≡ true → old.regs.group.items ≡ [] → IsShadowZero setup lines → (new.writes ≡ old.writes) × (new.latches ≡ old.latches)
+  its_no_steps lines now m tables none zero = search rules
 
   -- a durable device is durable still, with its group redone and with some lines written
   its_mendable : (lines now : List Line) → AreItsLines lines now → IsDurable setup lines old.regs ledger → IsMendable setup now new.regs ledger
@@ -185,16 +191,23 @@ module _ (setup : Setup) (ledger : LedgerState) (old mid new : Device) (run : Is
   unchanged_after Cut shown short = tt
   unchanged_after fault shown short = only_redone short
 
-  steps_after : (fault : RecFault) → IsStoppedShort setup.shape fault mid new → StepsAfter (Err fault) (most_recovery_steps setup old.regs) old new
-  steps_after Cut short =
-      record {
-        writes = its_writes.never_falls;
-        latches = its_latches.never_falls;
-        sum = λ below still.
-            let redo = run.finished.writes.exact (omega (arith, below, run.written.writes.never_falls)) in
-            let latch = run.finished.latches.exact (omega (arith, still, run.written.latches)) in
-            omega (arith, short below, redo, latch, run.written.latches);
-      }
+  lacks_after : MayLackSteps setup.shape old → MayLackSteps setup.shape mid
+  lacks_after (inl lit) = inl (run.finished.live lit)
+  lacks_after (inr some) = inr some
+
+  steps_after : (fault : RecFault) → IsStoppedShort setup.shape fault mid new → StepsAfter setup (Err fault) (most_recovery_steps setup old.regs) old new
+  steps_after Cut short = (
+    its_steps_in_all,
+    λ due.
+        record {
+          writes = its_writes.never_falls;
+          latches = its_latches.never_falls;
+          sum = λ below still.
+              let redo = run.finished.writes.exact (omega (arith, below, run.written.writes.never_falls)) in
+              let latch = run.finished.latches.exact (omega (arith, still, run.written.latches)) in
+              omega (arith, short (lacks_after due) below, redo, latch, run.written.latches);
+        },
+  )
   steps_after fault short = its_steps_in_all
 
   twin_valid : (fault : RecFault) → IsFaultShown setup.formulas fault → IsTwinValid setup.formulas fault
@@ -269,6 +282,7 @@ module _ (setup : Setup) (ledger : LedgerState) (old mid new : Device) (run : Is
                   mended_after now fault (true_refusal setup (redone old.regs.group.items lines) old.regs ledger fault run.shape d.mendable refused) (its_durable lines now m d);
               data_same = its_data lines now m;
               seals_kept = its_seals lines now m;
+              strict_same = its_strict lines now m;
               front = its_front lines now m;
               fixed = tt;
               cleared = tt;
@@ -326,6 +340,7 @@ module _ (setup : Setup) (ledger : LedgerState) (old mid new : Device) (run : Is
                   (true_recovered setup before old.regs now r.0 ledger run.shape d.mendable) emptied.no_group;
               data_same = its_data lines now m;
               seals_kept = its_seals lines now m;
+              strict_same = its_strict lines now m;
               front = its_front lines now m;
               fixed = are_fixed setup before old.regs now r.0;
               cleared = record { shadow_zero = zero; top = top_recovered setup before old.regs now r.0 ∙ r.1.root ∙ sym emptied.same_root };

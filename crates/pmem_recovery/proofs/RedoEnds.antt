@@ -101,7 +101,7 @@ module _ (old : Device) where
       (λ entry later t d left. (λ new was. at_cut (entry ∷ later) d new left was, λ new was. one_more entry later d new left was))
       (record { front = []; both = refl; lines = sym (redone-nil old.lines); steps = HasOnlyWritten-none old; goes = IsUncut-none old })))
 
-  -- where no group is armed nothing was done
+  -- if no group is armed, nothing was done
   idle_finished : group ≡ [] → HasFinished old old
   idle_finished none =
       record {

@@ -7,7 +7,7 @@ use Rattle.pmem_base.specs.declared.lines.Line.{Line}
 use Rattle.pmem_base.specs.declared.registers.Regs.{Regs}
 use Rattle.pmem_base.specs.Lines.{line_at, zero_line, same_bytes}
 use Rattle.pmem_base.specs.Shape.{Shape, IsShape, is_loss}
-use Rattle.pmem_base.specs.Layout.{slots, pages, meta_lines, device_lines, shadow_lines, shadow_line, level_start}
+use Rattle.pmem_base.specs.Layout.{pages, meta_lines, device_lines, shadow_lines, shadow_line, level_start}
 use Rattle.pmem_base.proofs.ByteLaws.{same_bytes-true, same_bytes-from}
 use Rattle.board.specs.Steps.{Tells}
 use Rattle.bonsai_tree.proofs.Levels.{meta_lines-counters}
@@ -15,17 +15,18 @@ use Rattle.call_plan.specs.Plans.{done, stop, mapped}
 use Rattle.pmem_engine.proofs.Laws.MendableLaws.{line_at-shadow_of}
 use Rattle.shadow_tables.specs.Entries.{shadow_of}
 use Rattle.suite.specs.Setup.{Setup}
+use Rattle.plain_model.specs.Bounds.{most_blocks, most_nodes}
 use Rattle.pmem_recovery.specs.declared.faults.RecFault.{RecFault}
 use Rattle.pmem_recovery.specs.declared.faults.RecFault.TheVariants as Fault
-use Rattle.pmem_recovery.specs.Named.{count_named}
+use Rattle.pmem_recovery.specs.Named.{count_doubted}
 use Rattle.pmem_recovery.specs.Trials.{first_undecided, AreDecided}
 use Rattle.pmem_recovery.specs.Fixed.{found_root}
-use Rattle.pmem_recovery.specs.Reads.{sum_named, block_reads, node_reads, unmade_reads, all_reads, named_reads}
+use Rattle.pmem_recovery.specs.Reads.{sum_doubted, block_reads, node_reads, unmade_reads, all_reads, doubted_reads}
 use Rattle.pmem_recovery.specs.Upward.{line_made, made_or_stored, IsDoneTo, AreAllMade}
 use Rattle.pmem_recovery.specs.Parts.{IfLinesTold, IsAllWork}
 use Rattle.pmem_recovery.specs.Mending.{most_reads, HasMadeAll}
 use Rattle.pmem_recovery.specs.Plans.{SuiteCounts, RecoveryParts, recovery_parts, after_digest, made_plan, compare_plan, root_plan, shadow_turn, shadow_plan, MadeLines, made_lines, blocks_plan, nodes_plan, after_blocks, after_shadow, making_plan}
-use Rattle.pmem_recovery.proofs.NamedLaws.{count_named-counters, count_named-nodes}
+use Rattle.pmem_recovery.proofs.NamedLaws.{count_doubted-counters, count_doubted-nodes}
 use Rattle.pmem_recovery.proofs.ReadLaws.{RisesBy-as, top_reads_are}
 use Rattle.pmem_recovery.proofs.RecoveryPlans.{shadow_more}
 use Rattle.pmem_recovery.proofs.WorkLaws.{trials_below-none}
@@ -55,21 +56,21 @@ shadow_read g lines shadow whole long each =
 
 -- ---- the whole
 
--- all named lines are made, and the root is right
+-- all doubted lines are made, and the root is right
 pub record IsMade (setup : Setup) (regs : Regs) (told : Option (List Line)) (first : SuiteCounts) (end : SuiteCounts × MadeLines) (n : ℕ) : Type 0 where
   pub counted : end.0 ≡ after_work end.1.work.trials end.1.work.digests first
-  pub few_trials : end.1.work.trials ≤ 64 * regs.loss * slots setup.shape
-  pub few_digests : end.1.work.digests ≤ 4 * setup.shape.levels * slots setup.shape + 1
+  pub few_trials : end.1.work.trials ≤ 64 * regs.loss * most_blocks setup.shape
+  pub few_digests : end.1.work.digests ≤ 4 * most_nodes setup.shape + 1
   pub few_reads : n ≤ most_reads setup.shape
   pub long : length end.1.shadow ≡ shadow_lines setup.shape
-  pub few_made : length end.1.made ≤ (setup.shape.levels + 1) * slots setup.shape
+  pub few_made : length end.1.made ≤ most_blocks setup.shape + most_nodes setup.shape
   pub on_tree : All (λ entry. entry.at < meta_lines setup.shape) end.1.made
   pub over :
       IfLinesTold told
       (λ lines. HasMadeAll setup lines regs end.1.shadow end.1.made
       × IsAllWork setup.shape lines regs end.1.work.trials end.1.work.digests
       × (n ≡ all_reads setup.shape (shadow_of setup.shape lines) regs)
-      × (n ≤ named_reads setup.shape (shadow_of setup.shape lines)))
+      × (n ≤ doubted_reads setup.shape (shadow_of setup.shape lines)))
 
 module _ (setup : Setup) (regs : Regs) (told : Option (List Line)) (first : SuiteCounts) (valid : IsShape setup.shape) (loss : IsTrue (is_loss regs.loss)) where
   abbrev g : Shape
@@ -87,8 +88,8 @@ module _ (setup : Setup) (regs : Regs) (told : Option (List Line)) (first : Suit
       (blocks : RecoveryParts) (trials start : ℕ) (made_blocks : AtBlock setup regs told shadow first (meta_lines setup.shape) blocks trials start) where
     abbrev Nodes : RecoveryParts → ℕ → ℕ → Type 0
     Nodes parts digests n =
-        HasNodes setup regs told shadow first valid its_shadow blocks trials start made_blocks (count_named setup.shape shadow 0 (level_start setup.shape.levels))
-        (sum_named setup.shape shadow (node_reads setup.shape shadow) 0 (level_start setup.shape.levels)) (IsDoneTo 0 1) parts digests n
+        HasNodes setup regs told shadow first valid its_shadow blocks trials start made_blocks (count_doubted setup.shape shadow 0 (level_start setup.shape.levels))
+        (sum_doubted setup.shape shadow (node_reads setup.shape shadow) 0 (level_start setup.shape.levels)) (IsDoneTo 0 1) parts digests n
 
     module _ (parts : RecoveryParts) (digests n : ℕ) (nodes : Nodes parts digests n) where
       abbrev After : SuiteCounts × Unit {0} → ℕ → Type 0
@@ -108,10 +109,10 @@ module _ (setup : Setup) (regs : Regs) (told : Option (List Line)) (first : Suit
         found : List ℕ
         found = setup.formulas.digest_of 0 top
 
-        few_digests : digests + 1 ≤ 4 * setup.shape.levels * slots setup.shape + 1
-        few_digests = omega (arith, nodes.its_digests, count_named-nodes g shadow valid)
+        few_digests : digests + 1 ≤ 4 * most_nodes setup.shape + 1
+        few_digests = omega (arith, nodes.its_digests, count_doubted-nodes g shadow valid)
 
-        few_named : m ≤ named_reads setup.shape shadow
+        few_named : m ≤ doubted_reads setup.shape shadow
         few_named =
             few_read setup regs told shadow first valid its_shadow blocks trials start made_blocks m
             (omega (arith, reads, nodes.few, one_at_most (line_made parts.made 0)))
@@ -120,7 +121,7 @@ module _ (setup : Setup) (regs : Regs) (told : Option (List Line)) (first : Suit
             one_at_most None = omega arith
             one_at_most (Some line) = omega arith
 
-        so_few : (m ≤ most_reads g) × IfLinesTold told (λ lines. m ≤ named_reads g (shadow_of g lines))
+        so_few : (m ≤ most_reads g) × IfLinesTold told (λ lines. m ≤ doubted_reads g (shadow_of g lines))
         so_few = few_reads setup told shadow m valid its_shadow few_named
 
         counted : after_digest parts.counts ≡ after_work trials (digests + 1) first
@@ -132,7 +133,7 @@ module _ (setup : Setup) (regs : Regs) (told : Option (List Line)) (first : Suit
 
         all_work : (lines : List Line) → told ≡ Some lines → IsAllWork g lines regs trials (digests + 1)
         all_work lines its =
-            let same = ap (λ s. count_named g s 0 (level_start g.levels)) (its_shadow lines its) in
+            let same = ap (λ s. count_doubted g s 0 (level_start g.levels)) (its_shadow lines its) in
             record {
               its_trials = all_tried setup regs told shadow first valid its_shadow blocks trials start made_blocks lines its;
               its_digests = omega (arith, nodes.its_digests, same);
@@ -142,8 +143,8 @@ module _ (setup : Setup) (regs : Regs) (told : Option (List Line)) (first : Suit
         so_many lines its =
             let top_reads = top_reads_are setup lines regs parts.made (all_made lines its) in
             let o = nodes.over lines its in
-            let counters = ap (λ s. sum_named g s (block_reads g regs) (level_start g.levels) (meta_lines g)) (its_shadow lines its) in
-            let inner = ap (λ s. sum_named g s (node_reads g s) 0 (level_start g.levels)) (its_shadow lines its) in
+            let counters = ap (λ s. sum_doubted g s (block_reads g regs) (level_start g.levels) (meta_lines g)) (its_shadow lines its) in
+            let inner = ap (λ s. sum_doubted g s (node_reads g s) 0 (level_start g.levels)) (its_shadow lines its) in
             omega (arith, reads, top_reads, o.1, made_blocks.reads, counters, inner)
 
         compared : (b : Bool) → same_bytes regs.root found ≡ b
@@ -156,7 +157,7 @@ module _ (setup : Setup) (regs : Regs) (told : Option (List Line)) (first : Suit
               few_digests = few_digests;
               few_reads = so_few.0;
               long = long;
-              few_made = omega (arith, nodes.many, made_blocks.many, count_named-counters g shadow valid, count_named-nodes g shadow valid);
+              few_made = omega (arith, nodes.many, made_blocks.many, count_doubted-counters g shadow valid, count_doubted-nodes g shadow valid);
               on_tree = nodes.on_tree;
               over = λ lines its. (
                 record {

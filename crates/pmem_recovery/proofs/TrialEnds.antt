@@ -10,7 +10,7 @@ use Rattle.pmem_base.specs.declared.registers.Progress.{Progress}
 use Rattle.pmem_base.specs.declared.registers.Regs.{Regs}
 use Rattle.pmem_base.specs.Lines.{line_at, tag_slot}
 use Rattle.pmem_base.specs.Shape.{Shape, IsShape, is_loss}
-use Rattle.pmem_base.specs.Layout.{slots, pages, meta_lines, tag_line, shadow_lines, level_start, page_of, index_in_page}
+use Rattle.pmem_base.specs.Layout.{pages, meta_lines, tag_line, shadow_lines, level_start, page_of, index_in_page}
 use Rattle.pmem_base.proofs.CountLemmas.{risen_times-add}
 use Rattle.board.specs.Steps.{Tells}
 use Rattle.call_plan.specs.Plans.{bind, mapped}
@@ -25,18 +25,19 @@ use Rattle.stop_loss.specs.Windows.{minors_within, window_minors}
 use Rattle.stop_loss.proofs.Trying.{result_within}
 use Rattle.stop_loss.proofs.Windows.{is_loss_pos, window_in_range}
 use Rattle.suite.specs.Setup.{Setup}
-use Rattle.pmem_engine.specs.Invariants.{is_named}
+use Rattle.plain_model.specs.Bounds.{most_blocks}
+use Rattle.pmem_engine.specs.Invariants.{is_doubted}
 use Rattle.pmem_recovery.specs.declared.faults.RecFault.{RecFault}
 use Rattle.pmem_recovery.specs.declared.faults.RecFault.TheVariants as Fault
-use Rattle.pmem_recovery.specs.Named.{names, count_named, IsNextAt}
+use Rattle.pmem_recovery.specs.Named.{doubts, count_doubted, IsNextAt}
 use Rattle.pmem_recovery.specs.Trials.{stored_block, minors_tried, tried_minors, candidates_of, trials_below, AreDecided}
 use Rattle.pmem_recovery.specs.Fixed.{fixed_block}
-use Rattle.pmem_recovery.specs.Reads.{sum_named, line_reads, page_reads, block_reads, named_reads, reads_to}
+use Rattle.pmem_recovery.specs.Reads.{sum_doubted, line_reads, page_reads, block_reads, doubted_reads, reads_to}
 use Rattle.pmem_recovery.specs.Parts.{IfLinesTold, decided_of, IsDecided, IsUndecided}
 use Rattle.pmem_recovery.specs.Plans.{SuiteCounts, suite_counts, after_tags, decided_plan, sealed_plan, held_or_tried, trial_plan, minor_turn, minors_plan}
 use Rattle.pmem_recovery.proofs.PartLaws.{few_and_one}
-use Rattle.pmem_recovery.proofs.NamedLaws.{count_named-next, count_named-le, count_named-counters}
-use Rattle.pmem_recovery.proofs.ReadLaws.{RisesBy-as, page_reads-more, page_reads-le, sum_named-le}
+use Rattle.pmem_recovery.proofs.NamedLaws.{count_doubted-next, count_doubted-le, count_doubted-counters}
+use Rattle.pmem_recovery.proofs.ReadLaws.{RisesBy-as, page_reads-more, page_reads-le, sum_doubted-le}
 use Rattle.pmem_recovery.proofs.WorkLaws.{candidates-free, candidates-held, trials_of-named, trials_below-next}
 use Rattle.pmem_recovery.proofs.TryLaws.{decided_is, shown_undecided, stops_undecided, tried_is, refusal_is, length-window_minors, minors_more, fixed_block_is}
 use Rattle.pmem_recovery.proofs.CounterSteps.{stopped_at}
@@ -59,36 +60,36 @@ module _ (setup : Setup) (regs : Regs) (told : Option (List Line)) (shadow : Lis
   abbrev Cuts : SuiteCounts × RecFault → ℕ → Type 0
   Cuts = IsCutEnd setup regs told first
 
-  -- to line i of a page, over the lines that are told
+  -- to line i of a page, over the lines that are exposed
   pub record AreTriedTo (page i trials : ℕ) (lines : List Line) : Type 0 where
     pub decided : AreDecided setup lines regs page
     pub ones : (k : ℕ) → k < i → length (tried_minors setup lines regs (64 * page + k)) ≡ 1
     pub tried : trials ≡ trials_below setup.shape lines regs (64 * page + i)
 
-  -- to line i of a page, after so many trials and n reads
+  -- to line i of a page, after these trials and n reads
   pub record AtLine (page i : ℕ) (counts : SuiteCounts) (trials n : ℕ) : Type 0 where
     pub counted : counts ≡ after_work trials 0 first
-    pub few : trials ≤ count_named setup.shape shadow (level_start setup.shape.levels) (counter_position setup.shape page) * (64 * regs.loss) + i * regs.loss
+    pub few : trials ≤ count_doubted setup.shape shadow (level_start setup.shape.levels) (counter_position setup.shape page) * (64 * regs.loss) + i * regs.loss
     pub reads :
         n ≡ shadow_lines setup.shape
-        + sum_named setup.shape shadow (block_reads setup.shape regs) (level_start setup.shape.levels) (counter_position setup.shape page)
+        + sum_doubted setup.shape shadow (block_reads setup.shape regs) (level_start setup.shape.levels) (counter_position setup.shape page)
         + 1 + page_reads regs.progress.items page i
     pub over : IfLinesTold told (AreTriedTo page i trials)
 
   module _ (valid : IsShape setup.shape) (loss : IsTrue (is_loss regs.loss)) (its_shadow : IfLinesTold told (λ lines. shadow ≡ shadow_of setup.shape lines)) where
-    all_few : count_named g shadow start (meta_lines g) ≤ slots g
-    all_few = count_named-counters g shadow valid
+    all_few : count_doubted g shadow start (meta_lines g) ≤ most_blocks g
+    all_few = count_doubted-counters g shadow valid
 
-    -- bounds within a page that is named
-    few_within : (count i trials more : ℕ) → trials ≤ count * (64 * regs.loss) + i * regs.loss → more ≤ regs.loss → i < 64 → count < slots g
-        → trials + more ≤ 64 * regs.loss * slots g
+    -- bounds within a page that is doubted
+    few_within : (count i trials more : ℕ) → trials ≤ count * (64 * regs.loss) + i * regs.loss → more ≤ regs.loss → i < 64 → count < most_blocks g
+        → trials + more ≤ 64 * regs.loss * most_blocks g
     few_within count i trials more few less low room =
         let up : (i + 1) * regs.loss ≤ 64 * regs.loss = mul-le-mul_right regs.loss (omega arith) in
-        let all = few_and_one (count * (64 * regs.loss)) (64 * regs.loss) (64 * regs.loss) count (slots g) (omega arith) (omega arith) room in
+        let all = few_and_one (count * (64 * regs.loss)) (64 * regs.loss) (64 * regs.loss) count (most_blocks g) (omega arith) (omega arith) room in
         omega arith
 
-    module _ (page : ℕ) (inside : page < pages g) (named : names g shadow (counter_position g page) ≡ true) where
-      here : IsNextAt (names g shadow) (counter_position g page) (meta_lines g) (counter_position g page)
+    module _ (page : ℕ) (inside : page < pages g) (named : doubts g shadow (counter_position g page) ≡ true) where
+      here : IsNextAt (doubts g shadow) (counter_position g page) (meta_lines g) (counter_position g page)
       here =
           record {
             low = omega arith;
@@ -97,21 +98,21 @@ module _ (setup : Setup) (regs : Regs) (told : Option (List Line)) (shadow : Lis
             before = λ y low less. absurd (omega (arith, low, less));
           }
 
-      one_more : count_named g shadow start (counter_position g page) + 1 ≤ count_named g shadow start (meta_lines g)
+      one_more : count_doubted g shadow start (counter_position g page) + 1 ≤ count_doubted g shadow start (meta_lines g)
       one_more =
-          let next = count_named-next g shadow start (counter_position g page) (meta_lines g) (counter_position g page) (omega arith) here in
-          let up = count_named-le g shadow start (counter_position g page + 1) (meta_lines g) (omega arith) (omega (arith, here.high)) in
+          let next = count_doubted-next g shadow start (counter_position g page) (meta_lines g) (counter_position g page) (omega arith) here in
+          let up = count_doubted-le g shadow start (counter_position g page + 1) (meta_lines g) (omega arith) (omega (arith, here.high)) in
           omega (arith, next, up)
 
-      room : count_named g shadow start (counter_position g page) < slots g
+      room : count_doubted g shadow start (counter_position g page) < most_blocks g
       room = omega (arith, one_more, all_few)
 
-      pub named_in : (lines : List Line) → told ≡ Some lines → is_named g lines (counter_position g page) ≡ true
-      named_in lines its = subst (λ s. names g s (counter_position g page) ≡ true) (its_shadow lines its) named
+      pub named_in : (lines : List Line) → told ≡ Some lines → is_doubted g lines (counter_position g page) ≡ true
+      named_in lines its = subst (λ s. doubts g s (counter_position g page) ≡ true) (its_shadow lines its) named
 
-      few_reads_at : (i n m : ℕ) (counts : SuiteCounts) (trials : ℕ) → i < 64 → AtLine page i counts trials n → m ≤ n + 2 → m ≤ named_reads g shadow
+      few_reads_at : (i n m : ℕ) (counts : SuiteCounts) (trials : ℕ) → i < 64 → AtLine page i counts trials n → m ≤ n + 2 → m ≤ doubted_reads g shadow
       few_reads_at i n m counts trials low so_far up =
-          let blocks = sum_named-le g shadow (block_reads g regs) 129 (λ x. omega (arith, page_reads-le regs.progress.items (x - counter_position g 0) 64))
+          let blocks = sum_doubted-le g shadow (block_reads g regs) 129 (λ x. omega (arith, page_reads-le regs.progress.items (x - counter_position g 0) 64))
           start (counter_position g page) in
           omega (arith, so_far.reads, up, blocks, one_more, page_reads-le regs.progress.items page i, low)
 
@@ -120,7 +121,7 @@ module _ (setup : Setup) (regs : Regs) (told : Option (List Line)) (shadow : Lis
           → Cuts (counts, Fault.Cut) m
       cut_at i n m counts trials low so_far up =
           cut_end setup regs told first counts trials 0 m so_far.counted
-          (let few = few_within (count_named g shadow start (counter_position g page)) i trials 0 so_far.few (omega arith) low room in omega (arith, few))
+          (let few = few_within (count_doubted g shadow start (counter_position g page)) i trials 0 so_far.few (omega arith) low room in omega (arith, few))
           (omega arith) (few_reads setup told shadow m valid its_shadow (few_reads_at i n m counts trials low so_far up))
           (λ lines its.
           let t = so_far.over lines its in
@@ -158,8 +159,8 @@ module _ (setup : Setup) (regs : Regs) (told : Option (List Line)) (shadow : Lis
               → trials + more ≡ trials_below g lines regs (at + 1)
           below_next more lines its same =
               let t = so_far.over lines its in
-              let named_at : is_named g lines (counter_position g (page_of at)) ≡ true =
-              subst (λ p. is_named g lines (counter_position g p) ≡ true) (sym at_page) (named_in lines its) in
+              let named_at : is_doubted g lines (counter_position g (page_of at)) ≡ true =
+              subst (λ p. is_doubted g lines (counter_position g p) ≡ true) (sym at_page) (named_in lines its) in
               let here = trials_of-named g lines regs at named_at in
               let next = trials_below-next g lines regs at in
               omega (arith, t.tried, here, next, same)
@@ -248,7 +249,7 @@ module _ (setup : Setup) (regs : Regs) (told : Option (List Line)) (shadow : Lis
                 counted =
                     ap (after_tags (length window)) so_far.counted
                     ∙ ap (λ t. suite_counts t first.digests) (sym (risen_times-add trials (length window) first.tags));
-                few_trials = few_within (count_named g shadow start (counter_position g page)) i trials (length window) so_far.few less low room;
+                few_trials = few_within (count_doubted g shadow start (counter_position g page)) i trials (length window) so_far.few less low room;
                 few_digests = omega arith;
                 few_reads = so_few.0;
                 shown = shown_undecided setup.formulas at stored.major cipher tag matching fault u;
@@ -277,15 +278,15 @@ module _ (setup : Setup) (regs : Regs) (told : Option (List Line)) (shadow : Lis
               λ old new goes. stops_undecided setup.formulas at stored.major cipher tag matching fault old new u goes,
             )
               where
-                so_few : (n + 1 + 1 ≤ most_reads g) × IfLinesTold told (λ lines. n + 1 + 1 ≤ named_reads g (shadow_of g lines))
+                so_few : (n + 1 + 1 ≤ most_reads g) × IfLinesTold told (λ lines. n + 1 + 1 ≤ doubted_reads g (shadow_of g lines))
                 so_few = few_reads setup told shadow (n + 1 + 1) valid its_shadow (few_reads_at i n (n + 1 + 1) counts trials low so_far (omega arith))
 
                 so_many : (lines : List Line) → told ≡ Some lines → n + 1 + 1 ≡ shadow_lines g + reads_to g (shadow_of g lines) regs at
                 so_many lines its =
                     let same : reads_to g (shadow_of g lines) regs at ≡ reads_to g shadow regs at = ap (λ s. reads_to g s regs at) (sym (its_shadow lines its)) in
                     let there : reads_to g shadow regs at
-                    ≡ sum_named g shadow (block_reads g regs) start (counter_position g page) + 1 + page_reads regs.progress.items page (i + 1) =
-                    ap₂ (λ p k. sum_named g shadow (block_reads g regs) start (counter_position g p) + 1 + page_reads regs.progress.items p (k + 1)) at_page at_index in
+                    ≡ sum_doubted g shadow (block_reads g regs) start (counter_position g page) + 1 + page_reads regs.progress.items page (i + 1) =
+                    ap₂ (λ p k. sum_doubted g shadow (block_reads g regs) start (counter_position g p) + 1 + page_reads regs.progress.items p (k + 1)) at_page at_index in
                     omega (arith, so_far.reads, same, there, page_reads-more regs.progress.items page i, read_two)
 
             decide : (r : Result ℕ RecFault) → IsDecided setup.formulas at stored.major cipher tag matching r
@@ -298,7 +299,7 @@ module _ (setup : Setup) (regs : Regs) (told : Option (List Line)) (shadow : Lis
             )
             decide (Err fault) d = stops fault d
 
-          -- where a register holds it, and where none does
+          -- if a register holds it, and if none does
           tried_line : (held : Option Progress) → register_held regs.progress.items at ≡ held
               → Reading told Tried Stops Cuts (held_or_tried setup regs.loss stored at counts held) n
           unfolding held_or_tried sealed_plan Reading bind mapped

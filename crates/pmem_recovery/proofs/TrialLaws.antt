@@ -1,14 +1,14 @@
 -- Laws of the trials on a device that can be mended: the true minor of each line is among those tried,
 -- one that is tried alone is the true one, and two that are tried are a twin of the line's last seal.
-use Rattle.std.proofs.Common.{rules, ℕ, ◌≡◌, ◌≢◌, ◌<◌, ◌≤◌, ◌+◌, ◌-◌, ◌*◌, ◌/◌, Bool, true, not, ◌&&◌, eqb, List, [], ◌∷◌, length, All, Option, Some, None, refl, ap, sym, ◌∙◌, subst, IsTrue, arith}
-use Rattle.std.specs.Prelude.{option_map, filter}
+use Rattle.std.proofs.Common.{rules, ℕ, ◌≡◌, ◌≢◌, ◌<◌, ◌≤◌, ◌+◌, ◌-◌, ◌*◌, ◌/◌, Bool, true, false, not, ◌&&◌, eqb, List, [], ◌∷◌, length, All, Option, Some, None, refl, ap, sym, ◌∙◌, subst, IsTrue, arith}
+use Rattle.std.specs.Prelude.{option_map, filter, ◌==◌, if◌then◌else◌}
 use Rattle.std.specs.List.{range_with_len, Contains}
 use Rattle.std.proofs.lemmas.Bool.{eqb-true, and_parts, not-true}
 use Rattle.std.proofs.lemmas.List.Elements.{All-head, All-tail}
 use Rattle.pmem_base.specs.declared.lines.Line.{Line}
 use Rattle.pmem_base.specs.declared.registers.Progress.{Progress}
 use Rattle.pmem_base.specs.declared.registers.Regs.{Regs}
-use Rattle.pmem_base.specs.Shape.{is_loss}
+use Rattle.pmem_base.specs.Shape.{is_loss, counter_window}
 use Rattle.pmem_base.specs.Layout as layout
 use Rattle.pmem_base.specs.Layout.{page_of, index_in_page}
 use Rattle.pmem_base.specs.Lines.{line_at, tag_slot}
@@ -31,9 +31,23 @@ use Rattle.pmem_recovery.specs.Trials.{stored_block, is_tag_met, minors_tried, t
 
 -- ---- the window of a stored minor
 
+undivided : (s t : ℕ) → s / 1 ≡ t / 1 → s ≡ t
+undivided s t same = omega (arith, same)
+
 -- the stored minor is at most the true one, with an equal quotient by the stop-loss number
 pub minor_close : (setup : Setup) (lines : List Line) (regs : Regs) (ledger : LedgerState) (a : ℕ) → IsLineMendable setup lines regs ledger a → (stored_minor setup.shape lines a ≤ true_minor setup.shape ledger.truth a) × (stored_minor setup.shape lines a / regs.loss ≡ true_minor setup.shape ledger.truth a / regs.loss)
-minor_close setup lines regs ledger a d = search rules
+minor_close setup lines regs ledger a d = (its.0, by (setup.shape.persist == 0) its.1)
+  where
+    its : (stored_minor setup.shape lines a ≤ true_minor setup.shape ledger.truth a)
+        × (stored_minor setup.shape lines a / counter_window setup.shape regs.loss ≡ true_minor setup.shape ledger.truth a / counter_window setup.shape regs.loss)
+    its = d.counter_stored.close_minors (index_in_page a) (omega arith)
+
+    -- without a window they are equal
+    by : (lazy : Bool)
+        → stored_minor setup.shape lines a / (if lazy then regs.loss else 1) ≡ true_minor setup.shape ledger.truth a / (if lazy then regs.loss else 1)
+        → stored_minor setup.shape lines a / regs.loss ≡ true_minor setup.shape ledger.truth a / regs.loss
+    by true same = same
+    by false same = ap (λ n. n / regs.loss) (undivided (stored_minor setup.shape lines a) (true_minor setup.shape ledger.truth a) same)
 
 pub same_majors : (setup : Setup) (lines : List Line) (regs : Regs) (ledger : LedgerState) (a : ℕ) → IsLineMendable setup lines regs ledger a → (stored_block setup.shape lines (page_of a)).major ≡ (true_block setup.shape ledger.truth (page_of a)).major
 same_majors setup lines regs ledger a d = d.counter_stored.same_major
@@ -66,7 +80,7 @@ held_minor setup lines regs ledger a register d held =
 
 -- ---- the true minor is tried
 
--- the tag under the stored major and the true minor is met, where no register holds the line
+-- the tag under the stored major and the true minor is met, if no register holds the line
 pub true_minor_met : (setup : Setup) (lines : List Line) (regs : Regs) (ledger : LedgerState) (a : ℕ) → IsLineMendable setup lines regs ledger a → register_held regs.progress.items a ≡ None → is_tag_met setup lines a (record { major = (stored_block setup.shape lines (page_of a)).major; minor = true_minor setup.shape ledger.truth a }) ≡ true
 true_minor_met setup lines regs ledger a d unheld =
     same_bytes-from (setup.formulas.tag_of a (record { major = (stored_block setup.shape lines (page_of a)).major; minor = true_minor setup.shape ledger.truth a }) (line_at lines a)) (tag_slot (line_at lines (layout.tag_line setup.shape a)) a)

@@ -114,7 +114,7 @@ module _ (setup : Setup) (regs : Regs) (stored : Block) (page i : ℕ) (counts :
       → Follows (minor_turn setup regs stored page i (counts, (fixed, trials))) old new (Err (after, fault))
   minor_stopped fault it = mapped_follows _ _ (subst (λ n. Follows (trial_plan setup regs stored n counts) old new (Err (after, fault))) place it)
 
--- ---- a named counter block
+-- ---- a doubted counter block
 
 module _ (setup : Setup) (regs : Regs) (x : ℕ) (at : RecoveryParts) where
   abbrev its_page : ℕ

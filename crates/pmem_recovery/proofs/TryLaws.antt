@@ -85,7 +85,7 @@ pub none_left : (o : Option Progress) → is_some o ≡ false → o ≡ None
 none_left None q = refl
 none_left (Some register) q = absurd (true≢false q)
 
--- the minors that fit are those of the definition, where the block, the cipher and the tag are the device's
+-- the minors that fit are those of the definition, if the block, the cipher and the tag are the device's
 pub tried_is : (setup : Setup) (lines : List Line) (regs : Regs) (at : ℕ) (block : Block) (cipher : Line) (tag candidates : List ℕ) → register_held regs.progress.items at ≡ None → block ≡ stored_block setup.shape lines (page_of at) → cipher ≡ line_at lines at → tag ≡ tag_slot (line_at lines (tag_line setup.shape at)) at → candidates ≡ window_minors (slice_index block.minors (index_in_page at)) regs.loss → tried_minors setup lines regs at ≡ matching_minors setup.formulas at block.major cipher tag candidates
 tried_is setup lines regs at block cipher tag candidates free b c t w = search rules
 

@@ -1,4 +1,4 @@
--- Laws of making the fixed lines from the counter blocks upwards: it gives the fixed line of every named
+-- Laws of making the fixed lines from the counter blocks upwards: it gives the fixed line of every doubted
 -- position, and so the found root. They hold of any device.
 use Rattle.std.proofs.Common.{rules, ℕ, suc, ◌≡◌, ◌≢◌, ◌<◌, ◌≤◌, ◌+◌, Bool, true, false, ◌||◌, cond, eqb, List, [], ◌∷◌, ◌++◌, get_or, All, Some, refl, ap, sym, ◌∙◌, subst, inl, inr, ◌⊎◌, arith}
 use Rattle.std.specs.Prelude.{find, unwrap_or, option_map}
@@ -15,7 +15,7 @@ use Rattle.bonsai_tree.specs.Positions.{child_position, counter_position}
 use Rattle.bonsai_tree.proofs.Levels.{IsAtLevel, child-IsAtLevel, level_start-le, IsAtLevel-inner}
 use Rattle.bonsai_tree.proofs.NodeLaws.{node_over-same}
 use Rattle.suite.specs.Setup.{Setup}
-use Rattle.pmem_engine.specs.Invariants.{stored_meta, is_named}
+use Rattle.pmem_engine.specs.Invariants.{stored_meta, is_doubted}
 use Rattle.pmem_recovery.specs.declared.entries.MadeEntry.{MadeEntry}
 use Rattle.pmem_recovery.specs.Fixed.{fixed_line, found_root}
 use Rattle.pmem_recovery.specs.Upward.{made_or_stored, is_made, is_other, IsMadeLine, IsBefore, AreMade, AreAllMade, block_made, node_made}
@@ -23,7 +23,7 @@ use Rattle.pmem_recovery.proofs.FixedEquations.{fixed_line-unnamed, fixed_line-b
 
 -- ---- what stands for a position
 
--- the line made for x, where lines made are those of a function
+-- the line made for x, if the lines made are those of a function
 made_or_stored-made : (g : Shape) (lines : List Line) (line : ℕ → Line) (made : List MadeEntry) (x : ℕ) → All (λ entry. entry.line ≡ line entry.at) made → is_made made x ≡ true → made_or_stored g lines made x ≡ line x
 made_or_stored-made g lines line [] x all t = absurd (false≢true t)
 made_or_stored-made g lines line (entry ∷ made) x all t =
@@ -45,9 +45,9 @@ made_or_stored-none g lines (entry ∷ made) x q =
 -- at a position that is done, what is made or stored is the fixed line
 pub made_or_stored_fixed : (setup : Setup) (lines : List Line) (regs : Regs) (done : ℕ → Type 0) (made : List MadeEntry) (x : ℕ) → AreMade setup lines regs done made → x < layout.meta_lines setup.shape → done x → made_or_stored setup.shape lines made x ≡ fixed_line setup lines regs x
 made_or_stored_fixed setup lines regs done made x m h d =
-    go (is_made made x) refl (is_named setup.shape lines x) refl
+    go (is_made made x) refl (is_doubted setup.shape lines x) refl
   where
-    go : (b : Bool) → is_made made x ≡ b → (n : Bool) → is_named setup.shape lines x ≡ n → made_or_stored setup.shape lines made x ≡ fixed_line setup lines regs x
+    go : (b : Bool) → is_made made x ≡ b → (n : Bool) → is_doubted setup.shape lines x ≡ n → made_or_stored setup.shape lines made x ≡ fixed_line setup lines regs x
     go true q n r =
         made_or_stored-made setup.shape lines (fixed_line setup lines regs) made x
         (All-weaker (IsMadeLine setup lines regs) (λ e. e.line ≡ fixed_line setup lines regs e.at) (λ e l. l.fixed) made m.each) q
@@ -73,7 +73,7 @@ AreMade-append setup lines regs done also made more apart before m n =
       every = λ x h d q. list_any-append (λ e. eqb e.at x) made more ∙ at x h q d;
     }
   where
-    at : (x : ℕ) → x < layout.meta_lines setup.shape → is_named setup.shape lines x ≡ true → done x ⊎ also x → (is_made made x || is_made more x) ≡ true
+    at : (x : ℕ) → x < layout.meta_lines setup.shape → is_doubted setup.shape lines x ≡ true → done x ⊎ also x → (is_made made x || is_made more x) ≡ true
     at x h q (inl d) = or_left (is_made made x) (is_made more x) (m.every x h d q)
     at x h q (inr d) = or_right (is_made made x) (is_made more x) (n.every x h d q)
 
@@ -87,8 +87,8 @@ AreMade-append setup lines regs done also made more apart before m n =
     ahead i d within j c inside =
         before (get_or made i d).at (get_or more j c).at (m.each i d within).on_tree (m.only_done i d within) (n.only_done j c inside)
 
--- the line of one more named position, pushed at the end
-pub AreMade-push : (setup : Setup) (lines : List Line) (regs : Regs) (done : ℕ → Type 0) (made : List MadeEntry) (entry : MadeEntry) → (done entry.at → ⊥) → ((x : ℕ) → x < layout.meta_lines setup.shape → done x → IsBefore x entry.at) → entry.at < layout.meta_lines setup.shape → is_named setup.shape lines entry.at ≡ true → entry.line ≡ fixed_line setup lines regs entry.at → entry.changed ≡ is_other (stored_meta setup.shape lines entry.at) entry.line → AreMade setup lines regs done made → AreMade setup lines regs (λ x. done x ⊎ (x ≡ entry.at)) (made ++ entry ∷ [])
+-- the line of one more doubted position, pushed at the end
+pub AreMade-push : (setup : Setup) (lines : List Line) (regs : Regs) (done : ℕ → Type 0) (made : List MadeEntry) (entry : MadeEntry) → (done entry.at → ⊥) → ((x : ℕ) → x < layout.meta_lines setup.shape → done x → IsBefore x entry.at) → entry.at < layout.meta_lines setup.shape → is_doubted setup.shape lines entry.at ≡ true → entry.line ≡ fixed_line setup lines regs entry.at → entry.changed ≡ is_other (stored_meta setup.shape lines entry.at) entry.line → AreMade setup lines regs done made → AreMade setup lines regs (λ x. done x ⊎ (x ≡ entry.at)) (made ++ entry ∷ [])
 AreMade-push setup lines regs done made entry new before h q e o m =
     AreMade-append setup lines regs done (λ x. x ≡ entry.at) made (entry ∷ []) (λ x d same. new (subst done same d)) (λ x y on_tree d same. subst (IsBefore x) (sym same) (before x on_tree d)) m
     (record {
@@ -101,11 +101,11 @@ AreMade-push setup lines regs done made entry new before h q e o m =
 
 -- ---- blocks and nodes
 
-pub block_made_fixed : (setup : Setup) (lines : List Line) (regs : Regs) (page : ℕ) → IsShape setup.shape → page < layout.pages setup.shape → is_named setup.shape lines (counter_position setup.shape page) ≡ true → (block_made setup lines regs page).line ≡ fixed_line setup lines regs (counter_position setup.shape page)
+pub block_made_fixed : (setup : Setup) (lines : List Line) (regs : Regs) (page : ℕ) → IsShape setup.shape → page < layout.pages setup.shape → is_doubted setup.shape lines (counter_position setup.shape page) ≡ true → (block_made setup lines regs page).line ≡ fixed_line setup lines regs (counter_position setup.shape page)
 block_made_fixed setup lines regs page shape h q = sym (fixed_line-block setup lines regs page shape h q)
 
 -- a node whose children are done
-pub node_made_fixed : (setup : Setup) (lines : List Line) (regs : Regs) (done : ℕ → Type 0) (made : List MadeEntry) (i x : ℕ) → IsShape setup.shape → AreMade setup lines regs done made → i < setup.shape.levels → IsAtLevel i x → ((c : ℕ) → c < 4 → done (child_position x c)) → is_named setup.shape lines x ≡ true → (node_made setup lines made x).line ≡ fixed_line setup lines regs x
+pub node_made_fixed : (setup : Setup) (lines : List Line) (regs : Regs) (done : ℕ → Type 0) (made : List MadeEntry) (i x : ℕ) → IsShape setup.shape → AreMade setup lines regs done made → i < setup.shape.levels → IsAtLevel i x → ((c : ℕ) → c < 4 → done (child_position x c)) → is_doubted setup.shape lines x ≡ true → (node_made setup lines made x).line ≡ fixed_line setup lines regs x
 node_made_fixed setup lines regs done made i x shape m h l children q =
     node_over-same setup.formulas x (made_or_stored setup.shape lines made) (fixed_line setup lines regs)
     (λ c small. made_or_stored_fixed setup lines regs done made (child_position x c) m (on_tree c small) (children c small))

@@ -9,7 +9,7 @@ use Rattle.pmem_base.specs.Layout.{level_start}
 use Rattle.bonsai_tree.specs.Positions.{counter_position, level_of}
 use Rattle.bonsai_tree.proofs.Levels.{IsAtLevel, child-IsAtLevel, level_start-next, level_start-le, counter_position-lt, counter_position-IsAtLevel, IsAtLevel-inner, level_of-IsAtLevel, level_of-at}
 use Rattle.suite.specs.Setup.{Setup}
-use Rattle.pmem_engine.specs.Invariants.{is_named}
+use Rattle.pmem_engine.specs.Invariants.{is_doubted}
 use Rattle.pmem_recovery.specs.declared.entries.MadeEntry.{MadeEntry}
 use Rattle.pmem_recovery.specs.Upward.{AreMade, AreMadeTo, AreAllMade, IsDoneTo, IsBefore, block_made, node_made}
 use Rattle.pmem_recovery.proofs.UpwardLaws.{AreMade-same, AreMade-push, block_made_fixed, node_made_fixed}
@@ -58,8 +58,8 @@ comes_before setup i m x shape few l h d = go d
         let below : x < level_start (suc i) = omega (arith, le.1, l.below) in
         inr (level_of-at i x small (record { from = le.0; below = below }) ∙ sym here, le.1)
 
--- a named counter block
-pub AreMadeTo-block : (setup : Setup) (lines : List Line) (regs : Regs) (page : ℕ) (made : List MadeEntry) → IsShape setup.shape → page < layout.pages setup.shape → is_named setup.shape lines (counter_position setup.shape page) ≡ true → AreMadeTo setup lines regs setup.shape.levels (counter_position setup.shape page) made → AreMadeTo setup lines regs setup.shape.levels (counter_position setup.shape page + 1) (made ++ block_made setup lines regs page ∷ [])
+-- a doubted counter block
+pub AreMadeTo-block : (setup : Setup) (lines : List Line) (regs : Regs) (page : ℕ) (made : List MadeEntry) → IsShape setup.shape → page < layout.pages setup.shape → is_doubted setup.shape lines (counter_position setup.shape page) ≡ true → AreMadeTo setup lines regs setup.shape.levels (counter_position setup.shape page) made → AreMadeTo setup lines regs setup.shape.levels (counter_position setup.shape page + 1) (made ++ block_made setup lines regs page ∷ [])
 AreMadeTo-block setup lines regs page made shape h q d =
     let m = counter_position setup.shape page in
     let next = level_start-next setup.shape.levels in
@@ -69,8 +69,8 @@ AreMadeTo-block setup lines regs page made shape h q d =
     (λ x on_tree done. comes_before setup setup.shape.levels m x shape (omega arith) (counter_position-IsAtLevel setup.shape page h) on_tree done)
     (counter_position-lt setup.shape page h) q (block_made_fixed setup lines regs page shape h q) refl d)
 
--- a named node, over what is made of its children or read
-pub AreMadeTo-node : (setup : Setup) (lines : List Line) (regs : Regs) (i m : ℕ) (made : List MadeEntry) → IsShape setup.shape → i < setup.shape.levels → IsAtLevel i m → is_named setup.shape lines m ≡ true → AreMadeTo setup lines regs i m made → AreMadeTo setup lines regs i (m + 1) (made ++ node_made setup lines made m ∷ [])
+-- a doubted node, over what is made of its children or read
+pub AreMadeTo-node : (setup : Setup) (lines : List Line) (regs : Regs) (i m : ℕ) (made : List MadeEntry) → IsShape setup.shape → i < setup.shape.levels → IsAtLevel i m → is_doubted setup.shape lines m ≡ true → AreMadeTo setup lines regs i m made → AreMadeTo setup lines regs i (m + 1) (made ++ node_made setup lines made m ∷ [])
 AreMadeTo-node setup lines regs i m made shape h l q d =
     one_more setup lines regs i m (made ++ node_made setup lines made m ∷ []) l.from
     (AreMade-push setup lines regs (IsDoneTo i m) made (node_made setup lines made m) (not_yet i m l)
@@ -105,5 +105,5 @@ AreMade-end setup lines regs made =
     at x (inl b) = inr (omega arith, b)
     at x (inr b) = inl b
 
-pub AreMadeTo-upto : (setup : Setup) (lines : List Line) (regs : Regs) (i m n : ℕ) (made : List MadeEntry) → level_start i ≤ m → m ≤ n → ((x : ℕ) → m ≤ x → x < n → is_named setup.shape lines x ≡ false) → AreMadeTo setup lines regs i m made → AreMadeTo setup lines regs i n made
+pub AreMadeTo-upto : (setup : Setup) (lines : List Line) (regs : Regs) (i m n : ℕ) (made : List MadeEntry) → level_start i ≤ m → m ≤ n → ((x : ℕ) → m ≤ x → x < n → is_doubted setup.shape lines x ≡ false) → AreMadeTo setup lines regs i m made → AreMadeTo setup lines regs i n made
 AreMadeTo-upto setup lines regs i m n made low le none d = search rules

@@ -11,7 +11,7 @@ use Rattle.bonsai_tree.specs.Positions.{counter_position}
 use Rattle.page_reencrypt.specs.Registers.{register_held}
 use Rattle.split_counters.specs.declared.Block.{Block}
 use Rattle.stop_loss.specs.Windows.{window_minors}
-use Rattle.pmem_engine.specs.Invariants.{is_named}
+use Rattle.pmem_engine.specs.Invariants.{is_doubted}
 use Rattle.pmem_recovery.specs.declared.faults.RecFault.TheVariants.{Memory, Cut}
 use Rattle.pmem_recovery.specs.Trials.{stored_block, candidates, candidates_of, trials_of, trials_below}
 use Rattle.call_effects.specs.SuiteStates.{SuiteState}
@@ -34,11 +34,11 @@ candidates-held g lines regs at held = go (register_held regs.progress.items at)
     go (Some register) h = refl
     go None h = absurd (false≢true h)
 
-pub trials_of-named : (g : Shape) (lines : List Line) (regs : Regs) (a : ℕ) → is_named g lines (counter_position g (page_of a)) ≡ true → trials_of g lines regs a ≡ length (candidates_of g lines regs a)
+pub trials_of-named : (g : Shape) (lines : List Line) (regs : Regs) (a : ℕ) → is_doubted g lines (counter_position g (page_of a)) ≡ true → trials_of g lines regs a ≡ length (candidates_of g lines regs a)
 unfolding trials_of
 trials_of-named g lines regs a named = ap (λ b. cond b (length (candidates_of g lines regs a)) 0) named
 
-trials_of-unnamed : (g : Shape) (lines : List Line) (regs : Regs) (a : ℕ) → is_named g lines (counter_position g (page_of a)) ≡ false → trials_of g lines regs a ≡ 0
+trials_of-unnamed : (g : Shape) (lines : List Line) (regs : Regs) (a : ℕ) → is_doubted g lines (counter_position g (page_of a)) ≡ false → trials_of g lines regs a ≡ 0
 unfolding trials_of
 trials_of-unnamed g lines regs a none = ap (λ b. cond b (length (candidates_of g lines regs a)) 0) none
 
@@ -63,15 +63,15 @@ trials_below-gap g lines regs a (suc n) none =
     let next = trials_below-next g lines regs (a + n) in
     ap (trials_below g lines regs) same ∙ omega (arith, next, here, before)
 
--- pages that aren't named
-pub trials_below-pages : (g : Shape) (lines : List Line) (regs : Regs) (page next : ℕ) → page ≤ next → ((p : ℕ) → page ≤ p → p < next → is_named g lines (counter_position g p) ≡ false) → trials_below g lines regs (64 * next) ≡ trials_below g lines regs (64 * page)
+-- pages that aren't doubted
+pub trials_below-pages : (g : Shape) (lines : List Line) (regs : Regs) (page next : ℕ) → page ≤ next → ((p : ℕ) → page ≤ p → p < next → is_doubted g lines (counter_position g p) ≡ false) → trials_below g lines regs (64 * next) ≡ trials_below g lines regs (64 * page)
 trials_below-pages g lines regs page next low none =
     let same : 64 * next ≡ 64 * page + (64 * next - 64 * page) = omega (arith, low) in
     ap (trials_below g lines regs) same
     ∙ trials_below-gap g lines regs (64 * page) (64 * next - 64 * page)
     (λ b from to. trials_of-unnamed g lines regs b (none (page_of b) (omega (arith, from)) (omega (arith, to, same))))
 
--- where nothing was tried
+-- if nothing was tried
 pub stopped_memory : (g : Shape) (lines : List Line) (regs : Regs) (suite : SuiteState) → StoppedWork g lines regs Memory suite suite
 stopped_memory g lines regs suite = record { trials = 0; digests = 0; so_far = (refl, refl); worked = SuiteWork-none suite }
 

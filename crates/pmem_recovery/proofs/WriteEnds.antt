@@ -1,4 +1,4 @@
--- What recovery's plan leaves while it writes: so many of the writes that are due are made.
+-- What recovery's plan leaves while it writes: the first k of the writes that are due are made.
 use Rattle.std.proofs.Common.{ℕ, zero, suc, ◌≡◌, ◌≤◌, ◌<◌, ◌+◌, ◌⊎◌, inl, inr, Bool, true, false, List, [], ◌∷◌, length, drop, get_or, refl, ap, subst, ◌∙◌, arith}
 use Rattle.std.proofs.lemmas.Bool.{cases_lt}
 use Rattle.std.proofs.lemmas.List.{drop_more, length-drop}
@@ -19,7 +19,7 @@ use Rattle.pmem_recovery.specs.Plans.{changed_plan, entry_turn, entries_plan, cl
 use Rattle.pmem_recovery.proofs.PartLaws.{IsUncut-none, IsUncut-then, IsCutOff-cut, IsCutOff-after}
 use Rattle.pmem_recovery.proofs.WriteSteps.{HasWrittenTo-none, HasWrittenTo-cut, HasWrittenTo-more, IsUncut-written_if}
 
--- a line that is written where it is another one
+-- a line that is written if it is another one
 changed_leaves : (at : ℕ) (line : Line) (changed : Bool) (ok : Unit {0} → Device → Type 0) (err : Cut → Device → Type 0) (d : Device)
     → ((new : Device) → WasCut d new → err the_cut new) → ((new : Device) → HasWrittenIf changed d at line new → ok tt new)
     → Leaves (changed_plan at line changed) ok err d

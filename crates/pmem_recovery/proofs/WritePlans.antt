@@ -1,4 +1,4 @@
--- The plan of a line that is written where it is another one.
+-- The plan of a line that is written if it is another one.
 use Rattle.std.proofs.Common.{ℕ, ◌≡◌, Bool, true, false, Result, Ok, sym, subst}
 use Rattle.std.specs.Prelude.{OnOk, OnErr, if◌then◌else◌}
 use Rattle.pmem_base.specs.declared.faults.Cut.{Cut}

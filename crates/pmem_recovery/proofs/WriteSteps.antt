@@ -37,7 +37,7 @@ HasOnlyWritten-cut old new c = search rules
 written_lines : (old : Device) (at : ℕ) (line : Line) (new : Device) (lines now : List Line) → HasWritten old at line new → old.lines ≡ Some lines → new.lines ≡ Some now → slice_set lines at line ≡ now
 written_lines old at line new lines now w told after = search rules
 
--- where lines are told after a step, they were before
+-- if lines are exposed after a step, they were before
 pub told_earlier : (old new : Device) (now : List Line) → is_some new.lines ≡ is_some old.lines → new.lines ≡ Some now → (lines : List Line) × (old.lines ≡ Some lines)
 told_earlier old new now same told = go old.lines refl
   where

@@ -1,12 +1,12 @@
--- What a device is on which so many of the writes that are due are made: their front, still mendable, and fixed at the end.
+-- What a device is on which the first k of the writes that are due are made: their prefix, still mendable, and fixed at the end.
 use Rattle.std.proofs.Common.{ℕ, ◌≡◌, ◌≢◌, ◌<◌, ◌≤◌, ◌+◌, ◌-◌, ◌*◌, Bool, true, false, eqb, List, [], ◌∷◌, length, get_or, refl, ap, sym, ◌∙◌, subst, inl, inr, ◌⊎◌, arith}
-use Rattle.std.proofs.lemmas.Bool.{false≢true, true≢false, eqb-true, cases_lt}
+use Rattle.std.proofs.lemmas.Bool.{false≢true, true≢false, and_left, eqb-true, cases_lt}
 use Rattle.std.proofs.lemmas.List.{get_or_default}
 use Rattle.std.proofs.lemmas.List.Elements.{All-head}
 use Rattle.std.proofs.lemmas.List.Folds.{Any-from_list_any}
 use Rattle.pmem_base.specs.declared.lines.Line.{Line}
 use Rattle.pmem_base.specs.declared.registers.Regs.{Regs}
-use Rattle.pmem_base.specs.Shape.{Shape, IsShape}
+use Rattle.pmem_base.specs.Shape.{Shape, IsShape, is_lazy}
 use Rattle.pmem_base.specs.Layout as layout
 use Rattle.pmem_base.specs.Lines.{line_at, zero_line}
 use Rattle.bonsai_tree.specs.Positions.{level_of}
@@ -14,9 +14,9 @@ use Rattle.bonsai_tree.proofs.Levels.{level_start-le}
 use Rattle.seal_ledger.specs.Ledger.{LedgerState}
 use Rattle.shadow_tables.specs.Entries.{shadow_of}
 use Rattle.suite.specs.Setup.{Setup}
-use Rattle.pmem_engine.specs.Invariants.{stored_meta, is_named, IsMendable}
+use Rattle.pmem_engine.specs.Invariants.{stored_meta, is_doubted, IsMendable}
 use Rattle.pmem_engine.specs.Mendable.{IsAllTrue, IsShadowZero}
-use Rattle.pmem_engine.proofs.Laws.MendableLaws.{is_named-zero, IsMendable-mending, line_at-shadow_of, shadow_of-same}
+use Rattle.pmem_engine.proofs.Laws.MendableLaws.{is_doubted-zero, IsMendable-mending, line_at-shadow_of, shadow_of-same}
 use Rattle.pmem_recovery.specs.declared.entries.MadeEntry.{MadeEntry}
 use Rattle.pmem_recovery.specs.Fixed.{fixed_line, found_root}
 use Rattle.pmem_recovery.specs.Upward.{is_other, IsBefore, IsMadeLine, AreMade}
@@ -39,12 +39,12 @@ not_both la lb a b (inr h) (inr k) = omega (arith, h.1, k.1)
 abbrev no_entry : MadeEntry
 no_entry = record { at = 0; line = record { 0 = [] }; changed = false }
 
--- where the shadow lines are zero from the start, nothing is made
-nothing_made : (setup : Setup) (lines : List Line) (regs : Regs) (done : ℕ → Type 0) (made : List MadeEntry) → IsShadowZero setup lines → AreMade setup lines regs done made → made ≡ []
-nothing_made setup lines regs done [] z m = refl
-nothing_made setup lines regs done (entry ∷ made) z m =
+-- if there are shadow tables and their lines are zero from the start, nothing is made
+nothing_made : (setup : Setup) (lines : List Line) (regs : Regs) (done : ℕ → Type 0) (made : List MadeEntry) → setup.shape.shadow ≡ true → IsShadowZero setup lines → AreMade setup lines regs done made → made ≡ []
+nothing_made setup lines regs done [] tables z m = refl
+nothing_made setup lines regs done (entry ∷ made) tables z m =
     let line = All-head (IsMadeLine setup lines regs) entry made m.each in
-    absurd (false≢true (sym (is_named-zero setup lines entry.at z) ∙ line.named))
+    absurd (false≢true (sym (is_doubted-zero setup lines entry.at tables z) ∙ line.named))
 
 module _ (setup : Setup) (lines : List Line) (regs : Regs) (shadow : List Line) (made : List MadeEntry) (all : HasMadeAll setup lines regs shadow made) where
   abbrev g : Shape
@@ -129,12 +129,12 @@ module _ (setup : Setup) (lines : List Line) (regs : Regs) (shadow : List Line) 
       compared k (inr z) =
           z.changed ∙ ap (λ n. is_other (line_at lines n) zero_line) (sym z.place) ∙ ap (is_other (line_at lines (due k).place)) (sym z.line)
 
-  -- where the shadow lines are zero none is made
-  pub none_changed : IsShadowZero setup lines → (k : ℕ) → k ≤ length made + layout.shadow_lines setup.shape → count_changed (writes_due setup.shape shadow made) k ≡ 0
-  none_changed cleared k few = count_changed-none due k (λ j low. same j (which j (omega (arith, low, few))))
+  -- if there are shadow lines and all are zero, none is made
+  pub none_changed : setup.shape.shadow ≡ true → IsShadowZero setup lines → (k : ℕ) → k ≤ length made + layout.shadow_lines setup.shape → count_changed (writes_due setup.shape shadow made) k ≡ 0
+  none_changed tables cleared k few = count_changed-none due k (λ j low. same j (which j (omega (arith, low, few))))
     where
       empty : length made ≡ 0
-      empty = ap length (nothing_made setup lines regs (λ x. layout.level_start 0 ≤ x) made cleared all.all_made)
+      empty = ap length (nothing_made setup lines regs (λ x. layout.level_start 0 ≤ x) made tables cleared all.all_made)
 
       same : (j : ℕ) → IsMadeWrite j ⊎ IsZeroWrite j → (due j).changed ≡ false
       same j (inl m) = absurd (omega (arith, m.inside, empty))
@@ -172,17 +172,17 @@ module _ (setup : Setup) (lines : List Line) (regs : Regs) (shadow : List Line) 
         other j less e (inl m) = apart j less m.inside (omega (arith, e, m.place))
         other j less e (inr z) = omega (arith, e, z.place, on_tree)
 
-    as_unnamed : (x : ℕ) → x < layout.meta_lines setup.shape → is_named setup.shape lines x ≡ false → stored_meta setup.shape now x ≡ stored_meta setup.shape lines x
+    as_unnamed : (x : ℕ) → x < layout.meta_lines setup.shape → is_doubted setup.shape lines x ≡ false → stored_meta setup.shape now x ≡ stored_meta setup.shape lines x
     as_unnamed x on_tree none =
         as_read x on_tree
-        (λ j less inside same. true≢false (sym (all.all_made.each j no_entry inside).named ∙ ap (is_named g lines) same ∙ none))
+        (λ j less inside same. true≢false (sym (all.all_made.each j no_entry inside).named ∙ ap (is_doubted g lines) same ∙ none))
 
-    -- the write of a named position
+    -- the write of a doubted position
     record IsWriteOf (x j : ℕ) : Type 0 where
       pub inside : j < length made
       pub here : (get_or made j no_entry).at ≡ x
 
-    write_of : (x : ℕ) → x < layout.meta_lines setup.shape → is_named setup.shape lines x ≡ true → (j : ℕ) × IsWriteOf x j
+    write_of : (x : ℕ) → x < layout.meta_lines setup.shape → is_doubted setup.shape lines x ≡ true → (j : ℕ) × IsWriteOf x j
     write_of x on_tree named =
         let found = Any-from_list_any (λ e. eqb e.at x) made (all.all_made.every x on_tree (omega arith) named) in
         let entry : MadeEntry = found.1 in
@@ -198,9 +198,9 @@ module _ (setup : Setup) (lines : List Line) (regs : Regs) (shadow : List Line) 
     -- ---- all lines made are written
 
     pub all_fixed : length made ≤ k → (x : ℕ) → x < layout.meta_lines setup.shape → stored_meta setup.shape now x ≡ fixed_line setup lines regs x
-    all_fixed up x on_tree = go (is_named g lines x) refl
+    all_fixed up x on_tree = go (is_doubted g lines x) refl
       where
-        go : (b : Bool) → is_named g lines x ≡ b → stored_meta g now x ≡ fixed_line setup lines regs x
+        go : (b : Bool) → is_doubted g lines x ≡ b → stored_meta g now x ≡ fixed_line setup lines regs x
         go true q = let f = write_of x on_tree q in fixed_at x f.0 f.1 (omega (arith, f.1.inside, up))
         go false q = as_unnamed x on_tree q ∙ sym (fixed_line-unnamed setup lines regs x q)
 
@@ -213,7 +213,7 @@ module _ (setup : Setup) (lines : List Line) (regs : Regs) (shadow : List Line) 
     pub still_mendable : (ledger : LedgerState) → IsShape setup.shape → IsMendable setup lines regs ledger → IsMendable setup now regs ledger
     still_mendable ledger shape d =
         IsMendable-mending setup lines now regs ledger
-        (record { same_data = data_same; same_or_true = λ x h. at x h (is_named g lines x) refl; same_names_or_true = names (cases_lt (length made) k) })
+        (record { same_data = data_same; same_or_true = λ x h. at x h (is_doubted g lines x) refl; same_names_or_true = names (cases_lt (length made) k) })
         d
       where
         by_place : (x j : ℕ) → x < layout.meta_lines g → IsWriteOf x j → (j < k) ⊎ (k ≤ j) → (stored_meta g now x ≡ stored_meta g lines x) ⊎ (stored_meta g now x ≡ line_at ledger.truth x)
@@ -221,7 +221,7 @@ module _ (setup : Setup) (lines : List Line) (regs : Regs) (shadow : List Line) 
         by_place x j h f (inr le) =
             inl (as_read x h (λ i less inside same. all.all_made.distinct i j no_entry (omega arith) f.inside (same ∙ sym f.here)))
 
-        at : (x : ℕ) → x < layout.meta_lines g → (b : Bool) → is_named g lines x ≡ b → (stored_meta g now x ≡ stored_meta g lines x) ⊎ (stored_meta g now x ≡ line_at ledger.truth x)
+        at : (x : ℕ) → x < layout.meta_lines g → (b : Bool) → is_doubted g lines x ≡ b → (stored_meta g now x ≡ stored_meta g lines x) ⊎ (stored_meta g now x ≡ line_at ledger.truth x)
         at x h true q = let f = write_of x h q in by_place x f.0 h f.1 (cases_lt f.0 k)
         at x h false q = inl (as_unnamed x h q)
 
@@ -238,7 +238,7 @@ module _ (setup : Setup) (lines : List Line) (regs : Regs) (shadow : List Line) 
     before_next less =
         record {
           root = all.has_root;
-          fixed = λ x h before. fixed x h before (is_named g lines x) refl;
+          fixed = λ x h before. fixed x h before (is_doubted g lines x) refl;
           others = λ x h not.
               as_read x h (λ j low inside same. not (subst (λ a. IsBefore a next) same (all.all_made.in_order j k no_entry low less)));
           shadow_kept = λ m small. shadow_same (layout.shadow_line g m) (omega arith) (omega arith);
@@ -259,14 +259,14 @@ module _ (setup : Setup) (lines : List Line) (regs : Regs) (shadow : List Line) 
                 let itself : IsBefore x x = subst (IsBefore x) its before in
                 not_both (level_of x) (level_of x) x x itself itself
 
-        fixed : (x : ℕ) → x < layout.meta_lines g → IsBefore x next → (b : Bool) → is_named g lines x ≡ b → stored_meta g now x ≡ fixed_line setup lines regs x
+        fixed : (x : ℕ) → x < layout.meta_lines g → IsBefore x next → (b : Bool) → is_doubted g lines x ≡ b → stored_meta g now x ≡ fixed_line setup lines regs x
         fixed x h before true q = let f = write_of x h q in fixed_at x f.0 f.1 (made_before x f.0 f.1 before (cases_lt f.0 k))
         fixed x h before false q = as_unnamed x h q ∙ sym (fixed_line-unnamed setup lines regs x q)
 
     pub its_front : IsFrontWritten setup lines regs now
     its_front = inr (go (cases_lt k (length made)))
       where
-        go : (k < length made) ⊎ (length made ≤ k) → ((next : ℕ) × (is_named g lines next ≡ true) × AreWrittenBefore setup lines regs next now) ⊎ ((n : ℕ) × AreClearedTo setup lines regs n now)
+        go : (k < length made) ⊎ (length made ≤ k) → ((next : ℕ) × (is_doubted g lines next ≡ true) × AreWrittenBefore setup lines regs next now) ⊎ ((n : ℕ) × AreClearedTo setup lines regs n now)
         go (inl less) = inl ((get_or made k no_entry).at, (all.all_made.each k no_entry less).named, before_next less)
         go (inr up) =
             inr (
@@ -285,6 +285,13 @@ module _ (setup : Setup) (lines : List Line) (regs : Regs) (now : List Line) whe
   pub partly-data : (n : ℕ) → IsPartlyMended setup lines regs now → n < 80 * layout.pages setup.shape → line_at now n ≡ line_at lines n
   partly-data n (inl same) low = ap (λ l. line_at l n) same
   partly-data n (inr (shadow, made, k, w)) low = data_same setup lines regs shadow made w.all k now w n low
+
+  -- a line of a strict level is as it was
+  pub partly-strict : (x : ℕ) → IsPartlyMended setup lines regs now → x < layout.meta_lines setup.shape → is_lazy setup.shape (level_of x) ≡ false
+      → stored_meta setup.shape now x ≡ stored_meta setup.shape lines x
+  partly-strict x (inl same) on_tree strict = ap (λ l. stored_meta setup.shape l x) same
+  partly-strict x (inr (shadow, made, k, w)) on_tree strict =
+      as_unnamed setup lines regs shadow made w.all k now w x on_tree (and_left (is_lazy setup.shape (level_of x)) _ strict)
 
   pub partly-mendable : (ledger : LedgerState) → IsShape setup.shape → IsMendable setup lines regs ledger → IsPartlyMended setup lines regs now → IsMendable setup now regs ledger
   partly-mendable ledger shape d (inl same) = subst (λ l. IsMendable setup l regs ledger) (sym same) d

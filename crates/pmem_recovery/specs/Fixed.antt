@@ -1,4 +1,4 @@
--- The metadata that recovery makes, from the top down: a named block is made again, any other is the device's.
+-- The metadata that recovery makes, from the top down: a doubted block is made again, any other is the device's.
 use Rattle.std.specs.Prelude.{ℕ, zero, suc, ◌+◌, ◌-◌, ◌*◌, List, map, slice_get, unwrap_or, if◌then◌else◌}
 use Rattle.std.specs.List.{range_with_len}
 use Rattle.pmem_base.specs.declared.lines.Line.{Line}
@@ -8,7 +8,7 @@ use Rattle.split_counters.specs.Blocks.{packed}
 use Rattle.bonsai_tree.specs.Positions.{level_of, counter_position}
 use Rattle.bonsai_tree.specs.Nodes.{node_over}
 use Rattle.suite.specs.Setup.{Setup}
-use Rattle.pmem_engine.specs.Invariants.{stored_meta, is_named}
+use Rattle.pmem_engine.specs.Invariants.{stored_meta, is_doubted}
 use Rattle.pmem_recovery.specs.Trials.{stored_block, tried_minors}
 
 -- the minor of a line by its trials
@@ -25,11 +25,11 @@ fixed_block setup lines regs page =
 -- the line x, which has j levels below it
 abbrev pub fixed_line_above : Setup → List Line → Regs → ℕ → ℕ → Line
 fixed_line_above setup lines regs zero x =
-    if is_named setup.shape lines x
+    if is_doubted setup.shape lines x
     then packed (fixed_block setup lines regs (x - counter_position setup.shape 0))
     else stored_meta setup.shape lines x
 fixed_line_above setup lines regs (suc j) x =
-    if is_named setup.shape lines x
+    if is_doubted setup.shape lines x
     then node_over setup.formulas x (fixed_line_above setup lines regs j)
     else stored_meta setup.shape lines x
 

@@ -17,7 +17,7 @@ use Rattle.collision_witness.specs.Exhibits.{IsExhibit}
 use Rattle.call_effects.specs.SuiteStates.{SuiteState}
 use Rattle.pmem_recovery.specs.declared.faults.RecFault.{RecFault}
 use Rattle.pmem_recovery.specs.declared.faults.RecFault.TheVariants.{Memory, Cut, NoCounter, Root, Twin}
-use Rattle.pmem_recovery.specs.Named.{count_named}
+use Rattle.pmem_recovery.specs.Named.{count_doubted}
 use Rattle.pmem_recovery.specs.Trials.{stored_block, tried_minors, first_undecided, trials_below}
 use Rattle.pmem_recovery.specs.Fixed.{found_root}
 
@@ -157,9 +157,9 @@ IsRefusal setup lines regs (Twin at major low high cipher tag) =
 
 -- ---- how much is tried before it stops
 
--- all digests of a recovery: four for each named node, and the top line's
+-- all digests of a recovery: four for each doubted node, and the top line's
 abbrev pub all_digests : Shape → List Line → ℕ
-all_digests g lines = 4 * count_named g (shadow_of g lines) 0 (level_start g.levels) + 1
+all_digests g lines = 4 * count_doubted g (shadow_of g lines) 0 (level_start g.levels) + 1
 
 -- the trials and digests of a recovery that is cut: the lines up to one are tried, and digests are made once all are
 pub record IsCutWork (g : Shape) (lines : List Line) (regs : Regs) (trials digests : ℕ) : Type 0 where

@@ -29,7 +29,7 @@ use Rattle.pmem_recovery.specs.declared.entries.MadeEntry.{MadeEntry}
 use Rattle.call_effects.specs.declared.recovery.Work.{Work}
 use Rattle.pmem_recovery.specs.declared.faults.RecFault.{RecFault}
 use Rattle.pmem_recovery.specs.declared.faults.RecFault.TheVariants as Fault
-use Rattle.pmem_recovery.specs.Named.{names}
+use Rattle.pmem_recovery.specs.Named.{doubts}
 use Rattle.pmem_recovery.specs.Upward.{line_made, is_other}
 use Rattle.call_effects.specs.SuiteStates.{SuiteState}
 use Rattle.pmem_recovery.specs.Parts.{decided_of}
@@ -67,9 +67,9 @@ after_tags n counts = suite_counts (risen_times n counts.tags) counts.digests
 abbrev pub after_digest : SuiteCounts → SuiteCounts
 after_digest counts = suite_counts counts.tags (risen counts.digests)
 
--- the named positions from a on and below b, upwards
-abbrev pub named_positions : Shape → List Line → ℕ → ℕ → List ℕ
-named_positions g shadow a b = filter (λ x. names g shadow x) (range_with_len a (b - a))
+-- the doubted positions from a on and below b, upwards
+abbrev pub doubted_positions : Shape → List Line → ℕ → ℕ → List ℕ
+doubted_positions g shadow a b = filter (λ x. doubts g shadow x) (range_with_len a (b - a))
 
 -- what is made for position x, whose line was read
 abbrev pub made_over : ℕ → Line → Line → MadeEntry
@@ -118,7 +118,7 @@ held_or_tried setup loss stored at counts None =
 abbrev pub trial_plan : Setup → Regs → Block → ℕ → SuiteCounts → Plan (SuiteCounts × RecFault) (SuiteCounts × (ℕ × ℕ))
 trial_plan setup regs stored at counts = held_or_tried setup regs.loss stored at counts (register_held regs.progress.items at)
 
--- ---- the named counter blocks
+-- ---- the doubted counter blocks
 
 -- line i of a page, whose minor takes its place in the block
 abbrev pub minor_turn : Setup → Regs → Block → ℕ → ℕ → SuiteCounts × (Block × ℕ) → Plan (SuiteCounts × RecFault) (SuiteCounts × (Block × ℕ))
@@ -141,13 +141,13 @@ fixed_block_plan setup regs x at =
 abbrev pub block_turn : Setup → Regs → ℕ → RecoveryParts × ℕ → Plan (RecoveryParts × RecFault) (RecoveryParts × ℕ)
 block_turn setup regs x before = mapped (λ left. left) (λ end. (end.0, before.1 + end.1)) (fixed_block_plan setup regs x before.0)
 
--- all named ones, upwards; the answer is the number of trials
+-- all doubted ones, upwards; the answer is the number of trials
 abbrev pub blocks_plan : Setup → Regs → List Line → RecoveryParts → Plan (RecoveryParts × RecFault) (RecoveryParts × ℕ)
 blocks_plan setup regs shadow at =
     for_each (block_turn setup regs)
-    (named_positions setup.shape shadow (level_start setup.shape.levels) (layout.meta_lines setup.shape)) (at, 0)
+    (doubted_positions setup.shape shadow (level_start setup.shape.levels) (layout.meta_lines setup.shape)) (at, 0)
 
--- ---- the named nodes
+-- ---- the doubted nodes
 
 -- the line made for a position, or the device's, which is read
 unfoldable pub line_made_or : Shape → ℕ → Option Line → Plan Cut Line
@@ -180,10 +180,10 @@ fixed_node_plan setup x at =
 abbrev pub node_turn : Setup → ℕ → RecoveryParts × ℕ → Plan (RecoveryParts × Cut) (RecoveryParts × ℕ)
 node_turn setup x before = mapped (λ left. left) (λ end. (end.0, before.1 + 4)) (fixed_node_plan setup x before.0)
 
--- the named ones of a level, upwards; the answer is the number of digests
+-- the doubted ones of a level, upwards; the answer is the number of digests
 abbrev pub fixed_level_plan : Setup → List Line → ℕ → RecoveryParts → Plan (RecoveryParts × Cut) (RecoveryParts × ℕ)
 fixed_level_plan setup shadow level at =
-    for_each (node_turn setup) (named_positions setup.shape shadow (level_start level) (level_start (level + 1))) (at, 0)
+    for_each (node_turn setup) (doubted_positions setup.shape shadow (level_start level) (level_start (level + 1))) (at, 0)
 
 abbrev pub level_turn : Setup → List Line → ℕ → RecoveryParts × ℕ → Plan (RecoveryParts × Cut) (RecoveryParts × ℕ)
 level_turn setup shadow above before =

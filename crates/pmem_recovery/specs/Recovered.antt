@@ -1,12 +1,14 @@
 -- What recovery answers, and what it has done then: to the device, to the suite's counts, and to the lines.
-use Rattle.std.specs.Prelude.{ℕ, ◌≡◌, ◌≤◌, ◌<◌, ◌+◌, ◌*◌, ◌⊎◌, List, [], Result, Ok, Err, IfOk, OnOk, IfErr, length, is_some, ⊤}
+use Rattle.std.specs.Prelude.{ℕ, ◌≡◌, ◌≤◌, ◌<◌, ◌+◌, ◌*◌, ◌⊎◌, true, false, List, [], Result, Ok, Err, IfOk, OnOk, IfErr, length, is_some, ⊤}
 use Rattle.pmem_base.specs.declared.lines.Line.{Line}
 use Rattle.pmem_base.specs.declared.registers.Regs.{Regs}
 use Rattle.pmem_base.specs.declared.answers.Exhibit.TheVariants as Exhibit
+use Rattle.pmem_base.specs.Shape.{is_lazy}
 use Rattle.pmem_base.specs.Layout as layout
 use Rattle.pmem_base.specs.Lines.{line_at}
 use Rattle.pmem_base.specs.Registers.{IsValidRegs, without_group}
 use Rattle.pmem_base.specs.Counts.{risen_times}
+use Rattle.bonsai_tree.specs.Positions.{level_of}
 use Rattle.board.specs.Counts.{RisesBy}
 use Rattle.board.specs.Device.{Device}
 use Rattle.call_plan.specs.Plans.{ended}
@@ -15,6 +17,7 @@ use Rattle.commit_regs.specs.Groups.{redone, redone_told, finishing_latches, Ris
 use Rattle.shadow_tables.specs.Entries.{shadow_of}
 use Rattle.suite.specs.Formulas.{Formulas}
 use Rattle.suite.specs.Setup.{Setup}
+use Rattle.plain_model.specs.Bounds.{most_blocks, most_nodes}
 use Rattle.seal_ledger.specs.Ledger.{LedgerState}
 use Rattle.collision_witness.specs.Exhibits.{IsExhibit}
 use Rattle.pmem_engine.specs.Engine.{EngineState, on_chip}
@@ -27,9 +30,9 @@ use Rattle.pmem_recovery.specs.declared.faults.RecFault.TheVariants.{Memory, Cut
 use Rattle.pmem_recovery.specs.Trials.{IsTwinOfLastSeal}
 use Rattle.call_effects.specs.SuiteStates.{SuiteState}
 use Rattle.pmem_recovery.specs.Parts.{IfLinesTold, IsUncut, IsCutOff, HasRoot, IsRefusal, IsAllWork, StoppedWork}
-use Rattle.pmem_recovery.specs.Reads.{all_reads, named_reads, IsReadUntil}
+use Rattle.pmem_recovery.specs.Reads.{all_reads, doubted_reads, IsReadUntil}
 use Rattle.pmem_recovery.specs.Writing.{IfBothLinesTold, differing}
-use Rattle.pmem_recovery.specs.Mending.{most_reads, most_writes}
+use Rattle.pmem_recovery.specs.Mending.{most_reads, most_writes, MayLackSteps}
 use Rattle.pmem_recovery.specs.Fronts.{IsFrontWritten, AreFixed}
 use Rattle.pmem_recovery.specs.Plans.{counts_of, recover_plan}
 
@@ -70,10 +73,12 @@ abbrev pub most_recovery_steps : Setup → Regs → ℕ
 most_recovery_steps setup regs =
     length regs.group.items + finishing_latches regs.group.items + most_writes setup.shape
 
--- at most that many; a cut comes at a step that isn't taken, so before all of them were
-abbrev pub StepsAfter : Answer → ℕ → Device → Device → Type 0
-StepsAfter (Err Cut) most old new = TakesFewer most old new
-StepsAfter answer most old new = TakesAtMost most old new
+-- At most that many. A cut comes at a step that isn't taken, so before all of them were: on a board with power, and on any
+-- if lines may have to be written. (A board without power is cut at a read, where no step may be due.)
+abbrev pub StepsAfter : Setup → Answer → ℕ → Device → Device → Type 0
+StepsAfter setup (Err Cut) most old new =
+    TakesAtMost most old new × (MayLackSteps setup.shape old → TakesFewer most old new)
+StepsAfter setup answer most old new = TakesAtMost most old new
 
 -- ---- the suite
 
@@ -110,10 +115,11 @@ ReadsAfter setup lines regs (Ok done) before after =
 ReadsAfter setup lines regs (Err fault) before after =
     IsReadUntil setup.shape (shadow_of setup.shape lines) regs fault before after
 
--- the work is bounded by the number of slots and by the stop-loss number, and not by that of lines
+-- the work is bounded by how many blocks may be doubted and by the stop-loss number; with shadow tables not by the number
+-- of lines
 pub record IsFewWork (setup : Setup) (loss : ℕ) (work : Work) : Type 0 where
-  pub trials : work.trials ≤ 64 * loss * layout.slots setup.shape
-  pub digests : work.digests ≤ 4 * setup.shape.levels * layout.slots setup.shape + 1
+  pub trials : work.trials ≤ 64 * loss * most_blocks setup.shape
+  pub digests : work.digests ≤ 4 * most_nodes setup.shape + 1
 
 -- ---- the answers
 
@@ -161,6 +167,10 @@ pub record HasMended (setup : Setup) (ledger : LedgerState) (old new : Device) (
       (a : ℕ) → a < layout.data_lines setup.shape
       → IsSealStored setup.shape (redone old.regs.group.items lines) ledger.marks a
       → IsSealStored setup.shape (redone new.regs.group.items now) ledger.marks a
+  pub strict_same :
+      (x : ℕ) → x < layout.meta_lines setup.shape → is_lazy setup.shape (level_of x) ≡ false
+      → stored_meta setup.shape (redone new.regs.group.items now) x
+      ≡ stored_meta setup.shape (redone old.regs.group.items lines) x
   pub front :
       IsFrontWritten setup (redone old.regs.group.items lines) old.regs (redone new.regs.group.items now)
   pub fixed : OnOk answer (AreFixed setup (redone old.regs.group.items lines) old.regs now)
@@ -173,7 +183,7 @@ pub record HasMended (setup : Setup) (ledger : LedgerState) (old new : Device) (
       (length old.regs.group.items + differing (redone old.regs.group.items lines) now)
       old.writes new.writes
   pub no_steps :
-      old.regs.group.items ≡ [] → IsShadowZero setup lines
+      setup.shape.shadow ≡ true → old.regs.group.items ≡ [] → IsShadowZero setup lines
       → (new.writes ≡ old.writes) × (new.latches ≡ old.latches)
 
 -- ---- the plan
@@ -194,7 +204,7 @@ pub record HasRecovered (setup : Setup) (ledger : LedgerState) (old new : Device
   pub reads : RisesAtMost (most_reads setup.shape) old.reads new.reads
   pub few_reads :
       IfLinesTold old.lines
-      (λ lines. RisesAtMost (named_reads setup.shape (shadow_of setup.shape (redone old.regs.group.items lines))) old.reads new.reads)
+      (λ lines. RisesAtMost (doubted_reads setup.shape (shadow_of setup.shape (redone old.regs.group.items lines))) old.reads new.reads)
   pub exact_reads :
       IfLinesTold old.lines
       (λ lines. ReadsAfter setup (redone old.regs.group.items lines) old.regs answer old.reads new.reads)
@@ -205,7 +215,7 @@ pub record HasRecovered (setup : Setup) (ledger : LedgerState) (old new : Device
   pub writes :
       RisesAtMost (length old.regs.group.items + most_writes setup.shape) old.writes new.writes
   pub latches : RisesAtMost (finishing_latches old.regs.group.items) old.latches new.latches
-  pub steps : StepsAfter answer (most_recovery_steps setup old.regs) old new
+  pub steps : StepsAfter setup answer (most_recovery_steps setup old.regs) old new
   pub keys : suite_new.keys ≡ suite_old.keys
   pub pads : suite_new.pads ≡ suite_old.pads
   pub trials : TrialsCounted answer suite_old.tags suite_new.tags
@@ -216,9 +226,9 @@ pub record HasRecovered (setup : Setup) (ledger : LedgerState) (old new : Device
       (λ lines. WorkAfter setup (redone old.regs.group.items lines) old.regs answer suite_old suite_new)
   pub few_work : IfOk answer (λ done. IsFewWork setup old.regs.loss done.1)
   pub few_trials :
-      CountsAtMost (64 * old.regs.loss * layout.slots setup.shape) suite_old.tags suite_new.tags
+      CountsAtMost (64 * old.regs.loss * most_blocks setup.shape) suite_old.tags suite_new.tags
   pub few_digests :
-      CountsAtMost (4 * setup.shape.levels * layout.slots setup.shape + 1)
+      CountsAtMost (4 * most_nodes setup.shape + 1)
       suite_old.digests suite_new.digests
   pub anchored : IsAnchored setup old.regs ledger → IsAnchored setup new.regs ledger
   pub engine : IfOk answer (λ done. done.0 ≡ new_engine setup.shape)

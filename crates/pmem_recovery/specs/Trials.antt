@@ -17,7 +17,7 @@ use Rattle.pmem_engine.specs.Truth.{true_block}
 use Rattle.bonsai_tree.specs.Positions.{counter_position}
 use Rattle.page_reencrypt.specs.Registers.{register_held}
 use Rattle.suite.specs.Setup.{Setup}
-use Rattle.pmem_engine.specs.Invariants.{stored_meta, is_named}
+use Rattle.pmem_engine.specs.Invariants.{stored_meta, is_doubted}
 
 -- the minors that a stored one may stand for: up to the end of its window of the stop-loss number
 abbrev pub window_of : ℕ → ℕ → List ℕ
@@ -41,13 +41,13 @@ minors_tried setup lines loss a None stored =
     filter (λ minor. is_tag_met setup lines a (record { major = stored.major; minor = minor }))
     (window_of (slice_index stored.minors (index_in_page a)) loss)
 
--- the minors that line a may have, if its counter block is named
+-- the minors that line a may have, if its counter block is doubted
 abbrev pub tried_minors : Setup → List Line → Regs → ℕ → List ℕ
 tried_minors setup lines regs a =
     minors_tried setup lines regs.loss a (register_held regs.progress.items a)
     (stored_block setup.shape lines (page_of a))
 
--- the minors that are tried for line a if its counter block is named: those of its window, or none if a register holds it
+-- the minors that are tried for line a if its counter block is doubted: those of its window, or none if a register holds it
 abbrev pub candidates : ℕ → Option Progress → ℕ → List ℕ
 candidates loss (Some register) minor = []
 candidates loss None minor = window_of minor loss
@@ -60,21 +60,21 @@ candidates_of g lines regs a =
 -- how many minors are tried for line a
 unfoldable pub trials_of : Shape → List Line → Regs → ℕ → ℕ
 trials_of g lines regs a =
-    if is_named g lines (counter_position g (page_of a)) then length (candidates_of g lines regs a) else 0
+    if is_doubted g lines (counter_position g (page_of a)) then length (candidates_of g lines regs a) else 0
 
 -- and for the lines below a
 unfoldable pub trials_below : Shape → List Line → Regs → ℕ → ℕ
 trials_below g lines regs zero = 0
 trials_below g lines regs (suc a) = trials_below g lines regs a + trials_of g lines regs a
 
--- the pages whose counter block is named, upwards
-abbrev pub named_pages : Shape → List Line → List ℕ
-named_pages g lines =
-    filter (λ page. is_named g lines (counter_position g page)) (range_with_len 0 (layout.pages g))
+-- the pages whose counter block is doubted, upwards
+abbrev pub doubted_pages : Shape → List Line → List ℕ
+doubted_pages g lines =
+    filter (λ page. is_doubted g lines (counter_position g page)) (range_with_len 0 (layout.pages g))
 
 -- the lines that are tried, by pages and lines upwards
 abbrev pub lines_tried : Shape → List Line → List ℕ
-lines_tried g lines = flat_map (λ page. range_with_len (64 * page) 64) (named_pages g lines)
+lines_tried g lines = flat_map (λ page. range_with_len (64 * page) 64) (doubted_pages g lines)
 
 -- the first of them that doesn't have exactly one minor
 abbrev pub first_undecided : Setup → List Line → Regs → Option ℕ
@@ -98,8 +98,8 @@ pub record IsTwinOfLastSeal (loss : ℕ) (ledger : LedgerState) (a major low hig
   pub high_in_window :
       option_map (λ seal. seal.ctr.minor / loss) (last_seal ledger.marks a) ≡ Some (high / loss)
 
--- each line of the named pages below this one has one minor
+-- each line of the doubted pages below this one has one minor
 pub record AreDecided (setup : Setup) (lines : List Line) (regs : Regs) (below : ℕ) : Type 0 where
   pub each :
-      (page : ℕ) → page < below → is_named setup.shape lines (counter_position setup.shape page) ≡ true
+      (page : ℕ) → page < below → is_doubted setup.shape lines (counter_position setup.shape page) ≡ true
       → (i : ℕ) → i < 64 → length (tried_minors setup lines regs (64 * page + i)) ≡ 1

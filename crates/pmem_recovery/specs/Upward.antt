@@ -11,7 +11,7 @@ use Rattle.split_counters.specs.Blocks.{packed}
 use Rattle.bonsai_tree.specs.Positions.{counter_position, level_of}
 use Rattle.bonsai_tree.specs.Nodes.{node_over}
 use Rattle.suite.specs.Setup.{Setup}
-use Rattle.pmem_engine.specs.Invariants.{stored_meta, is_named}
+use Rattle.pmem_engine.specs.Invariants.{stored_meta, is_doubted}
 use Rattle.pmem_recovery.specs.declared.entries.MadeEntry.{MadeEntry}
 use Rattle.pmem_recovery.specs.Fixed.{fixed_block, fixed_line}
 
@@ -44,11 +44,11 @@ abbrev pub node_made : Setup → List Line → List MadeEntry → ℕ → MadeEn
 node_made setup lines made x =
     made_entry setup.shape lines x (node_over setup.formulas x (made_or_stored setup.shape lines made))
 
--- a line made for a named position of the tree: the fixed line there
+-- a line made for a doubted position of the tree: the fixed line there
 pub record IsMadeLine (setup : Setup) (lines : List Line) (regs : Regs) (entry : MadeEntry) :
     Type 0 where
   pub on_tree : entry.at < layout.meta_lines setup.shape
-  pub named : is_named setup.shape lines entry.at ≡ true
+  pub named : is_doubted setup.shape lines entry.at ≡ true
   pub fixed : entry.line ≡ fixed_line setup lines regs entry.at
   pub compared : entry.changed ≡ is_other (stored_meta setup.shape lines entry.at) entry.line
 
@@ -56,7 +56,7 @@ pub record IsMadeLine (setup : Setup) (lines : List Line) (regs : Regs) (entry :
 abbrev pub IsBefore : ℕ → ℕ → Type 0
 IsBefore a b = (level_of b < level_of a) ⊎ ((level_of a ≡ level_of b) × (a < b))
 
--- of the positions that are done, each named one has one line made for it, in order, and no other position has one
+-- of the positions that are done, each doubted one has one line made for it, in order, and no other position has one
 pub record AreMade (setup : Setup) (lines : List Line) (regs : Regs) (done : ℕ → Type 0)
     (made : List MadeEntry) : Type 0 where
   pub each : All (IsMadeLine setup lines regs) made
@@ -65,7 +65,7 @@ pub record AreMade (setup : Setup) (lines : List Line) (regs : Regs) (done : ℕ
   pub in_order : AllPairs (λ a b. IsBefore a.at b.at) made
   pub every :
       (x : ℕ) → x < layout.meta_lines setup.shape → done x
-      → is_named setup.shape lines x ≡ true → is_made made x ≡ true
+      → is_doubted setup.shape lines x ≡ true → is_made made x ≡ true
 
 -- the positions that are done once the levels below level i are, and level i before position m
 abbrev pub IsDoneTo : ℕ → ℕ → ℕ → Type 0

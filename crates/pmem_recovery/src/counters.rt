@@ -1,8 +1,9 @@
-//! The trials: the minors of the lines whose counter block is named.
-ghost use Rattle.std.specs.Prelude.{◌≡◌, ◌+◌, ◌*◌, ◌<◌, ◌≤◌, [], All, IsTrue, IfOk, OnOk, length, vec_len, vec_capacity};
+//! The trials: the minors of the lines whose counter block is doubted.
+ghost use Rattle.std.specs.Prelude.{◌≡◌, ◌+◌, ◌*◌, ◌<◌, ◌≤◌, [], All, IsTrue, IfOk, OnOk, length};
 ghost use Rattle.pmem_base.specs.Geo.{shape_of};
 ghost use Rattle.pmem_base.specs.Shape.{is_loss};
-ghost use Rattle.pmem_base.specs.Layout.{data_lines, meta_lines, pages, slots, device_lines, tag_line, shadow_lines};
+ghost use Rattle.pmem_base.specs.Layout.{data_lines, meta_lines, pages, device_lines, tag_line, shadow_lines};
+ghost use Rattle.plain_model.specs.Bounds.{most_blocks};
 ghost use Rattle.bonsai_tree.specs.Positions.{counter_position};
 ghost use Rattle.split_counters.specs.Blocks.{IsBlock};
 ghost use Rattle.stop_loss.specs.Windows.{minors_within};
@@ -13,8 +14,8 @@ ghost use Rattle.pmem_recovery.specs.Plans.{sealed_plan};
 ghost use Rattle.pmem_recovery.specs.Promised.{FollowsBlocks, FollowsBlock, FollowsMinors, FollowsTrial, DecidesMinor, IsMinorFound};
 
 use crate::RecFault;
-use crate::entries::{MadeEntry, is_other};
-use crate::tables::next_named;
+use crate::entries::{MadeEntry, MadeLines, is_other};
+use crate::tables::next_doubted;
 use board::Board;
 use line_seal::tag_at;
 use page_reencrypt::is_left;
@@ -23,64 +24,70 @@ use split_counters::{Block, pack, unpack};
 use stop_loss::{Found, find, window};
 use suite::Suite;
 
-/// Makes the lines of all named counter blocks, upwards. The answer is the number of trials.
+/// Makes the lines of all doubted counter blocks, upwards. The answer is the number of trials.
 pub(crate) fn fix_counters<B: Board, S: Suite>(
     board: &mut B,
     suite: &mut S,
     geo: &Geo,
     regs: &Regs,
     shadow: &[Line],
-    made: &mut Vec<MadeEntry>,
+    made: &mut MadeLines,
 ) -> Result<u64, RecFault>
     requires size { (B.device board.old).size ≡ device_lines (shape_of geo.now) }
     requires loss { IsTrue (is_loss regs.now.loss) }
     requires shadow { length shadow.now ≡ shadow_lines (shape_of geo.now) }
-    requires empty { made.old.items ≡ [] }
-    requires room { slots (shape_of geo.now) ≤ vec_capacity made.old }
-    ensures few_made { OnOk result (length made.new.items ≤ slots (shape_of geo.now)) }
-    ensures capacity { vec_capacity made.new ≡ vec_capacity made.old }
+    requires empty { made.old.entries ≡ [] }
+    requires room { most_blocks (shape_of geo.now) ≤ made.old.room }
+    requires few { made.old.room ≤ 65535 }
+    requires positions { made.old.positions ≡ meta_lines (shape_of geo.now) }
+    ensures few_made { OnOk result (length made.new.entries ≤ most_blocks (shape_of geo.now)) }
+    ensures capacity { made.new.room ≡ made.old.room }
+    ensures positions { made.new.positions ≡ made.old.positions }
     ensures keys { S.keys suite.new ≡ S.keys suite.old }
     ensures pads { S.pads suite.new ≡ S.pads suite.old }
     ensures plan { FollowsBlocks B.Board S.Suite geo.now board.old suite.old board.new suite.new
-        regs.now shadow.now made.old.items made.new.items result }
+        regs.now shadow.now made.old.entries made.new.entries result }
 {
     let mut from = (geo.pages() - 1) / 3;
     let mut trials = 0;
-    'positions: while let Some(x) = next_named(geo, shadow, geo.levels(), from, geo.metas()) {
+    'positions: while let Some(x) = next_doubted(geo, shadow, geo.levels(), from, geo.metas()) {
         trials += fix_counter(board, suite, geo, regs, x, made)?;
         from = x + 1;
     }
     Ok(trials)
 }
 
-/// Makes the line of a named counter block. The answer is the number of trials.
+/// Makes the line of a doubted counter block. The answer is the number of trials.
 fn fix_counter<B: Board, S: Suite>(
     board: &mut B,
     suite: &mut S,
     geo: &Geo,
     regs: &Regs,
     x: u32,
-    made: &mut Vec<MadeEntry>,
+    made: &mut MadeLines,
 ) -> Result<u64, RecFault>
     requires size { (B.device board.old).size ≡ device_lines (shape_of geo.now) }
     requires loss { IsTrue (is_loss regs.now.loss) }
     requires block { counter_position (shape_of geo.now) 0 ≤ x }
     requires position { x < meta_lines (shape_of geo.now) }
-    requires room { vec_len made.old < vec_capacity made.old }
+    requires room { length made.old.entries < made.old.room }
+    requires most { made.old.room ≤ 65535 }
+    requires positions { made.old.positions ≡ meta_lines (shape_of geo.now) }
     ensures few { IfOk result (λ trials. trials ≤ 64 * regs.now.loss) }
-    ensures longer { OnOk result (length made.new.items ≡ length made.old.items + 1) }
-    ensures capacity { vec_capacity made.new ≡ vec_capacity made.old }
+    ensures longer { OnOk result (length made.new.entries ≡ length made.old.entries + 1) }
+    ensures capacity { made.new.room ≡ made.old.room }
+    ensures positions { made.new.positions ≡ made.old.positions }
     ensures keys { S.keys suite.new ≡ S.keys suite.old }
     ensures pads { S.pads suite.new ≡ S.pads suite.old }
     ensures plan { FollowsBlock B.Board S.Suite geo.now board.old suite.old board.new suite.new
-        regs.now x made.old.items made.new.items result }
+        regs.now x made.old.entries made.new.entries result }
 {
     let read = board.read_line(geo.meta_line(x))?;
     read.is_whole();
     let page = x - (geo.pages() - 1) / 3;
     let (fixed, trials) = fix_minors(board, suite, geo, regs, page, &unpack(&read))?;
     let line = pack(&fixed);
-    made.push_reserved(MadeEntry {
+    made.push(MadeEntry {
         at: x,
         line,
         changed: is_other(&read, &line),

@@ -1,38 +1,41 @@
-//! The named nodes, from the lowest level up, and the root.
-ghost use Rattle.std.specs.Prelude.{suc, ◌≡◌, ◌+◌, ◌*◌, ◌<◌, ◌≤◌, IfOk, OnOk, length, vec_capacity};
+//! The doubted nodes, from the lowest level up, and the root.
+ghost use Rattle.std.specs.Prelude.{suc, ◌≡◌, ◌+◌, ◌*◌, ◌<◌, ◌≤◌, IfOk, OnOk, length};
 ghost use Rattle.pmem_base.specs.Geo.{shape_of};
 ghost use Rattle.pmem_base.specs.Layout.{meta_lines, device_lines, shadow_lines, level_start};
-ghost use Rattle.pmem_recovery.specs.Named.{count_named};
+ghost use Rattle.pmem_recovery.specs.Named.{count_doubted};
 ghost use Rattle.pmem_recovery.specs.Parts.{IsCompared};
 ghost use Rattle.call_plan.specs.Following.{Follows};
 ghost use Rattle.pmem_recovery.specs.Plans.{made_plan};
 ghost use Rattle.pmem_recovery.specs.Promised.{FollowsNodes, FollowsLevel, FollowsNode, FollowsChildren, FollowsRoot};
 
 use crate::RecFault;
-use crate::entries::{MadeEntry, is_other, line_made};
-use crate::tables::next_named;
+use crate::entries::{MadeEntry, MadeLines, first_of_level, is_other};
+use crate::tables::next_doubted;
 use board::Board;
 use bonsai_tree::node_of;
 use pmem_base::{Cut, Geo, Line, Regs, Tag};
 use suite::Suite;
 
-/// Makes the lines of all named nodes, over the counter blocks made. The answer is the number of
+/// Makes the lines of all doubted nodes, over the counter blocks made. The answer is the number of
 /// digests.
 pub(crate) fn fix_nodes<B: Board, S: Suite>(
     board: &mut B,
     suite: &mut S,
     geo: &Geo,
     shadow: &[Line],
-    made: &mut Vec<MadeEntry>,
+    made: &mut MadeLines,
 ) -> Result<u64, Cut>
     requires size { (B.device board.old).size ≡ device_lines (shape_of geo.now) }
     requires shadow { length shadow.now ≡ shadow_lines (shape_of geo.now) }
-    requires room { length made.old.items + count_named (shape_of geo.now) shadow.now 0 (level_start (shape_of geo.now).levels) ≤ vec_capacity made.old }
-    ensures digests { IfOk result (λ digests. digests ≡ 4 * count_named (shape_of geo.now) shadow.now 0 (level_start (shape_of geo.now).levels)) }
+    requires room { length made.old.entries + count_doubted (shape_of geo.now) shadow.now 0 (level_start (shape_of geo.now).levels) ≤ made.old.room }
+    requires few { made.old.room ≤ 65535 }
+    requires positions { made.old.positions ≡ meta_lines (shape_of geo.now) }
+    ensures digests { IfOk result (λ digests. digests ≡ 4 * count_doubted (shape_of geo.now) shadow.now 0 (level_start (shape_of geo.now).levels)) }
+    ensures positions { made.new.positions ≡ made.old.positions }
     ensures keys { S.keys suite.new ≡ S.keys suite.old }
     ensures pads { S.pads suite.new ≡ S.pads suite.old }
     ensures plan { FollowsNodes B.Board S.Suite geo.now board.old suite.old board.new suite.new
-        shadow.now made.old.items made.new.items result }
+        shadow.now made.old.entries made.new.entries result }
 {
     let mut digests = 0;
     'upward: for above in 0..geo.levels() {
@@ -42,33 +45,36 @@ pub(crate) fn fix_nodes<B: Board, S: Suite>(
     Ok(digests)
 }
 
-/// Makes the lines of the named nodes of a level, upwards. The answer is the number of digests.
+/// Makes the lines of the doubted nodes of a level, upwards. The answer is the number of digests.
 fn fix_level<B: Board, S: Suite>(
     board: &mut B,
     suite: &mut S,
     geo: &Geo,
     shadow: &[Line],
     level: u8,
-    made: &mut Vec<MadeEntry>,
+    made: &mut MadeLines,
 ) -> Result<u64, Cut>
     requires size { (B.device board.old).size ≡ device_lines (shape_of geo.now) }
     requires shadow { length shadow.now ≡ shadow_lines (shape_of geo.now) }
     requires level { level < (shape_of geo.now).levels }
-    requires room { length made.old.items + count_named (shape_of geo.now) shadow.now (level_start level) (level_start (suc level)) ≤ vec_capacity made.old }
-    ensures digests { IfOk result (λ digests. digests ≡ 4 * count_named (shape_of geo.now) shadow.now (level_start level) (level_start (suc level))) }
-    ensures counted { OnOk result (length made.new.items
-        ≡ length made.old.items + count_named (shape_of geo.now) shadow.now (level_start level) (level_start (suc level))) }
-    ensures capacity { vec_capacity made.new ≡ vec_capacity made.old }
+    requires room { length made.old.entries + count_doubted (shape_of geo.now) shadow.now (level_start level) (level_start (suc level)) ≤ made.old.room }
+    requires few { made.old.room ≤ 65535 }
+    requires positions { made.old.positions ≡ meta_lines (shape_of geo.now) }
+    ensures digests { IfOk result (λ digests. digests ≡ 4 * count_doubted (shape_of geo.now) shadow.now (level_start level) (level_start (suc level))) }
+    ensures counted { OnOk result (length made.new.entries
+        ≡ length made.old.entries + count_doubted (shape_of geo.now) shadow.now (level_start level) (level_start (suc level))) }
+    ensures capacity { made.new.room ≡ made.old.room }
+    ensures positions { made.new.positions ≡ made.old.positions }
     ensures keys { S.keys suite.new ≡ S.keys suite.old }
     ensures pads { S.pads suite.new ≡ S.pads suite.old }
     ensures plan { FollowsLevel B.Board S.Suite geo.now board.old suite.old board.new suite.new
-        shadow.now level made.old.items made.new.items result }
+        shadow.now level made.old.entries made.new.entries result }
 {
     let start = first_of_level(level);
     let end = first_of_level(level + 1);
     let mut from = start;
     let mut digests = 0;
-    'positions: while let Some(x) = next_named(geo, shadow, level, from, end) {
+    'positions: while let Some(x) = next_doubted(geo, shadow, level, from, end) {
         fix_node(board, suite, geo, x, made)?;
         digests += 4;
         from = x + 1;
@@ -76,37 +82,31 @@ fn fix_level<B: Board, S: Suite>(
     Ok(digests)
 }
 
-/// The first position of a level.
-fn first_of_level(level: u8) -> u32
-    requires { level ≤ 6 }
-    ensures value { result ≡ level_start level }
-    ensures bound { result ≤ 1365 }
-{
-    (4_u32.pow(u32::from(level)) - 1) / 3
-}
-
-/// Makes the line of a named node.
+/// Makes the line of a doubted node.
 fn fix_node<B: Board, S: Suite>(
     board: &mut B,
     suite: &mut S,
     geo: &Geo,
     x: u32,
-    made: &mut Vec<MadeEntry>,
+    made: &mut MadeLines,
 ) -> Result<(), Cut>
     requires size { (B.device board.old).size ≡ device_lines (shape_of geo.now) }
     requires node { x < level_start (shape_of geo.now).levels }
-    requires room { length made.old.items < vec_capacity made.old }
-    ensures longer { OnOk result (length made.new.items ≡ length made.old.items + 1) }
-    ensures capacity { vec_capacity made.new ≡ vec_capacity made.old }
+    requires room { length made.old.entries < made.old.room }
+    requires few { made.old.room ≤ 65535 }
+    requires positions { made.old.positions ≡ meta_lines (shape_of geo.now) }
+    ensures longer { OnOk result (length made.new.entries ≡ length made.old.entries + 1) }
+    ensures capacity { made.new.room ≡ made.old.room }
+    ensures positions { made.new.positions ≡ made.old.positions }
     ensures keys { S.keys suite.new ≡ S.keys suite.old }
     ensures pads { S.pads suite.new ≡ S.pads suite.old }
     ensures plan { FollowsNode B.Board S.Suite geo.now board.old suite.old board.new suite.new
-        x made.old.items made.new.items result }
+        x made.old.entries made.new.entries result }
 {
     let read = board.read_line(geo.meta_line(x))?;
     read.is_whole();
     let line = node_line(board, suite, geo, x, made)?;
-    made.push_reserved(MadeEntry {
+    made.push(MadeEntry {
         at: x,
         line,
         changed: is_other(&read, &line),
@@ -120,14 +120,15 @@ fn node_line<B: Board, S: Suite>(
     suite: &mut S,
     geo: &Geo,
     x: u32,
-    made: &[MadeEntry],
+    made: &MadeLines,
 ) -> Result<Line, Cut>
     requires size { (B.device board.old).size ≡ device_lines (shape_of geo.now) }
     requires node { x < level_start (shape_of geo.now).levels }
+    requires positions { made.now.positions ≡ meta_lines (shape_of geo.now) }
     ensures keys { S.keys suite.new ≡ S.keys suite.old }
     ensures pads { S.pads suite.new ≡ S.pads suite.old }
     ensures plan { FollowsChildren B.Board S.Suite geo.now board.old suite.old board.new suite.new
-        made.now x result }
+        made.now.entries x result }
 {
     let mut digests = [[0; 16]; 4];
     'children: for i in 0..4_u8 {
@@ -139,12 +140,13 @@ fn node_line<B: Board, S: Suite>(
 }
 
 /// The line made for a position, or the device's line if none was made.
-fn made_or_read<B: Board>(board: &mut B, geo: &Geo, x: u32, made: &[MadeEntry]) -> Result<Line, Cut>
+fn made_or_read<B: Board>(board: &mut B, geo: &Geo, x: u32, made: &MadeLines) -> Result<Line, Cut>
     requires size { (B.device board.old).size ≡ device_lines (shape_of geo.now) }
     requires position { x < meta_lines (shape_of geo.now) }
-    ensures plan { Follows (made_plan (shape_of geo.now) made.now x) (B.device board.old) (B.device board.new) result }
+    requires positions { made.now.positions ≡ meta_lines (shape_of geo.now) }
+    ensures plan { Follows (made_plan (shape_of geo.now) made.now.entries x) (B.device board.old) (B.device board.new) result }
 {
-    match line_made(made, x) {
+    match made.line(x) {
         Some(line) => Ok(line),
         None => {
             let line = board.read_line(geo.meta_line(x))?;
@@ -160,13 +162,14 @@ pub(crate) fn check_root<B: Board, S: Suite>(
     suite: &mut S,
     geo: &Geo,
     regs: &Regs,
-    made: &[MadeEntry],
+    made: &MadeLines,
 ) -> Result<(), RecFault>
     requires size { (B.device board.old).size ≡ device_lines (shape_of geo.now) }
+    requires positions { made.now.positions ≡ meta_lines (shape_of geo.now) }
     ensures keys { S.keys suite.new ≡ S.keys suite.old }
     ensures pads { S.pads suite.new ≡ S.pads suite.old }
     ensures plan { FollowsRoot B.Board S.Suite geo.now board.old suite.old board.new suite.new
-        regs.now.root made.now result }
+        regs.now.root made.now.entries result }
 {
     let top = made_or_read(board, geo, 0, made)?;
     let found = suite.digest(0, &top);

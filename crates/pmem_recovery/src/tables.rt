@@ -1,25 +1,46 @@
-//! Named positions in order.
-ghost use Rattle.std.specs.Prelude.{ℕ, Bool, ◌≡◌, ◌+◌, ◌*◌, ◌/◌, ◌<◌, ◌≤◌, length, MatchOption, suc, ◌||◌, ◌==◌};
+//! Doubted positions in order.
+ghost use Rattle.std.specs.Prelude.{ℕ, Bool, ◌≡◌, ◌+◌, ◌*◌, ◌/◌, ◌<◌, ◌≤◌, true, length, MatchOption, suc, ◌||◌, ◌==◌};
 ghost use Rattle.pmem_base.specs.Geo.{shape_of};
 ghost use Rattle.pmem_base.specs.Layout.{shadow_lines, slots, shadow_counter_lines, level_start};
-ghost use Rattle.pmem_recovery.specs.Named.{names, is_among, IsNext};
+ghost use Rattle.pmem_recovery.specs.Named.{doubts, is_among, IsNext};
 
 use pmem_base::{Geo, Line};
 use shadow_tables::entry;
 
-/// The least position of a level, from `from` on and below `end`, that the shadow lines name.
-pub(crate) fn next_named(geo: &Geo, shadow: &[Line], level: u8, from: u32, end: u32) -> Option<u32>
+/// The least position of a level, from `from` on and below `end`, that recovery has to make again: none
+/// if the level is strict, the first one if the device has no shadow tables, else the first one that
+/// the shadow lines name.
+pub(crate) fn next_doubted(
+    geo: &Geo,
+    shadow: &[Line],
+    level: u8,
+    from: u32,
+    end: u32,
+) -> Option<u32>
     requires shadow { length shadow.now ≡ shadow_lines (shape_of geo.now) }
     requires level { level ≤ (shape_of geo.now).levels }
     requires from { level_start level ≤ from }
     requires end { end ≤ level_start (suc level) }
-    ensures { IsNext (names (shape_of geo.now) shadow.now) from end result }
+    ensures { IsNext (doubts (shape_of geo.now) shadow.now) from end result }
 {
+    if level >= geo.lazy_levels() {
+        return None;
+    }
+    if !geo.has_shadow() {
+        return first_of(from, end);
+    }
     if level == geo.levels() {
         least_named(shadow, 0, geo.slots(), from, end)
     } else {
         least_named(shadow, tree_table(geo), tree_entries(geo), from, end)
     }
+}
+
+/// The first position from `from` on and below `end`.
+fn first_of(from: u32, end: u32) -> Option<u32>
+    ensures { IsNext (λ _. true) from end result }
+{
+    if from < end { Some(from) } else { None }
 }
 
 /// The first line of the table of nodes.

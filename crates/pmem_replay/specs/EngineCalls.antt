@@ -1,5 +1,5 @@
 -- One call of the engine: what every call owes the world, and the world after it.
-use Rattle.std.specs.Prelude.{ℕ, ⊤, ◌≡◌, ◌≢◌, ◌≤◌, ◌<◌, ◌-◌, ◌^◌, ◌↔◌, ◌∷◌, Bool, true, false, List, Option, Some, None, option_map, length, All, IsTrue, IsSome, IfSome, Result, Err, slice_set, not}
+use Rattle.std.specs.Prelude.{ℕ, ⊤, ◌≡◌, ◌≢◌, ◌≤◌, ◌<◌, ◌-◌, ◌^◌, ◌↔◌, ◌∷◌, Bool, true, false, List, Option, Some, None, option_map, length, drop, All, IsTrue, IsSome, IfSome, Result, Err, slice_set, not}
 use Rattle.pmem_base.specs.declared.lines.Line.{Line}
 use Rattle.pmem_base.specs.declared.commands.Posted.{Posted}
 use Rattle.pmem_base.specs.declared.answers.Mark.{Mark}
@@ -11,7 +11,7 @@ use Rattle.pmem_base.specs.Shape.{Shape, IsShape}
 use Rattle.pmem_base.specs.Layout as layout
 use Rattle.pmem_base.specs.Lines.{IsLine, zero_line}
 use Rattle.pmem_base.specs.Ranges.{IsPosted}
-use Rattle.pmem_base.specs.WaitingWrites.{no_writes, queue_of, put_writes}
+use Rattle.pmem_base.specs.WaitingWrites.{queue_of, put_writes, queues_after_loss}
 use Rattle.write_ports.specs.declared.seen.Seen.{Seen}
 use Rattle.write_ports.specs.Seen.{overlaid}
 use Rattle.write_ports.specs.Queues.{cover_line}
@@ -81,14 +81,14 @@ pub record IsLawfulCall {T : Type 0} (relation : Setup → Parts → Parts → R
 
 -- ---- the world afterwards
 
--- the engine and the queues are lost in a cut
+-- the engine is lost in a cut, and the queues as the machine says
 abbrev pub engine_left : Outcome → EngineState → Option EngineState
 engine_left cut_short after = None
 engine_left outcome after = Some after
 
-abbrev pub queues_left : Outcome → List (List Posted) → List (List Posted)
-queues_left cut_short queues = no_writes
-queues_left outcome queues = queues
+abbrev pub queues_left : Bool → Outcome → List (List Posted) → List (List Posted)
+queues_left durable cut_short queues = queues_after_loss durable queues
+queues_left durable outcome queues = queues
 
 abbrev pub power_left : Outcome → Bool → Bool
 power_left cut_short power = false
@@ -113,7 +113,7 @@ called_state g outcome write made taken loss state =
     after_marks g
     (record state {
       memory = memory_put write made state.memory;
-      queues = queues_left outcome state.queues;
+      queues = queues_left g.durable outcome state.queues;
       power = power_left outcome state.power;
       fuse = fuse_left outcome taken state.fuse;
       steps = steps_with state.steps taken;
@@ -191,9 +191,18 @@ IsCleanIn g engine = IfSome engine (λ e. (bank x : ℕ) → is_cached_dirty g e
 abbrev pub IsCleanAt : Shape → Option EngineState → ℕ → Type 0
 IsCleanAt g engine x = IfSome engine (λ e. (bank : ℕ) → is_cached_dirty g e.cache bank x ≡ false)
 
--- the port's oldest write waits no more, and nothing else is changed
-pub record IsWriteTaken (old : WorldState) (port : ℕ) (write : Posted) (new : WorldState) : Type 0 where
+-- the port's oldest write
+pub record IsFront (old : WorldState) (port : ℕ) (write : Posted) : Type 0 where
   pub later : List Posted
   pub waits : queue_of old.state.queues port ≡ write ∷ later
   pub posted : IsPosted write
-  pub same : new ≡ record old { state = record (old.state) { queues = slice_set old.state.queues port later } }
+
+-- the world without the port's oldest write, if one waits
+abbrev pub without_oldest : WorldState → ℕ → WorldState
+without_oldest world port =
+    record world {
+      state =
+          record (world.state) {
+            queues = slice_set world.state.queues port (drop 1 (queue_of world.state.queues port));
+          };
+    }

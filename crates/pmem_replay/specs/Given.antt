@@ -4,8 +4,9 @@ use Rattle.pmem_base.specs.declared.lines.Ctr.{Ctr}
 use Rattle.pmem_base.specs.declared.commands.Posted.{Posted}
 use Rattle.pmem_base.specs.declared.answers.Answer.{Answer}
 use Rattle.pmem_base.specs.declared.answers.Answer.TheVariants as Say
+use Rattle.pmem_base.specs.Shape.{Shape}
 use Rattle.pmem_base.specs.Lines.{IsLine}
-use Rattle.pmem_base.specs.WaitingWrites.{queue_of, no_writes}
+use Rattle.pmem_base.specs.WaitingWrites.{queue_of, queues_after_loss}
 use Rattle.seal_ledger.specs.Notes.{HasRoom}
 use Rattle.suite.specs.Setup.{Setup}
 use Rattle.plain_model.specs.State.{PlainState, memory_with, without_flag}
@@ -25,9 +26,10 @@ use Rattle.pmem_replay.specs.During.{parts_in}
 use Rattle.pmem_replay.specs.Planned.{plan_of_write}
 use Rattle.pmem_replay.specs.EngineCalls.{IsFaultAnswered}
 
--- the front write is put or not, and power stays on or not; what its marks leave dirty comes after
-abbrev pub given_state : PlainState → ℕ → Posted → List Posted → ℕ → Bool → Bool → PlainState
-given_state state port write later taken true true =
+-- The front write is put or not, and power stays on or not; what its marks leave dirty comes after. A write that was
+-- lost in a cut waits in a durable queue still.
+abbrev pub given_state : Shape → PlainState → ℕ → Posted → List Posted → ℕ → Bool → Bool → PlainState
+given_state g state port write later taken true true =
     record state {
       memory = memory_with state.memory write;
       queues = slice_set state.queues port later;
@@ -36,24 +38,29 @@ given_state state port write later taken true true =
       steps = steps_with state.steps taken;
       fuse = option_map (λ n. n - taken) state.fuse;
     }
-given_state state port write later taken false true =
+given_state g state port write later taken false true =
     record state {
       queues = slice_set state.queues port later;
       steps = steps_with state.steps taken;
       fuse = option_map (λ n. n - taken) state.fuse;
     }
-given_state state port write later taken true false =
+given_state g state port write later taken true false =
     record state {
       memory = memory_with state.memory write;
-      queues = no_writes;
+      queues = queues_after_loss g.durable (slice_set state.queues port later);
       power = false;
       fuse = None;
       hurt = without_flag state.hurt write.at;
       spoiled = without_flag state.spoiled write.at;
       steps = steps_with state.steps taken;
     }
-given_state state port write later taken false false =
-    record state { queues = no_writes; power = false; fuse = None; steps = steps_with state.steps taken }
+given_state g state port write later taken false false =
+    record state {
+      queues = queues_after_loss g.durable state.queues;
+      power = false;
+      fuse = None;
+      steps = steps_with state.steps taken;
+    }
 
 -- the call
 pub record WasWriteGiven (setup : Setup) (old : WorldState) (port : ℕ) (answer : Result Ctr Fault) (new : WorldState) : Type 0 where
@@ -87,7 +94,7 @@ pub record IsWriteGiven (setup : Setup) (old : WorldState) (port steps : ℕ) (a
   pub sealed : is_sealed_by given.written.made given.write.at ≡ put
   pub state :
       new.state
-      ≡ after_marks setup.shape (given_state old.state port given.write given.later (steps_in given.taken) put goes) given.written.made
+      ≡ after_marks setup.shape (given_state setup.shape old.state port given.write given.later (steps_in given.taken) put goes) given.written.made
   pub engine : new.engine ≡ (if goes then Some given.after else None)
   pub unshown : new.shown ≡ false
   pub holds : IsWorld setup new

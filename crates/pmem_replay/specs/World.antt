@@ -5,11 +5,11 @@ use Rattle.pmem_base.specs.declared.commands.Posted.{Posted}
 use Rattle.pmem_base.specs.declared.answers.Mark.{Mark}
 use Rattle.pmem_base.specs.declared.answers.Stat.{Stat}
 use Rattle.pmem_base.specs.Counts.{last_count}
-use Rattle.pmem_base.specs.Shape.{Shape, IsShape}
+use Rattle.pmem_base.specs.Shape.{Shape, IsShape, is_lazy}
 use Rattle.pmem_base.specs.Layout as layout
 use Rattle.pmem_base.specs.Lines.{line_at}
 use Rattle.pmem_base.specs.Marks.{last_seal}
-use Rattle.bonsai_tree.specs.Positions.{counter_position}
+use Rattle.bonsai_tree.specs.Positions.{counter_position, level_of}
 use Rattle.board.specs.Device.{AreLinesOf}
 use Rattle.board.specs.Memory.{BoardMemory}
 use Rattle.seal_ledger.specs.Ledger.{LedgerState}
@@ -20,11 +20,11 @@ use Rattle.suite.specs.Formulas.{Formulas, AreInRange}
 use Rattle.suite.specs.Setup.{Setup}
 use Rattle.plain_model.specs.State.{PlainState, is_flagged, has_flags}
 use Rattle.plain_model.specs.View.{DeviceView, IsMemoryOf, view_of, plain_memory}
-use Rattle.plain_model.specs.Bounds.{can_be_dirty}
+use Rattle.plain_model.specs.Bounds.{can_be_dirty, group_bound}
 use Rattle.pmem_replay.specs.Flagged.{Tampering, Dirtying}
 use Rattle.pmem_engine.specs.Engine.{EngineState, on_chip}
 use Rattle.pmem_engine.specs.Recached.{IsTrueOrDirty}
-use Rattle.pmem_engine.specs.Invariants.{IsAnchored, IsTrusted, IsDurable, IsSound, IsSealStored, IsCounterStored}
+use Rattle.pmem_engine.specs.Invariants.{IsAnchored, IsTrusted, IsDurable, IsSound, IsSealStored, IsCounterStored, stored_meta}
 
 -- the geometry and the keys; the plain machine that the world stands for; the device with its
 -- registers, power, fuse and snapshot; marks and truth; how many marks there is room for in all; the
@@ -115,7 +115,8 @@ abbrev pub IsOtherCipher : List Mark → ℕ → Line → Type 0
 IsOtherCipher marks a line = IfSome (last_seal marks a) (λ seal. line ≢ seal.cipher)
 
 -- what the device's lines keep, place by place: the last seal of a line that isn't hurt, no last seal
--- of a spoiled line, and what can be mended of a counter block that isn't named while nothing is loose
+-- of a spoiled line, what can be mended of a counter block that isn't named while nothing is loose, and the true line of
+-- each position of a strict level that isn't named
 pub record AreKept (setup : Setup) (state : PlainState) (lines : List Line) (loss : ℕ)
     (ledger : LedgerState) : Type 0 where
   pub seals :
@@ -128,6 +129,10 @@ pub record AreKept (setup : Setup) (state : PlainState) (lines : List Line) (los
       state.loose ≡ false → (page : ℕ) → page < layout.pages setup.shape
       → is_flagged state.named (layout.meta_line setup.shape (counter_position setup.shape page)) ≡ false
       → IsCounterStored setup lines loss ledger.truth page
+  pub strict :
+      (x : ℕ) → x < layout.meta_lines setup.shape → is_lazy setup.shape (level_of x) ≡ false
+      → is_flagged state.named (layout.meta_line setup.shape x) ≡ false
+      → stored_meta setup.shape lines x ≡ line_at ledger.truth x
 
 -- with power on the engine is up and the chip is trusted, and all is sound if no line was tampered with; while nothing is loose a metadata
 -- line that isn't named is true on the device or cached dirty; and only a block of a touched page that wasn't flushed is dirty
@@ -174,12 +179,12 @@ pub record HasQueues (g : Shape) (state : PlainState) : Type 0 where
   pub on_memory : All (λ queue. All (λ write. write.at < layout.data_lines g) queue) state.queues
 
 -- the board's power, fuse, snapshot and stop-loss number are the state's
-pub record HasBoard (state : PlainState) (board : BoardMemory) : Type 0 where
+pub record HasBoard (g : Shape) (state : PlainState) (board : BoardMemory) : Type 0 where
   pub power : board.powered ≡ state.power
   pub fuse : board.fuse ≡ state.fuse
   pub snapped : is_some board.snapshot ≡ state.snapped
   pub loss : board.regs.loss ≡ state.loss
-  pub few_armed : length board.regs.group.items ≤ 3
+  pub few_armed : length board.regs.group.items ≤ group_bound g
 
 -- the counts of line writes and latches stand below their end
 pub record AreExact (board : BoardMemory) : Type 0 where
@@ -208,5 +213,5 @@ pub record IsWorld (setup : Setup) (world : WorldState) : Type 0 where
   pub kept : AreKept setup world.state (lines_in world) world.board.regs.loss world.ledger
   pub flags : HasFlags setup.shape world.state
   pub queues : HasQueues setup.shape world.state
-  pub board : HasBoard world.state world.board
+  pub board : HasBoard setup.shape world.state world.board
   pub steps : HasSteps world.state world.board world.start

@@ -1,8 +1,9 @@
 //! One call of the engine in the world.
 ghost use Rattle.std.specs.Prelude.{◌≡◌, ◌<◌, ◌≤◌, false, length, drop, Some, None, IsSome, is_some, IfSome, OnOk, OnErr, if◌then◌else◌};
 ghost use Rattle.pmem_base.specs.declared.answers.Answer.TheVariants as Say;
+ghost use Rattle.pmem_base.specs.Geo.{shape_of};
 ghost use Rattle.pmem_base.specs.Layout.{data_lines};
-ghost use Rattle.pmem_base.specs.WaitingWrites.{no_writes};
+ghost use Rattle.pmem_base.specs.WaitingWrites.{queues_after_loss};
 ghost use Rattle.seal_ledger.specs.Notes.{HasRoom};
 ghost use Rattle.seal_ledger.specs.View.{ledger_of};
 ghost use Rattle.pmem_engine.specs.Outcomes.{is_sealed_by};
@@ -16,7 +17,7 @@ use crate::World;
 use crate::calls::{self, Call};
 use crate::tampered::Tampered;
 use access_log::AccessLog;
-use pmem_base::{Answer, Exhibit, Mark, MemFault, Place};
+use pmem_base::{Answer, Exhibit, Geo, Mark, MemFault, Place};
 use pmem_engine::{Engine, Fault};
 use seal_ledger::{Audit, Ledger};
 use suite::Counted;
@@ -25,7 +26,7 @@ use write_ports::Ports;
 
 impl<S: Counted + Drop> World<S> {
     /// Makes a call of the engine, with power on. Its steps are counted, and what its marks leave dirty is noted. In a
-    /// cut the engine and what waits are lost; an exhibit ends the run. Its accesses of the board are logged.
+    /// cut the engine is lost, and what waits in volatile queues; an exhibit ends the run. Its accesses of the board are logged.
     pub(crate) fn call<C: Call>(
         &mut self,
         call: &C,
@@ -61,6 +62,7 @@ impl<S: Counted + Drop> World<S> {
         lose_if(
             &mut self.engine,
             &mut self.ports,
+            &self.geo,
             calls::is_cut(&done.answer),
         );
         done
@@ -166,14 +168,15 @@ fn heal(tampered: &mut Tampered, ledger: &Ledger, from: usize, line: Option<u32>
     }
 }
 
-/// In a cut the engine and what waits are lost.
-fn lose_if(engine: &mut Option<Engine>, ports: &mut Ports, cut: bool)
+/// In a cut the engine is lost, and what waits in volatile queues.
+fn lose_if(engine: &mut Option<Engine>, ports: &mut Ports, geo: &Geo, cut: bool)
     ensures engine { engine.new ≡ (if cut then None else engine.old) }
-    ensures ports { ports.new ≡ (if cut then no_writes else ports.old) }
+    ensures ports { ports.new
+        ≡ (if cut then queues_after_loss (shape_of geo.now).durable ports.old else ports.old) }
 {
     if cut {
         *engine = None;
-        ports.clear();
+        ports.lose_power(geo.is_durable());
     }
 }
 

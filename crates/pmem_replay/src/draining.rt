@@ -1,12 +1,12 @@
 //! Waiting writes, given to the engine one by one.
-ghost use Rattle.std.specs.Prelude.{◌≡◌, ◌<◌, ◌≤◌, ◌*◌, ◌⊎◌, false, length, drop, Some, IsSome, IfOk, OnErr};
+ghost use Rattle.std.specs.Prelude.{◌≡◌, ◌<◌, ◌≤◌, ◌*◌, ◌⊎◌, ◌&&◌, not, false, length, drop, Some, IsSome, IfOk, OnErr, if◌then◌else◌};
 ghost use Rattle.pmem_base.specs.declared.commands.Command.TheVariants as Do;
 ghost use Rattle.pmem_base.specs.WaitingWrites.{queue_of};
 ghost use Rattle.seal_ledger.specs.Notes.{HasRoom};
 ghost use Rattle.plain_model.specs.After.{steps_of};
-ghost use Rattle.pmem_engine.specs.Outcomes.{is_sealed_by};
+ghost use Rattle.pmem_engine.specs.Outcomes.{is_sealed_by, outcome_of};
 ghost use Rattle.access_log.specs.Traced.{GoesOn};
-ghost use Rattle.pmem_replay.specs.EngineCalls.{IsWriteTaken};
+ghost use Rattle.pmem_replay.specs.EngineCalls.{IsFront, is_outcome_cut, without_oldest};
 ghost use Rattle.pmem_replay.specs.Given.{HasWriteGiven, CanEndFence};
 ghost use Rattle.pmem_replay.specs.Logged.{IsLogKept};
 ghost use Rattle.pmem_replay.specs.Replies.{with_marks_since};
@@ -15,9 +15,10 @@ ghost use Rattle.pmem_replay.specs.World.{setup_of_world};
 
 use crate::World;
 use crate::calling::is_sealed_since;
-use crate::calls::WriteLine;
+use crate::calls::{self, WriteLine};
 use access_log::AccessLog;
-use pmem_base::{Answer, MemFault, Posted};
+use pmem_base::{Answer, Ctr, MemFault, Posted};
+use pmem_engine::Fault;
 use suite::Counted;
 
 impl<S: Counted + Drop> World<S> {
@@ -110,29 +111,42 @@ impl<S: Counted + Drop> World<S> {
         ensures logged { GoesOn log.old self.old.board log.new self.new.board }
     {
         self.holds();
-        let write = self.take(port);
-        let at = write.at;
+        let write = self.front(port);
         let from = self.marks().len();
         let done = self.call(&WriteLine { write }, log);
+        let put = self.has_sealed(from, write.at);
+        self.take_off(port, is_lost(&done.answer, put));
         let steps = done.taken.steps();
         match done.answer {
             Ok(_) => Answer::Drained { steps },
-            Err(fault) => self.stopped(fault, Some(self.has_sealed(from, at)), steps),
+            Err(fault) => self.stopped(fault, Some(put), steps),
         }
     }
 
-    /// The port's oldest write, which waits no more.
-    fn take(&mut self, port: u8) -> Posted
-        requires shown { self.old.shown ≡ false }
+    /// The port's oldest write.
+    fn front(&self, port: u8) -> Posted
+        requires shown { self.now.shown ≡ false }
         requires port { port < 8 }
-        requires some { 0 < length (queue_of self.old.state.queues port) }
-        ensures { IsWriteTaken self.old port result self.new }
+        requires some { 0 < length (queue_of self.now.state.queues port) }
+        ensures { IsFront self.now port result }
     {
         let Some(write) = self.ports.front(port) else {
             unreachable!()
         };
-        self.ports.pop(port);
         write
+    }
+
+    /// The port's oldest write is answered for, and waits no more, unless it was lost: that one waits in a
+    /// durable queue still.
+    fn take_off(&mut self, port: u8, lost: bool)
+        requires { port < 8 }
+        ensures left { self.new ≡ (if lost then self.old else without_oldest self.old port) }
+        ensures board { self.new.board ≡ self.old.board }
+        ensures ledger { self.new.ledger ≡ self.old.ledger }
+    {
+        if !lost {
+            self.ports.pop(port);
+        }
     }
 
     /// Whether a mark from the `from`-th on seals data line `at`.
@@ -142,6 +156,13 @@ impl<S: Counted + Drop> World<S> {
     {
         is_sealed_since(&self.ledger, from, at)
     }
+}
+
+/// Whether a write was lost: power was cut before it was put.
+fn is_lost(answer: &Result<Ctr, Fault>, put: bool) -> bool
+    ensures { result ≡ (is_outcome_cut (outcome_of answer.now) && not put) }
+{
+    calls::is_cut(answer) && !put
 }
 
 /// What a fence answers that ends with this drain, after `done` drained writes that took `steps` steps.

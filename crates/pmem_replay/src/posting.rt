@@ -12,7 +12,7 @@ use pmem_base::{Answer, Line, Posted};
 use suite::Counted;
 
 impl<S: Counted + Drop> World<S> {
-    /// A write of a whole line waits at a port.
+    /// A write of a whole line waits at a port. If lines are combined it may take the place of one that waits.
     pub(crate) fn post(&mut self, port: u8, at: u64, line: &Line) -> Answer
         requires shown { self.old.shown ≡ false }
         requires port { port < 8 }
@@ -25,13 +25,13 @@ impl<S: Counted + Drop> World<S> {
             return Answer::Range;
         }
         let write = whole_line(at as u32, line);
-        if self.ports.post(port, &write).is_err() {
+        if self.ports.post(port, &write, self.geo.combines()).is_err() {
             return Answer::Full;
         }
         Answer::Ok
     }
 
-    /// A write of `count` bytes, the first ones of `line`, waits at a port.
+    /// A write of `count` bytes, the first ones of `line`, waits at a port. One of 64 bytes waits as a whole line does.
     pub(crate) fn part(&mut self, port: u8, at: u64, from: u64, count: u8, line: &Line) -> Answer
         requires shown { self.old.shown ≡ false }
         requires port { port < 8 }
@@ -48,7 +48,7 @@ impl<S: Counted + Drop> World<S> {
             return Answer::Range;
         }
         let write = part_of_line(at as u32, from as u8, count, line);
-        if self.ports.post(port, &write).is_err() {
+        if self.ports.post(port, &write, self.geo.combines()).is_err() {
             return Answer::Full;
         }
         Answer::Ok

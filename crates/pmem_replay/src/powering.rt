@@ -36,7 +36,7 @@ impl<S: Counted + Drop> World<S> {
         }
         self.board.off();
         self.engine = None;
-        self.ports.clear();
+        self.ports.lose_power(self.geo.is_durable());
         Answer::Ok
     }
 
@@ -82,7 +82,7 @@ impl<S: Counted + Drop> World<S> {
             }
             Err(RecFault::Cut) => {
                 self.tampered.loosen();
-                self.ports.clear();
+                self.ports.lose_power(self.geo.is_durable());
                 Ok(Answer::Cut { steps })
             }
             Err(RecFault::NoCounter { at }) => {

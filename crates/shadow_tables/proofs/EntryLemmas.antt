@@ -11,7 +11,7 @@ use Rattle.pmem_base.specs.Shape.{Shape}
 use Rattle.pmem_base.specs.Layout.{slots, shadow_counter_lines, shadow_lines}
 use Rattle.pmem_base.specs.Lines.{line_at}
 use Rattle.pmem_base.proofs.Parts.{part-put_bytes_same, part-put_bytes_before, part-put_bytes_behind}
-use Rattle.pmem_base.proofs.LayoutLemmas.{number_low}
+use Rattle.pmem_base.proofs.LayoutLemmas.{number_low, shadow_lines-tables}
 use Rattle.pmem_base.proofs.Digits.{from_big_endian-big_endian}
 use Rattle.shadow_tables.specs.Entries.{entry_of, table_entry, slot_entry, is_named_in}
 use Rattle.shadow_tables.specs.Naming.{entry_line, entry_index, with_entry}
@@ -132,15 +132,16 @@ slot_entry-put_other g shadow bank n value line bank' n' within put h h' apart =
     search (rules, slot_entry_by_place, cases_eq, get_or-set_same, entry_index_below, entry_place_injective, get_or-set_other)
 
 -- the shadow line of an entry is one of the device's
-pub entry_line_within : (g : Shape) (bank n : ℕ) → bank ≤ g.levels → n < slots g
+pub entry_line_within : (g : Shape) (bank n : ℕ) → g.shadow ≡ true → bank ≤ g.levels → n < slots g
     → entry_line g bank n < shadow_lines g
-entry_line_within g bank n low h =
+entry_line_within g bank n tables low h =
+    let all = shadow_lines-tables g tables in
     elim (cases_eq bank g.levels) [
-      | inl same ↦ omega (arith, entry_line-at_counter g bank n same)
+      | inl same ↦ omega (arith, all, entry_line-at_counter g bank n same)
       | inr other ↦
           let within : bank * slots g + n < g.levels * slots g =
           number_low g.levels (slots g) bank n (omega arith) h in
-          omega (arith, entry_line-at_node g bank n other)
+          omega (arith, all, entry_line-at_node g bank n other)
     ]
 
 -- ---- the bytes of an entry

@@ -104,10 +104,10 @@ Names-from_entries g old new bank n x low h entry others =
         ]
 
 -- after its entry was written, the slot names the position
-pub Names-with_named : (g : Shape) (shadow : List Line) (bank n x : ℕ) → bank ≤ g.levels → n < slots g
+pub Names-with_named : (g : Shape) (shadow : List Line) (bank n x : ℕ) → g.shadow ≡ true → bank ≤ g.levels → n < slots g
     → length shadow ≡ shadow_lines g → All IsLine shadow → x + 1 < 2 ^ 32
     → Names g shadow (with_named g shadow bank n x) bank n x
-Names-with_named g shadow bank n x low h long each small =
+Names-with_named g shadow bank n x tables low h long each small =
     Names-from_entries g shadow (with_named g shadow bank n x) bank n x low h
     (slot_entry-put_same g shadow bank n (x + 1) (naming_line g shadow bank n x) within put)
     (λ bank' n' h' apart.
@@ -115,7 +115,7 @@ Names-with_named g shadow bank n x low h long each small =
     (λ e. apart (sym e.0, sym e.1)))
   where
     within : entry_line g bank n < length shadow
-    within = omega (arith, entry_line_within g bank n low h)
+    within = omega (arith, long, entry_line_within g bank n tables low h)
 
     put : IsEntryPut (line_at shadow (entry_line g bank n)) (naming_line g shadow bank n x) (entry_index g bank n) (x + 1)
     put =
@@ -129,10 +129,10 @@ Names-already g shadow bank n x low h entry = search (rules, Names-from_entries)
 
 -- what naming answers says which of the two it was
 pub Names-from_answer : {W : Type 0} (g : Shape) (old new : List Line) (bank n x : ℕ) (answer : Option W)
-    → bank ≤ g.levels → n < slots g → length old ≡ shadow_lines g → All IsLine old → x + 1 < 2 ^ 32
+    → g.shadow ≡ true → bank ≤ g.levels → n < slots g → length old ≡ shadow_lines g → All IsLine old → x + 1 < 2 ^ 32
     → (IsNone answer → slot_entry g old bank n ≡ x + 1) → IfNone answer (new ≡ old)
     → OnSome answer (new ≡ with_named g old bank n x) → Names g old new bank n x
-Names-from_answer g old new bank n x None low h long each small already same written = grind (arith, common_steps, Names-already)
-Names-from_answer g old new bank n x (Some write) low h long each small already same written =
+Names-from_answer g old new bank n x None tables low h long each small already same written = grind (arith, common_steps, Names-already)
+Names-from_answer g old new bank n x (Some write) tables low h long each small already same written =
     subst (λ shadow. Names g old shadow bank n x) (sym written)
-    (Names-with_named g old bank n x low h long each small)
+    (Names-with_named g old bank n x tables low h long each small)

@@ -1,5 +1,5 @@
 //! The copy of the shadow lines on the chip.
-ghost use Rattle.std.specs.Prelude.{◌≡◌, ◌+◌, ◌<◌, ◌≤◌, ◌*◌, ◌==◌, ◌↔◌, List, All, length, replicate, IfOk, IsNone, IfNone, IfSome, OnSome, if◌then◌else◌};
+ghost use Rattle.std.specs.Prelude.{◌≡◌, ◌+◌, ◌<◌, ◌≤◌, ◌*◌, ◌==◌, ◌↔◌, true, List, All, length, replicate, IfOk, IsNone, IfNone, IfSome, OnSome, if◌then◌else◌};
 ghost use Rattle.pmem_base.specs.declared.lines.Line.{Line};
 ghost use Rattle.pmem_base.specs.Geo.{shape_of};
 ghost use Rattle.pmem_base.specs.Lines.{IsLine, zero_line};
@@ -43,9 +43,10 @@ impl Mirror {
         let _ = &self.lines;
     }
 
-    /// Lets the slot's entry name position `x`. The answer is the device line to write and its bytes, or `None` if the
-    /// entry names `x` already.
+    /// Lets the slot's entry name position `x`, on a device with shadow tables. The answer is the device line to write
+    /// and its bytes, or `None` if the entry names `x` already.
     pub fn name_slot(&mut self, geo: &Geo, bank: u8, slot: u32, x: u32) -> Option<(u32, Line)>
+        requires tables { (shape_of geo.now).shadow ≡ true }
         requires mirror { length self.old ≡ shadow_lines (shape_of geo.now) }
         requires bank { bank ≤ (shape_of geo.now).levels }
         requires slot { slot < slots (shape_of geo.now) }
@@ -70,6 +71,7 @@ impl Mirror {
 
     /// Writes the entry of a slot, unless it names the position already.
     fn write_name(&mut self, geo: &Geo, bank: u8, slot: u32, x: u32) -> Option<(u32, Line)>
+        requires tables { (shape_of geo.now).shadow ≡ true }
         requires mirror { length self.old ≡ shadow_lines (shape_of geo.now) }
         requires bank { bank ≤ (shape_of geo.now).levels }
         requires slot { slot < slots (shape_of geo.now) }

@@ -13,7 +13,7 @@ AfterWrite P E (Ok Move.Made) to = P to
 AfterWrite P E (Ok (Move.Held page)) to = E (Fail.Spent page) to
 AfterWrite P E (Err fault) to = E fault.fault to
 
--- where changes leave that, so does a write
+-- if changes leave that, so does a write
 module _ (setup : Setup) (P : Parts → Type 0) (E : Fault → Parts → Type 0)
     (by_edits : (edits : List Edit) (old new : Parts) (answer : Result (Unit {0}) Fault) → AreEdited setup edits old new answer → P old
     → AfterEdits P E answer new) where

@@ -17,7 +17,7 @@ with_copy n wear lines = slice_set lines wear.gap (line_at lines (source_of n we
 abbrev with_record : ℕ → Wear → List Line → List Line
 with_record n wear lines = slice_set lines (n + 1) (wear_record n (next_wear n wear))
 
--- the record stays where another line is set
+-- the record stays if another line is set
 same_record : (n : ℕ) (lines : List Line) (wear : Wear) (k : ℕ) (line : Line) → k ≤ n
     → recorded n (line_at lines (n + 1)) ≡ Some wear
     → recorded n (line_at (slice_set lines k line) (n + 1)) ≡ Some wear

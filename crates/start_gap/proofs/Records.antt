@@ -45,7 +45,7 @@ pub record_of_read : (n : ℕ) (line : Line) → IsLine line → moved_in line �
 unfolding wear_record
 record_of_read n line whole few = search (rules, front, middle)
 
--- so it is the line exactly where the rest is 0
+-- so it is the line exactly if the rest is 0
 rest_of_record : (n : ℕ) (line : Line) → IsLine line → moved_in line ≤ n
     → wear_record n (record { start = start_in line; gap = n - moved_in line }) ≡ line
     → drop 8 line.0 ≡ replicate 56 0

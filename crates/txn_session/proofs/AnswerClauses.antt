@@ -4,7 +4,7 @@ use Rattle.txn_session.proofs.Common.{if◌then◌else◌, lt-ltb, Setup, TxnCom
 use Rattle.txn_session.specs.declared.commands.TxnCommand.TheVariants as Do
 use Rattle.txn_session.specs.declared.answers.TxnAnswer.TheVariants as Say
 
--- ---- where the state decides nothing
+-- ---- if the state decides nothing
 
 pub read_undecided : (state : TxnState) (a : ℕ) → state.session.board.powered ≡ true → a < txn_lines_in state → line_held state a ≡ None
     → txn_decided state (Do.Read a) ≡ None

@@ -55,7 +55,7 @@ CommitEndsAt setup from queue count most (Ok Do.Applied) to = AreGone setup from
 CommitEndsAt setup from queue count most (Ok (Do.Stuck page)) to = IsSpentAt setup from queue (count + 1) (2 * count + 2) page most to
 CommitEndsAt setup from queue count most (Err fault) to = FailsTxnAt setup from queue count most fault.fault fault.committed to
 
--- what the store serves then; nothing is said where power is cut once the header is written
+-- what the store serves then; nothing is said if power is cut once the header is written
 abbrev pub CommitServes : Entries → Store → Store → Result Committed CommitFault → Type 0
 CommitServes txn old new (Ok Do.Applied) = IsServedAs old.logged.items old.stuck old new
 CommitServes txn old new (Ok (Do.Stuck page)) = IsServedAs (targets_of txn) (Some page) old new

@@ -6,6 +6,7 @@ use Rattle.pmem_engine.specs.declared.fault.Fault.TheVariants as Fail
 use Rattle.line_txn.specs.declared.store.Committed.TheVariants as Make
 use Rattle.txn_session.specs.declared.commands.TxnCommand.TheVariants as Do
 use Rattle.txn_session.specs.declared.answers.TxnAnswer.TheVariants as Say
+use Rattle.pmem_engine.proofs.Laws.PolicyBounds.{begun_most}
 use Rattle.txn_session.proofs.AnswerClauses.{commit_undecided, served}
 use Rattle.txn_session.proofs.CommitEnds.{FailsTxnAt, own_absent, own_present}
 use Rattle.txn_session.proofs.CommitStates.{CommitCall}
@@ -141,7 +142,7 @@ module _ (c : CommitCall) where
       let levels = c.world.whole_shape.at_most_six_levels in
       let lines = (state.whole c).few in
       let count_most : 2 * count + 2 ≤ 32 = omega (arith, lines) in
-      let write_most : write_steps setup.shape ≤ 300 = omega (arith, levels) in
+      let write_most : write_steps setup.shape ≤ 300 = omega (arith, levels, begun_most setup.shape c.world.whole_shape.persists_path) in
       let both : (2 * count + 2) * write_steps setup.shape ≤ 32 * write_steps setup.shape = mul-le-mul_right (write_steps setup.shape) count_most in
       omega (arith, both, write_most)
 

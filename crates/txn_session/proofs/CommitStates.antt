@@ -1,4 +1,4 @@
--- A commit in the session: the state once so many of its engine writes are done.
+-- A commit in the session: the state once the first k of its engine writes are done.
 use Rattle.std.proofs.Common.{ℕ, ◌≡◌, ◌<◌, ◌≤◌, ◌+◌, ◌*◌, Bool, true, false, cond, List, [], ◌∷◌, length, take, Option, Some, None, Result, refl, sym, ap, ap₂, subst, ◌∙◌, arith, rules}
 use Rattle.txn_session.proofs.Common.{nat_lt, ◌==◌, unwrap_or, if◌then◌else◌, Posted, Mark, put_lines, ended, Follows, Formulas, Setup, Memory, plain_memory, moment_after_writes, Parts, Store, Committed, CommitFault, AreTargets, IsLogged, commit_lines_at, targets_at, commit_memory_at, targets_of, IsEditOf, IsWholeTxn, deciding_edits, applying_edits, logged_lines, whole_at_each_stage, deciding_fit, applying_fit, All-append, step_limit, device_during, none_taken, Writing, at_most, fewer, whole_places, moment_now, AreDone, AreCut, edits_memory, Chip, commit_plan, TxnAnswer, IsTxnCalled, Said, commit_call, done_said, stuck_said, TxnState, Entries, commit_writes, with_commit, targets_in_force, redone_memory, IsTxnWorld, stuck_in, txn_of, IsTxnButForSteps, GoesToTxnState, IsTxnCutOff, after_commit, most_of_commit, few_data, with_marks, StoreSession, IsLineWorld, IsLineOn, line_on_in, setup_in, HasMade, parts_during, called_store, chip_in, on_chip, is_sealed_since, HasCommitted, HasCommittedTxn, TxnStore, txn_store}
 use Rattle.pmem_base.specs.Layout as layout
@@ -8,7 +8,7 @@ use Rattle.txn_session.proofs.WriteLists.{posted_commit, length-commit_writes}
 use Rattle.txn_session.proofs.Stages.{commit_edits, IsAtStage, at_stage}
 use Rattle.txn_session.proofs.CommitEnds.{commit_queue, CommitEndsAt, CommitServes, commit_serves, commit_ends_at}
 
--- the state that so many leave, field by field
+-- the state that the first k leave, field by field
 by_done : (b last : Bool) (state : TxnState) (memory : Memory) (targets : List ℕ)
     → (let closed : TxnState = record state { txn = None } in
     let after : TxnState = if b then record closed { memory = memory; in_force = if last then [] else targets } else closed in after)
@@ -138,7 +138,7 @@ module _ (c : CommitCall) where
   pub long : length queue ≡ 2 * count + 2
   long = long_queue n c.entries c.some
 
-  -- ---- once so many of its engine writes are done
+  -- ---- once the first k of its engine writes are done
 
   lines_there : (k : ℕ) → places_now ≡ (moment_after_writes setup.formulas (moment_now setup from) (take k queue)).memory
       → (stage : IsAtStage n c.entries places k) → places_now ≡ commit_lines_at stage.stage n c.entries places
@@ -216,7 +216,7 @@ module _ (c : CommitCall) where
         few_taken,
       )
 
-      -- where it isn't stuck
+      -- if it isn't stuck
       pub goes : after.stuck ≡ old.stuck → GoesToTxnState (after_commit old c.entries writing) c.steps limit new
       goes its_page = (
         subst (λ e. IsTxnButForSteps (record e { session = with_marks old.session made }) new) (sym (with_commit_is old c.entries k)) (at_page old.stuck its_page),

@@ -99,7 +99,7 @@ found_at entries a i line is =
 pub found_none : (entries : Entries) (a : ℕ) → position_from (λ (entry : ℕ × Line). entry.0 == a) 0 entries ≡ None → entry_in entries a ≡ None
 found_none entries a is = search (rules, cases_lt, none-some, found_is, lt-ltb, absent)
 
--- whether it is full, where the line is there, and where it isn't
+-- whether it is full, if the line is there, and if it isn't
 pub full_is : (entries : Entries) (a : ℕ) (b : Bool) → is_some (entry_in entries a) ≡ b → is_txn_full entries a ≡ cond b false (length entries == 15)
 full_is entries a b is = ap (λ t. cond t false (length entries == 15)) is
 

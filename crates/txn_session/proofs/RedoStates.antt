@@ -1,4 +1,4 @@
--- Power comes on in the session: the state once so many writes of the redo are done.
+-- Power comes on in the session: the state once the first k writes of the redo are done.
 use Rattle.std.proofs.Common.{ℕ, ◌≡◌, ◌<◌, ◌≤◌, ◌+◌, ◌^◌, ◌++◌, true, false, cond, List, [], length, take, Some, None, Result, refl, sym, ap, subst, ◌∙◌, arith, rules}
 use Rattle.txn_session.proofs.Common.{Mark, option_map, nat_lt, le-ltb, append-nil, Posted, Device, BoardMemory, Setup, Memory, plain_memory, Moment, moment_after_writes, recovery_bound, EngineState, Parts, parts_of, Store, Opened, TxnFault, AreTargets, IsLogged, lines_opened, targets_opened, redoing_edits, logged_lines, kept_by_opening, logged_size, redoing_fit, step_limit, device_during, none_taken, Writing, IsCutAmong, recovered, whole_places, AreDone, Regs, ended, Follows, chip_of, OpeningStop, open_plan, StartFault, TxnAnswer, IsTxnCalled, Said, open_call, open_said, started_as, IsStoreOpening, TxnState, moment_in, redo_writes, targets_in_force, redone_memory, IsTxnWorld, stuck_in, txn_of, GoesToTxnState, HasTxnOpened, after_redo, txn_most_of_on, few_data, edits_memory, IsLineOff, IsLineBy, setup_in, chip_in, on_chip, HasStarted, HasTurned, turned_on, TxnStore, txn_store}
 use Rattle.pmem_base.specs.Layout as layout
@@ -86,7 +86,7 @@ module _ (c : OnTxnCall) where
   pub count_is : length queue ≡ length (redoing_edits n targets)
   count_is = length-redo n targets places its_targets.below.each long
 
-  -- ---- once so many of the redo's writes are done
+  -- ---- once the first k of the redo's writes are done
 
   -- the marks, memory and the targets in force then
   pub record HasTxnCome (writing : Writing) : Type 0 where
@@ -95,7 +95,7 @@ module _ (c : OnTxnCall) where
     pub its_memory : redone_memory setup places_now ≡ old.memory
     pub in_force : targets_in_force setup places_now ≡ cond (nat_lt (length targets) writing.done) [] targets
 
-  -- where no mark is made
+  -- if no mark is made
   pub still_come : c.new.state.ledger.marks ≡ c.old.state.ledger.marks → HasTxnCome (record { done = 0; made = [] })
   still_come marks =
       record {
@@ -105,7 +105,7 @@ module _ (c : OnTxnCall) where
         in_force = search (rules, plain_memory, le-ltb);
       }
 
-  -- where these are done
+  -- if these are done
   module _ (writing : Writing) (marks : c.new.state.ledger.marks ≡ c.old.state.ledger.marks ++ writing.made)
       (is : places_now ≡ (moment_after_writes setup.formulas start (take writing.done queue)).memory) where
     stage : IsRedoneTo n targets places writing.done

@@ -1,4 +1,4 @@
--- The lines once so many of the changes of a commit or a redo are made: at which stage they are, and what memory they hold.
+-- The lines once the first k changes of a commit or a redo are made: at which stage they are, and what memory they hold.
 use Rattle.std.proofs.Common.{ℕ, zero, suc, ◌≡◌, ◌<◌, ◌≤◌, ◌+◌, ◌-◌, ◌*◌, ◌++◌, inl, inr, Bool, true, false, cond, List, [], ◌∷◌, length, take, refl, sym, ap, ◌∙◌, arith, rules}
 use Rattle.txn_session.proofs.Common.{nat_lt, ◌==◌, slice_set, take-append-add, cases_lt, lt-ltb, le-ltb, eq-eqb, ne_eqb, take-append-le, take_all, length-append, put_lines, zero_line, Memory, Edit, AreTargets, CommitStage, logged, decided, cleared, commit_lines_at, lines_decided, targets_at, commit_memory_at, with_header, targets_of, Opening, partly, through, lines_opened, targets_opened, all_edited, target_edits, copy_edits, deciding_edits, applying_edits, redoing_edits, zero_header, after_bodies, after_all_bodies, after_targets, after_all_targets, after_copies, length-bodies, length-targets, length-deciding, length-applying, length-copy_edits, Entries}
 use Rattle.engine_lines.specs.declared.edits.Edit.TheVariants as Make
@@ -9,7 +9,7 @@ use Rattle.engine_lines.proofs.EditStages.{all_edited-append, after_last}
 abbrev pub commit_edits : ℕ → Entries → List Edit
 commit_edits n txn = deciding_edits n txn ++ applying_edits n txn
 
--- the stage once so many are made, the targets in force, and the memory
+-- the stage once the first k are made, the targets in force, and the memory
 pub record IsAtStage (n : ℕ) (txn : Entries) (lines : Memory) (k : ℕ) : Type 0 where
   pub stage : CommitStage
   pub its_lines : all_edited (take k (commit_edits n txn)) lines ≡ commit_lines_at stage n txn lines

@@ -10,7 +10,7 @@ engine_of store = store.inner.engine
 pub few_lines : (g : Shape) → IsShape g → logged_lines g < 2 ^ 30
 few_lines g shape = let few = few_data g shape in let size = logged_size g in omega (arith, few, size)
 
--- lines that hold a memory tell the targets in force, and the memory
+-- lines that hold a memory determine the targets in force, and the memory
 module _ (setup : Setup) (shape : IsShape setup.shape) (lines memory : Memory) (targets : List ℕ)
     (it : IsLogged (logged_lines setup.shape) lines targets memory) where
   pub targets_held : targets_in_force setup lines ≡ targets
@@ -24,7 +24,7 @@ module _ (setup : Setup) (shape : IsShape setup.shape) (lines memory : Memory) (
 
 -- ---- what is held
 
--- what is said of the open transaction, where the store is stuck so
+-- what is known of the open transaction, if the store is stuck so
 abbrev pub IsOpenTxn : Setup → Option ℕ → Option Entries → Type 0
 IsOpenTxn setup stuck txn =
     IfSome txn (λ entries. (stuck ≡ None) × AreTargets (logged_lines setup.shape) (targets_of entries))
@@ -48,7 +48,7 @@ pub none_open : (setup : Setup) (session : StoreSession TxnStore) (txn : Option 
 none_open setup session txn none held = search (rules, plain_memory)
 
 module _ (setup : Setup) (marks made : List Mark) (same : made ≡ marks) where
-  -- where no mark is made
+  -- if no mark is made
   pub logged_still : HoldsLogged setup marks → HoldsLogged setup made
   logged_still it = subst (HoldsLogged setup) (sym same) it
 

@@ -1,5 +1,5 @@
--- The engine writes of a commit and of a redo, in order: those of the changes that they are made of, and memory once so many
--- of them are done.
+-- The engine writes of a commit and of a redo, in order: those of the changes that they are made of, and memory once the
+-- first k of them are done.
 use Rattle.std.proofs.Common.{ℕ, suc, ◌≡◌, ◌<◌, ◌≤◌, ◌+◌, ◌*◌, ◌++◌, List, [], ◌∷◌, length, drop, drop-cons, refl, sym, ap, ◌∙◌, arith, rules}
 use Rattle.txn_session.proofs.Common.{All, zip, append_assoc, length-append, length-map, All-head, All-tail, Line, Posted, line_at, zero_line, Memory, memory_with, whole_write, Edit, header_of, targets_of, bodies_of, body_edits, target_edits, copy_edits, deciding_edits, applying_edits, redoing_edits, Entries, body_writes, target_writes, commit_writes, redo_writes, all_posted}
 use Rattle.pmem_base.proofs.LineSets.{line_at-set_other}

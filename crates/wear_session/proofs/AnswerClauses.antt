@@ -7,7 +7,7 @@ use Rattle.wear_session.specs.declared.commands.WearCommand.TheVariants as Do
 pub of_line_is : (state : WearState) (a : ℕ) (answer : Option WearAnswer) → state.session.board.powered ≡ true → a < wear_lines_in state → wear_of_line state a answer ≡ answer
 of_line_is state a answer lit low = search (rules, lt-ltb)
 
--- where the state decides nothing, the engine does
+-- if the state decides nothing, the engine does
 pub served : (setup : Setup) (old new : WearState) (command : WearCommand) (answer : WearAnswer) → wear_decided old command ≡ None
     → IsWearServed setup old command answer new → IsWearCalled setup old command answer new → IsWearAnswered setup old command answer new
 served setup old new command answer none it called = subst (λ d. IsWearAnsweredAs d setup old command answer new) (sym none) (it, called)

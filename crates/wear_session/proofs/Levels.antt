@@ -1,4 +1,4 @@
--- Lines that are levelled tell the wear that they record and the logical lines that they hold.
+-- Lines that are levelled determine the wear that they record and the logical lines that they hold.
 use Rattle.std.proofs.Common.{ℕ, ◌≡◌, ◌<◌, List, length, Option, sym, ap, subst₂, ◌∙◌, arith, zero-add}
 use Rattle.std.proofs.lemmas.List.FromFn.{length-map-range_with_len, get_or-map-range_with_len}
 use Rattle.wear_session.proofs.Common.{map, unwrap_or, range_with_len, ext_get_or, Line, line_at, zero_line, Setup, Wear, place_of, first_wear, IsLevelled, logical_lines, wear_in, levelled_memory}

@@ -72,7 +72,7 @@ module _ (c : WearCall) (now : WearState) (is : before c ≡ now) where
         (log later : Option (List Access)) → IsLoggedBy undone log c.old.state.board later c.new.state.board
         → IsLoggedBy (wear_decided now command) log now.session.board later c.new.state.board
 
-    -- what is held and answered, and the log, which goes on where a call was made
+    -- what is held and answered, and the log, which goes on if a call was made
     pub record IsServed {E : Type 0} (command : WearCommand) (undone : Option (Unit {0})) (answer : Result WearAnswer E) (why : E → Type 0) : Type 0 where
       pub held : IsHeld c
       pub answered : IfOk answer (Answered command)
@@ -113,7 +113,7 @@ module _ (c : WearCall) (now : WearState) (is : before c ≡ now) where
     range_is : (a : ℕ) (store : LevelledLines) → c.old.store ≡ Some store → store.gapped.lines ≤ a → wear_of_line (before c) a None ≡ Some Say.Range
     range_is a store there past = search (rules, lines_are, before, on_before, le-ltb)
 
-    -- ---- a read, of which no memory is wanted
+    -- ---- a read, which needs no memory
 
     module _ (a : ℕ) where
       abbrev pub IsReadDone : Done Line Fault → Type 0

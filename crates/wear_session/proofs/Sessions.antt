@@ -25,7 +25,7 @@ record IsWearStep (first next : WearState) (w : ℕ) (command : WearCommand) (an
   count : Counts first.every next after
   mended : IsWearMendedAnswer command answer
 
--- nothing changes that the answers tell
+-- nothing changes that the answers report
 record IsStill (first next : WearState) : Type 0 where
   memory : next.memory ≡ first.memory
   wear : next.wear ≡ first.wear
@@ -56,7 +56,7 @@ dark_step first next w command answer read memory turns mended dark same = searc
 
 -- ---- a write
 
--- so many engine writes were done
+-- this number of engine writes were done
 record IsLeft (first next : WearState) (a : ℕ) (plain : Line) (k : ℕ) : Type 0 where
   memory : next.memory ≡ cond (k == 0) first.memory (slice_set first.memory a plain)
   wear : next.wear ≡ cond (k == 0) first.wear (cond (k == 3) (next_wear (wear_lines_in first) first.wear) first.wear)
@@ -85,7 +85,7 @@ module _ (setup : Setup) (first next : WearState) (w a : ℕ) (plain : Line) (so
   its_turn : is_turn first.every (turning_of first w) ≡ is_due first
   its_turn = sym its.turn
 
-  -- three engine writes where a move is due, and else one
+  -- three engine writes if a move is due, otherwise one
   writes_long : (due : Bool) → is_due first ≡ due → length writes ≡ (if due then 3 else 1)
   writes_long due is = search rules
 
@@ -107,7 +107,7 @@ module _ (setup : Setup) (first next : WearState) (w a : ℕ) (plain : Line) (so
         mended = mended;
       }
 
-  -- the wear after so many
+  -- the wear after these
   wear_left : (k : ℕ) → 0 < k → IsLeft first next a plain k
       → next.wear ≡ cond (k == 3) (next_wear (wear_lines_in first) first.wear) first.wear
   wear_left k done left = left.wear ∙ some_of k first.wear (cond (k == 3) (next_wear (wear_lines_in first) first.wear) first.wear) done
@@ -200,7 +200,7 @@ module _ (setup : Setup) (first next : WearState) (w : ℕ) (some : 1 ≤ first.
       dark_step first next w Do.On (Say.Cut steps) tt refl (λ new h. h) tt it.0.power (still_cut first next it.0)
   open_step answer it = absurd it
 
-  -- a line's command, where power is on and there is such a line, or else
+  -- a line's command, if power is on and there is such a line, and otherwise
   write_by : (p b : Bool) (a : ℕ) (plain : Line) (answer : WearAnswer) → first.session.board.powered ≡ p
       → IsWearAnsweredAs (if p then (if b then None else Some Say.Range) else Some Say.Off) setup first (Do.Write a plain) answer next
       → IsWearStep first next w (Do.Write a plain) answer

@@ -7,7 +7,7 @@ next_mod w every some =
     let whole : every * (w / every) + (w % every + 1) ≡ w + 1 = omega (arith, div-add-mod w every) in
     sym (ap (λ k. k % every) whole) ∙ mul-add-mod_self_left every (w / every) (w % every + 1)
 
--- a move is due just where the answers say that it is a turn
+-- a move is due exactly if the answers say that it is a turn
 pub record IsCounted (every count w : ℕ) : Type 0 where
   pub turn : not (nat_lt (count + 1) every) ≡ ((w + 1) % every == 0)
   pub next : (if not (nat_lt (count + 1) every) then 0 else count + 1) ≡ (w + 1) % every

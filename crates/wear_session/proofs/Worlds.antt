@@ -46,7 +46,7 @@ module _ (c : WearCall) where
     pub off_after : c.new.store ≡ None → IsHeld
     off_after there = rw (shape, keys) (record { some_every = c.held.some_every; levelled = levelled; its_store = rw there tt })
 
-  -- where no mark is made
+  -- if no mark is made
   module _ (same : c.new.state.ledger.marks ≡ c.old.state.ledger.marks) where
     pub levelled_still : HoldsLevelled setup_of c.new.state.ledger.marks
     levelled_still = rw same c.held.levelled

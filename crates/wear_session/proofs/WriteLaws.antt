@@ -1,4 +1,4 @@
--- What a session's memory and wear are once so many engine writes of a write are done.
+-- What a session's memory and wear are once the first k engine writes of a write are done.
 use Rattle.std.proofs.Common.{ℕ, zero, suc, ◌≡◌, ◌<◌, ◌≤◌, ◌+◌, ◌^◌, Bool, true, false, cond, List, [], ◌∷◌, length, take, refl, sym, ap, subst₂, ◌∙◌, arith}
 use Rattle.wear_session.proofs.Common.{All, slice_set, ◌==◌, if◌then◌else◌, cond-false, ne_eqb, All-nil, All-cons, Line, IsLine, Formulas, Setup, Memory, Moment, moment_after_writes, Edit, IsEditOf, all_edited, all_posted, length-all_posted, edits_memory, Wear, place_of, next_wear, IsLevelled, move_edits, MoveStage, begun, written, copied, moved, write_lines_at, write_memory_at, wear_at, logical_lines, safe_at_each_stage, move_fits, places, WearState, wear_lines_in, is_due, with_writes, wear_in, levelled_memory}
 use Rattle.engine_lines.specs.declared.edits.Edit.TheVariants as Make
@@ -7,7 +7,7 @@ use Rattle.wear_session.proofs.WriteEnds.{writes_of}
 
 -- ---- memory, write by write
 
--- the stage after so many
+-- the stage after the first k
 abbrev pub stage_of : ℕ → MoveStage
 stage_of zero = begun
 stage_of (suc zero) = written
@@ -58,7 +58,7 @@ module _ (lines memory : Memory) (n : ℕ) (wear : Wear) (a : ℕ) (plain : Line
 
 -- ---- the same as a session's state says it
 
--- where some are done
+-- if some are done
 pub some_of : {X : Type 0} (k : ℕ) (x y : X) → 0 < k → cond (k == 0) x y ≡ y
 some_of k x y some = cond-false (k == 0) x y (ne_eqb k 0 (λ none. omega (arith, none, some)))
 
@@ -91,7 +91,7 @@ module _ (setup : Setup) (lines memory now : Memory) (n : ℕ) (wear : Wear) (a 
   pub levelled_after : IsLevelled (logical_lines setup.shape) now (wear_in setup now) (levelled_memory setup now)
   levelled_after = levelled_is setup now (write_memory_at (stage_of k) a plain memory) (wear_at (stage_of k) n wear) its
 
--- the state that so many leave, field by field
+-- the state that the first k leave, field by field
 by_done : (b due last : Bool) (state : WearState) (memory : Memory) (wear : Wear)
     → (if b then state else record state { memory = memory; wear = if last then wear else state.wear; count = if due then 0 else state.count + 1 })
     ≡ record state {

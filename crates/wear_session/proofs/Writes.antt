@@ -1,4 +1,4 @@
--- A write of a logical line in the session: what is held once so many of its engine writes are done, its call, and what it is
+-- A write of a logical line in the session: what is held once the first k of its engine writes are done, its call, and what it is
 -- answered.
 use Rattle.std.proofs.Common.{ℕ, ◌≡◌, ◌<◌, ◌≤◌, ◌+◌, Bool, true, false, cond, List, length, take, Some, None, Result, refl, sym, ap, ap₂, subst, subst₂, ◌∙◌, arith, zero, suc, ◌++◌, ◌⊎◌, inl, inr, [], drop, Ok, Err, rules}
 use Rattle.wear_session.proofs.Common.{not, nat_lt, slice_set, ◌==◌, Line, Posted, Mark, IsLine, ended, Follows, Setup, Memory, plain_memory, moment_after_writes, Parts, Chip, Wear, Gapped, LevelledLines, count_in, Moved, WriteFault, place_of, next_wear, IsLevelled, write_lines_at, wear_at, write_memory_at, Writing, whole_places, moment_now, AreDone, AreCut, logical_lines, levelled_plan, write_answer_of, count_after, step_limit, device_during, none_taken, at_most, fewer, WearAnswer, WearState, wear_lines_in, is_due, engine_writes, place_in, wear_in, levelled_memory, IsLevelledAs, IsWearCalled, write_call, move_said, IsWearButForSteps, GoesToWearState, IsWearCutOff, after_writing, most_of_write, with_marks, wear_without_power, IsLineWorld, IsLineOn, HasMade, parts_during, called_store, chip_in, on_chip, is_sealed_since, HasWrittenLevelled, IsLevelledWrite, Result, ◌||◌, list_any, true≢false, drop_at, path_length, Fault, whole_write, is_own_seal, write_steps, memory_done, AreGone, IsCutAt, IsStoppedAt, moment_in, IsWriting, EndsWriting, or_true, fault_said}
@@ -10,6 +10,7 @@ use Rattle.wear_session.proofs.WriteEnds.{writes_of, most_of, EndsWearAt, WearsA
 use Rattle.wear_session.proofs.WriteLaws.{stage_of, lines_done, levelled_done, memory_by, wear_by, wear_after, memory_after, levelled_after, with_writes_is, some_of}
 use Rattle.std.specs.Prelude.{◌&&◌}
 use Rattle.pmem_engine.specs.declared.fault.Fault.TheVariants as Fail
+use Rattle.pmem_engine.proofs.Laws.PolicyBounds.{begun_most}
 use Rattle.start_gap.specs.declared.gapped.Moved.TheVariants as Move
 use Rattle.wear_session.specs.declared.answers.WearAnswer.TheVariants as Say
 
@@ -103,7 +104,7 @@ module _ (c : WearCall) (world : IsLineWorld engine_of (setup_of c) c.old) (a : 
       subst (λ m. IsLevelled m places wear (levelled_memory setup places)) (sym n_is)
       (subst (λ w. IsLevelled (logical_lines setup.shape) places w (levelled_memory setup places)) (sym its.its_wear) c.held.levelled)
 
-  -- ---- once so many of its engine writes are done
+  -- ---- once the first k of its engine writes are done
 
   module _ (k : ℕ) (made : List Mark) (few : k ≤ length queue)
       (is : places_now ≡ write_lines_at (stage_of k) n wear a plain places) where
@@ -187,7 +188,7 @@ module _ (c : WearCall) (world : IsLineWorld engine_of (setup_of c) c.old) (a : 
         ),
       )
 
-  -- memory once so many are done
+  -- memory once the first k are done
   lines_are_at : (k : ℕ) → k ≤ length queue
       → places_now ≡ (moment_after_writes setup.formulas (moment_now setup from) (take k queue)).memory
       → places_now ≡ write_lines_at (stage_of k) n wear a plain places
@@ -324,13 +325,13 @@ module _ (c : WearCall) (world : IsLineWorld engine_of (setup_of c) c.old) (a : 
 
   -- power was cut
   few_steps : (d : Bool) → most_of setup.shape d ≤ step_limit
-  few_steps true = let levels = world.whole_shape.at_most_six_levels in omega (arith, levels)
-  few_steps false = let levels = world.whole_shape.at_most_six_levels in omega (arith, levels)
+  few_steps true = omega (arith, world.whole_shape.at_most_six_levels, begun_most setup.shape world.whole_shape.persists_path)
+  few_steps false = omega (arith, world.whole_shape.at_most_six_levels, begun_most setup.shape world.whole_shape.persists_path)
 
   abbrev rest : List Posted
   rest = drop 1 queue
 
-  -- the line's own seal is among the marks exactly where it is written
+  -- the line's own seal is among the marks exactly if it is written
   kept_own : (kept : IsCutAt setup from queue 1 (length queue) most to) → list_any (is_own_seal (place_of n wear a)) kept.writing.made ≡ true
   kept_own kept = own_kept setup.formulas (moment_now setup from) (whole_write (place_of n wear a) plain) rest kept.writing kept.low kept.came
 

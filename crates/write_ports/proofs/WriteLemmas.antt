@@ -6,6 +6,7 @@ use Rattle.std.specs.List.{list_all, range_with_len}
 use Rattle.std.proofs.lemmas.List.Sums.{AllPass-from_list_all, list_all-from_AllPass}
 use Rattle.std.proofs.lemmas.Nat.Bits.{bit_at_ones, same_from_bits_below}
 use Rattle.std.proofs.lemmas.Bool.{false≢true, both_ways, or_cases, cases_lt, cases_Bool, eq-eqb, eqb-true, and_from, and_left, and_right, lt-ltb, le-ltb, le-leb, lt-leb, cond-true, cond-false, or_parts}
+use Rattle.std.proofs.lemmas.List.{ext_get_or}
 use Rattle.std.proofs.lemmas.List.Elements.{All-head, All-tail, filter_more}
 use Rattle.std.proofs.lemmas.List.Folds.{list_any-append}
 use Rattle.std.proofs.lemmas.List.FromFn.{fill_by_all, length-range_with_len, get_or-range_with_len}
@@ -70,6 +71,28 @@ get_or-put_write line write i long posted =
             (le-ltb i (write.from + write.len) above)))
       ]
     ]
+
+-- a whole line has each byte, so nothing of the line under it is left
+pub whole_has : (write : Posted) (i : ℕ) → IsPosted write → write.len ≡ 64 → i < 64 → has_byte write i ≡ true
+whole_has write i posted whole inside =
+    and_from (nat_le write.from i) (nat_lt i (write.from + write.len))
+    (le-leb write.from i (omega (arith, posted.inside, whole)))
+    (lt-ltb i (write.from + write.len) (omega (arith, whole, inside)))
+
+pub put_write_whole : (a b : Line) (write : Posted) → length a.0 ≡ 64 → length b.0 ≡ 64 → IsPosted write → write.len ≡ 64
+    → put_write a write ≡ put_write b write
+put_write_whole a b write long_a long_b posted whole =
+    ap line_of
+    (ext_get_or 0 (put_write a write).0 (put_write b write).0
+    (length-put_write a write long_a posted ∙ sym (length-put_write b write long_b posted))
+    (λ i inside.
+    let within : i < 64 = omega (arith, inside, length-put_write a write long_a posted) in
+    by_byte a i long_a within ∙ sym (by_byte b i long_b within)))
+  where
+    by_byte : (line : Line) (i : ℕ) → length line.0 ≡ 64 → i < 64 → get_or (put_write line write).0 i 0 ≡ get_or write.line.0 i 0
+    by_byte line i long within =
+        get_or-put_write line write i long posted
+        ∙ cond-true (has_byte write i) (get_or write.line.0 i 0) (get_or line.0 i 0) (whole_has write i posted whole within)
 
 -- ---- writes in order
 

@@ -4,8 +4,8 @@ ghost use Rattle.pmem_base.specs.Ranges.{IsPosted};
 ghost use Rattle.pmem_base.specs.Lines.{zero_line};
 ghost use Rattle.pmem_base.specs.declared.lines.Line.{Line};
 ghost use Rattle.pmem_base.specs.declared.commands.Posted.{Posted};
-ghost use Rattle.pmem_base.specs.WaitingWrites.{no_writes, queue_of, writes_to, put_writes};
-ghost use Rattle.write_ports.specs.Queues.{ArePorts, have_byte, cover_line};
+ghost use Rattle.pmem_base.specs.WaitingWrites.{no_writes, queue_of, writes_to, put_writes, queue_posted, is_queue_full, queues_after_loss};
+ghost use Rattle.write_ports.specs.Queues.{ArePorts, ShowsPosted, have_byte, cover_line};
 
 use crate::Seen;
 use crate::queue::Queue;
@@ -56,18 +56,22 @@ impl Ports {
         let _ = &self.queues;
     }
 
-    /// The write waits behind the others of its port. Errors: `Full` if and only if 16 wait there, and then nothing has
-    /// changed.
-    pub fn post(&mut self, port: u8, write: &Posted) -> Result<(), Full>
+    /// The write waits at its port: behind the others, or, if writes are combined and it is a whole
+    /// line, in the place of the newest write to its line, if that is a whole line too.
+    ///
+    /// Errors: `Full` if and only if 16 writes wait there and it takes the place of none of them. Nothing
+    /// has then changed.
+    pub fn post(&mut self, port: u8, write: &Posted, combines: bool) -> Result<(), Full>
         requires port { port < 8 }
         requires write { IsPosted write.now }
-        ensures full { IsErr result ↔ (length (queue_of self.old port) ≡ 16) }
+        ensures full { IsErr result ↔ IsTrue (is_queue_full combines (queue_of self.old port) write.now) }
         ensures ok { OnOk result
-            (self.new ≡ slice_set self.old port (queue_of self.old port ++ write.now ∷ [])) }
+            (self.new ≡ slice_set self.old port (queue_posted combines (queue_of self.old port) write.now)) }
+        ensures shows { OnOk result (ShowsPosted self.old self.new port write.now) }
         ensures err { OnErr result (self.new ≡ self.old) }
     {
         let queue = &mut self.queues[usize::from(port)];
-        queue.post(write)
+        queue.post(write, combines)
     }
 
     /// The oldest write that waits at the port.
@@ -80,10 +84,9 @@ impl Ports {
         queue.front()
     }
 
-    /// The port's oldest write waits no more.
+    /// The port's oldest write waits no more, if one does.
     pub fn pop(&mut self, port: u8)
-        requires port { port < 8 }
-        requires some { 0 < length (queue_of self.old port) }
+        requires { port < 8 }
         ensures { self.new ≡ slice_set self.old port (drop 1 (queue_of self.old port)) }
     {
         let queue = &mut self.queues[usize::from(port)];
@@ -100,11 +103,13 @@ impl Ports {
         queue.waiting()
     }
 
-    /// Nothing waits any more.
-    pub fn clear(&mut self)
-        ensures { self.new ≡ no_writes }
+    /// Power is lost: nothing waits any more, unless the queues are durable.
+    pub fn lose_power(&mut self, durable: bool)
+        ensures { self.new ≡ queues_after_loss durable self.old }
     {
-        *self = Ports::new();
+        if !durable {
+            *self = Ports::new();
+        }
     }
 
     /// What the port's waiting writes to line `at` show of it: a byte is seen if and only if one of them has it, and

@@ -1,12 +1,11 @@
 -- A flush: the oldest dirty block is written back, where one is dirty.
-use Rattle.std.proofs.lemmas.Grind.{common_steps}
 use Rattle.std.proofs.Common.{rules, ℕ, ◌≡◌, ◌<◌, ◌≤◌, true, [], Option, Some, None, Result, Ok, Err, refl, sym, ap, subst, subst₂, ◌∙◌, arith}
 use Rattle.std.specs.Prelude.{option_map, is_some, IfOk}
 use Rattle.std.proofs.lemmas.Bool.{true≢false}
 use Rattle.pmem_base.specs.declared.faults.Cut.{Cut}
 use Rattle.pmem_base.specs.Layout.{device_lines, meta_lines}
 use Rattle.bonsai_tree.specs.Positions.{level_of}
-use Rattle.board.proofs.CountLemmas.{RisesBy-once, HasRisen-once}
+use Rattle.board.proofs.CountLemmas.{RisesBy-once}
 use Rattle.board.specs.Device.{Device, IsDevice}
 use Rattle.seal_ledger.specs.Ledger.{LedgerState}
 use Rattle.suite.specs.Setup.{Setup}
@@ -30,7 +29,8 @@ use Rattle.pmem_engine.specs.Plans.{oldest_block_plan}
 use Rattle.pmem_engine.proofs.PlannedCalls.CachePlans.{faulted_end}
 use Rattle.pmem_engine.specs.Flushed.{cache_of, HasWrittenBack, HasWrittenOldest}
 use Rattle.pmem_engine.proofs.CallEnds.ErrorAnswers.{ok_faulted, cut_not_down}
-use Rattle.pmem_engine.proofs.CallEnds.StillParts.{nothing_done, no_steps_of}
+use Rattle.pmem_engine.proofs.CallEnds.StillParts.{nothing_done, no_steps_of, cut_still}
+use Rattle.pmem_engine.proofs.CheckedReads.UnsealedLines.{same_never_falls}
 use Rattle.pmem_engine.proofs.BlockWrites.WrittenBlocks.{written_back, clean_after, cached_after}
 
 same_engine : (old new : ChipState) → cache_of new ≡ cache_of old → new.mirror ≡ old.mirror → new ≡ old
@@ -69,11 +69,6 @@ module _ (old new : ChipState) (before after : Device) (mirror : new.mirror ≡ 
 
 -- ---- the call
 
--- a cut before a line write changes nothing
-pub cut_still : (setup : Setup) (engine : ChipState) (before after : Device) (ledger : LedgerState) (tags digests : ℕ)
-    → WasCut before after → OneLossEffect setup cut_short [] (parts_with engine before ledger tags digests) (parts_with engine after ledger tags digests)
-cut_still setup engine before after ledger tags digests it = grind (arith, common_steps, HasRisen-once)
-
 module _ (setup : Setup) (old new : ChipState) (before after : Device) (ledger : LedgerState) (tags digests : ℕ)
     (its_shape : old.shape ≡ setup.shape) (its_size : before.size ≡ device_lines setup.shape) (whole : IsDevice before) where
   abbrev start : Parts
@@ -89,7 +84,7 @@ module _ (setup : Setup) (old new : ChipState) (before after : Device) (ledger :
   flush_done (Ok (Some x)) it = search (rules, written_back)
   flush_done (Err cut) it =
       subst (λ e. OneLossEffect setup cut_short [] start (parts_with e after ledger tags digests)) (sym it.0)
-      (cut_still setup old before after ledger tags digests it.1)
+      (cut_still setup old before after ledger tags digests tags digests it.1 (same_never_falls tags tags refl) (same_never_falls digests digests refl))
 
   flush_cached : (answer : Result (Option ℕ) Cut) → HasWrittenOldest old new before after answer
       → (bank x : ℕ) → is_cached setup.shape new.cache bank x ≡ is_cached setup.shape old.cache bank x

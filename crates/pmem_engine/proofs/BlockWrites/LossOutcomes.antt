@@ -43,8 +43,8 @@ use Rattle.pmem_engine.proofs.Laws.MendableLaws.{IsMendable-no_group}
 use Rattle.pmem_engine.proofs.Laws.CacheLaws.{IsTrueOrDirty-sound}
 use Rattle.pmem_engine.proofs.Laws.LossLaws.{IsTrusted-loss_set, IsSound-loss_set, IsCounterStored-loss_raised}
 use Rattle.pmem_engine.proofs.CallEnds.CallChains.{gone_chained}
-use Rattle.pmem_engine.proofs.BlockWrites.FlushOutcomes.{cut_still}
-use Rattle.pmem_engine.proofs.CallEnds.StillParts.{nothing_done, no_steps_of}
+use Rattle.pmem_engine.proofs.CallEnds.StillParts.{nothing_done, no_steps_of, cut_still}
+use Rattle.pmem_engine.proofs.CheckedReads.UnsealedLines.{same_never_falls}
 use Rattle.pmem_engine.proofs.BlockWrites.LossSteps.{same_steps, other_steps, latched_steps, cut_steps}
 
 -- ---- numbers
@@ -199,7 +199,7 @@ module _ (setup : Setup) (n : ℕ) (old new : ChipState) (before after : Device)
   loss_gone (Err cut) it =
       gone_chained setup cut_short [] [] call_start (parts_with new it.1.1 ledger tags digests) call_finish
       (it.1.2.done setup ledger tags digests (sym its_shape)).gone
-      (cut_still setup new it.1.1 after ledger tags digests it.1.4).gone
+      (cut_still setup new it.1.1 after ledger tags digests tags digests it.1.4 (same_never_falls tags tags refl) (same_never_falls digests digests refl)).gone
 
   loss_counters : (answer : Result ℕ Cut) → HasChangedLoss n old new before after answer → AreTrusted setup call_start
       → (page : ℕ) → page < layout.pages setup.shape
@@ -215,7 +215,9 @@ module _ (setup : Setup) (n : ℕ) (old new : ChipState) (before after : Device)
       (first.counters trusted page within held)
   loss_counters (Err cut) it trusted page within meta held =
       let first = it.1.2.done setup ledger tags digests (sym its_shape) in
-      let last = cut_still setup new it.1.1 after ledger tags digests it.1.4 in
+      let last =
+      cut_still setup new it.1.1 after ledger tags digests tags digests it.1.4 (same_never_falls tags tags refl)
+      (same_never_falls digests digests refl) in
       last.counters (first.gone.trusted trusted) page within (first.counters trusted page within held)
 
   -- ---- steps

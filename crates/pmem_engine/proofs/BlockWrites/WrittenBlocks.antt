@@ -1,6 +1,6 @@
 -- A dirty block is written to its place, and is clean afterwards: what it keeps, whatever the device holds.
 use Rattle.std.proofs.Common.{rules, ℕ, ◌≡◌, ◌≢◌, ◌<◌, ◌⊎◌, inl, inr, true, false, List, [], ◌∷◌, length, Some, refl, sym, ap, ap₂, subst, subst₂, ◌∙◌}
-use Rattle.std.specs.Prelude.{IfSome, option_map, is_some, ◌==◌, ◌&&◌, ◌||◌}
+use Rattle.std.specs.Prelude.{IfSome, option_map, is_some, ◌==◌, ◌&&◌}
 use Rattle.std.specs.List.{Contains, list_any}
 use Rattle.std.proofs.lemmas.Bool.{cases_eq}
 use Rattle.std.proofs.lemmas.List.{append-nil}
@@ -25,14 +25,14 @@ use Rattle.pmem_engine.specs.Steps.{with_true_line}
 use Rattle.pmem_engine.specs.Recached.{IsRecached, IsTrueOrDirty, WasCleaned}
 use Rattle.pmem_engine.specs.Parts.{Parts, parts_with, AreTrusted, AreSound, HoldsCounters, HoldsMeta, meta_line_in, lines_redone}
 use Rattle.call_effects.specs.Outcomes.{going}
-use Rattle.pmem_engine.specs.Outcomes.{KeepsPlaces, KeepsMeta, OneLossEffect}
+use Rattle.pmem_engine.specs.Outcomes.{HoldsTruth, KeepsPlaces, KeepsMeta, OneLossEffect}
 use Rattle.pmem_engine.specs.Flushed.{HasWrittenBack}
 use Rattle.call_effects.proofs.ToldLines.{told_cases, told_surely, any_told, told_same, whole_lines}
 use Rattle.commit_regs.proofs.GroupLemmas.{unarmed}
 use Rattle.pmem_engine.proofs.CheckedReads.LineCounters.{cached_true}
 use Rattle.pmem_engine.proofs.Laws.DeviceRegions.{stored_meta-set_other}
 use Rattle.pmem_engine.proofs.Laws.CounterBlocks.{IsCounterStored-written_back}
-use Rattle.pmem_engine.proofs.Laws.CacheLaws.{stored_meta-true_line, IsTrusted-recached, IsSound-cleaned, not_cleaned_other, IsTrueOrDirty-cleaned, dirty_before-recached}
+use Rattle.pmem_engine.proofs.Laws.CacheLaws.{stored_meta-true_line, stays_true-true_line, IsTrusted-recached, IsSound-cleaned, not_cleaned_other, IsTrueOrDirty-cleaned, dirty_before-recached}
 use Rattle.board.proofs.StepLemmas.{is_some-with_line}
 
 -- a position that was cleaned isn't dirty
@@ -182,8 +182,14 @@ module _ (setup : Setup) (bank x : ℕ) (old new : ChipState) (before after : De
       (IsSound-cleaned setup old new lines before.regs ledger x had on_tree recached (λ y within away. kept_dirty y away)))
       sound
 
+  strict_after : AreTrusted setup start → (y : ℕ) → HoldsTruth setup.shape start y → HoldsTruth setup.shape finish y
+  strict_after trusted y =
+      holds_now trusted (λ lines. stored_meta setup.shape lines y ≡ line_at ledger.truth y)
+      (λ lines. stored_meta setup.shape lines y ≡ line_at ledger.truth y)
+      (λ lines size had. stays_true-true_line setup.shape lines ledger.truth x y size on_tree had)
+
   places : AreTrusted setup start → KeepsPlaces setup [] start finish
-  places trusted = search rules
+  places trusted = search (rules, strict_after)
 
   held_after : AreTrusted setup start → (y : ℕ) → HoldsMeta setup.shape start y → HoldsMeta setup.shape finish y
   held_after trusted y held = search (rules, IsTrueOrDirty-cleaned, on_tree, kept_dirty, holds_now)

@@ -1,21 +1,26 @@
--- The metadata lines that a part of a call leaves on the device: a seal's or a begin's group writes none but the page's
--- counter block.
-use Rattle.std.proofs.Common.{rules, ℕ, ◌≡◌, ◌≢◌, ◌<◌, ◌+◌, ◌*◌, inl, inr, Bool, List, Option, Some, None, refl, ap, ◌∙◌, arith}
+-- The metadata lines that a part of a call leaves on the device: a seal's or a begin's group writes none but the lowest
+-- lines of the page's path.
+use Rattle.std.proofs.Common.{ℕ, ◌≡◌, ◌≤◌, ◌<◌, ◌-◌, inl, inr, false, List, [], ◌∷◌, map, drop, Option, Some, None, refl, ap, ◌∙◌, arith}
+use Rattle.std.specs.Prelude.{◌==◌}
+use Rattle.std.specs.List.{list_any}
+use Rattle.std.proofs.lemmas.Bool.{eqb-false, or_parts}
 use Rattle.pmem_base.specs.declared.lines.Line.{Line}
 use Rattle.pmem_base.specs.Shape.{Shape}
 use Rattle.pmem_base.specs.Layout as layout
 use Rattle.pmem_base.specs.Layout.{page_of}
-use Rattle.bonsai_tree.specs.Positions.{counter_position}
+use Rattle.plain_model.specs.Bounds.{path_length, begun_lines}
 use Rattle.board.specs.Device.{Device}
 use Rattle.commit_regs.specs.Groups.{redone_told, Writes}
 use Rattle.meta_cache.specs.Banks.{Banks}
 use Rattle.meta_path.specs.Work.{told_line}
 use Rattle.meta_path.specs.Naming.{naming_writes}
+use Rattle.meta_path.specs.Storing.{IsPathOf}
 use Rattle.pmem_engine.specs.declared.resealing.NextSeal.{NextSeal}
-use Rattle.pmem_engine.specs.CallFacts.{KeepsMetaLines}
+use Rattle.pmem_engine.specs.CallFacts.{KeepsMetaLines, is_grouped}
 use Rattle.pmem_engine.specs.Committing.{HasCommitted}
-use Rattle.pmem_engine.specs.Sealing.{seal_group, begin_group}
-use Rattle.pmem_engine.proofs.CallEnds.UnwrittenLines.{told_off, meta_off}
+use Rattle.pmem_engine.specs.Sealing.{path_entries, seal_group, begin_group}
+use Rattle.pmem_engine.proofs.CallEnds.UnwrittenLines.{told_off}
+use Rattle.pmem_engine.proofs.Laws.PathEntries.{entered_is, grouped_below}
 use Rattle.pmem_engine.proofs.PathNaming.PathNames.{meta_kept}
 
 -- a line that a group doesn't write
@@ -23,17 +28,32 @@ pub committed_at : (group : List (ℕ × Line)) (old new : Device) (n : ℕ) →
     → told_line new.lines n ≡ told_line old.lines n
 committed_at group old new n off it = ap (λ told. told_line told n) it.lines ∙ told_off group old.lines n off
 
-apart_at : (a x y : ℕ) → x ≢ y → a + x ≡ a + y → ⊥
-apart_at a x y apart same = apart (omega (arith, same))
+-- entries of other positions
+entries_off : (g : Shape) (entries : List (ℕ × Line)) (x : ℕ) → list_any (λ (e : ℕ × Line). e.0 == x) entries ≡ false
+    → Writes (layout.meta_line g x) (map (λ (e : ℕ × Line). (layout.meta_line g e.0, e.1)) entries) → ⊥
+entries_off g [] x none it = it
+entries_off g (e ∷ es) x none (inl same) =
+    eqb-false e.0 x (or_parts (e.0 == x) (list_any (λ (e : ℕ × Line). e.0 == x) es) none).0 (omega (arith, same))
+entries_off g (e ∷ es) x none (inr it) =
+    entries_off g es x (or_parts (e.0 == x) (list_any (λ (e : ℕ × Line). e.0 == x) es) none).1 it
 
-pub begin_off_meta : (g : Shape) (page : ℕ) (block : Line) (x : ℕ) → x ≢ counter_position g page
-    → Writes (layout.meta_line g x) (begin_group g page block) → ⊥
-begin_off_meta g page block x apart (inl same) = apart_at (80 * layout.pages g) x (counter_position g page) apart same
-begin_off_meta g page block x apart (inr none) = none
+path_off_meta : (g : Shape) (page grouped : ℕ) (path : List (ℕ × Line)) → IsPathOf g page path → g.levels ≤ 6 → (x : ℕ)
+    → is_grouped g page grouped x ≡ false → Writes (layout.meta_line g x) (path_entries g grouped path) → ⊥
+path_off_meta g page grouped path its few x un it =
+    entries_off g (drop (path_length g - grouped) path) x (entered_is g page path few its grouped x ∙ un) it
 
-pub seal_off_meta : (g : Shape) (next : NextSeal) (persisted : Bool) (block : Line) (x : ℕ) → next.at < layout.data_lines g
-    → x ≢ counter_position g (page_of next.at) → Writes (layout.meta_line g x) (seal_group g next persisted block) → ⊥
-seal_off_meta g next persisted block x within apart it = search (rules, meta_off, apart_at)
+pub begin_off_meta : (g : Shape) (page : ℕ) (path : List (ℕ × Line)) → IsPathOf g page path → g.levels ≤ 6 → (x : ℕ)
+    → is_grouped g page (begun_lines g) x ≡ false → Writes (layout.meta_line g x) (begin_group g path) → ⊥
+begin_off_meta g page path its few x un it = path_off_meta g page (begun_lines g) path its few x un it
+
+pub seal_off_meta : (g : Shape) (next : NextSeal) (grouped : ℕ) (path : List (ℕ × Line)) → IsPathOf g (page_of next.at) path
+    → g.levels ≤ 6 → grouped ≤ begun_lines g → (x : ℕ) → next.at < layout.data_lines g
+    → is_grouped g (page_of next.at) (begun_lines g) x ≡ false
+    → Writes (layout.meta_line g x) (seal_group g next grouped path) → ⊥
+seal_off_meta g next grouped path its few le x within un (inl same) = omega (arith, within, same)
+seal_off_meta g next grouped path its few le x within un (inr (inl same)) = omega (arith, within, same)
+seal_off_meta g next grouped path its few le x within un (inr (inr it)) =
+    path_off_meta g (page_of next.at) grouped path its few x (grouped_below g (page_of next.at) grouped (begun_lines g) x le un) it
 
 -- names are written to shadow lines alone
 pub named_off_meta : (g : Shape) (cache : Banks) (page : ℕ) (mirror : List Line) (n : ℕ) (told : Option (List Line))

@@ -78,7 +78,7 @@ module _ (setup : Setup) (page : ℕ) (old new : ChipState) (ledger noted : Ledg
       → (AreSound setup parts_old → LeavesSound setup outcome parts_new)
       → (AreTrusted setup parts_old → KeepsPlaces setup [] parts_old parts_new)
       → (AreTrusted setup parts_old → KeepsMetaWhere setup outcome [] parts_old parts_new)
-      → (before.regs.group.items ≡ [] → HasSmallGroup outcome parts_new)
+      → (before.regs.group.items ≡ [] → HasSmallGroup setup.shape outcome parts_new)
       → CallEffect setup outcome [] parts_old parts_new
   gone outcome power exhibit leaves_trusted leaves_sound keeps_places keeps_meta small = search rules
 

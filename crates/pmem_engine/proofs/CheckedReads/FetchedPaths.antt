@@ -21,7 +21,7 @@ use Rattle.pmem_engine.specs.Engine.{ChipState}
 use Rattle.pmem_engine.specs.Invariants.{IsTrueSlot, IsTrusted, IsSound, stored_meta}
 use Rattle.pmem_engine.specs.Recached.{IsRecached, IsNewlyCached, IsTrueOrDirty, WasCleaned}
 use Rattle.pmem_engine.specs.Parts.{Parts, parts_with, lines_redone, meta_line_in, HoldsCounters, HoldsMeta}
-use Rattle.pmem_engine.specs.Outcomes.{KeepsPlaces, KeepsMeta}
+use Rattle.pmem_engine.specs.Outcomes.{HoldsTruth, KeepsPlaces, KeepsMeta}
 use Rattle.commit_regs.proofs.GroupLemmas.{unarmed}
 use Rattle.pmem_engine.proofs.Laws.CounterBlocks.{IsCounterStored-same, IsCounterStored-true}
 use Rattle.pmem_engine.proofs.Laws.MendableLaws.{IsMendable-no_group, IsDurable-no_group, IsMendingOf, IsMendable-mending, shadow_of-same, IsSealStored-same}
@@ -181,8 +181,18 @@ module _ (setup : Setup) (page : ℕ) (old new : ChipState) (ledger : LedgerStat
         → option_map f (lines_redone parts_after) ≡ option_map f (lines_redone parts_before)
     same_view f give = search rules
 
+    strict : (x : ℕ) → HoldsTruth setup.shape parts_before x → HoldsTruth setup.shape parts_after x
+    strict x =
+        from_lines (λ lines. stored_meta setup.shape lines x ≡ line_at ledger.truth x)
+        (λ lines. stored_meta setup.shape lines x ≡ line_at noted.truth x)
+        (λ lines now told told_now had.
+        elim (meta_same_or_true lines now told told_now x) [
+          | inl as_was ↦ as_was ∙ had ∙ ap (λ lines. line_at lines x) (sym truth)
+          | inr true_now ↦ true_now ∙ ap (λ lines. line_at lines x) (sym truth)
+        ])
+
     pub places : KeepsPlaces setup [] parts_before parts_after
-    places = search (rules, true≢false, IsSealStored-same, same_unless_meta, from_lines, same_view)
+    places = search (rules, true≢false, IsSealStored-same, same_unless_meta, from_lines, same_view, strict)
 
     pub counters : (block : ℕ) → block < layout.pages setup.shape → HoldsCounters setup parts_before block → HoldsCounters setup parts_after block
     counters block within it = search (rules, IsCounterStored-same, IsCounterStored-true, meta_same_or_true, from_lines)

@@ -17,14 +17,14 @@ use Rattle.shadow_tables.specs.Entries.{slot_entry}
 use Rattle.shadow_tables.proofs.ShadowLines.{shadow_of-set_before}
 use Rattle.meta_cache.specs.declared.slot.Slot.{Slot}
 use Rattle.meta_cache.specs.KeptSlots.{IsFromBefore, IsStillDirty}
-use Rattle.meta_cache.specs.Banks.{Banks, set_of, set_index, slot_number, is_cached_dirty}
+use Rattle.meta_cache.specs.Banks.{Banks, set_of, set_index, is_cached_dirty}
 use Rattle.meta_cache.proofs.SlotLemmas.{All-stands, All-from_stands, dirty_slot, is_cached_dirty_from, is_cached_dirty_still}
 use Rattle.suite.specs.Setup.{Setup}
 use Rattle.pmem_engine.specs.Engine.{ChipState}
-use Rattle.pmem_engine.specs.Invariants.{IsAnchored, IsTrueSlot, IsTrusted, stored_meta, is_named, IsMendable, IsDurable, IsDirtyNamed, IsSound}
+use Rattle.pmem_engine.specs.Invariants.{IsAnchored, IsTrueSlot, IsTrusted, stored_meta, is_doubted, IsMendable, IsDurable, IsDirtyNamed, IsSound}
 use Rattle.pmem_engine.specs.Steps.{with_true_line}
 use Rattle.pmem_engine.specs.Recached.{IsTrueOrDirty, WasCleaned, IsNewlyCached, IsRecached}
-use Rattle.pmem_engine.proofs.Laws.DeviceRegions.{is_named-set_meta, IsSealStored-set_meta}
+use Rattle.pmem_engine.proofs.Laws.DeviceRegions.{is_doubted-set_meta, IsSealStored-set_meta}
 use Rattle.pmem_engine.proofs.Laws.CounterBlocks.{IsCounterStored-written_back}
 use Rattle.pmem_engine.proofs.Laws.MendableLaws.{IsMendable-no_group, IsDurable-no_group}
 
@@ -48,18 +48,18 @@ IsMendable-true_line_written setup lines regs ledger x size h before =
     record {
       anchored = before.anchored;
       seals_stored = search (rules, IsSealStored-set_meta);
-      true_or_named = λ y hy. at y (before.true_or_named y hy);
+      true_or_doubted = λ y hy. at y (before.true_or_doubted y hy);
       counters_stored =
           λ page hp.
           IsCounterStored-written_back setup lines regs.loss ledger.truth page x size h (before.counters_stored page hp);
     }
   where
     at : (y : ℕ)
-        → (stored_meta setup.shape lines y ≡ line_at ledger.truth y) ⊎ IsTrue (is_named setup.shape lines y)
+        → (stored_meta setup.shape lines y ≡ line_at ledger.truth y) ⊎ IsTrue (is_doubted setup.shape lines y)
         → (stored_meta setup.shape (with_true_line setup.shape lines ledger.truth x) y ≡ line_at ledger.truth y)
-        ⊎ IsTrue (is_named setup.shape (with_true_line setup.shape lines ledger.truth x) y)
+        ⊎ IsTrue (is_doubted setup.shape (with_true_line setup.shape lines ledger.truth x) y)
     at y (inl stored) = inl (stays_true-true_line setup.shape lines ledger.truth x y size h stored)
-    at y (inr named) = inr (is_named-set_meta setup.shape lines x (line_at ledger.truth x) y h ∙ named)
+    at y (inr named) = inr (is_doubted-set_meta setup.shape lines x (line_at ledger.truth x) y h ∙ named)
 
 -- a true line is one of 64 bytes
 pub IsLine-true : (setup : Setup) (regs : Regs) (ledger : LedgerState) (x : ℕ) → IsAnchored setup regs ledger
@@ -81,7 +81,9 @@ IsSound-written_back setup engine lines regs ledger x sound h =
       trusted = sound.trusted;
       durable = IsDurable-written_back setup lines regs ledger x sound.durable sound.trusted.no_group h;
       true_unless_dirty =
-          search rules;
+          λ y within clean.
+          stays_true-true_line setup.shape lines ledger.truth x y sound.durable.device_whole.count h
+          (sound.true_unless_dirty y within clean);
       dirty_named = sound.dirty_named;
       mirror_true = search (rules, shadow_of-set_before, meta_before_shadow);
     }
@@ -124,7 +126,7 @@ IsSound-recached setup old new lines regs ledger sound recached true_if_cleaned 
           subst (λ mirror. All (IsDirtyNamed setup.shape mirror bank set) (set_of new.cache bank set))
           (sym recached.mirror)
           (All-from_stands (IsDirtyNamed setup.shape old.mirror bank set) (set_of new.cache bank set)
-          (λ slot stands dirty. named bank set slot dirty (recached.slots bank set slot stands)));
+          (λ slot stands. named bank set slot (recached.slots bank set slot stands)));
       mirror_true = recached.mirror ∙ sound.mirror_true;
     }
   where
@@ -136,15 +138,24 @@ IsSound-recached setup old new lines regs ledger sound recached true_if_cleaned 
     stored x h clean (inl dirty) = true_if_cleaned x h (dirty, clean)
     stored x h clean (inr before) = sound.true_unless_dirty x h before
 
-    named : (bank set : ℕ) (slot : Slot) → slot.dirty ≡ true
+    named : (bank set : ℕ) (slot : Slot)
         → IsFromBefore (set_of old.cache bank set) slot ⊎ IsNewlyCached setup.shape ledger.truth bank set slot
-        → slot_entry setup.shape old.mirror bank (slot_number setup.shape set slot) ≡ slot.position + 1
-    named bank set slot dirty (inl from) =
-        subst₂ (λ way x. slot_entry setup.shape old.mirror bank (set * setup.shape.ways + way) ≡ x + 1) from.way
-        from.position
-        (All-stands (IsDirtyNamed setup.shape old.mirror bank set) (set_of old.cache bank set) from.before
-        (sound.dirty_named bank set) from.stands (from.dirty dirty))
-    named bank set slot dirty (inr came) = absurd (false≢true (sym came.clean ∙ dirty))
+        → IsDirtyNamed setup.shape old.mirror bank set slot
+    named bank set slot (inl from) =
+        let was : IsDirtyNamed setup.shape old.mirror bank set from.before =
+        All-stands (IsDirtyNamed setup.shape old.mirror bank set) (set_of old.cache bank set) from.before (sound.dirty_named bank set)
+        from.stands in
+        record {
+          lazy = λ dirty. was.lazy (from.dirty dirty);
+          named = λ dirty low.
+              subst₂ (λ way x. slot_entry setup.shape old.mirror bank (set * setup.shape.ways + way) ≡ x + 1) from.way from.position
+              (was.named (from.dirty dirty) low);
+        }
+    named bank set slot (inr came) =
+        record {
+          lazy = λ dirty. absurd (false≢true (sym came.clean ∙ dirty));
+          named = λ dirty low. absurd (false≢true (sym came.clean ∙ dirty));
+        }
 
 -- A dirty block is written back, and its slot is then clean or gives way; the other dirty blocks stay.
 pub IsSound-cleaned : (setup : Setup) (old new : ChipState) (lines : List Line) (regs : Regs)

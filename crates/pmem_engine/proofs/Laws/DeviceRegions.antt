@@ -1,7 +1,7 @@
 -- What the parts of the device show after a write to one of its regions: metadata lines, names, data
 -- lines and tags, each by itself and over any lines.
 use Rattle.std.proofs.lemmas.Grind.{common_steps}
-use Rattle.std.proofs.Common.{rules, ◌≡◌, ◌≢◌, ℕ, ◌<◌, List, length, Some, refl, ◌∙◌, arith}
+use Rattle.std.proofs.Common.{rules, ◌≡◌, ◌≢◌, ℕ, ◌<◌, List, length, Some, refl, arith}
 use Rattle.std.specs.Prelude.{slice_set}
 use Rattle.std.proofs.lemmas.Bool.{cases_eq}
 use Rattle.pmem_base.specs.declared.lines.Line.{Line}
@@ -19,7 +19,7 @@ use Rattle.board.specs.Device.{AreLinesOf}
 use Rattle.board.proofs.LineLemmas.{line_at-long}
 use Rattle.shadow_tables.specs.Entries.{shadow_of}
 use Rattle.shadow_tables.proofs.ShadowLines.{shadow_of-set_before}
-use Rattle.pmem_engine.specs.Invariants.{IsSealStored, stored_meta, is_named}
+use Rattle.pmem_engine.specs.Invariants.{IsSealStored, stored_meta, is_doubted}
 use Rattle.pmem_engine.specs.Steps.{IsPlaceKept, sealed_lines}
 
 -- a data line lies in a page
@@ -43,13 +43,13 @@ stored_meta-set_shadow g lines n line x h = search rules
 -- ---- names
 
 -- a write before the shadow lines changes no name
-pub is_named-set_before : (g : Shape) (lines : List Line) (at : ℕ) (line : Line) (x : ℕ)
-    → at < shadow_line g 0 → is_named g (slice_set lines at line) x ≡ is_named g lines x
-is_named-set_before g lines at line x h = search (rules, shadow_of-set_before)
+pub is_doubted-set_before : (g : Shape) (lines : List Line) (at : ℕ) (line : Line) (x : ℕ)
+    → at < shadow_line g 0 → is_doubted g (slice_set lines at line) x ≡ is_doubted g lines x
+is_doubted-set_before g lines at line x h = search (rules, shadow_of-set_before)
 
-pub is_named-set_meta : (g : Shape) (lines : List Line) (y : ℕ) (line : Line) (x : ℕ) → y < meta_lines g
-    → is_named g (slice_set lines (meta_line g y) line) x ≡ is_named g lines x
-is_named-set_meta g lines y line x h = search (rules, is_named-set_before, meta_before_shadow)
+pub is_doubted-set_meta : (g : Shape) (lines : List Line) (y : ℕ) (line : Line) (x : ℕ) → y < meta_lines g
+    → is_doubted g (slice_set lines (meta_line g y) line) x ≡ is_doubted g lines x
+is_doubted-set_meta g lines y line x h = search (rules, is_doubted-set_before, meta_before_shadow)
 
 -- ---- data lines and tags
 

@@ -1,11 +1,12 @@
 -- Laws of a device that can be mended: what redoing the group gives, and which line writes keep it.
 use Rattle.std.proofs.lemmas.Grind.{common_steps}
-use Rattle.std.proofs.Common.{rules, ℕ, ◌≡◌, ◌<◌, ◌≤◌, ◌+◌, ◌-◌, ◌*◌, false, List, [], length, take, drop, replicate, ap, sym, ◌∙◌, subst, ◌⊎◌, IsTrue, arith}
-use Rattle.std.proofs.lemmas.Bool.{cases_lt}
+use Rattle.std.proofs.Common.{rules, ℕ, ◌≡◌, ◌<◌, ◌≤◌, ◌+◌, ◌-◌, ◌*◌, true, false, List, [], length, take, drop, replicate, ap, sym, ◌∙◌, subst, ◌⊎◌, IsTrue, arith}
+use Rattle.std.specs.Prelude.{◌||◌, not}
+use Rattle.std.proofs.lemmas.Bool.{cases_lt, and_right}
 use Rattle.std.proofs.lemmas.List.{get_or-drop, length-take, length-drop, length-replicate, get_or-replicate, ext_get_or}
 use Rattle.pmem_base.specs.declared.lines.Line.{Line}
 use Rattle.pmem_base.specs.declared.registers.Regs.{Regs}
-use Rattle.pmem_base.specs.Shape.{Shape}
+use Rattle.pmem_base.specs.Shape.{Shape, is_lazy}
 use Rattle.pmem_base.specs.Registers.{IsValidRegs}
 use Rattle.pmem_base.specs.declared.answers.Mark.{Mark}
 use Rattle.pmem_base.specs.Layout as layout
@@ -15,11 +16,11 @@ use Rattle.bonsai_tree.proofs.Levels.{counter_position-lt}
 use Rattle.board.specs.Device.{AreLinesOf}
 use Rattle.commit_regs.specs.Groups.{redone}
 use Rattle.seal_ledger.specs.Ledger.{LedgerState}
-use Rattle.shadow_tables.specs.Entries.{shadow_of}
+use Rattle.shadow_tables.specs.Entries.{is_named_in, shadow_of}
 use Rattle.shadow_tables.proofs.EntryLaws.{AreAllZero, is_named_in-zero}
 use Rattle.suite.specs.Setup.{Setup}
 use Rattle.pmem_engine.specs.Engine.{ChipState}
-use Rattle.pmem_engine.specs.Invariants.{IsAnchored, IsSealStored, IsCounterStored, IsMendable, IsDurable, IsSound, stored_meta, is_named}
+use Rattle.pmem_engine.specs.Invariants.{IsAnchored, IsSealStored, IsCounterStored, IsMendable, IsDurable, IsSound, stored_meta, is_doubted}
 use Rattle.pmem_engine.specs.Mendable.{IsAllTrue, IsShadowZero}
 use Rattle.pmem_engine.specs.Steps.{IsEmptied}
 use Rattle.pmem_engine.specs.Recached.{IsNewEngine}
@@ -54,14 +55,14 @@ IsMendable-mending setup old new regs ledger m d =
     record {
       anchored = d.anchored;
       seals_stored = seals;
-      true_or_named = λ x h. meta x h m.same_names_or_true (m.same_or_true x h) (d.true_or_named x h);
+      true_or_doubted = λ x h. meta x h m.same_names_or_true (m.same_or_true x h) (d.true_or_doubted x h);
       counters_stored = λ page h. counter page (m.same_or_true (counter_position setup.shape page) (counter_position-lt setup.shape page h)) (d.counters_stored page h);
     }
   where
     seals : (a : ℕ) → a < layout.data_lines setup.shape → IsSealStored setup.shape new ledger.marks a
     seals a h = search rules
 
-    meta : (x : ℕ) → x < layout.meta_lines setup.shape → (shadow_of setup.shape new ≡ shadow_of setup.shape old) ⊎ IsAllTrue setup new ledger → (stored_meta setup.shape new x ≡ stored_meta setup.shape old x) ⊎ (stored_meta setup.shape new x ≡ line_at ledger.truth x) → (stored_meta setup.shape old x ≡ line_at ledger.truth x) ⊎ IsTrue (is_named setup.shape old x) → (stored_meta setup.shape new x ≡ line_at ledger.truth x) ⊎ IsTrue (is_named setup.shape new x)
+    meta : (x : ℕ) → x < layout.meta_lines setup.shape → (shadow_of setup.shape new ≡ shadow_of setup.shape old) ⊎ IsAllTrue setup new ledger → (stored_meta setup.shape new x ≡ stored_meta setup.shape old x) ⊎ (stored_meta setup.shape new x ≡ line_at ledger.truth x) → (stored_meta setup.shape old x ≡ line_at ledger.truth x) ⊎ IsTrue (is_doubted setup.shape old x) → (stored_meta setup.shape new x ≡ line_at ledger.truth x) ⊎ IsTrue (is_doubted setup.shape new x)
     meta x h v2 same was = search rules
 
     counter : (page : ℕ) → (stored_meta setup.shape new (counter_position setup.shape page) ≡ stored_meta setup.shape old (counter_position setup.shape page)) ⊎ (stored_meta setup.shape new (counter_position setup.shape page) ≡ line_at ledger.truth (counter_position setup.shape page)) → IsCounterStored setup old regs.loss ledger.truth page → IsCounterStored setup new regs.loss ledger.truth page
@@ -96,8 +97,12 @@ pub AreAllZero-shadow_of : (setup : Setup) (lines : List Line) → IsShadowZero 
 AreAllZero-shadow_of setup lines z = search (rules, cases_lt, line_at-shadow_of, line_at-shadow_past)
 
 -- zero shadow lines name nothing
-pub is_named-zero : (setup : Setup) (lines : List Line) (x : ℕ) → IsShadowZero setup lines → is_named setup.shape lines x ≡ false
-is_named-zero setup lines x z = is_named_in-zero setup.shape (shadow_of setup.shape lines) (level_of x) x (AreAllZero-shadow_of setup lines z)
+-- with shadow tables that are zero nothing is doubted
+pub is_doubted-zero : (setup : Setup) (lines : List Line) (x : ℕ) → setup.shape.shadow ≡ true → IsShadowZero setup lines → is_doubted setup.shape lines x ≡ false
+is_doubted-zero setup lines x tables z =
+    and_right (is_lazy setup.shape (level_of x)) _
+    (ap (λ b. not b || is_named_in setup.shape (shadow_of setup.shape lines) (level_of x) x) tables
+    ∙ is_named_in-zero setup.shape (shadow_of setup.shape lines) (level_of x) x (AreAllZero-shadow_of setup lines z))
 
 pub IsSound-new_engine : (setup : Setup) (engine : ChipState) (lines : List Line) (regs : Regs) (ledger : LedgerState) → IsNewEngine setup engine lines → AreLinesOf (layout.device_lines setup.shape) lines → IsMendable setup lines regs ledger → IsAllTrue setup lines ledger → regs.group.items ≡ [] → IsSound setup engine lines regs ledger
 IsSound-new_engine setup engine lines regs ledger new whole d all none = search rules

@@ -1,12 +1,13 @@
 -- Shadow entries and dirty blocks: what a sound engine's mirror names, and a shadow line is written.
 use Rattle.std.proofs.lemmas.Grind.{common_steps}
-use Rattle.std.proofs.Common.{arith, rules, ◌≡◌, ℕ, ◌+◌, ◌<◌, true, false, List, sym, ap, subst, subst₂, ◌∙◌, ◌⊎◌, inl, inr}
-use Rattle.std.specs.Prelude.{IsTrue, slice_set}
+use Rattle.std.proofs.Common.{arith, rules, ◌≡◌, ℕ, ◌+◌, ◌<◌, Bool, true, false, List, refl, sym, ap, subst, subst₂, ◌∙◌, ◌⊎◌, inl, inr}
+use Rattle.std.specs.Prelude.{IsTrue, slice_set, ◌&&◌, ◌||◌, not}
 use Rattle.std.specs.List.{All, Contains}
-use Rattle.std.proofs.lemmas.Bool.{cases_eq, cases_Bool}
+use Rattle.std.proofs.lemmas.Bool.{cases_eq, cases_Bool, and_from, ltb-true}
 use Rattle.pmem_base.specs.declared.lines.Line.{Line}
 use Rattle.pmem_base.specs.declared.registers.Regs.{Regs}
-use Rattle.pmem_base.specs.Shape.{Shape}
+use Rattle.pmem_base.specs.Shape.{Shape, lazy_levels, is_lazy}
+use Rattle.pmem_base.proofs.LayoutLemmas.{named-all}
 use Rattle.pmem_base.specs.Layout.{device_lines, meta_lines, shadow_line}
 use Rattle.pmem_base.specs.Lines.{line_at, IsLine}
 use Rattle.bonsai_tree.specs.Positions.{level_of}
@@ -17,11 +18,11 @@ use Rattle.shadow_tables.specs.Naming.{Names}
 use Rattle.shadow_tables.proofs.EntryLemmas.{is_named_in-slot}
 use Rattle.shadow_tables.proofs.ShadowLines.{shadow_of-set}
 use Rattle.meta_cache.specs.declared.slot.Slot.{Slot}
-use Rattle.meta_cache.specs.Banks.{Banks, set_of, slot_number, is_cached_dirty, IsInPlace, IsBanksOf}
+use Rattle.meta_cache.specs.Banks.{Banks, set_of, set_index, slot_number, is_cached_dirty, IsInPlace, IsBanksOf}
 use Rattle.meta_cache.proofs.SlotLemmas.{All-stands, All-from_stands, dirty_slot, same_slot, in_place_of, slot_number_within}
 use Rattle.suite.specs.Setup.{Setup}
 use Rattle.pmem_engine.specs.Engine.{ChipState}
-use Rattle.pmem_engine.specs.Invariants.{IsTrusted, stored_meta, is_named, IsMendable, IsDirtyNamed, IsSound}
+use Rattle.pmem_engine.specs.Invariants.{IsTrusted, stored_meta, is_doubted, IsMendable, IsDirtyNamed, IsSound}
 use Rattle.pmem_engine.specs.Recached.{IsMirrorWritten}
 use Rattle.pmem_engine.specs.Named.{named_slot_line, IsSlotInShadow}
 use Rattle.pmem_engine.proofs.Laws.DeviceRegions.{stored_meta-set_shadow}
@@ -38,8 +39,30 @@ is_named-slot g cache shadow bank set slot form stands named = search (rules, is
 -- a position that is cached dirty is named, where each dirty slot is
 pub dirty_is_named : (g : Shape) (cache : Banks) (lines : List Line) (x : ℕ) → IsBanksOf g cache
     → ((bank set : ℕ) → All (IsDirtyNamed g (shadow_of g lines) bank set) (set_of cache bank set))
-    → is_cached_dirty g cache (level_of x) x ≡ true → IsTrue (is_named g lines x)
-dirty_is_named g cache lines x form named dirty = search (rules, All-stands, dirty_slot, is_named-slot)
+    → is_cached_dirty g cache (level_of x) x ≡ true → IsTrue (is_doubted g lines x)
+dirty_is_named g cache lines x form named dirty =
+    from (dirty_slot g cache (level_of x) x dirty)
+  where
+    by : (tables : Bool) → g.shadow ≡ tables → IsTrue (is_lazy g (level_of x))
+        → (tables ≡ true → is_named_in g (shadow_of g lines) (level_of x) x ≡ true)
+        → (is_lazy g (level_of x) && (not g.shadow || is_named_in g (shadow_of g lines) (level_of x) x)) ≡ true
+    by false off lazy its =
+        and_from (is_lazy g (level_of x)) _ lazy (ap (λ b. not b || is_named_in g (shadow_of g lines) (level_of x) x) off)
+    by true on lazy its =
+        and_from (is_lazy g (level_of x)) _ lazy
+        (ap (λ b. not b || is_named_in g (shadow_of g lines) (level_of x) x) on ∙ its refl)
+
+    from : (slot : Slot) × Contains (set_of cache (level_of x) (set_index g x)) slot × (slot.position ≡ x) × (slot.dirty ≡ true)
+        → IsTrue (is_doubted g lines x)
+    from (slot, stands, its, was) =
+        let own : IsDirtyNamed g (shadow_of g lines) (level_of x) (set_index g x) slot =
+        All-stands (IsDirtyNamed g (shadow_of g lines) (level_of x) (set_index g x)) (set_of cache (level_of x) (set_index g x)) slot
+        (named (level_of x) (set_index g x)) stands in
+        by g.shadow refl (own.lazy was)
+        (λ tables.
+        ap (is_named_in g (shadow_of g lines) (level_of x)) (sym its)
+        ∙ is_named-slot g cache (shadow_of g lines) (level_of x) (set_index g x) slot form stands
+        (own.named was (omega (arith, named-all g tables, ltb-true (level_of x) (lazy_levels g) (own.lazy was)))))
 
 -- a block that isn't true on the device is cached dirty, and so named
 pub true_or_named_from_sound : (g : Shape) (cache : Banks) (lines truth : List Line) → IsBanksOf g cache
@@ -47,7 +70,7 @@ pub true_or_named_from_sound : (g : Shape) (cache : Banks) (lines truth : List L
     → stored_meta g lines x ≡ line_at truth x)
     → ((bank set : ℕ) → All (IsDirtyNamed g (shadow_of g lines) bank set) (set_of cache bank set))
     → (x : ℕ) → x < meta_lines g
-    → (stored_meta g lines x ≡ line_at truth x) ⊎ IsTrue (is_named g lines x)
+    → (stored_meta g lines x ≡ line_at truth x) ⊎ IsTrue (is_doubted g lines x)
 true_or_named_from_sound g cache lines truth form stored named x h = search (rules, cases_Bool, dirty_is_named)
 
 -- ---- a slot's entry comes to name its position
@@ -98,10 +121,10 @@ pub IsMendable-set_shadow : (setup : Setup) (lines : List Line) (n : ℕ) (line 
     (ledger : LedgerState)
     → ((x : ℕ) → x < meta_lines setup.shape
     → (stored_meta setup.shape (slice_set lines (shadow_line setup.shape n) line) x ≡ line_at ledger.truth x)
-    ⊎ IsTrue (is_named setup.shape (slice_set lines (shadow_line setup.shape n) line) x))
+    ⊎ IsTrue (is_doubted setup.shape (slice_set lines (shadow_line setup.shape n) line) x))
     → IsMendable setup lines regs ledger
     → IsMendable setup (slice_set lines (shadow_line setup.shape n) line) regs ledger
-IsMendable-set_shadow setup lines n line regs ledger true_or_named before = grind (arith, common_steps)
+IsMendable-set_shadow setup lines n line regs ledger true_or_doubted before = grind (arith, common_steps)
 
 -- A cached block's shadow line is written, so that its slot's entry names it: Sound stays, with the new
 -- mirror, and with it Durable.
@@ -150,11 +173,15 @@ IsSound-named setup old new lines regs ledger bank set slot line sound form stan
     named : (bank' set' : ℕ) → All (IsDirtyNamed setup.shape new.mirror bank' set') (set_of old.cache bank' set')
     named bank' set' =
         All-from_stands (IsDirtyNamed setup.shape new.mirror bank' set') (set_of old.cache bank' set')
-        (λ other stands' dirty.
-        IsSlotNamed-kept setup.shape old.cache old.mirror new.mirror bank set slot bank' set' other form stands
-        stands' names
-        (All-stands (IsDirtyNamed setup.shape old.mirror bank' set') (set_of old.cache bank' set') other
-        (sound.dirty_named bank' set') stands' dirty))
+        (λ other stands'.
+        let was : IsDirtyNamed setup.shape old.mirror bank' set' other =
+        All-stands (IsDirtyNamed setup.shape old.mirror bank' set') (set_of old.cache bank' set') other (sound.dirty_named bank' set') stands' in
+        record {
+          lazy = was.lazy;
+          named = λ dirty low.
+              IsSlotNamed-kept setup.shape old.cache old.mirror new.mirror bank set slot bank' set' other form stands stands' names
+              (was.named dirty low);
+        })
 
     named_on_board : (bank' set' : ℕ)
         → All (IsDirtyNamed setup.shape (shadow_of setup.shape after) bank' set') (set_of old.cache bank' set')

@@ -1,10 +1,10 @@
 -- What is known of a page's path level by level, as the laws ask for it: cached, dirty, named.
-use Rattle.std.proofs.Common.{rules, ◌≡◌, ℕ, ◌+◌, ◌<◌, ◌≤◌, true, List, sym, ap, subst, ◌∙◌}
+use Rattle.std.proofs.Common.{rules, ◌≡◌, ℕ, ◌+◌, ◌<◌, ◌≤◌, true, List, sym, ap, subst, ◌∙◌, arith}
 use Rattle.std.specs.Prelude.{slice_index, option_map, unwrap_or}
 use Rattle.std.specs.List.{Contains}
 use Rattle.pmem_base.specs.declared.lines.Line.{Line}
 use Rattle.pmem_base.specs.declared.registers.Regs.{Regs}
-use Rattle.pmem_base.specs.Shape.{Shape}
+use Rattle.pmem_base.specs.Shape.{Shape, named_levels}
 use Rattle.pmem_base.specs.Layout.{pages}
 use Rattle.bonsai_tree.specs.Positions.{level_of, path_of, is_on_path}
 use Rattle.bonsai_tree.proofs.PathPositions.{on_path-level}
@@ -34,17 +34,18 @@ slot_number_at-own g cache bank set slot form its_set stands = search (rules, sl
 pub ArePathSlotsNamed-levels : (setup : Setup) (engine : ChipState) (regs : Regs) (ledger : LedgerState)
     (shadow : List Line) (page : ℕ) → IsTrusted setup engine regs ledger → IsBanksOf setup.shape engine.cache
     → setup.shape.levels ≤ 6 → page < pages setup.shape
-    → ((j : ℕ) → j ≤ setup.shape.levels
+    → ((j : ℕ) → j < named_levels setup.shape
     → slot_entry setup.shape shadow j
     (slot_number_at setup.shape engine.cache j (slice_index (path_of setup.shape page) j))
     ≡ slice_index (path_of setup.shape page) j + 1)
     → ArePathSlotsNamed setup.shape engine.cache shadow page
 ArePathSlotsNamed-levels setup engine regs ledger shadow page trusted form few inside each =
-    record { each = λ bank set slot stands on. named bank set slot stands on }
+    record { each = λ bank set slot stands on low. named bank set slot stands on low }
   where
     named : (bank set : ℕ) (slot : Slot) → Contains (set_of engine.cache bank set) slot
-        → is_on_path setup.shape page slot.position ≡ true → IsSlotInShadow setup.shape shadow bank set slot
-    named bank set slot stands on =
+        → is_on_path setup.shape page slot.position ≡ true → bank < named_levels setup.shape
+        → IsSlotInShadow setup.shape shadow bank set slot
+    named bank set slot stands on low =
         let own : IsTrueSlot setup.shape ledger.truth bank set slot =
         All-stands (IsTrueSlot setup.shape ledger.truth bank set) (set_of engine.cache bank set) slot
         (trusted.cached_true bank set) stands in
@@ -56,7 +57,7 @@ ArePathSlotsNamed-levels setup engine regs ledger shadow page trusted form few i
         (λ x. slot_entry setup.shape shadow (level_of slot.position)
         (slot_number_at setup.shape engine.cache (level_of slot.position) x)
         ≡ x + 1)
-        at.1 (each (level_of slot.position) at.0) in
+        at.1 (each (level_of slot.position) (omega (arith, low, own.its_bank))) in
         ap (slot_entry setup.shape shadow bank)
         (sym (slot_number_at-own setup.shape engine.cache bank set slot form own.its_set stands))
         ∙ (ap (λ j. slot_entry setup.shape shadow j (slot_number_at setup.shape engine.cache j slot.position))

@@ -5,7 +5,7 @@ use Rattle.std.proofs.lemmas.Bool.{true≢false}
 use Rattle.pmem_base.specs.declared.lines.Line.{Line}
 use Rattle.pmem_base.specs.declared.registers.Regs.{Regs}
 use Rattle.pmem_base.specs.declared.answers.Mark.{Mark}
-use Rattle.pmem_base.specs.Shape.{Shape}
+use Rattle.pmem_base.specs.Shape.{Shape, is_lazy}
 use Rattle.pmem_base.specs.Layout.{meta_lines}
 use Rattle.pmem_base.specs.Lines.{line_at}
 use Rattle.split_counters.specs.declared.Block.{Block}
@@ -18,7 +18,7 @@ use Rattle.pmem_engine.specs.Engine.{ChipState}
 use Rattle.pmem_engine.specs.Truth.{true_block}
 use Rattle.pmem_engine.specs.Invariants.{IsTrueSlot, IsDirtyNamed, IsTrusted}
 use Rattle.pmem_engine.specs.Outcomes.{IsTouchedBy}
-use Rattle.pmem_engine.proofs.Laws.DeviceSteps.{writes_block}
+use Rattle.pmem_engine.proofs.Laws.DeviceSteps.{none_written}
 
 -- metadata line x is cached dirty, in a cache of good form
 abbrev pub IsDirtyIn : Shape → Banks → ℕ → Type 0
@@ -30,9 +30,10 @@ IsStill g old new truth after x =
     (line_at after x ≡ line_at truth x)
     × (is_cached_dirty g old (level_of x) x ≡ true → is_cached_dirty g new (level_of x) x ≡ true)
 
--- one mark's commit: the true lines before and after, and the cache, whose other blocks are newly dirty or as they were;
--- what is stored of a counter block that isn't written is so of the new true one
-pub record IsTruthStep (setup : Setup) (mark : Mark) (page : ℕ) (written : Bool) (block : Line) (loss : ℕ) (old new : ChipState)
+-- one mark's commit, which writes these metadata lines with their entries: the true lines before and after, and the cache,
+-- whose other blocks are newly dirty or as they were; what is stored of a counter block that isn't written is so of the
+-- new true one
+pub record IsTruthStep (setup : Setup) (mark : Mark) (written : ℕ → Bool) (entry : ℕ → Line) (loss : ℕ) (old new : ChipState)
     (truth after : List Line) : Type 0 where
   pub shape : new.shape ≡ old.shape
   pub mirror : new.mirror ≡ old.mirror
@@ -43,17 +44,21 @@ pub record IsTruthStep (setup : Setup) (mark : Mark) (page : ℕ) (written : Boo
   pub touched :
       (bank x : ℕ) → is_cached_dirty setup.shape new.cache bank x ≡ true
       → (is_cached_dirty setup.shape old.cache bank x ≡ true) ⊎ IsTouchedBy setup.shape (mark ∷ []) x
-  pub its_block : (x : ℕ) → writes_block setup.shape page written x ≡ true → line_at after x ≡ block
+  pub entries : (x : ℕ) → x < meta_lines setup.shape → written x ≡ true → line_at after x ≡ entry x
   pub others :
-      (x : ℕ) → x < meta_lines setup.shape → writes_block setup.shape page written x ≡ false
+      (x : ℕ) → x < meta_lines setup.shape → written x ≡ false
       → IsDirtyIn setup.shape new.cache x ⊎ IsStill setup.shape old.cache new.cache truth after x
   pub counters :
-      (other : ℕ) → writes_block setup.shape page written (counter_position setup.shape other) ≡ false → (stored : Block)
+      (other : ℕ) → written (counter_position setup.shape other) ≡ false → (stored : Block)
       → IsStoredBlock loss stored (true_block setup.shape truth other)
       → IsStoredBlock loss stored (true_block setup.shape after other)
+  -- a line of a strict level that isn't written
+  pub strict :
+      (x : ℕ) → x < meta_lines setup.shape → is_lazy setup.shape (level_of x) ≡ false → written x ≡ false
+      → line_at after x ≡ line_at truth x
 
 -- a mark that leaves the engine and the true lines as they are
-pub truth_stays : (setup : Setup) (mark : Mark) (page : ℕ) (block : Line) (loss : ℕ) (engine : ChipState) (regs : Regs)
+pub truth_stays : (setup : Setup) (mark : Mark) (entry : ℕ → Line) (loss : ℕ) (engine : ChipState) (regs : Regs)
     (ledger : LedgerState) → IsTrusted setup engine regs ledger
-    → IsTruthStep setup mark page false block loss engine engine ledger.truth ledger.truth
-truth_stays setup mark page block loss engine regs ledger trusted = search (rules, true≢false)
+    → IsTruthStep setup mark none_written entry loss engine engine ledger.truth ledger.truth
+truth_stays setup mark entry loss engine regs ledger trusted = search (rules, true≢false)

@@ -1,11 +1,11 @@
 -- A held line sealed anew is one commit.
-use Rattle.std.proofs.Common.{rules, ℕ, ◌≡◌, ◌<◌, ◌+◌, false, [], length, Some, refl, sym, ap, subst, ◌∙◌, arith}
+use Rattle.std.proofs.Common.{rules, ℕ, ◌≡◌, ◌<◌, ◌+◌, [], length, Some, refl, sym, ap, subst, ◌∙◌}
 use Rattle.pmem_base.specs.declared.lines.Line.{Line}
 use Rattle.pmem_base.specs.declared.registers.Progress.{Progress}
 use Rattle.pmem_base.specs.declared.answers.Mark.{Mark}
 use Rattle.pmem_base.specs.declared.answers.Mark.TheVariants.{Seal}
+use Rattle.pmem_base.specs.Shape.{counter_window}
 use Rattle.pmem_base.specs.Layout as layout
-use Rattle.pmem_base.specs.Layout.{page_of}
 use Rattle.pmem_base.specs.Lines.{zero_line}
 use Rattle.pmem_base.specs.Registers.{IsGroup, old_major}
 use Rattle.board.specs.Device.{Device, IsDevice}
@@ -24,8 +24,9 @@ use Rattle.pmem_engine.specs.Committing.{entries_of}
 use Rattle.pmem_engine.specs.Resealing.{HasLineSealed}
 use Rattle.pmem_engine.proofs.Laws.AnchoredSeals.{valid_regs-done}
 use Rattle.pmem_engine.proofs.Laws.FreshSeals.{anchored-resealed, held-next_major}
-use Rattle.pmem_engine.proofs.Laws.DeviceSteps.{seal_group_step}
+use Rattle.pmem_engine.proofs.Laws.DeviceSteps.{none_written, entries_step}
 use Rattle.pmem_engine.proofs.Laws.TruthSteps.{IsTruthStep, truth_stays}
+use Rattle.pmem_engine.proofs.Laws.PolicyBounds.{two_few}
 use Rattle.pmem_engine.proofs.Seals.GroupCommits.{IsCommit}
 
 -- the seal about to be committed is one of a held line, under its page's next major and 0
@@ -51,14 +52,14 @@ module _ (setup : Setup) (next : NextSeal) (register : Progress) (engine : ChipS
       → IsResealed setup next.at next.cipher next.tag old.regs new.regs before after
   is_resealed trusted group = search (rules, held-next_major)
 
-  -- it is one commit, which writes no counter block
+  -- it is one commit, which writes no metadata line
   pub resealing : NeverFalls tags tags_now → NeverFalls digests digests_now
-      → IsCommit setup (entries_of setup.shape next) mark (page_of next.at) false zero_line (parts_with engine old before tags digests)
+      → IsCommit setup (entries_of setup.shape next) mark none_written (λ x. zero_line) (parts_with engine old before tags digests)
       (parts_with engine new after tags_now digests_now)
   resealing never_tags never_digests =
       record {
         unarmed = it.unarmed;
-        short = omega arith;
+        short = two_few setup.shape;
         is_group = done.is_group;
         whole = it.whole;
         size = it.size;
@@ -80,15 +81,17 @@ module _ (setup : Setup) (next : NextSeal) (register : Progress) (engine : ChipS
         digests = never_digests;
         device =
             λ told is whole.
-            seal_group_step setup.shape next before.marks false zero_line told whole it.its_line done.fits.its_tag.long
+            entries_step setup.shape next before.marks (λ x. zero_line) told whole it.its_line done.fits.its_tag.long
             (it.tag_line
             ∙ ap (λ line. with_tag line next.at next.tag)
             (subst (λ o. Tells o (layout.tag_line setup.shape next.at) it.tags) is it.tags_read));
         truth =
             λ trusted.
             subst
-            (λ truth. IsTruthStep setup mark (page_of next.at) false zero_line old.regs.loss engine engine before.truth truth)
-            (sym done.mark.truth) (truth_stays setup mark (page_of next.at) zero_line old.regs.loss engine old.regs before trusted);
+            (λ truth. IsTruthStep setup mark none_written (λ x. zero_line) (counter_window setup.shape old.regs.loss) engine engine
+            before.truth truth)
+            (sym done.mark.truth)
+            (truth_stays setup mark (λ x. zero_line) (counter_window setup.shape old.regs.loss) engine old.regs before trusted);
         anchored =
             λ trusted group.
             anchored-resealed setup next.at register next.cipher next.tag old.regs new.regs before after trusted.anchored it.held

@@ -40,19 +40,19 @@ use Rattle.pmem_engine.specs.declared.resealing.NextSeal.{NextSeal}
 use Rattle.pmem_engine.specs.Engine.{ChipState}
 use Rattle.pmem_engine.specs.Parts.{Parts, parts_with, AreTrusted, HoldsSeal}
 use Rattle.call_effects.specs.Outcomes.{going, cut_short, is_going}
-use Rattle.pmem_engine.specs.Outcomes.{is_sealed_by, NeverFalls, TakesSteps, TakesFewer}
+use Rattle.pmem_engine.specs.Outcomes.{is_sealed_by, NeverFalls, OneLossEffect, TakesSteps, TakesFewer}
 use Rattle.pmem_engine.specs.CallFacts.{IsUsableWith, IsMemory, moment_in, IsUnderMinorZero}
 use Rattle.pmem_engine.specs.Inner.{HasUnsealed, IsLastCounter}
 use Rattle.pmem_engine.specs.Committing.{next_seal_of, entries_of, HasCommitted}
 use Rattle.pmem_engine.specs.Resealing.{IsNextHeld, HasLineSealed, HasResealEnded, line_of_page, HasResealMarks, AnswersReseal, CountsReseal, HasResealed}
 use Rattle.pmem_engine.proofs.CallEnds.ErrorAnswers.{line_unrefused}
-use Rattle.pmem_engine.proofs.CallEnds.StillParts.{sound_trusted}
+use Rattle.pmem_engine.proofs.CallEnds.StillParts.{sound_trusted, cut_still}
 use Rattle.pmem_engine.proofs.CallEnds.CallChains.{done_chained}
 use Rattle.pmem_engine.proofs.CallEnds.MetaLines.{committed_at}
 use Rattle.pmem_engine.proofs.CallEnds.UnwrittenLines.{meta_off}
 use Rattle.pmem_engine.proofs.Laws.PlainLines.{plain_line-resealed}
 use Rattle.pmem_engine.proofs.CheckedReads.UnsealedLines.{risen_never_falls, same_never_falls}
-use Rattle.pmem_engine.proofs.Laws.DeviceSteps.{sealed_here}
+use Rattle.pmem_engine.proofs.Laws.DeviceSteps.{none_written, sealed_here}
 use Rattle.pmem_engine.proofs.Seals.GroupCommits.{IsCommit, done_committed, done_cut}
 use Rattle.pmem_engine.proofs.PageLines.LineReseals.{IsResealing, resealing}
 
@@ -210,7 +210,11 @@ module _ (setup : Setup) (n : ℕ) (engine : ChipState) (old : Device) (before :
           lowest = next.lowest;
           made = [];
           done =
-              search rules;
+              subst (λ seals. OneLossEffect setup cut_short [] start (parts_with engine new seals tags_now digests_now)) (sym told)
+              (done_chained setup cut_short [] [] start middle (parts_with engine new ledger tags_now digests_now) it.done
+              (cut_still setup engine mid new ledger tags_mid digests_mid tags_now digests_now was_cut
+              (subst (NeverFalls tags_mid) (sym more_tags) (risen_never_falls tags_mid))
+              (same_never_falls digests_mid digests_now same_digests)));
           marks = λ trusted memory was. inl refl;
           memory_kept =
               λ trusted memory was a within.
@@ -254,7 +258,7 @@ module _ (setup : Setup) (n : ℕ) (engine : ChipState) (old : Device) (before :
       held_sealing = search (rules, unarmed, held_in_range, holds, still_unarmed, mid_size)
 
       module _ (done : HasLineSealed setup.shape sealing mid new ledger after) where
-        commit : IsCommit setup (entries_of setup.shape sealing) mark (page_of sealing.at) false zero_line middle final
+        commit : IsCommit setup (entries_of setup.shape sealing) mark none_written (λ x. zero_line) middle final
         commit =
             resealing setup sealing register engine mid new ledger after tags_mid digests_mid tags_now digests_now held_sealing done
             never_tags never_digests
@@ -276,7 +280,7 @@ module _ (setup : Setup) (n : ℕ) (engine : ChipState) (old : Device) (before :
               made = mark ∷ [];
               done =
                   done_chained setup cut_short [] (mark ∷ []) start middle final it.done
-                  (done_cut setup (entries_of setup.shape sealing) mark (page_of sealing.at) false zero_line middle final
+                  (done_cut setup (entries_of setup.shape sealing) mark none_written (λ x. zero_line) middle final
                   commit between latched armed was device_now);
               marks = λ trusted memory was. inr (ap (λ m. m ∷ []) (mark_is trusted memory was));
               memory_kept =
@@ -314,7 +318,7 @@ module _ (setup : Setup) (n : ℕ) (engine : ChipState) (old : Device) (before :
               made = mark ∷ [];
               done =
                   done_chained setup going [] (mark ∷ []) start middle final it.done
-                  (done_committed setup (entries_of setup.shape sealing) mark (page_of sealing.at) false zero_line middle final
+                  (done_committed setup (entries_of setup.shape sealing) mark none_written (λ x. zero_line) middle final
                   commit finished);
               marks = λ trusted memory was. ap (λ m. m ∷ []) (mark_is trusted memory was);
               memory_kept =

@@ -5,6 +5,7 @@ use Rattle.std.proofs.lemmas.Bool.{true≢false}
 use Rattle.pmem_base.specs.declared.faults.Cut.{Cut}
 use Rattle.pmem_base.specs.declared.lines.Line.{Line}
 use Rattle.pmem_base.specs.Counts.{HasRisen}
+use Rattle.pmem_base.specs.Shape.{named_levels}
 use Rattle.pmem_base.specs.Layout as layout
 use Rattle.pmem_base.specs.Lines.{line_at, tag_slot, put_lines}
 use Rattle.bonsai_tree.specs.Positions.{counter_position}
@@ -20,8 +21,9 @@ use Rattle.meta_path.specs.Work.{told_line}
 use Rattle.meta_path.specs.Naming.{path_number, named_path, naming_writes, IsNamedTo, IsNamingCut}
 use Rattle.meta_path.proofs.NameLemmas.{length-naming_writes}
 use Rattle.suite.specs.Setup.{Setup}
+use Rattle.plain_model.specs.Bounds.{path_length}
 use Rattle.pmem_engine.specs.Engine.{ChipState}
-use Rattle.pmem_engine.specs.Invariants.{IsSound, IsDurable, IsSealStored, IsCounterStored}
+use Rattle.pmem_engine.specs.Invariants.{IsSound, IsDurable, IsSealStored, IsCounterStored, stored_meta}
 use Rattle.pmem_engine.specs.Parts.{Parts, parts_with, AreTrusted, AreSound, HoldsCounters, lines_redone, meta_line_in}
 use Rattle.call_effects.specs.Outcomes.{Outcome, going, cut_short, HasPower}
 use Rattle.pmem_engine.specs.Outcomes.{KeepsPlaces, KeepsMeta, CallEffect, OneLossEffect, HasSmallGroup, LeavesTrusted, LeavesSound, KeepsMetaWhere}
@@ -32,6 +34,7 @@ use Rattle.pmem_engine.proofs.CallEnds.ExactWork.{still_rise}
 use Rattle.pmem_engine.proofs.CallEnds.MetaLines.{named_off_meta}
 use Rattle.pmem_engine.proofs.Laws.CounterBlocks.{IsCounterStored-same}
 use Rattle.pmem_engine.proofs.Laws.DeviceRegions.{IsSealStored-kept}
+use Rattle.pmem_engine.proofs.Laws.PolicyBounds.{named_most}
 use Rattle.pmem_engine.proofs.PathNaming.PathNames.{IsMirror, meta_kept, place_kept, sound_at}
 
 -- the first n blocks of the path were named on the board; the engine's copy may be one ahead
@@ -83,6 +86,11 @@ module _ (setup : Setup) (page n : ℕ) (old new : ChipState) (before after : De
             λ a within unsealed.
             seen_same trusted (λ lines. tag_slot (line_at lines (layout.tag_line setup.shape a)) a)
             (λ were. (place_kept setup.shape old.cache page old.mirror were n a within).slot);
+        strict =
+            λ x within lazy held.
+            holds_now trusted (λ lines. stored_meta setup.shape lines x ≡ line_at ledger.truth x)
+            (λ lines. stored_meta setup.shape lines x ≡ line_at ledger.truth x)
+            (λ were had. meta_kept setup.shape old.cache page old.mirror were n x within ∙ had) held;
       }
 
   metadata : AreTrusted setup start → KeepsMeta setup [] start finish
@@ -115,7 +123,7 @@ module _ (setup : Setup) (page n : ℕ) (old new : ChipState) (before after : De
       → (AreSound setup start → LeavesSound setup outcome finish)
       → (AreTrusted setup start → KeepsPlaces setup [] start finish)
       → (AreTrusted setup start → KeepsMetaWhere setup outcome [] start finish)
-      → (before.regs.group.items ≡ [] → HasSmallGroup outcome finish)
+      → (before.regs.group.items ≡ [] → HasSmallGroup setup.shape outcome finish)
       → CallEffect setup outcome [] start finish
   gone outcome power leaves_trusted leaves_sound keeps_places keeps_meta small = search rules
 
@@ -141,29 +149,33 @@ module _ (setup : Setup) (page : ℕ) (old new : ChipState) (before after : Devi
   long : (lines : List Line) → before.lines ≡ Some lines → length lines ≡ layout.device_lines setup.shape
   long lines told = (whole_lines before.size before.lines lines whole told).count ∙ its_size
 
-  abbrev levels : ℕ
-  levels = setup.shape.levels
+  -- how many blocks of the path may get dirty
+  abbrev all : ℕ
+  all = named_levels setup.shape
 
-  pub path_named : IsNamedTo setup.shape old.cache page (levels + 1) old.mirror new.mirror before after
+  few_named : all ≤ path_length setup.shape
+  few_named = named_most setup.shape
+
+  pub path_named : IsNamedTo setup.shape old.cache page all old.mirror new.mirror before after
       → HasNamedPath setup page (parts_with old before ledger tags digests) (parts_with new after ledger tags digests) (Ok tt)
   path_named it =
       record {
         done =
-            named_going setup page (levels + 1) old new before after ledger tags digests its_shape shape cache it.work.lines
+            named_going setup page all old new before after ledger tags digests its_shape shape cache it.work.lines
             it.work.regs it.work.size (it.work.no_read refl) it.work.steady it.work.live it.work.cuts
             (λ were sound.
-            subst (λ e. IsSound setup e (put_lines (naming_writes setup.shape old.cache page old.mirror (levels + 1)) were)
+            subst (λ e. IsSound setup e (put_lines (naming_writes setup.shape old.cache page old.mirror all) were)
             before.regs ledger)
             (sym same_engine)
             (sound_at setup page old were before.regs ledger its_page few_levels some_sets cache_form form cached its_mirror sound
-            (levels + 1) (omega arith)));
+            all (omega arith)));
         path_named =
             λ ok.
             record {
               each =
                   λ j within.
                   subst (λ banks. slot_entry setup.shape new.mirror j (path_number setup.shape banks page j) ≡ path_at setup.shape page j + 1)
-                  (sym cache) (it.entries.named j (omega (arith, within)));
+                  (sym cache) (it.entries.named j within);
             };
         work =
             λ ok.
@@ -180,7 +192,7 @@ module _ (setup : Setup) (page : ℕ) (old new : ChipState) (before after : Devi
         meta_lines =
             λ ok x within.
             ap (λ told. told_line told (layout.meta_line setup.shape x)) it.work.lines
-            ∙ named_off_meta setup.shape old.cache page old.mirror (levels + 1) before.lines x within;
+            ∙ named_off_meta setup.shape old.cache page old.mirror all before.lines x within;
         cache = cache;
         regs = it.work.regs;
         ledger = refl;
@@ -197,7 +209,8 @@ module _ (setup : Setup) (page : ℕ) (old new : ChipState) (before after : Devi
                     arith,
                     it.work.writes.exact writes,
                     it.work.latches,
-                    length-naming_writes setup.shape old.cache page old.mirror (levels + 1),
+                    length-naming_writes setup.shape old.cache page old.mirror all,
+                    few_named,
                   );
             };
       }
@@ -205,7 +218,7 @@ module _ (setup : Setup) (page : ℕ) (old new : ChipState) (before after : Devi
       same_engine : new ≡ record {
         shape = old.shape;
         cache = old.cache;
-        mirror = named_path setup.shape old.cache page old.mirror (levels + 1);
+        mirror = named_path setup.shape old.cache page old.mirror all;
       }
       same_engine =
           ap (λ s. record { shape = s; cache = new.cache; mirror = new.mirror }) shape
@@ -241,6 +254,7 @@ module _ (setup : Setup) (page : ℕ) (old new : ChipState) (before after : Devi
                     it.writes.exact writes,
                     it.latches,
                     it.on_path,
+                    few_named,
                     length-naming_writes setup.shape old.cache page old.mirror it.n,
                   );
             };

@@ -1,5 +1,5 @@
 -- A chip is its parts, and a part's end has the registers that it leaves.
-use Rattle.std.proofs.Common.{◌≡◌, ℕ, Result, Err, ◌∙◌, rules}
+use Rattle.std.proofs.Common.{◌≡◌, ℕ, Result, Err, rules}
 use Rattle.std.specs.Prelude.{IsErrAnd}
 use Rattle.pmem_base.specs.declared.registers.Regs.{Regs}
 use Rattle.board.specs.Device.{Device}

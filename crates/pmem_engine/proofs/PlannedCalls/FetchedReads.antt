@@ -1,5 +1,5 @@
 -- What a read comes to, wherever its plan ends: so many levels of its path are fetched, and a cached path takes no step.
-use Rattle.std.proofs.Common.{ℕ, ◌≡◌, ◌≢◌, ◌<◌, ◌≤◌, ◌+◌, true, false, List, [], get_or, Option, Some, None, Result, Ok, Err, refl, ◌∙◌, inr, arith, rules}
+use Rattle.std.proofs.Common.{ℕ, ◌≡◌, ◌≢◌, ◌<◌, ◌≤◌, ◌+◌, true, false, List, get_or, Option, Some, None, Result, Ok, Err, refl, ◌∙◌, inr, arith, rules}
 use Rattle.std.proofs.lemmas.Bool.{false≢true}
 use Rattle.std.proofs.lemmas.List.{get_or-set_other}
 use Rattle.pmem_base.specs.declared.lines.Line.{Line}
@@ -23,7 +23,6 @@ use Rattle.suite.specs.Formulas.{Formulas}
 use Rattle.suite.specs.Setup.{Setup}
 use Rattle.meta_cache.specs.declared.slot.Slot.{Slot}
 use Rattle.meta_cache.specs.Banks.{set_of}
-use Rattle.meta_cache.specs.Sets.{holds}
 use Rattle.meta_cache.specs.State.{CacheState, with_slots}
 use Rattle.meta_cache.proofs.CacheLemmas.{set_of-get_or}
 use Rattle.meta_path.specs.declared.faults.PathFault.{PathFault}

@@ -1,6 +1,6 @@
 -- What a write is made of: groups of data lines and tag lines alone, names in the shadow lines; and what is kept beside
 -- the lines that a plan writes.
-use Rattle.std.proofs.Common.{ℕ, zero, suc, ◌≡◌, ◌<◌, ◌≤◌, ◌+◌, ◌∷◌, ◌++◌, [], Bool, true, false, List, length, get_or, refl, sym, ap, ap₂, subst, ◌∙◌, inl, inr, arith, ◌⊎◌}
+use Rattle.std.proofs.Common.{ℕ, zero, suc, ◌≡◌, ◌<◌, ◌≤◌, ◌∷◌, ◌++◌, [], Bool, true, false, List, length, get_or, refl, sym, ap, ap₂, subst, ◌∙◌, inl, inr, arith, ◌⊎◌}
 use Rattle.std.specs.Prelude.{All, map, ◌||◌, slice_get, slice_set, unwrap_or, if◌then◌else◌}
 use Rattle.std.specs.List.{list_any}
 use Rattle.std.proofs.lemmas.Bool.{cases_lt, true≢false}
@@ -14,7 +14,7 @@ use Rattle.pmem_base.specs.declared.registers.Regs.{Regs}
 use Rattle.pmem_base.specs.declared.answers.Mark.{Mark}
 use Rattle.pmem_base.specs.Layout as layout
 use Rattle.pmem_base.specs.Registers.{IsValidRegs, IsProgress, not_done, empty_progress, without_group}
-use Rattle.pmem_base.specs.Shape.{Shape}
+use Rattle.pmem_base.specs.Shape.{Shape, named_levels}
 use Rattle.board.specs.Device.{Device}
 use Rattle.call_plan.specs.Plans.{Plan, done, stop, read, write, latch, bind, for_each, the_cut}
 use Rattle.commit_regs.specs.Plans.{lines_plan, finish_plan, group_plan}
@@ -142,7 +142,7 @@ module _ (g : Shape) where
   -- a path's naming writes no others
   pub naming_high : (cache : Banks) (page : ℕ) (mirror : List Line) → MakesOnly (writes_within High) (naming_plan g cache page mirror)
   naming_high cache page mirror =
-      makes_repeated (writes_within High) (naming_turn g cache page) 0 (g.levels + 1) (mirror, tt)
+      makes_repeated (writes_within High) (naming_turn g cache page) 0 (named_levels g) (mirror, tt)
       (λ j before. slot_high j (path_number g cache page j) (path_at g page j) before.0)
 
 -- ---- the lines that registers hold
@@ -199,19 +199,19 @@ set_or cache i n slots bank set =
           ]
     ]
 
-pub stored_kept : (g : Shape) (page : ℕ) (persisted : Bool) (lines : List (ℕ × Line)) (n : ℕ) (cache : CacheState)
-    → KeepsButPath g page cache.banks (stored_levels g page persisted lines n cache).banks
-stored_kept g page persisted lines zero cache = λ bank set. refl
-stored_kept g page persisted lines (suc n) cache = λ bank set.
-    let below : CacheState = stored_levels g page persisted lines n cache in
+pub stored_kept : (g : Shape) (page : ℕ) (grouped : ℕ) (lines : List (ℕ × Line)) (n : ℕ) (cache : CacheState)
+    → KeepsButPath g page cache.banks (stored_levels g page grouped lines n cache).banks
+stored_kept g page grouped lines zero cache = λ bank set. refl
+stored_kept g page grouped lines (suc n) cache = λ bank set.
+    let below : CacheState = stored_levels g page grouped lines n cache in
     let x : ℕ = path_at g page n in
     let slots : List Slot = slots_at g below.banks n x in
-    elim (set_or below n (set_index g x) (stored_set slots x (new_line lines n) (stored_mark g persisted n)) bank set) [
-      | inl same ↦ ap (map (masked (path_at g page bank))) same ∙ stored_kept g page persisted lines n cache bank set
+    elim (set_or below n (set_index g x) (stored_set slots x (new_line lines n) (stored_mark g grouped n)) bank set) [
+      | inl same ↦ ap (map (masked (path_at g page bank))) same ∙ stored_kept g page grouped lines n cache bank set
       | inr it ↦
           ap (map (masked (path_at g page bank))) it.2
-          ∙ ap (λ k. map (masked (path_at g page k)) (stored_set slots x (new_line lines n) (stored_mark g persisted n))) it.0
-          ∙ masked_stored slots x (new_line lines n) (stored_mark g persisted n)
+          ∙ ap (λ k. map (masked (path_at g page k)) (stored_set slots x (new_line lines n) (stored_mark g grouped n))) it.0
+          ∙ masked_stored slots x (new_line lines n) (stored_mark g grouped n)
           ∙ sym (ap₂ (λ k t. map (masked (path_at g page k)) (set_of below.banks k t)) it.0 it.1)
-          ∙ stored_kept g page persisted lines n cache bank set
+          ∙ stored_kept g page grouped lines n cache bank set
     ]

@@ -1,12 +1,12 @@
 -- A page's path is named from the top down: wherever that ends, its first blocks are named, and on the device one fewer at most.
-use Rattle.std.proofs.Common.{ℕ, suc, ◌≡◌, ◌<◌, ◌≤◌, ◌+◌, ◌++◌, ◌∷◌, [], Bool, true, false, List, Result, Ok, Err, length, refl, sym, ap, subst, ◌∙◌, arith, rules}
+use Rattle.std.proofs.Common.{ℕ, suc, ◌≡◌, ◌<◌, ◌+◌, ◌++◌, ◌∷◌, [], Bool, true, false, List, Result, Ok, Err, length, refl, sym, ap, subst, ◌∙◌, arith, rules}
 use Rattle.std.proofs.lemmas.Bool.{cond-true, cond-false}
 use Rattle.std.proofs.lemmas.List.{append-nil, length-append}
 use Rattle.pmem_base.specs.declared.faults.Cut.{Cut}
 use Rattle.pmem_base.specs.declared.lines.Line.{Line}
 use Rattle.pmem_base.specs.Counts.{risen_times}
 use Rattle.pmem_base.specs.Layout.{shadow_line}
-use Rattle.pmem_base.specs.Shape.{Shape}
+use Rattle.pmem_base.specs.Shape.{Shape, named_levels}
 use Rattle.pmem_base.proofs.CountLemmas.{risen_times-add}
 use Rattle.board.specs.Device.{Device}
 use Rattle.board.specs.Steps.{HasWritten, WasCut}
@@ -27,6 +27,10 @@ module _ (page : ℕ) (first : ChipState) (old : Device) where
   abbrev g : Shape
   g = first.shape
 
+  -- how many blocks of the path may get dirty
+  abbrev all : ℕ
+  all = named_levels g
+
   -- the copy once so many blocks are named, and the lines that this takes
   abbrev named : ℕ → List Line
   named n = named_path g first.cache page first.mirror n
@@ -44,9 +48,9 @@ module _ (page : ℕ) (first : ChipState) (old : Device) where
     latches : now.latches ≡ old.latches
 
   abbrev IsCut : List Line × Cut → Device → Type 0
-  IsCut left new = (n : ℕ) × (n ≤ g.levels) × AreTold (n + 1) n left.0 new
+  IsCut left new = (n : ℕ) × (n < all) × AreTold (n + 1) n left.0 new
 
-  module _ (j : ℕ) (low : j ≤ g.levels) (now : Device) (so : AreTold j j (named j) now) where
+  module _ (j : ℕ) (low : j < all) (now : Device) (so : AreTold j j (named j) now) where
     abbrev n : ℕ
     n = path_number g first.cache page j
 
@@ -105,12 +109,12 @@ module _ (page : ℕ) (first : ChipState) (old : Device) where
     unfolding Leaves slot_plan
     slot_so = search (rules, leaves_if, already, cut_so, write_so)
 
-  turn_so : (j : ℕ) (before : List Line × Unit {0}) (now : Device) → j < g.levels + 1 → AreTold j j before.0 now
+  turn_so : (j : ℕ) (before : List Line × Unit {0}) (now : Device) → j < all → AreTold j j before.0 now
       → Leaves (naming_turn g first.cache page j before) (λ end d. AreTold (j + 1) (j + 1) end.0 d) IsCut now
   turn_so j before now low so =
       subst (λ (mirror : List Line). AreTold j j mirror now
       → Leaves (slot_plan g j (path_number g first.cache page j) (path_at g page j) mirror) (λ end d. AreTold (j + 1) (j + 1) end.0 d) IsCut now)
-      (sym so.copy) (λ its. slot_so j (omega (arith, low)) now its) so
+      (sym so.copy) (λ its. slot_so j low now its) so
 
   begins : AreTold 0 0 first.mirror old
   begins = record { copy = refl; lines = sym (redone-nil old.lines); writes = refl; regs = refl; reads = refl; latches = refl }
@@ -119,27 +123,27 @@ module _ (page : ℕ) (first : ChipState) (old : Device) where
       → AreNamed page n written_to first (with_mirror first mirror) old now
   as_named n written_to mirror now so = search rules
 
-  name_so : Leaves (name_plan page first) (λ end d. AreNamed page (g.levels + 1) (g.levels + 1) first end.0 old d)
+  name_so : Leaves (name_plan page first) (λ end d. AreNamed page all all first end.0 old d)
       (λ left d. IsNamedInOrder page first old d (Err left)) old
   unfolding name_plan
   name_so =
-      leaves_mapped _ _ (λ end d. AreNamed page (g.levels + 1) (g.levels + 1) first end.0 old d) (λ left d. IsNamedInOrder page first old d (Err left))
+      leaves_mapped _ _ (λ end d. AreNamed page all all first end.0 old d) (λ left d. IsNamedInOrder page first old d (Err left))
       (naming_plan g first.cache page first.mirror) old
-      (leaves_more (λ end d. AreTold (g.levels + 1) (g.levels + 1) end.0 d)
-      (λ end d. AreNamed page (g.levels + 1) (g.levels + 1) first (with_mirror first end.0) old d) IsCut
+      (leaves_more (λ end d. AreTold all all end.0 d)
+      (λ end d. AreNamed page all all first (with_mirror first end.0) old d) IsCut
       (λ left d. IsNamedInOrder page first old d (Err (with_mirror first left.0, left.1))) (naming_plan g first.cache page first.mirror) old
-      (λ end d so. as_named (g.levels + 1) (g.levels + 1) end.0 d so) (λ left d it. (it.0, it.1, as_named (it.0 + 1) it.0 left.0 d it.2))
-      (leaves_repeated (λ j before d. AreTold j j before.0 d) IsCut (naming_turn g first.cache page) (g.levels + 1) 0 (g.levels + 1) (first.mirror, tt) old
+      (λ end d so. as_named all all end.0 d so) (λ left d it. (it.0, it.1, as_named (it.0 + 1) it.0 left.0 d it.2))
+      (leaves_repeated (λ j before d. AreTold j j before.0 d) IsCut (naming_turn g first.cache page) all 0 all (first.mirror, tt) old
       (omega arith) (λ j before d low so. turn_so j before d low so) begins))
 
 pub named_in_order : PathsAreNamedInOrder
 named_in_order page engine old new end it =
     at_end end
-    (leaves (λ end d. AreNamed page (engine.shape.levels + 1) (engine.shape.levels + 1) engine end.0 old d)
+    (leaves (λ end d. AreNamed page (named_levels engine.shape) (named_levels engine.shape) engine end.0 old d)
     (λ left d. IsNamedInOrder page engine old d (Err left)) (name_so page engine old) it)
   where
     at_end : (end : Result (ChipState × Unit {0}) (ChipState × Cut))
-        → AtEnd (λ end d. AreNamed page (engine.shape.levels + 1) (engine.shape.levels + 1) engine end.0 old d)
+        → AtEnd (λ end d. AreNamed page (named_levels engine.shape) (named_levels engine.shape) engine end.0 old d)
         (λ left d. IsNamedInOrder page engine old d (Err left)) end new
         → IsNamedInOrder page engine old new end
     at_end (Ok t) so = so

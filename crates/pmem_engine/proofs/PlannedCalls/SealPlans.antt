@@ -1,6 +1,6 @@
 -- The ends of a seal under a line's next counter and of a page's begin, as their plans have them.
-use Rattle.std.proofs.Common.{rules, ℕ, ◌≡◌, ◌%◌, Bool, true, false, IsTrue, List, Result, Ok, Err, sym, ap, ap₂, subst, ◌∙◌}
-use Rattle.std.specs.Prelude.{◌==◌, ◌↔◌, if◌then◌else◌}
+use Rattle.std.proofs.Common.{ℕ, ◌≡◌, Bool, true, false, List, Result, Ok, Err, sym, ap, ap₂, subst, ◌∙◌}
+use Rattle.std.specs.Prelude.{if◌then◌else◌}
 use Rattle.pmem_base.specs.declared.faults.Cut.{Cut}
 use Rattle.pmem_base.specs.declared.lines.Line.{Line}
 use Rattle.pmem_base.specs.declared.lines.Ctr.{Ctr}
@@ -25,15 +25,12 @@ use Rattle.suite.specs.Setup.{Setup}
 use Rattle.pmem_engine.specs.declared.fault.Fault.{Fault}
 use Rattle.pmem_engine.specs.declared.resealing.NextSeal.{NextSeal}
 use Rattle.pmem_engine.specs.Outcomes.{fault_of_cut}
+use Rattle.pmem_engine.specs.CallFacts.{grouped_lines}
 use Rattle.pmem_engine.specs.Inner.{cached_block}
 use Rattle.pmem_engine.specs.Committing.{next_seal_of}
 use Rattle.pmem_engine.specs.Sealing.{next_counter_of, raised_block}
 use Rattle.pmem_engine.specs.Plans.{Chip, with_tags}
 use Rattle.pmem_engine.specs.SealPlans.{with_path_digests, commit_seal_plan, seal_over_plan, seal_next_plan, commit_begin_plan, begin_page_plan, begin_for_plan}
-
--- whether the counter block is in a seal's group
-pub due_is : (persisted : Bool) (n : ℕ) → IsTrue persisted ↔ (n ≡ 0) → persisted ≡ (n == 0)
-due_is persisted n is = search rules
 
 -- a page's path and root over the cached lines, under this new counter block
 module _ (setup : Setup) (chip : Chip) (page : ℕ) where
@@ -55,9 +52,12 @@ module _ (setup : Setup) (at : ℕ) (plain : Line) (regs : Regs) (chip : Chip) w
   abbrev its_block : Line
   its_block = packed (raised_block setup.shape chip.engine at)
 
-  abbrev committing : NextSeal → Bool → Line → List (ℕ × Line) → List ℕ → Plan (Chip × Cut) (Chip × Regs)
-  committing next persisted block lines root =
-      commit_seal_plan setup.shape next persisted block lines root regs (with_tags digested (risen chip.tags))
+  abbrev its_lines : ℕ
+  its_lines = grouped_lines setup.shape regs.loss its_ctr.minor
+
+  abbrev committing : NextSeal → ℕ → List (ℕ × Line) → List ℕ → Plan (Chip × Cut) (Chip × Regs)
+  committing next grouped lines root =
+      commit_seal_plan setup.shape next grouped lines root regs (with_tags digested (risen chip.tags))
 
   -- the tag line wasn't read
   pub seal_unread : {old new : Device} → WasCut old new → old.live ≡ false
@@ -66,23 +66,23 @@ module _ (setup : Setup) (at : ℕ) (plain : Line) (regs : Regs) (chip : Chip) w
   seal_unread was off =
       read_cut (digested, the_cut) (layout.tag_line setup.shape at) (seal_over_plan setup at plain regs digested) was off
 
-  module _ (next : NextSeal) (persisted : Bool) (block : Line) (lines : List (ℕ × Line)) (root : List ℕ) (tags : Line)
-      (its_seal : next ≡ next_seal_of setup.formulas at its_ctr plain tags) (due : persisted ≡ (its_ctr.minor % regs.loss == 0))
+  module _ (next : NextSeal) (grouped : ℕ) (block : Line) (lines : List (ℕ × Line)) (root : List ℕ) (tags : Line)
+      (its_seal : next ≡ next_seal_of setup.formulas at its_ctr plain tags) (grouping : grouped ≡ its_lines)
       (block_is : block ≡ its_block) (lines_are : lines ≡ lines_over setup chip (page_of at) block)
       (root_is : root ≡ root_over setup chip (page_of at) block) where
-    same_commit : committing next persisted block lines root
-        ≡ committing (next_seal_of setup.formulas at its_ctr plain tags) (its_ctr.minor % regs.loss == 0) its_block
+    same_commit : committing next grouped lines root
+        ≡ committing (next_seal_of setup.formulas at its_ctr plain tags) its_lines
         (lines_over setup chip (page_of at) its_block) (root_over setup chip (page_of at) its_block)
     same_commit =
-        ap₂ (λ next persisted. committing next persisted block lines root) its_seal due
-        ∙ ap₂ (committing (next_seal_of setup.formulas at its_ctr plain tags) (its_ctr.minor % regs.loss == 0) block) lines_are root_is
+        ap₂ (λ next grouped. committing next grouped lines root) its_seal grouping
+        ∙ ap₂ (committing (next_seal_of setup.formulas at its_ctr plain tags) its_lines) lines_are root_is
         ∙ ap
-        (λ block. committing (next_seal_of setup.formulas at its_ctr plain tags) (its_ctr.minor % regs.loss == 0) block
+        (λ block. committing (next_seal_of setup.formulas at its_ctr plain tags) its_lines
         (lines_over setup chip (page_of at) block) (root_over setup chip (page_of at) block)) block_is
 
     -- it was committed, or cut
     pub seal_end : {old mid new : Device} → HasRead old (layout.tag_line setup.shape at) tags mid → IsLine tags
-        → (end : Result (Chip × Regs) (Chip × Cut)) → Follows (committing next persisted block lines root) mid new end
+        → (end : Result (Chip × Regs) (Chip × Cut)) → Follows (committing next grouped lines root) mid new end
         → Follows (seal_next_plan setup at plain regs chip) old new (mapped_end (λ left. left) (λ end. (end.0, its_ctr)) end)
     unfolding seal_next_plan
     seal_end {mid = mid} {new = new} first whole end it =
@@ -95,23 +95,23 @@ module _ (setup : Setup) (page : ℕ) (regs : Regs) (chip : Chip) where
   abbrev its_old : Block
   its_old = cached_block setup.shape chip.engine page
 
-  abbrev beginning : Progress → Line → List (ℕ × Line) → List ℕ → Plan (Chip × Cut) (Chip × Regs)
-  beginning register block lines root =
-      commit_begin_plan setup.shape page register block lines root regs (with_path_digests setup.shape chip)
+  abbrev beginning : Progress → List (ℕ × Line) → List ℕ → Plan (Chip × Cut) (Chip × Regs)
+  beginning register lines root =
+      commit_begin_plan setup.shape page register lines root regs (with_path_digests setup.shape chip)
 
   module _ (register : Progress) (block : Line) (lines : List (ℕ × Line)) (root : List ℕ)
       (its_register : register ≡ begun page (packed its_old)) (block_is : block ≡ packed (next_block its_old))
       (lines_are : lines ≡ lines_over setup chip page block) (root_is : root ≡ root_over setup chip page block) where
-    same_begin : beginning register block lines root
-        ≡ beginning (begun page (packed its_old)) (packed (next_block its_old)) (lines_over setup chip page (packed (next_block its_old)))
+    same_begin : beginning register lines root
+        ≡ beginning (begun page (packed its_old)) (lines_over setup chip page (packed (next_block its_old)))
         (root_over setup chip page (packed (next_block its_old)))
     same_begin =
-        ap (λ register. beginning register block lines root) its_register
-        ∙ ap₂ (beginning (begun page (packed its_old)) block) lines_are root_is
-        ∙ ap (λ block. beginning (begun page (packed its_old)) block (lines_over setup chip page block) (root_over setup chip page block)) block_is
+        ap (λ register. beginning register lines root) its_register
+        ∙ ap₂ (beginning (begun page (packed its_old))) lines_are root_is
+        ∙ ap (λ block. beginning (begun page (packed its_old)) (lines_over setup chip page block) (root_over setup chip page block)) block_is
 
     -- it was committed, or cut
-    pub begin_end : {old new : Device} (end : Result (Chip × Regs) (Chip × Cut)) → Follows (beginning register block lines root) old new end
+    pub begin_end : {old new : Device} (end : Result (Chip × Regs) (Chip × Cut)) → Follows (beginning register lines root) old new end
         → Follows (begin_page_plan setup page regs chip) old new (mapped_end (λ left. (left.0, fault_of_cut left.1)) (λ end. end) end)
     unfolding begin_page_plan
     begin_end {old = old} {new = new} end it =

@@ -5,7 +5,6 @@ use Rattle.pmem_base.specs.declared.lines.Line.{Line}
 use Rattle.pmem_base.specs.declared.lines.Ctr.{Ctr}
 use Rattle.board.specs.Device.{Device}
 use Rattle.suite.specs.Setup.{Setup}
-use Rattle.pmem_engine.specs.declared.fault.LineFault.TheVariants as AtLine
 use Rattle.call_plan.specs.Plans.{Plan, bind, mapped, repeated}
 use Rattle.call_plan.specs.Following.{Follows}
 use Rattle.call_plan.specs.Bounds.{Leaves, AtEnd}

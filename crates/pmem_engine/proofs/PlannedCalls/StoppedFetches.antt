@@ -115,7 +115,7 @@ module _ (f : Formulas) (w : Posted) (first : Chip) (start : Device) (whole : Ha
         },
         record {
           made = record { later = []; all_of = marks ∙ sym (append-nil first.ledger.marks) };
-          kept = λ none. block_stays got.levels now got.fetched.lines;
+          kept = λ lazy none. block_stays got.levels now got.fetched.lines;
         },
       )
 

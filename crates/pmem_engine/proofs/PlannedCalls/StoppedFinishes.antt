@@ -100,7 +100,7 @@ module _ (f : Formulas) (w : Posted) (first : Chip) (start : Device) (whole : Ha
   block_so now low = low block_at (λ below. absurd (omega (arith, below))) ∙ fetches.block_stays f w first start whole inside all mid ready.levels.lines
 
   unnamed_due : (chip : Chip) (now : Device) → IsUnnamed chip now → Due chip now
-  unnamed_due chip now so = record { made = so.made; kept = λ none. block_so now so.low }
+  unnamed_due chip now so = record { made = so.made; kept = λ lazy none. block_so now so.low }
 
   begins : IsUnnamed c mid
   begins =

@@ -1,7 +1,7 @@
 -- What a write comes to, wherever its plan ends: what a refusal and a cut leave, and when its page's counter block is written.
-use Rattle.std.proofs.Common.{ℕ, ◌≡◌, ◌<◌, ◌≤◌, ◌+◌, ◌-◌, ◌^◌, ◌%◌, Bool, true, false, List, Result, Ok, Err, refl, sym, ap, subst, ◌∙◌, arith}
+use Rattle.std.proofs.Common.{ℕ, ◌≡◌, ◌<◌, ◌≤◌, ◌+◌, ◌-◌, ◌^◌, ◌%◌, Bool, true, false, List, length, Result, Ok, Err, refl, sym, ap, subst, ◌∙◌, arith}
 use Rattle.std.specs.Prelude.{IsOk, if◌then◌else◌, nat_lt, ◌==◌}
-use Rattle.std.proofs.lemmas.Bool.{true≢false, eq-eqb, and_from}
+use Rattle.std.proofs.lemmas.Bool.{true≢false, eq-eqb, eqb-true, eqb-false, and_from}
 use Rattle.pmem_base.specs.declared.lines.Line.{Line}
 use Rattle.pmem_base.specs.declared.lines.Ctr.{Ctr}
 use Rattle.pmem_base.specs.declared.commands.Posted.{Posted}
@@ -24,9 +24,10 @@ use Rattle.commit_regs.specs.Plans.{finish_plan, group_plan}
 use Rattle.split_counters.specs.declared.Block.{Block}
 use Rattle.split_counters.specs.Blocks.{packed, minor_of, next_block}
 use Rattle.page_reencrypt.specs.Registers.{begun}
+use Rattle.meta_path.specs.Blocks.{cached_line}
 use Rattle.meta_path.specs.Plans.{naming_plan}
 use Rattle.meta_path.proofs.PathFacts.{path_at-lt}
-use Rattle.plain_model.specs.Bounds.{path_length}
+use Rattle.plain_model.specs.Bounds.{path_length, begun_lines}
 use Rattle.suite.specs.Formulas.{Formulas}
 use Rattle.suite.specs.Setup.{Setup}
 use Rattle.meta_path.specs.Work.{told_line}
@@ -35,6 +36,7 @@ use Rattle.pmem_engine.specs.declared.fault.Fault.TheVariants as Fail
 use Rattle.pmem_engine.specs.declared.fault.LineFault.{LineFault}
 use Rattle.pmem_engine.specs.Engine.{ChipState}
 use Rattle.pmem_engine.specs.Flushed.{cache_of}
+use Rattle.pmem_engine.specs.CallFacts.{grouped_lines}
 use Rattle.pmem_engine.specs.Inner.{cached_block}
 use Rattle.pmem_engine.specs.Writing.{overflow_of}
 use Rattle.pmem_engine.specs.Outcomes.{fault_of_cut, fault_of_line, fault_of_path}
@@ -49,6 +51,8 @@ use Rattle.pmem_engine.specs.FetchLaws.{HasWholeCache, StopsAsTold, setup_of_chi
 use Rattle.meta_path.proofs.FetchedLevels.{state, fetch_so}
 use Rattle.pmem_engine.proofs.PlannedCalls.FetchedReads.{Comes, Ends, fetch_start}
 use Rattle.pmem_engine.proofs.PlannedCalls.PostedPlans.{to_plain, to_overflow}
+use Rattle.pmem_engine.proofs.Laws.PolicyBounds.{seal_group_none, grouped_undue}
+use Rattle.pmem_engine.proofs.Seals.BegunBlocks.{length-path_with}
 use Rattle.pmem_engine.proofs.PlannedCalls.TurnLines.{of_all}
 use Rattle.pmem_engine.proofs.PlannedCalls.StoppedFetches as fetches
 use Rattle.pmem_engine.proofs.PlannedCalls.StoppedFinishes.{front_more}
@@ -129,24 +133,25 @@ module _ (f : Formulas) (w : Posted) (first : Chip) (start : Device) (whole : Ha
           named mirror d kept =
               record {
                 kept = (finishes.unnamed_past f w first start whole inside c mid ready unspent chip now so).kept;
-                due = record { made = so.made; kept = λ none. kept block_at (λ high. not_high high) ∙ block_so now so.low };
+                due = record { made = so.made; kept = λ lazy none. kept block_at (λ high. not_high high) ∙ block_so now so.low };
               }
 
       -- ---- the page begun, and the line sealed
 
       -- the path's new lines are stored, and a mark is made
-      marked_so : (mark : Mark) (persisted : Bool) (lines : List (ℕ × Line)) (chip : Chip) (now d : Device) → IsPast chip now
-          → ((is_persisting start.regs.loss w.at mark ≡ false) → told_line d.lines block_at ≡ told_line now.lines block_at)
-          → IsPast (with_marked_path g mark page persisted lines chip) d
+      marked_so : (mark : Mark) (grouped : ℕ) (lines : List (ℕ × Line)) (chip : Chip) (now d : Device) → IsPast chip now
+          → (g.persist ≡ 0 → is_persisting start.regs.loss w.at mark ≡ false → told_line d.lines block_at ≡ told_line now.lines block_at)
+          → IsPast (with_marked_path g mark page grouped lines chip) d
       unfolding front_more
-      marked_so mark persisted lines chip now d so same =
+      marked_so mark grouped lines chip now d so same =
           record {
-            kept = λ bank set. stored_kept g page persisted lines (path_length g) (cache_of chip.engine) bank set ∙ so.kept bank set;
+            kept = λ bank set. stored_kept g page grouped lines (path_length g) (cache_of chip.engine) bank set ∙ so.kept bank set;
             due =
                 record {
                   made = front_more first.ledger.marks chip.ledger.marks mark so.due.made;
-                  kept = λ none.
-                      let parts = none_of start.regs.loss w.at so.due.made.later mark none in same parts.1 ∙ so.due.kept parts.0;
+                  kept = λ lazy none.
+                      let parts = none_of start.regs.loss w.at so.due.made.later mark none in
+                      same lazy parts.1 ∙ so.due.kept lazy parts.0;
                 };
           }
 
@@ -155,7 +160,7 @@ module _ (f : Formulas) (w : Posted) (first : Chip) (start : Device) (whole : Ha
       past_still chip tags digests now new same so =
           record {
             kept = so.kept;
-            due = record { made = so.due.made; kept = λ none. ap (λ lines. told_line lines block_at) same ∙ so.due.kept none };
+            due = record { made = so.due.made; kept = λ lazy none. ap (λ lines. told_line lines block_at) same ∙ so.due.kept lazy none };
           }
 
       begin_so : (overflows : Bool) (regs : Regs) (chip : Chip) (now : Device) → regs.loss ≡ start.regs.loss → IsPast chip now
@@ -165,8 +170,8 @@ module _ (f : Formulas) (w : Posted) (first : Chip) (start : Device) (whole : Ha
           let counted : Chip = with_path_digests g chip in
           let block = next_block (cached_block g chip.engine page) in
           let lines = next_lines setup chip.engine page block in
-          let armed_regs : Regs = begin_armed g page (begun page (packed (cached_block g chip.engine page))) (packed block) (next_root setup chip.engine page block) regs in
-          let marked = with_marked_path g (Begin page) page true lines counted in
+          let armed_regs : Regs = begin_armed g (begun page (packed (cached_block g chip.engine page))) lines (next_root setup chip.engine page block) regs in
+          let marked = with_marked_path g (Begin page) page (begun_lines g) lines counted in
           leaves_if (λ end d. IsPast end.0 d × (end.1.loss ≡ start.regs.loss)) Stop overflows _ (done (chip, regs)) now
           (λ over. leaves_mapped _ _ (λ end d. IsPast end.0 d × (end.1.loss ≡ start.regs.loss)) Stop _ now
           (leaves_more (λ end d. IsPast end.0 d × (end.1 ≡ without_group armed_regs)) (λ end d. IsPast end.0 d × (end.1.loss ≡ start.regs.loss))
@@ -175,48 +180,57 @@ module _ (f : Formulas) (w : Posted) (first : Chip) (start : Device) (whole : Ha
           (group_leaves IsPast IsPast armed_regs counted marked now
           (λ new was. past_still chip chip.tags counted.digests now new was.lines so)
           (λ later was. of_all (λ t d. IsPast marked d) (λ left d. IsPast marked d)
-          (λ t d. marked_so (Begin page) true lines counted now d (past_still chip chip.tags counted.digests now now refl so) (λ no. absurd (true≢false no)))
-          (λ left d. marked_so (Begin page) true lines counted now d (past_still chip chip.tags counted.digests now now refl so) (λ no. absurd (true≢false no)))
+          (λ t d. marked_so (Begin page) (begun_lines g) lines counted now d (past_still chip chip.tags counted.digests now now refl so)
+          (λ lazy no. absurd (true≢false no)))
+          (λ left d. marked_so (Begin page) (begun_lines g) lines counted now d (past_still chip chip.tags counted.digests now now refl so)
+          (λ lazy no. absurd (true≢false no)))
           (finish_plan armed_regs) later))))
           (λ same. (so, loss))
 
-      seal_group_so : (next : NextSeal) (persisted : Bool) (block : Line) (lines : List (ℕ × Line)) (root : List ℕ) (regs : Regs) (chip : Chip) (now : Device)
-          → next.at ≡ w.at → (next.ctr.minor % start.regs.loss == 0) ≡ persisted → IsPast chip now
-          → Leaves (commit_seal_plan g next persisted block lines root regs chip) (λ end d. IsPast end.0 d) (λ left d. IsPast left.0 d) now
-      seal_group_so next persisted block lines root regs chip now at is so =
-          let marked = with_marked_path g mark (page_of next.at) persisted lines chip in
-          leaves_more (λ end d. IsPast end.0 d × (end.1 ≡ without_group (seal_armed g next persisted block root regs))) (λ end d. IsPast end.0 d)
+      seal_group_so : (next : NextSeal) (grouped : ℕ) (lines : List (ℕ × Line)) (root : List ℕ) (regs : Regs) (chip : Chip) (now : Device)
+          → next.at ≡ w.at → grouped ≡ grouped_lines g start.regs.loss next.ctr.minor → length lines ≡ path_length g → IsPast chip now
+          → Leaves (commit_seal_plan g next grouped lines root regs chip) (λ end d. IsPast end.0 d) (λ left d. IsPast left.0 d) now
+      seal_group_so next grouped lines root regs chip now at is long so =
+          leaves_more (λ end d. IsPast end.0 d × (end.1 ≡ without_group armed)) (λ end d. IsPast end.0 d)
           (λ left d. IsPast left.0 d) (λ left d. IsPast left.0 d) _ now (λ end d it. it.0) (λ left d it. it)
-          (group_leaves IsPast IsPast (seal_armed g next persisted block root regs) chip marked now
+          (group_leaves IsPast IsPast armed chip marked now
           (λ new was. past_still chip chip.tags chip.digests now new was.lines so)
-          (λ later was. by persisted is later was.lines))
+          (λ later was. by (g.persist == 0) (next.ctr.minor % start.regs.loss == 0) refl refl later was.lines))
         where
           mark : Mark
           mark = Seal next.at next.ctr next.cipher next.tag
 
-          on_page : (keeps : Bool) (d : Device)
-              → ((is_persisting start.regs.loss w.at mark ≡ false) → told_line d.lines block_at ≡ told_line now.lines block_at)
-              → IsPast (with_marked_path g mark (page_of next.at) keeps lines chip) d
-          on_page keeps d same =
-              subst (λ a. IsPast (with_marked_path g mark (page_of a) keeps lines chip) d) (sym at) (marked_so mark keeps lines chip now d so same)
+          armed : Regs
+          armed = seal_armed g next grouped lines root regs
+
+          marked : Chip
+          marked = with_marked_path g mark (page_of next.at) grouped lines chip
+
+          on_page : (d : Device) → (g.persist ≡ 0 → is_persisting start.regs.loss w.at mark ≡ false
+              → told_line d.lines block_at ≡ told_line now.lines block_at) → IsPast marked d
+          on_page d same =
+              subst (λ a. IsPast (with_marked_path g mark (page_of a) grouped lines chip) d) (sym at) (marked_so mark grouped lines chip now d so same)
 
           persists : (next.ctr.minor % start.regs.loss == 0) ≡ true → is_persisting start.regs.loss w.at mark ≡ true
           persists divides = and_from (next.at == w.at) (next.ctr.minor % start.regs.loss == 0) (eq-eqb next.at w.at at) divides
 
-          by : (keeps : Bool) → (next.ctr.minor % start.regs.loss == 0) ≡ keeps → (later : Device) → later.lines ≡ now.lines
-              → Leaves (finish_plan (seal_armed g next keeps block root regs)) (λ t d. IsPast (with_marked_path g mark (page_of next.at) keeps lines chip) d)
-              (λ left d. IsPast (with_marked_path g mark (page_of next.at) keeps lines chip) d) later
-          by true divides later same =
-              of_all _ _ (λ t d. on_page true d (λ no. absurd (true≢false (sym (persists divides) ∙ no))))
-              (λ left d. on_page true d (λ no. absurd (true≢false (sym (persists divides) ∙ no)))) (finish_plan (seal_armed g next true block root regs)) later
-          by false divides later same =
-              leaves_more (λ t d. KeepsBeside (Low g) now d) (λ t d. IsPast (with_marked_path g mark (page_of next.at) false lines chip) d)
-              (λ left d. KeepsBeside (Low g) now d) (λ left d. IsPast (with_marked_path g mark (page_of next.at) false lines chip) d)
-              (finish_plan (seal_armed g next false block root regs)) later
-              (λ t d kept. on_page false d (λ no. kept block_at (λ below. absurd (omega (arith, below)))))
-              (λ left d kept. on_page false d (λ no. kept block_at (λ below. absurd (omega (arith, below)))))
-              (keeps_beside (Low g) now (finish_plan (seal_armed g next false block root regs)) later
-              (low_finish g (seal_armed g next false block root regs) next (subst (λ a. a < layout.data_lines g) (sym at) its_line) refl)
+          by : (lazy due : Bool) → (g.persist == 0) ≡ lazy → (next.ctr.minor % start.regs.loss == 0) ≡ due → (later : Device)
+              → later.lines ≡ now.lines → Leaves (finish_plan armed) (λ t d. IsPast marked d) (λ left d. IsPast marked d) later
+          by false due strict divides later same =
+              of_all _ _ (λ t d. on_page d (λ none. absurd (eqb-false g.persist 0 strict none)))
+              (λ left d. on_page d (λ none. absurd (eqb-false g.persist 0 strict none))) (finish_plan armed) later
+          by true true lazy divides later same =
+              of_all _ _ (λ t d. on_page d (λ none no. absurd (true≢false (sym (persists divides) ∙ no))))
+              (λ left d. on_page d (λ none no. absurd (true≢false (sym (persists divides) ∙ no)))) (finish_plan armed) later
+          by true false lazy divides later same =
+              leaves_more (λ t d. KeepsBeside (Low g) now d) (λ t d. IsPast marked d)
+              (λ left d. KeepsBeside (Low g) now d) (λ left d. IsPast marked d) (finish_plan armed) later
+              (λ t d kept. on_page d (λ none no. kept block_at (λ below. absurd (omega (arith, below)))))
+              (λ left d kept. on_page d (λ none no. kept block_at (λ below. absurd (omega (arith, below)))))
+              (keeps_beside (Low g) now (finish_plan armed) later
+              (low_finish g armed next (subst (λ a. a < layout.data_lines g) (sym at) its_line)
+              (seal_group_none g next grouped lines long
+              (is ∙ grouped_undue g start.regs.loss next.ctr.minor (eqb-true g.persist 0 lazy) divides)))
               (λ x apart. ap (λ lines. told_line lines x) same))
 
       seal_so : (plain : Line) (regs : Regs) (chip : Chip) (now : Device) → regs.loss ≡ start.regs.loss → IsPast chip now
@@ -232,9 +246,9 @@ module _ (f : Formulas) (w : Posted) (first : Chip) (start : Device) (whole : Ha
                 leaves_mapped _ _ (λ end d. IsPast end.0 d) (λ left d. Stop (left.0, fault_of_cut left.1) d) _ mid
                 (leaves_more (λ end d. IsPast end.0 d) (λ end d. IsPast end.0 d) (λ left d. IsPast left.0 d) (λ left d. Stop (left.0, Fail.Cut) d) _ mid
                 (λ end d it. it) (λ left d it. past_cut left.0 d it)
-                (seal_group_so (next_seal_of f w.at ctr plain tags) (ctr.minor % regs.loss == 0) (packed block) (next_lines setup chip.engine page block)
+                (seal_group_so (next_seal_of f w.at ctr plain tags) (grouped_lines g regs.loss ctr.minor) (next_lines setup chip.engine page block)
                 (next_root setup chip.engine page block) regs (with_tags counted (risen counted.tags)) mid refl
-                (ap (λ n. ctr.minor % n == 0) (sym loss)) (past_still chip (risen counted.tags) counted.digests now mid was.lines so))),
+                (ap (λ n. grouped_lines g n ctr.minor) loss) (length-path_with g f (cached_line g chip.engine.cache) page (packed block)) (past_still chip (risen counted.tags) counted.digests now mid was.lines so))),
           )
 
       -- ---- from the counter on

@@ -15,7 +15,6 @@ use Rattle.pmem_engine.proofs.PlannedCalls.StateEnds.{Ends, ends_bind, ends_mapp
 use Rattle.call_plan.proofs.Keeping.{makes_bind, makes_mapped, writes_within_keep}
 use Rattle.seal_ledger.specs.Ledger.{LedgerState}
 use Rattle.suite.specs.Setup.{Setup}
-use Rattle.pmem_engine.specs.declared.fault.LineFault.TheVariants as AtLine
 use Rattle.pmem_engine.specs.declared.reading.Unsealed.{Unsealed}
 use Rattle.pmem_engine.specs.declared.resealing.HeldLine.{HeldLine}
 use Rattle.pmem_engine.specs.declared.resealing.NextSeal.{NextSeal}

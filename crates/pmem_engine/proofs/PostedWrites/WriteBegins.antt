@@ -1,5 +1,5 @@
 -- The page that a write begins, or none, and the line's next counter then.
-use Rattle.std.proofs.Common.{rules, ℕ, ◌≡◌, ◌≤◌, ◌+◌, ◌*◌, ◌++◌, ◌⊎◌, inl, inr, Bool, true, false, List, [], ◌∷◌, length, Result, Ok, Err, refl, sym, ap, subst, ◌∙◌, arith}
+use Rattle.std.proofs.Common.{rules, ℕ, ◌≡◌, ◌<◌, ◌≤◌, ◌+◌, ◌++◌, ◌⊎◌, inl, inr, Bool, true, false, List, [], ◌∷◌, length, Result, Ok, Err, refl, sym, ap, subst, ◌∙◌, arith}
 use Rattle.std.specs.Prelude.{IsOk}
 use Rattle.std.proofs.lemmas.List.Elements.{All-nil, All-cons}
 use Rattle.pmem_base.specs.declared.lines.Ctr.{Ctr}
@@ -12,6 +12,7 @@ use Rattle.split_counters.proofs.Packing.{zero_minors-zero}
 use Rattle.board.specs.Device.{Device}
 use Rattle.meta_path.specs.Work.{told_line}
 use Rattle.suite.specs.Setup.{Setup}
+use Rattle.plain_model.specs.Bounds.{begun_lines}
 use Rattle.pmem_engine.specs.declared.fault.Fault.{Fault}
 use Rattle.pmem_engine.specs.declared.fault.Fault.TheVariants as Fail
 use Rattle.pmem_engine.specs.Parts.{Parts, AreTrusted}
@@ -23,7 +24,7 @@ use Rattle.pmem_engine.specs.Sealing.{next_counter_of, HasBeginMarks, TakesBegin
 use Rattle.pmem_engine.specs.Writing.{HasLeftOut, IsFrontOf, HasBegunFor}
 use Rattle.pmem_engine.proofs.Seals.KeptSlots.{kept_same}
 use Rattle.pmem_engine.proofs.PostedWrites.WriteParts.{IsWritePart, alone_part, begin_part}
-use Rattle.pmem_engine.proofs.PostedWrites.WriteSteps.{begin_asked, steps_most, fewer_most, more_most}
+use Rattle.pmem_engine.proofs.PostedWrites.WriteSteps.{begin_asked, begin_steps, steps_most, fewer_most, more_most}
 use Rattle.pmem_engine.proofs.CallEnds.ExactWork.{work_alone}
 
 -- the counter that the write's own seal gets
@@ -38,18 +39,18 @@ HasBegunMarks asked made (Err Fail.Cut) = IsFrontOf asked made
 HasBegunMarks asked made (Err fault) = ⊥
 
 abbrev pub CountsBegun : ℕ → Parts → Parts → Result Unit Fault → Type 0
-CountsBegun number old new (Ok value) = TakesSteps (3 * number) old.device new.device
-CountsBegun number old new (Err fault) = TakesFewer (3 * number) old.device new.device
+CountsBegun steps old new (Ok value) = TakesSteps steps old.device new.device
+CountsBegun steps old new (Err fault) = TakesFewer steps old.device new.device
 
 pub record HasBegunSome (setup : Setup) (at : ℕ) (asked : List Mark) (ctr : Ctr) (old new : Parts) (answer : Result Unit Fault) :
     Type 0 where
   pub made : List Mark
   pub part : IsWritePart setup at (outcome_of answer) made old new
   pub marks : HasBegunMarks asked made answer
-  pub counts : CountsBegun (length asked) old new answer
+  pub counts : CountsBegun (begin_steps setup.shape asked) old new answer
   pub few : length made ≤ 1
   pub minors : AreUnderMinorZero made
-  pub few_steps : TakesAtMost 3 old.device new.device
+  pub few_steps : TakesAtMost (2 + begun_lines setup.shape) old.device new.device
   pub work : IsOk answer → IsWork (begin_work setup.shape (length asked)) old new
   pub cache : KeepsButPath setup.shape (page_of at) old.engine.cache new.engine.cache
   pub meta_lines : IsOk answer → KeepsOtherMeta setup.shape (page_of at) old.device.lines new.device.lines
@@ -67,10 +68,10 @@ module _ (setup : Setup) (at : ℕ) (old new : Parts) (answer : Result Unit Faul
         counts = none;
         few = omega arith;
         minors = All-nil IsUnderMinorZero;
-        few_steps = more_most 0 3 old.device new.device (omega arith) (steps_most 0 old.device new.device none);
+        few_steps = more_most 0 (2 + begun_lines setup.shape) old.device new.device (omega arith) (steps_most 0 old.device new.device none);
         work =
             λ ok.
-            work_alone (begin_work setup.shape 0) old new refl refl (omega arith) refl (omega arith) it.alone;
+            work_alone (begin_work setup.shape 0) old new refl (omega arith) (omega arith) refl (omega arith) it.alone;
         cache =
             kept_same setup.shape (page_of at) old.engine.cache new.engine.cache
             (ap (λ (e : ChipState). e.cache) it.alone.engine);
@@ -80,7 +81,7 @@ module _ (setup : Setup) (at : ℕ) (old new : Parts) (answer : Result Unit Faul
         next = λ ok trusted. ap (λ engine. next_counter_of setup.shape engine at) it.alone.engine;
       })
     where
-      none : TakesSteps (3 * 0) old.device new.device
+      none : TakesSteps 0 old.device new.device
       none = search rules
 
   begun_page : HasBegunPage setup (page_of at) old new answer
@@ -141,12 +142,13 @@ module _ (setup : Setup) (at : ℕ) (old new : Parts) (answer : Result Unit Faul
                 (All-cons IsUnderMinorZero (Begin (page_of at)) [] tt (All-nil IsUnderMinorZero))
           ]
 
-      few_steps : (reply : Result Unit Fault) → TakesBeginSteps old new reply → TakesAtMost 3 old.device new.device
-      few_steps (Ok value) steps = steps_most 3 old.device new.device steps
-      few_steps (Err fault) steps = fewer_most 3 old.device new.device steps
+      few_steps : (reply : Result Unit Fault) → TakesBeginSteps setup.shape old new reply
+          → TakesAtMost (2 + begun_lines setup.shape) old.device new.device
+      few_steps (Ok value) steps = steps_most (2 + begun_lines setup.shape) old.device new.device steps
+      few_steps (Err fault) steps = fewer_most (2 + begun_lines setup.shape) old.device new.device steps
 
-      counts : (reply : Result Unit Fault) → HasBeginMarks (page_of at) it.made reply → TakesBeginSteps old new reply
-          → CountsBegun 1 old new reply
+      counts : (reply : Result Unit Fault) → HasBeginMarks (page_of at) it.made reply → TakesBeginSteps setup.shape old new reply
+          → CountsBegun (2 + begun_lines setup.shape) old new reply
       counts (Ok value) made steps = steps
       counts (Err fault) made steps = steps
 
@@ -154,3 +156,8 @@ module _ (setup : Setup) (at : ℕ) (old new : Parts) (answer : Result Unit Faul
       → HasBegunSome setup at (begin_asked overflows (page_of at)) (begin_counter overflows setup at old) old new answer
   begun_for true it = begun_page it
   begun_for false it = left_out it
+
+-- its minor is above 0
+pub begin_minor : (b : Bool) (setup : Setup) (at : ℕ) (parts : Parts) → 0 < (begin_counter b setup at parts).minor
+begin_minor true setup at parts = omega arith
+begin_minor false setup at parts = omega arith

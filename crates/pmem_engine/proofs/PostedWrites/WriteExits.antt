@@ -15,7 +15,7 @@ use Rattle.suite.specs.Formulas.{Formulas}
 use Rattle.meta_path.specs.Blocks.{IsPathCached, dirty_count}
 use Rattle.plain_model.specs.State.{Memory, memory_with}
 use Rattle.plain_model.specs.Asked.{Moment, marks_of_write}
-use Rattle.plain_model.specs.Bounds.{path_length, seal_count}
+use Rattle.plain_model.specs.Bounds.{path_length, begun_lines, seal_count}
 use Rattle.plain_model.specs.Fits.{IsResealOf}
 use Rattle.pmem_engine.specs.declared.fault.Fault.{Fault}
 use Rattle.pmem_engine.specs.declared.fault.LineFault.{LineFault}
@@ -80,7 +80,7 @@ pub record IsExit (setup : Setup) (write : Posted) (old new : Parts) (made : Lis
   pub path_fetched :
       IsPastFetch {T = Ctr} old new (Err fault) → IsPathCached setup.shape new.engine.cache (page_of write.at)
   pub order : AreInWriteOrder write.at made
-  pub few_steps : TakesAtMost (2 * path_length setup.shape + 264) old.device new.device
+  pub few_steps : TakesAtMost (2 * path_length setup.shape + 262 + 2 * begun_lines setup.shape) old.device new.device
 
 -- no own seal yet
 pub unsealed_order : (at : ℕ) (made : List Mark) → length made ≤ 65 → AreUnderMinorZero made → AreInWriteOrder at made
@@ -168,7 +168,8 @@ written_unfetched setup write old new fault it =
       path_fetched = λ past. it.path_fetched (past_fault Ctr old new fault past);
       order = none_order write.at;
       few_steps =
-          more_most (path_length setup.shape) (2 * path_length setup.shape + 264) old.device new.device (omega arith)
+          more_most (path_length setup.shape) (2 * path_length setup.shape + 262 + 2 * begun_lines setup.shape) old.device new.device
+          (omega arith)
           (most_of_within (outcome_of_fault (fault_of_path fault)) (path_length setup.shape) old new it.steps_of_path);
     })
     (λ trusted memory was.

@@ -1,7 +1,7 @@
 -- A whole write, one law an exit: each takes the parts so far, in the order in which a write does them.
-use Rattle.std.proofs.Common.{rules, ℕ, ◌≡◌, ◌<◌, ◌+◌, ◌*◌, ◌++◌, inr, Bool, true, List, [], ◌∷◌, length, Option, Some, None, Result, Ok, Err, refl, sym, ap, ap₂, subst, ◌∙◌, arith}
+use Rattle.std.proofs.Common.{rules, ℕ, ◌≡◌, ◌<◌, ◌≤◌, ◌+◌, ◌*◌, ◌++◌, inr, Bool, true, List, [], ◌∷◌, length, Option, Some, None, Result, Ok, Err, refl, sym, ap, ap₂, subst, ◌∙◌, arith}
 use Rattle.std.specs.Prelude.{is_some, IsSome}
-use Rattle.std.proofs.lemmas.Bool.{true≢false}
+use Rattle.std.proofs.lemmas.Bool.{true≢false, lt-ltb}
 use Rattle.std.proofs.lemmas.List.{append-nil, append_assoc, length-append}
 use Rattle.std.proofs.lemmas.List.Elements.{All-nil, All-append}
 use Rattle.pmem_base.specs.declared.faults.Cut.{Cut}
@@ -18,7 +18,7 @@ use Rattle.meta_path.specs.Blocks.{IsPathCached}
 use Rattle.suite.specs.Setup.{Setup}
 use Rattle.plain_model.specs.State.{Memory}
 use Rattle.plain_model.specs.Asked.{seal_mark, marks_of_write}
-use Rattle.plain_model.specs.Bounds.{path_length, seal_count}
+use Rattle.plain_model.specs.Bounds.{path_length, begun_lines, seal_count}
 use Rattle.pmem_engine.specs.declared.fault.Fault.{Fault}
 use Rattle.pmem_engine.specs.declared.fault.Fault.TheVariants as Fail
 use Rattle.pmem_engine.specs.declared.fault.LineFault.{LineFault}
@@ -35,8 +35,8 @@ use Rattle.pmem_engine.proofs.PostedWrites.WriteFinishes.{HasFinishedSome, finis
 use Rattle.pmem_engine.proofs.PostedWrites.WriteWorks.{IsWriteWorkBefore, worked_before}
 use Rattle.pmem_engine.proofs.PostedWrites.WriteSeals.{written_with_seal}
 use Rattle.pmem_engine.proofs.CallEnds.ErrorAnswers.{line_not_down, line_unrefused}
-use Rattle.pmem_engine.proofs.PostedWrites.WriteSteps.{most_then, fewer_most, more_most, fewer_then, steps_most, more_fewer, begin_asked, bound_whole}
-use Rattle.pmem_engine.proofs.PostedWrites.WriteBegins.{HasBegunSome, begin_counter, begun_for}
+use Rattle.pmem_engine.proofs.PostedWrites.WriteSteps.{most_then, fewer_most, more_most, fewer_then, steps_most, more_fewer, begin_asked, begin_steps, bound_whole}
+use Rattle.pmem_engine.proofs.PostedWrites.WriteBegins.{HasBegunSome, begin_counter, begin_minor, begun_for}
 use Rattle.pmem_engine.proofs.PostedWrites.WriteExits.{IsWriteEnd, none_order, unsealed_order, some_after, some_asked, part_of_front, unnamed_front, stopped, unplain_marks, unplain_answers, unplain_steps, unfinished_marks, unfinished_answers, unfinished_steps}
 
 module _ (setup : Setup) (write : Posted) (within : write.at < layout.data_lines setup.shape) (old : Parts) where
@@ -48,6 +48,10 @@ module _ (setup : Setup) (write : Posted) (within : write.at < layout.data_lines
 
   abbrev path : ℕ
   path = path_length setup.shape
+
+  -- the most steps of a write
+  abbrev most : ℕ
+  most = 2 * path + 262 + 2 * begun_lines setup.shape
 
   -- it asks for the same where the ledger is the same
   asked_same : (memory : Memory) (before after : Parts) → after.ledger ≡ before.ledger → asked memory before ≡ asked memory after
@@ -81,7 +85,7 @@ module _ (setup : Setup) (write : Posted) (within : write.at < layout.data_lines
         (record {
           path_fetched = λ past. cached1;
           order = none_order write.at;
-          few_steps = more_most path (2 * path + 264) old.device p1.device (omega arith) fetched.steps_of_path;
+          few_steps = more_most path most old.device p1.device (omega arith) fetched.steps_of_path;
         })
         (λ trusted memory was. (
           asked_same memory old p1 ledger1
@@ -116,7 +120,7 @@ module _ (setup : Setup) (write : Posted) (within : write.at < layout.data_lines
           (record {
             path_fetched = λ past. subst (λ engine. IsPathCached setup.shape engine.cache page) (sym it.engine) cached1;
             order = none_order write.at;
-            few_steps = more_most path (2 * path + 264) old.device new.device (omega arith) (path_alone new it.no_steps);
+            few_steps = more_most path most old.device new.device (omega arith) (path_alone new it.no_steps);
           })
           (λ trusted memory was.
           unplain_marks setup write p1 new (asked memory old) fault (some_asked setup.formulas (moment_in setup memory old) write)
@@ -171,9 +175,11 @@ module _ (setup : Setup) (write : Posted) (within : write.at < layout.data_lines
         free is trusted = free_at_overflow setup [] write p2 within trusted cached2 (over2 ∙ ap Ok is)
 
         bound : (memory : Memory) → seal_count (front memory) ≡ length (front memory)
-            → write_bound setup.shape (front memory ++ rest memory)
-            ≡ 2 * path + 1 + 4 * (length (front memory) + 1) + 3 * length (begin_asked overflows page)
-        bound memory seals = bound_whole setup.shape (front memory) overflows page (own memory) seals refl
+            → 2 * path + 4 * length (front memory) + begin_steps setup.shape (begin_asked overflows page) + (4 + begun_lines setup.shape)
+            ≤ write_bound setup.shape (front memory ++ rest memory)
+        bound memory seals =
+            bound_whole setup.shape (front memory) overflows page (own memory) seals refl
+            (lt-ltb 0 (begin_counter overflows setup write.at p2).minor (begin_minor overflows setup write.at p2))
 
         -- ---- the page isn't finished
 
@@ -186,7 +192,7 @@ module _ (setup : Setup) (write : Posted) (within : write.at < layout.data_lines
               path_fetched = λ past. subst (λ engine. IsPathCached setup.shape engine.cache page) (sym it.engine) cached2;
               order = unsealed_order write.at it.made (let few = it.few in omega (arith, few)) it.minors;
               few_steps =
-                  more_most (path + 256) (2 * path + 264) old.device new.device (omega arith)
+                  more_most (path + 256) most old.device new.device (omega arith)
                   (most_then path 256 old.device p2.device new.device steps2 it.few_steps);
             })
             (λ trusted memory was.
@@ -254,7 +260,7 @@ module _ (setup : Setup) (write : Posted) (within : write.at < layout.data_lines
                     (let few = some3.few in let both = length-append some3.made [] in omega (arith, few, both))
                     (All-append IsUnderMinorZero some3.made [] some3.minors (All-nil IsUnderMinorZero));
                 few_steps =
-                    more_most (path + 256 + path) (2 * path + 264) old.device new.device (omega arith)
+                    more_most (path + 256 + path) most old.device new.device (omega arith)
                     (most_then (path + 256) path old.device p3.device new.device most3
                     (fewer_most path p3.device new.device it.steps));
               })
@@ -304,8 +310,8 @@ module _ (setup : Setup) (write : Posted) (within : write.at < layout.data_lines
                       omega (arith, few, one, both))
                       (All-append IsUnderMinorZero some3.made it.made some3.minors it.minors);
                   few_steps =
-                      more_most (path + 256 + path + 3) (2 * path + 264) old.device new.device (omega arith)
-                      (most_then (path + 256 + path) 3 old.device p4.device new.device most4 it.few_steps);
+                      more_most (path + 256 + path + (2 + begun_lines setup.shape)) most old.device new.device (omega arith)
+                      (most_then (path + 256 + path) (2 + begun_lines setup.shape) old.device p4.device new.device most4 it.few_steps);
                 })
                 (λ trusted memory was.
                 subst (λ marks. AreMarksOfWrite marks (some3.made ++ it.made) write (Err Fail.Cut)) (sym (asked2 trusted memory))
@@ -320,10 +326,10 @@ module _ (setup : Setup) (write : Posted) (within : write.at < layout.data_lines
                 (λ trusted memory was. tt) (λ sound. tt) (λ is. is)
                 (λ trusted memory was.
                 subst (λ marks. TakesOfWrite setup.shape marks (some3.made ++ it.made) old new (Err Fail.Cut)) (sym (asked2 trusted memory))
-                (more_fewer (path + 4 * length (front memory) + path + 3 * length (begin_asked overflows page))
+                (more_fewer (path + 4 * length (front memory) + path + begin_steps setup.shape (begin_asked overflows page))
                 (write_bound setup.shape (front memory ++ rest memory)) old.device new.device
                 (omega (arith, bound memory (some3.seals memory)))
-                (fewer_then (path + 4 * length (front memory) + path) (3 * length (begin_asked overflows page)) old.device p4.device new.device
+                (fewer_then (path + 4 * length (front memory) + path) (begin_steps setup.shape (begin_asked overflows page)) old.device p4.device new.device
                 (steps4 trusted memory was) it.counts)))
                 (λ trusted memory was none. spent_not (TakesSpent setup.shape cut_short old new) trusted memory none)
 
@@ -353,11 +359,11 @@ module _ (setup : Setup) (write : Posted) (within : write.at < layout.data_lines
               part5 = part_chained setup write.at going some3.made some5.made old p4 p5 part4 some5.part
 
               steps5 : AreTrusted setup old → (memory : Memory) → IsMemory setup memory old
-                  → TakesAtMost (path + 4 * length (front memory) + path + 3 * length (begin_asked overflows page)) old.device p5.device
+                  → TakesAtMost (path + 4 * length (front memory) + path + begin_steps setup.shape (begin_asked overflows page)) old.device p5.device
               steps5 trusted memory was =
-                  most_then (path + 4 * length (front memory) + path) (3 * length (begin_asked overflows page)) old.device p4.device p5.device
+                  most_then (path + 4 * length (front memory) + path) (begin_steps setup.shape (begin_asked overflows page)) old.device p4.device p5.device
                   (steps4 trusted memory was)
-                  (steps_most (3 * length (begin_asked overflows page)) p4.device p5.device some5.counts)
+                  (steps_most (begin_steps setup.shape (begin_asked overflows page)) p4.device p5.device some5.counts)
 
               work5 : IsWriteWorkBefore setup write before old p5
               work5 =
@@ -388,7 +394,7 @@ module _ (setup : Setup) (write : Posted) (within : write.at < layout.data_lines
                   → IsWriteEnd setup write old new (of_cut answer)
               written_sealed new answer it =
                   written_with_seal setup write within old p5 new plain before part5 (λ memory. front memory ++ rest memory)
-                  (λ memory. path + 4 * length (front memory) + path + 3 * length (begin_asked overflows page)) asked2 plain_is whole steps5
+                  (λ memory. path + 4 * length (front memory) + path + begin_steps setup.shape (begin_asked overflows page)) asked2 plain_is whole steps5
                   (λ memory. omega (arith, bound memory (some3.seals memory)))
                   (λ trusted short.
                   held_back setup going [] old p2 part2.done trusted write.at within refl
@@ -396,6 +402,7 @@ module _ (setup : Setup) (write : Posted) (within : write.at < layout.data_lines
                   (let few = some3.few in let one = some5.few in let both = length-append some3.made some5.made in
                   omega (arith, few, one, both))
                   (All-append IsUnderMinorZero some3.made some5.made some3.minors some5.minors)
-                  (more_most (path + 256 + path + 3) (2 * path_length setup.shape + 259) old.device p5.device (omega arith)
-                  (most_then (path + 256 + path) 3 old.device p4.device p5.device most4 some5.few_steps))
+                  (more_most (path + 256 + path + (2 + begun_lines setup.shape)) (2 * path_length setup.shape + 258 + begun_lines setup.shape)
+                  old.device p5.device (omega arith)
+                  (most_then (path + 256 + path) (2 + begun_lines setup.shape) old.device p4.device p5.device most4 some5.few_steps))
                   work5 answer it

@@ -1,6 +1,5 @@
 -- A page's new path stored in the cache: the slots and their order of use stay, and off the path the lines and marks.
 use Rattle.std.proofs.Common.{rules, ℕ, ◌≡◌, ◌+◌, Bool, List, [], ◌∷◌, map, refl, ◌∙◌}
-use Rattle.std.specs.Prelude.{◌==◌}
 use Rattle.std.proofs.lemmas.Bool.{cases_eq, cases_lt}
 use Rattle.pmem_base.specs.declared.lines.Line.{Line}
 use Rattle.pmem_base.specs.Shape.{Shape}
@@ -33,17 +32,17 @@ masked_stored slots x line dirty = masked_mark (with_slot_line slots x line) x d
 pub kept_same : (g : Shape) (page : ℕ) (old new : Banks) → new ≡ old → KeepsButPath g page old new
 kept_same g page old new same bank set = search rules
 
-pub kept_but_path : (g : Shape) (page : ℕ) (persisted : Bool) (lines : List (ℕ × Line)) (old new : CacheState)
-    → IsStoredTo g page persisted lines (g.levels + 1) old new → KeepsButPath g page old.banks new.banks
-kept_but_path g page persisted lines old new it bank set = search (rules, cases_eq, cases_lt, masked_stored)
+pub kept_but_path : (g : Shape) (page : ℕ) (grouped : ℕ) (lines : List (ℕ × Line)) (old new : CacheState)
+    → IsStoredTo g page grouped lines (g.levels + 1) old new → KeepsButPath g page old.banks new.banks
+kept_but_path g page grouped lines old new it bank set = search (rules, cases_eq, cases_lt, masked_stored)
 
 -- what storing a path makes of the cache, as the engine says it
-pub stored_path : (g : Shape) (page : ℕ) (persisted : Bool) (lines : List (ℕ × Line)) (old new : CacheState) (mirror : List Line)
+pub stored_path : (g : Shape) (page : ℕ) (grouped : ℕ) (lines : List (ℕ × Line)) (old new : CacheState) (mirror : List Line)
     → old.shape ≡ g → new.shape ≡ old.shape → IsPathOf g page lines → IsPathCached g old.banks page
     → IsBanksOf old.shape old.banks → IsBanksOf new.shape new.banks
-    → (IsPathOf old.shape page lines → IsStoredTo old.shape page persisted lines (old.shape.levels + 1) old new)
-    → (IsPathOf old.shape page lines → KeepsSlots old.shape page persisted lines old.banks new.banks)
+    → (IsPathOf old.shape page lines → IsStoredTo old.shape page grouped lines (old.shape.levels + 1) old new)
+    → (IsPathOf old.shape page lines → KeepsSlots old.shape page grouped lines old.banks new.banks)
     → (IsPathCached old.shape old.banks page → IsPathCached old.shape new.banks page)
-    → HasStoredPath g page persisted lines (record { shape = g; cache = old.banks; mirror = mirror })
+    → HasStoredPath g page grouped lines (record { shape = g; cache = old.banks; mirror = mirror })
     (record { shape = g; cache = new.banks; mirror = mirror })
-stored_path g page persisted lines old new mirror its_shape same path cached before after stored slots still = search (rules, kept_but_path)
+stored_path g page grouped lines old new mirror its_shape same path cached before after stored slots still = search (rules, kept_but_path)

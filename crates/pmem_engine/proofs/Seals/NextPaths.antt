@@ -1,5 +1,5 @@
 -- What a page's next block and its path come to.
-use Rattle.std.proofs.Common.{rules, ℕ, zero, suc, ◌≡◌, ◌-◌, ◌^◌, ◌==◌, Some, arith}
+use Rattle.std.proofs.Common.{rules, ℕ, zero, suc, ◌≡◌, Some, arith}
 use Rattle.split_counters.specs.declared.Block.{Block}
 use Rattle.split_counters.specs.Blocks.{rolled, next_block}
 use Rattle.pmem_base.specs.Counts.{risen_times}

@@ -1,12 +1,13 @@
 -- A page's new path stored in the cache and noted: the truth step that it makes, and what stays of its slots.
-use Rattle.std.proofs.Common.{rules, ℕ, ◌≡◌, ◌<◌, ◌≤◌, ◌+◌, ◌*◌, inl, inr, Bool, true, false, List, [], ◌∷◌, IsTrue, refl, sym, ap, ap₂, subst, ◌∙◌, arith}
-use Rattle.std.specs.Prelude.{not, ◌||◌, ◌==◌, nat_lt, option_map, unwrap_or, All, Contains}
+use Rattle.std.proofs.Common.{rules, ℕ, ◌≡◌, ◌<◌, ◌≤◌, ◌+◌, ◌-◌, ◌*◌, inl, inr, true, false, List, [], ◌∷◌, IsTrue, refl, sym, ap, ap₂, subst, ◌∙◌, arith}
+use Rattle.std.specs.Prelude.{◌&&◌, nat_lt, nat_le, option_map, unwrap_or, All, Contains}
 use Rattle.std.specs.List.{list_any}
-use Rattle.std.proofs.lemmas.Bool.{cases_Bool, cases_eq, and_parts, eq-eqb, eqb-true, eqb-false, true≢false, false≢true, lt-ltb, le-ltb}
+use Rattle.std.proofs.lemmas.Bool.{cases_Bool, cases_eq, and_parts, true≢false, false≢true, lt-ltb, le-ltb, leb-false, ltb-true}
 use Rattle.pmem_base.specs.declared.lines.Line.{Line}
 use Rattle.pmem_base.specs.declared.registers.Regs.{Regs}
 use Rattle.pmem_base.specs.declared.answers.Mark.{Mark}
-use Rattle.pmem_base.specs.Shape.{Shape}
+use Rattle.pmem_base.specs.Shape.{Shape, lazy_levels, is_lazy}
+use Rattle.pmem_base.proofs.LayoutLemmas.{named-lazy}
 use Rattle.pmem_base.specs.Layout.{meta_lines, pages}
 use Rattle.pmem_base.specs.Lines.{line_at, put_lines}
 use Rattle.suite.specs.Formulas.{Formulas, AreInRange}
@@ -16,7 +17,7 @@ use Rattle.split_counters.specs.Blocks.{packed, unpacked, IsStoredBlock}
 use Rattle.bonsai_tree.specs.Positions.{level_of, counter_position, is_on_path}
 use Rattle.bonsai_tree.specs.Paths.{IsTreeWith, path_with, lines_with}
 use Rattle.bonsai_tree.proofs.Trees.{path_with-entries}
-use Rattle.bonsai_tree.proofs.PathPositions.{on_path-level, path_of-on_path, path_of-block}
+use Rattle.bonsai_tree.proofs.PathPositions.{on_path-level, path_of-on_path, path_of-level, path_of-block}
 use Rattle.seal_ledger.specs.Ledger.{LedgerState}
 use Rattle.shadow_tables.specs.Entries.{slot_entry}
 use Rattle.meta_cache.specs.declared.slot.Slot.{Slot}
@@ -35,12 +36,12 @@ use Rattle.pmem_engine.specs.Invariants.{IsTrueSlot, IsDirtyNamed, IsTrusted}
 use Rattle.pmem_engine.specs.Recached.{IsSlotOfStoredPath}
 use Rattle.pmem_engine.specs.Named.{IsSlotInShadow, ArePathSlotsNamed}
 use Rattle.pmem_engine.specs.Outcomes.{is_touching}
-use Rattle.pmem_engine.specs.CallFacts.{IsPathNamedInMirror}
+use Rattle.pmem_engine.specs.CallFacts.{IsPathNamedInMirror, is_grouped}
 use Rattle.pmem_engine.specs.Inner.{cached_block}
 use Rattle.pmem_engine.specs.Sealing.{HasStoredPath, HasNotedPath}
 use Rattle.pmem_engine.proofs.Laws.AnchoredSeals.{anchored-new_path}
 use Rattle.pmem_engine.proofs.Laws.PathSlots.{ArePathSlotsNamed-levels}
-use Rattle.pmem_engine.proofs.Laws.DeviceSteps.{writes_block}
+use Rattle.pmem_engine.proofs.Laws.PolicyBounds.{lazy_on_path}
 use Rattle.pmem_engine.proofs.Laws.TruthSteps.{IsTruthStep}
 
 -- the cached line of a page's counter block is the true one
@@ -73,10 +74,10 @@ pub record IsRenewing (setup : Setup) (page : ℕ) (new_block : Block) (lines : 
       → IsRenewed setup.shape setup.formulas truth page (packed new_block) lines root
 
 -- they were stored and noted
-module _ (setup : Setup) (page : ℕ) (new_block : Block) (lines : List (ℕ × Line)) (root : List ℕ) (mark : Mark) (persisted : Bool)
+module _ (setup : Setup) (page : ℕ) (new_block : Block) (lines : List (ℕ × Line)) (root : List ℕ) (mark : Mark) (grouped : ℕ)
     (old new : ChipState) (regs : Regs) (before after : LedgerState) (path : IsRenewing setup page new_block lines root old)
-    (it : HasStoredPath setup.shape page persisted lines old new) (noted : HasNotedPath lines mark before after)
-    (trusted : IsTrusted setup old regs before) where
+    (it : HasStoredPath setup.shape page grouped lines old new) (noted : HasNotedPath lines mark before after)
+    (trusted : IsTrusted setup old regs before) (enough : setup.shape.persist ≤ grouped) where
   abbrev g : Shape
   g = setup.shape
 
@@ -124,7 +125,7 @@ module _ (setup : Setup) (page : ℕ) (new_block : Block) (lines : List (ℕ × 
       → IsSlotOfStoredPath setup.shape after.truth page (set_of old.cache bank set) slot
   stored_slot bank set slot stands = at (it.slots.slots_now bank set slot stands)
     where
-      at : (first : Slot) × Contains (set_of old.cache bank set) first × storing.IsStoredSlot g page persisted lines bank first slot
+      at : (first : Slot) × Contains (set_of old.cache bank set) first × storing.IsStoredSlot g page grouped lines bank first slot
           → IsSlotOfStoredPath g after.truth page (set_of old.cache bank set) slot
       at (first, was, is) =
           record {
@@ -149,7 +150,7 @@ module _ (setup : Setup) (page : ℕ) (new_block : Block) (lines : List (ℕ × 
     where
       from : (first : Slot) → first.position ≡ x → first.dirty ≡ true
           → (now : Slot) × Contains (set_of new.cache (level_of x) (set_index g x)) now
-          × storing.IsStoredSlot g page persisted lines (level_of x) first now
+          × storing.IsStoredSlot g page grouped lines (level_of x) first now
           → is_cached_dirty g new.cache (level_of x) x ≡ true
       from first its was (now, stands, is) =
           let same = is.off_path (off_path_at (level_of x) now.position (ap (is_on_path g page) (is.position ∙ its) ∙ off)) in
@@ -186,14 +187,14 @@ module _ (setup : Setup) (page : ℕ) (new_block : Block) (lines : List (ℕ × 
   -- the mark of each level
   level_mark : (j : ℕ) → j ≤ setup.shape.levels → (slot : Slot)
       → Contains (set_of new.cache j (set_index setup.shape (path_at setup.shape page j))) slot
-      → slot.position ≡ path_at setup.shape page j → slot.dirty ≡ stored_mark setup.shape persisted j
+      → slot.position ≡ path_at setup.shape page j → slot.dirty ≡ stored_mark setup.shape grouped j
   level_mark j le slot stands its = at (it.slots.slots_now j (set_index g (path_at g page j)) slot stands)
     where
       at : (first : Slot) × Contains (set_of old.cache j (set_index g (path_at g page j))) first
-          × storing.IsStoredSlot g page persisted lines j first slot → slot.dirty ≡ stored_mark g persisted j
+          × storing.IsStoredSlot g page grouped lines j first slot → slot.dirty ≡ stored_mark g grouped j
       at (first, was, is) = is.mark le its
 
-  level_dirty : (j : ℕ) → j ≤ setup.shape.levels → stored_mark setup.shape persisted j ≡ true
+  level_dirty : (j : ℕ) → j ≤ setup.shape.levels → stored_mark setup.shape grouped j ≡ true
       → is_cached_dirty setup.shape new.cache j (path_at setup.shape page j) ≡ true
   level_dirty j le mark = at (cached_slot g new.cache j (path_at g page j) (it.cached.each j le))
     where
@@ -205,33 +206,30 @@ module _ (setup : Setup) (page : ℕ) (new_block : Block) (lines : List (ℕ × 
           (subst (λ y. Contains (set_of new.cache j (set_index g y)) slot) (sym its) stands)
           (level_mark j le slot stands its ∙ mark))
 
-  -- the path is dirty but for its block where that is written, ..
-  path_dirty : (x : ℕ) → is_on_path setup.shape page x ≡ true → writes_block setup.shape page persisted x ≡ false
+  -- a block of the path that isn't grouped is above those that are
+  above : (x : ℕ) → is_on_path setup.shape page x ≡ true → is_grouped setup.shape page grouped x ≡ false
+      → level_of x < setup.shape.levels + 1 - grouped
+  above x on un =
+      leb-false (g.levels + 1 - grouped) (level_of x)
+      (ap (λ b. b && nat_le (g.levels + 1 - grouped) (level_of x)) (sym on) ∙ un)
+
+  -- so its level is lazy
+  above_lazy : (x : ℕ) → is_on_path setup.shape page x ≡ true → is_grouped setup.shape page grouped x ≡ false
+      → is_lazy setup.shape (level_of x) ≡ true
+  above_lazy x on un = lt-ltb (level_of x) (lazy_levels g) (omega (arith, above x on un, enough))
+
+  -- the path is dirty but for the lines that are grouped, ..
+  path_dirty : (x : ℕ) → is_on_path setup.shape page x ≡ true → is_grouped setup.shape page grouped x ≡ false
       → is_cached_dirty setup.shape new.cache (level_of x) x ≡ true
   path_dirty x on un =
       let at = on_path-level g page x path.few path.inside on in
       ap (is_cached_dirty g new.cache (level_of x)) (sym at.1)
-      ∙ level_dirty (level_of x) at.0 (marked persisted un at.0 (sym at.1))
-    where
-      any_or_true : (b : Bool) → (b || true) ≡ true
-      any_or_true true = refl
-      any_or_true false = refl
+      ∙ level_dirty (level_of x) at.0 (lt-ltb (level_of x) (g.levels + 1 - grouped) (above x on un))
 
-      marked : (b : Bool) → writes_block g page b x ≡ false → level_of x ≤ g.levels → x ≡ path_at g page (level_of x)
-          → stored_mark g b (level_of x) ≡ true
-      marked false un le at = any_or_true (nat_lt (level_of x) g.levels)
-      marked true un le at =
-          ap (λ b. b || false)
-          (lt-ltb (level_of x) g.levels
-          (elim (cases_eq (level_of x) g.levels) [
-            | inl last ↦ absurd (eqb-false x (counter_position g page) un (at ∙ ap (path_at g page) last ∙ path_of-block g page))
-            | inr less ↦ omega arith
-          ]))
-
-  -- .. which is clean then
-  pub block_clean : persisted ≡ true
+  -- .. which are clean then
+  pub block_clean : 1 ≤ grouped
       → is_cached_dirty setup.shape new.cache setup.shape.levels (counter_position setup.shape page) ≡ false
-  block_clean kept =
+  block_clean some =
       elim (cases_Bool (is_cached_dirty g new.cache g.levels (counter_position g page))) [
         | inl dirty ↦ absurd (at (dirty_slot g new.cache g.levels (counter_position g page) dirty))
         | inr clean ↦ clean
@@ -240,19 +238,13 @@ module _ (setup : Setup) (page : ℕ) (new_block : Block) (lines : List (ℕ × 
       last : path_at g page g.levels ≡ counter_position g page
       last = path_of-block g page
 
-      unmarked : stored_mark g persisted g.levels ≡ false
-      unmarked = ap (λ b. nat_lt g.levels g.levels || not b) kept ∙ ap (λ b. b || false) (not_less g.levels)
-        where
-          not_less : (n : ℕ) → nat_lt n n ≡ false
-          not_less n = le-ltb n n (omega arith)
-
       at : (slot : Slot) × Contains (set_of new.cache g.levels (set_index g (counter_position g page))) slot
           × (slot.position ≡ counter_position g page) × (slot.dirty ≡ true) → ⊥
       at (slot, stands, its, dirty) =
           true≢false (sym dirty
           ∙ level_mark g.levels (omega arith) slot
           (subst (λ y. Contains (set_of new.cache g.levels (set_index g y)) slot) (sym last) stands) (its ∙ sym last)
-          ∙ unmarked)
+          ∙ le-ltb g.levels (g.levels + 1 - grouped) (omega (arith, some)))
 
   -- ---- the truth step
 
@@ -262,7 +254,7 @@ module _ (setup : Setup) (page : ℕ) (new_block : Block) (lines : List (ℕ × 
   slots_named : ArePathSlotsNamed setup.shape old.cache old.mirror page
   slots_named =
       ArePathSlotsNamed-levels setup old regs before old.mirror page trusted it.banks_before path.few path.inside
-      (λ j le. path.named.each j le)
+      (λ j named. path.named.each j named)
 
   true_now : (bank set : ℕ) (slot : Slot) → IsSlotOfStoredPath setup.shape after.truth page (set_of old.cache bank set) slot
       → IsTrueSlot setup.shape after.truth bank set slot
@@ -283,16 +275,61 @@ module _ (setup : Setup) (page : ℕ) (new_block : Block) (lines : List (ℕ × 
       own : IsTrueSlot g before.truth bank set from.before
       own = its_own bank set from.before from.stands
 
+  -- a dirty slot of the path is of a lazy level
+  dirty_lazy : (bank set : ℕ) (slot : Slot) → Contains (set_of new.cache bank set) slot → slot.dirty ≡ true
+      → is_on_path setup.shape page slot.position ≡ true → IsTrue (is_lazy setup.shape bank)
+  dirty_lazy bank set slot stands dirty on =
+      let own = true_now bank set slot (stored_slot bank set slot stands) in
+      let place = on_path_at bank slot.position own.its_bank on in
+      let marked : nat_lt bank (g.levels + 1 - grouped) ≡ true =
+      sym (level_mark bank place.0 slot
+      (subst (λ n. Contains (set_of new.cache bank n) slot) (sym own.its_set ∙ ap (set_index g) place.1) stands) place.1) ∙ dirty in
+      lt-ltb bank (lazy_levels g) (omega (arith, ltb-true bank (g.levels + 1 - grouped) marked, enough))
+
+  dirty_level : (bank x : ℕ) → is_cached_dirty setup.shape new.cache bank x ≡ true → is_on_path setup.shape page x ≡ true
+      → IsTrue (is_lazy setup.shape (level_of x))
+  dirty_level bank x dirty on = at (dirty_slot g new.cache bank x dirty)
+    where
+      at : (slot : Slot) × Contains (set_of new.cache bank (set_index g x)) slot × (slot.position ≡ x) × (slot.dirty ≡ true)
+          → IsTrue (is_lazy g (level_of x))
+      at (slot, stands, its, was) =
+          let own = true_now bank (set_index g x) slot (stored_slot bank (set_index g x) slot stands) in
+          subst (λ n. IsTrue (is_lazy g n)) (sym own.its_bank ∙ ap level_of its)
+          (dirty_lazy bank (set_index g x) slot stands was (ap (is_on_path g page) its ∙ on))
+
   named_now : ((bank set : ℕ) → All (IsDirtyNamed setup.shape old.mirror bank set) (set_of old.cache bank set)) → (bank set : ℕ)
-      (slot : Slot) → slot.dirty ≡ true → IsSlotOfStoredPath setup.shape after.truth page (set_of old.cache bank set) slot
-      → IsSlotInShadow setup.shape old.mirror bank set slot
-  named_now named bank set slot dirty from = search (rules, cases_Bool, All-stands, slots_named)
+      (slot : Slot) → Contains (set_of new.cache bank set) slot → IsDirtyNamed setup.shape old.mirror bank set slot
+  named_now named bank set slot stands =
+      record {
+        lazy = λ dirty.
+            elim (cases_Bool (is_on_path g page slot.position)) [
+              | inl on ↦ dirty_lazy bank set slot stands dirty on
+              | inr off ↦ (before_named from.stands).lazy ((from.off_path off).1 dirty)
+            ];
+        named = λ dirty low.
+            as_before
+            (elim (cases_Bool (is_on_path g page slot.position)) [
+              | inl on ↦ slots_named.each bank set from.before from.stands (ap (is_on_path g page) from.position ∙ on) low
+              | inr off ↦ (before_named from.stands).named ((from.off_path off).1 dirty) low
+            ]);
+      }
+    where
+      from : IsSlotOfStoredPath g after.truth page (set_of old.cache bank set) slot
+      from = stored_slot bank set slot stands
+
+      before_named : Contains (set_of old.cache bank set) from.before → IsDirtyNamed g old.mirror bank set from.before
+      before_named was = All-stands (IsDirtyNamed g old.mirror bank set) (set_of old.cache bank set) from.before (named bank set) was
+
+      as_before : IsSlotInShadow g old.mirror bank set from.before → IsSlotInShadow g old.mirror bank set slot
+      as_before it =
+          ap (λ way. slot_entry g old.mirror bank (set * g.ways + way)) (sym from.way) ∙ it ∙ ap (λ x. x + 1) from.position
 
   -- a mark that may leave the path dirty, whose seal without the block keeps what is stored of that
   pub new_path_step : (loss : ℕ) → IsTrue (list_any (is_touching page) (mark ∷ []))
-      → (persisted ≡ false → (stored : Block) → IsStoredBlock loss stored (true_block setup.shape before.truth page)
+      → (grouped ≡ 0 → (stored : Block) → IsStoredBlock loss stored (true_block setup.shape before.truth page)
       → IsStoredBlock loss stored (true_block setup.shape after.truth page))
-      → IsTruthStep setup mark page persisted (packed new_block) loss old new before.truth after.truth
+      → IsTruthStep setup mark (is_grouped setup.shape page grouped) (λ x. new_line lines (level_of x)) loss old new before.truth
+      after.truth
   new_path_step loss touches unwritten =
       record {
         shape = it.shape;
@@ -304,17 +341,18 @@ module _ (setup : Setup) (page : ℕ) (new_block : Block) (lines : List (ℕ × 
         named =
             λ named bank set.
             All-from_stands (IsDirtyNamed g old.mirror bank set) (set_of new.cache bank set)
-            (λ slot stands dirty. named_now named bank set slot dirty (stored_slot bank set slot stands));
+            (λ slot stands. named_now named bank set slot stands);
         touched =
             λ bank x dirty.
             elim (cases_Bool (is_on_path g page x)) [
-              | inl on ↦ inr (page, touches, on)
+              | inl on ↦ inr (page, touches, on, dirty_level bank x dirty on)
               | inr off ↦ inl (was_dirty bank x off dirty)
             ];
-        its_block =
-            λ x is.
-            ap (line_at after.truth) (eqb-true x (counter_position g page) (and_parts persisted (x == counter_position g page) is).1)
-            ∙ tree_here.its_block;
+        entries =
+            λ x within is.
+            let at =
+            on_path-level g page x path.few path.inside (and_parts (is_on_path g page x) (nat_le (g.levels + 1 - grouped) (level_of x)) is).0 in
+            ap (line_at after.truth) (sym at.1) ∙ sym (line_is (level_of x) at.0);
         others =
             λ x within un.
             elim (cases_Bool (is_on_path g page x)) [
@@ -327,21 +365,31 @@ module _ (setup : Setup) (page : ℕ) (new_block : Block) (lines : List (ℕ × 
               | inl same ↦
                   subst (λ p. IsStoredBlock loss stored (true_block g after.truth p)) (sym same)
                   (unwritten
-                  (not_written persisted (ap (λ p. writes_block g page persisted (counter_position g p)) (sym same) ∙ un))
+                  (not_written (ap (λ p. is_grouped g page grouped (counter_position g p)) (sym same) ∙ un))
                   stored (subst (λ p. IsStoredBlock loss stored (true_block g before.truth p)) same is))
               | inr apart ↦
                   subst (λ line. IsStoredBlock loss stored (unpacked line)) (sym (tree_here.other_blocks other apart)) is
             ];
+        strict =
+            λ x within strict un.
+            elim (cases_Bool (is_on_path g page x)) [
+              | inl on ↦ absurd (true≢false (sym (above_lazy x on un) ∙ strict))
+              | inr off ↦ tree_here.off_path x off
+            ];
       }
     where
-      not_written : (b : Bool) → writes_block g page b (counter_position g page) ≡ false → b ≡ false
-      not_written false un = refl
-      not_written true un = absurd (true≢false (sym (eq-eqb (counter_position g page) (counter_position g page) refl) ∙ un))
+      not_written : is_grouped g page grouped (counter_position g page) ≡ false → grouped ≡ 0
+      not_written un =
+          let on : is_on_path g page (counter_position g page) ≡ true =
+          ap (is_on_path g page) (sym (path_of-block g page)) ∙ path_of-on_path g page g.levels (omega arith) in
+          let level : level_of (counter_position g page) ≡ g.levels =
+          ap level_of (sym (path_of-block g page)) ∙ path_of-level g page g.levels path.few path.inside (omega arith) in
+          omega (arith, above (counter_position g page) on un, level)
 
 -- ---- the numbers of the path's slots stay
 
-module _ (g : Shape) (page : ℕ) (persisted : Bool) (lines : List (ℕ × Line)) (old new : ChipState)
-    (it : HasStoredPath g page persisted lines old new) where
+module _ (g : Shape) (page grouped : ℕ) (lines : List (ℕ × Line)) (old new : ChipState)
+    (it : HasStoredPath g page grouped lines old new) where
   pub path_number_kept : meta.IsPathCached g old.cache page → (j : ℕ) → j ≤ g.levels
       → path_number g new.cache page j ≡ path_number g old.cache page j
   path_number_kept cached j le = at (cached_slot g old.cache j (path_at g page j) (cached.each j le))
@@ -357,7 +405,7 @@ module _ (g : Shape) (page : ℕ) (persisted : Bool) (lines : List (ℕ × Line)
 
       from : (before : Slot) → Contains (set_of old.cache j (set_index g (path_at g page j))) before → before.position ≡ path_at g page j
           → (now : Slot) × Contains (set_of new.cache j (set_index g (path_at g page j))) now
-          × storing.IsStoredSlot g page persisted lines j before now
+          × storing.IsStoredSlot g page grouped lines j before now
           → path_number g new.cache page j ≡ path_number g old.cache page j
       from before was its (now, stands, is) =
           number_is new.cache now it.banks stands (is.position ∙ its)
@@ -372,6 +420,7 @@ module _ (g : Shape) (page : ℕ) (persisted : Bool) (lines : List (ℕ × Line)
   pub kept_named : meta.IsPathCached g old.cache page → IsPathNamedInMirror g old page → IsPathNamedInMirror g new page
   kept_named cached named =
       record {
-        each = λ j le.
-            ap₂ (λ mirror n. slot_entry g mirror j n) it.mirror (path_number_kept cached j le) ∙ named.each j le;
+        each = λ j low.
+            ap₂ (λ mirror n. slot_entry g mirror j n) it.mirror (path_number_kept cached j (lazy_on_path g j (named-lazy g j low)))
+            ∙ named.each j low;
       }

@@ -8,7 +8,7 @@ use Rattle.pmem_base.specs.declared.commands.Command.TheVariants as Do
 use Rattle.pmem_base.specs.declared.answers.Answer.TheVariants as Say
 use Rattle.meta_path.specs.Blocks.{bank_dirty_count}
 use Rattle.suite.specs.Setup.{Setup}
-use Rattle.plain_model.specs.Bounds.{dirty_bound, AreAllWithin}
+use Rattle.plain_model.specs.Bounds.{dirty_bound, dirty_blocks, AreAllWithin}
 use Rattle.pmem_engine.specs.declared.fault.Fault.TheVariants as Fail
 use Rattle.pmem_engine.specs.Engine.{EngineState}
 use Rattle.pmem_engine.specs.Outcomes.{TakesFewer}
@@ -20,7 +20,7 @@ use Rattle.watched_board.proofs.StepLaws.{fewer}
 use Rattle.pmem_replay.specs.During.{parts_in}
 use Rattle.pmem_replay.specs.EngineCalls.{IsCall}
 use Rattle.pmem_replay.proofs.Steps.WorldsAfterCalls.{on_in, cut_at_fuse, within_fuse}
-use Rattle.pmem_replay.proofs.Marks.DirtyBlocks.{dirty_blocks-le, dirty_slots-le}
+use Rattle.pmem_replay.proofs.Marks.DirtyBlocks.{dirty_blocks-le, dirty_slots-le, dirty_counters-le}
 use Rattle.pmem_replay.proofs.Steps.MarklessCalls.{exactly, accounted_in}
 use Rattle.pmem_replay.specs.Replies.{without_marks}
 use Rattle.pmem_replay.proofs.Steps.GoodReplies.{IsGood, good}
@@ -41,11 +41,12 @@ module _ (setup : Setup) (old new : WorldState) (engine after : EngineState) (ta
   not_same : (n == old.board.regs.loss) ≡ false
   not_same = ne_eqb n old.board.regs.loss (λ same. other (same ∙ call.world.board.loss))
 
-  few_dirty : (dirty_now ≤ layout.slots setup.shape) × (dirty_now ≤ dirty_bound setup.shape old.state)
+  few_dirty : (dirty_now ≤ dirty_blocks setup.shape) × (dirty_now ≤ dirty_bound setup.shape old.state) × (dirty_now ≤ layout.slots setup.shape)
   few_dirty =
       let accounted = accounted_in setup old engine call.world on_now in (
-        dirty_slots-le setup.shape engine.cache old.state accounted setup.shape.levels,
+        dirty_counters-le setup.shape engine.cache old.state accounted,
         dirty_blocks-le setup.shape engine.cache old.state accounted setup.shape.levels,
+        dirty_slots-le setup.shape engine.cache old.state accounted setup.shape.levels,
       )
 
   -- ---- the number is set
@@ -61,16 +62,16 @@ module _ (setup : Setup) (old new : WorldState) (engine after : EngineState) (ta
         (subst (λ k. MatchBool (nat_lt old.board.regs.loss n) (k ≡ 1) (k ≡ dirty_now + 1)) (sym same) by_less)
 
     set_steps : (less : Bool) → MatchBool less (steps_in taken ≡ 1) (steps_in taken ≡ dirty_now + 1)
-        → MatchBool less (steps_in taken ≡ 1) ((1 ≤ steps_in taken) × (steps_in taken ≤ layout.slots setup.shape + 1))
+        → MatchBool less (steps_in taken ≡ 1) ((1 ≤ steps_in taken) × (steps_in taken ≤ dirty_blocks setup.shape + 1))
     set_steps true one = one
     set_steps false many = (omega (arith, many), omega (arith, many, few_dirty.0))
 
     set_bounds : (less : Bool) → MatchBool less (steps_in taken ≡ 1) (steps_in taken ≡ dirty_now + 1)
         → AreAllWithin false (steps_in taken)
-        (cond less (1 ∷ []) ((layout.slots setup.shape + 1) ∷ (dirty_bound setup.shape old.state + 1) ∷ []))
+        (cond less (1 ∷ []) ((dirty_blocks setup.shape + 1) ∷ (dirty_bound setup.shape old.state + 1) ∷ []))
     set_bounds true one = (le-leb (steps_in taken) 1 (omega (arith, one)), tt)
     set_bounds false many = (
-      le-leb (steps_in taken) (layout.slots setup.shape + 1) (omega (arith, many, few_dirty.0)),
+      le-leb (steps_in taken) (dirty_blocks setup.shape + 1) (omega (arith, many, few_dirty.0)),
       (le-leb (steps_in taken) (dirty_bound setup.shape old.state + 1) (omega (arith, many, few_dirty.1)), tt),
     )
 
@@ -81,7 +82,7 @@ module _ (setup : Setup) (old new : WorldState) (engine after : EngineState) (ta
         good refl (within_fuse old.state old.board new.board taken call.world.board call.follows powered) refl
         (set_steps (nat_lt old.state.loss n) its_steps) tt refl tt tt tt
         (subst (λ b. AreAllWithin false (steps_in taken)
-        (cond b (0 ∷ []) (cond (nat_lt old.state.loss n) (1 ∷ []) ((layout.slots setup.shape + 1) ∷ (dirty_bound setup.shape old.state + 1) ∷ []))))
+        (cond b (0 ∷ []) (cond (nat_lt old.state.loss n) (1 ∷ []) ((dirty_blocks setup.shape + 1) ∷ (dirty_bound setup.shape old.state + 1) ∷ []))))
         (sym (ne_eqb n old.state.loss other))
         (set_bounds (nat_lt old.state.loss n) its_steps))
 
@@ -107,16 +108,16 @@ module _ (setup : Setup) (old new : WorldState) (engine after : EngineState) (ta
 
     cut_bounds : (less : Bool) → MatchBool less (steps_in taken < 1) (steps_in taken < dirty_now + 1)
         → AreAllWithin true (steps_in taken)
-        (cond less (1 ∷ []) ((layout.slots setup.shape + 1) ∷ (dirty_bound setup.shape old.state + 1) ∷ []))
+        (cond less (1 ∷ []) ((dirty_blocks setup.shape + 1) ∷ (dirty_bound setup.shape old.state + 1) ∷ []))
     cut_bounds true one = (lt-ltb (steps_in taken) 1 one, tt)
     cut_bounds false many = (
-      lt-ltb (steps_in taken) (layout.slots setup.shape + 1) (omega (arith, many, few_dirty.0)),
+      lt-ltb (steps_in taken) (dirty_blocks setup.shape + 1) (omega (arith, many, few_dirty.0)),
       (lt-ltb (steps_in taken) (dirty_bound setup.shape old.state + 1) (omega (arith, many, few_dirty.1)), tt),
     )
 
     few_steps : (less : Bool) → MatchBool less (steps_in taken < 1) (steps_in taken < dirty_now + 1) → steps_in taken < 1000
     few_steps true one = omega (arith, one)
-    few_steps false many = omega (arith, many, few_dirty.0, few_slots setup.shape call.world.whole_shape)
+    few_steps false many = omega (arith, many, few_dirty.2, few_slots setup.shape call.world.whole_shape)
 
     pub cut-good : IsGood setup old (Do.Loss n) (without_marks (Say.Cut (steps_in taken)))
     cut-good =
@@ -126,6 +127,6 @@ module _ (setup : Setup) (old new : WorldState) (engine after : EngineState) (ta
         (omega (arith, few_steps (nat_lt old.state.loss n) cut_steps)))
         refl tt tt refl tt tt tt
         (subst (λ b. AreAllWithin true (steps_in taken)
-        (cond b (0 ∷ []) (cond (nat_lt old.state.loss n) (1 ∷ []) ((layout.slots setup.shape + 1) ∷ (dirty_bound setup.shape old.state + 1) ∷ []))))
+        (cond b (0 ∷ []) (cond (nat_lt old.state.loss n) (1 ∷ []) ((dirty_blocks setup.shape + 1) ∷ (dirty_bound setup.shape old.state + 1) ∷ []))))
         (sym (ne_eqb n old.state.loss other))
         (cut_bounds (nat_lt old.state.loss n) cut_steps))

@@ -38,7 +38,8 @@ use Rattle.pmem_replay.proofs.Marks.AfterMarks.{with_flags, touched_after, flush
 use Rattle.pmem_replay.proofs.Marks.OpenPages.{whole_pages}
 use Rattle.pmem_replay.proofs.Marks.AskedMarks.{asked_form, asked_seals}
 use Rattle.plain_model.proofs.WriteMarks.{marks_of_writes-more, moment_view, writing_bound-append}
-use Rattle.pmem_replay.proofs.Drains.DrainLists.{slice_get-drop, take-next, queue_after, drains_more, can_put_more, drains_memory}
+use Rattle.plain_model.proofs.WaitingLaws.{queue_after}
+use Rattle.pmem_replay.proofs.Drains.DrainLists.{slice_get-drop, take-next, drains_more, can_put_more, drains_memory}
 use Rattle.pmem_replay.proofs.Drains.WriteWorlds.{put_state, front_on_memory}
 
 -- ---- steps and fuses

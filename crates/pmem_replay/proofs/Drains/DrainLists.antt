@@ -1,20 +1,21 @@
 -- Writes drained in order: the queues, the memory and the state of the plain machine after them.
-use Rattle.std.proofs.Common.{ℕ, zero, suc, ◌≡◌, ◌<◌, ◌≤◌, ◌+◌, ◌++◌, true, List, [], ◌∷◌, length, take, drop, Some, IsTrue, refl, sym, ap, ◌∙◌, arith}
+use Rattle.std.proofs.Common.{ℕ, zero, suc, mul-le-mul, ◌≡◌, ◌<◌, ◌≤◌, ◌+◌, ◌-◌, ◌*◌, ◌++◌, true, List, [], ◌∷◌, length, take, drop, Some, IsTrue, refl, sym, ap, ◌∙◌, arith}
 use Rattle.std.specs.Prelude.{slice_get}
 use Rattle.std.proofs.lemmas.Option.{same_Some, none-some}
 use Rattle.std.proofs.lemmas.Bool.{and_from, and_parts}
-use Rattle.std.proofs.lemmas.List.{length-set, get_or-set_same, drop-drop}
+use Rattle.std.proofs.lemmas.List.{length-set, get_or-set_same}
 use Rattle.std.proofs.lemmas.List.Sums.{count_by-le-length}
 use Rattle.pmem_base.specs.declared.commands.Posted.{Posted}
 use Rattle.pmem_base.specs.declared.answers.Mark.{Mark}
-use Rattle.pmem_base.specs.Shape.{Shape}
+use Rattle.pmem_base.specs.Shape.{Shape, IsShape}
 use Rattle.pmem_base.specs.WaitingWrites.{queue_of}
 use Rattle.suite.specs.Formulas.{Formulas}
 use Rattle.plain_model.specs.State.{PlainState, memory_with}
 use Rattle.plain_model.specs.After.{after_front, after_drain, after_drains}
 use Rattle.plain_model.specs.Asked.{Moment, moment_after, moment_after_writes}
 use Rattle.plain_model.specs.Legal.{front_of, can_put, can_put_first}
-use Rattle.plain_model.specs.Bounds.{is_seal, writing_bound}
+use Rattle.plain_model.specs.Bounds.{is_seal, is_path_mark, path_mark_count, begun_lines, writing_bound}
+use Rattle.pmem_engine.proofs.Laws.PolicyBounds.{begun_most}
 
 -- ---- lists
 
@@ -36,30 +37,6 @@ take-next (y ∷ xs) zero x it = ap (λ z. z ∷ []) (same_Some y x it)
 take-next (y ∷ xs) (suc n) x it = ap (λ l. y ∷ l) (take-next xs n x it)
 
 -- ---- states
-
--- the queues are as many as before
-pub queues_after : (state : PlainState) (port n : ℕ) → length (after_drains state port n).queues ≡ length state.queues
-queues_after state port zero = refl
-queues_after state port (suc n) = queues_after (after_drain state port) port n ∙ one (queue_of state.queues port)
-  where
-    one : (queue : List Posted) → length (after_front state port queue).queues ≡ length state.queues
-    one [] = refl
-    one (write ∷ later) = length-set state.queues port later
-
--- the port's queue loses so many writes from its front
-pub queue_after : (state : PlainState) (port n : ℕ) → port < length state.queues
-    → queue_of (after_drains state port n).queues port ≡ drop n (queue_of state.queues port)
-queue_after state port zero within = refl
-queue_after state port (suc n) within =
-    queue_after (after_drain state port) port n (omega (arith, within, queues_after state port 1))
-    ∙ ap (drop n) (one (queue_of state.queues port) refl)
-    ∙ drop-drop n 1 (queue_of state.queues port)
-    ∙ ap (λ k. drop k (queue_of state.queues port)) {x = 1 + n} {y = suc n} (omega arith)
-  where
-    one : (queue : List Posted) → queue_of state.queues port ≡ queue
-        → queue_of (after_front state port queue).queues port ≡ drop 1 queue
-    one [] its = its
-    one (write ∷ later) its = get_or-set_same state.queues port later [] within
 
 -- one more is drained after the others
 pub drains_more : (state : PlainState) (port n : ℕ) → after_drains state port (suc n) ≡ after_drain (after_drains state port n) port
@@ -108,5 +85,9 @@ drains_memory f now state port (suc n) within same =
 -- ---- bounds
 
 -- the bounds of one write are small
-pub writing_bound-few : (g : Shape) (marks : List Mark) → g.levels ≤ 6 → length marks ≤ 66 → writing_bound g 1 marks < 1000
-writing_bound-few g marks low few = omega (arith, low, few, count_by-le-length is_seal marks)
+pub writing_bound-few : (g : Shape) (marks : List Mark) → IsShape g → length marks ≤ 66 → writing_bound g 1 marks < 1000
+writing_bound-few g marks shape few =
+    let more : begun_lines g - 1 ≤ 6 = omega (arith, begun_most g shape.persists_path, shape.at_most_six_levels) in
+    let count : path_mark_count marks ≤ 66 = omega (arith, count_by-le-length is_path_mark marks, few) in
+    let lines : (begun_lines g - 1) * path_mark_count marks ≤ 6 * 66 = mul-le-mul more count in
+    omega (arith, shape.at_most_six_levels, few, count_by-le-length is_seal marks, lines)

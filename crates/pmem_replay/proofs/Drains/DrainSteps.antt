@@ -157,7 +157,7 @@ module _ (setup : Setup) (old new : WorldState) (capacity : ℕ) (grown : old.ca
       let g = is.given in
       let more : IsDrainedTo setup mid new port 1 g.written.made (0 + steps_in g.taken) =
       drained-more setup mid mid port 0 [] 0 drained whole small g.write g.later g.waits new g.engine g.after g.taken (call (Ok ctr) g) ctr g.written
-      (state_form (given_state mid.state port g.write g.later (steps_in g.taken) true true) g.written.made is.state) is.holds in
+      (state_form (given_state setup.shape mid.state port g.write g.later (steps_in g.taken) true true) g.written.made is.state) is.holds in
       subst (λ (k : ℕ). HasStepped setup old (Do.Drain port) (record { marks = g.written.made; answer = Say.Drained k }) new) (all_steps n (steps_in g.taken) is.counted)
       (one_step (Ok ctr) g (Say.Drained (steps_in g.taken)) (Say.Drained (0 + steps_in g.taken)) (ap (λ (k : ℕ). Say.Drained k) (sym (none_more (steps_in g.taken))))
       (drained-good setup mid new port g.written.made (0 + steps_in g.taken) more)

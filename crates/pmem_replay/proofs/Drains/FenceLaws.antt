@@ -28,7 +28,7 @@ use Rattle.pmem_replay.specs.Stepped.{HasStepped, EndsWrites, IsByTable, HasDrai
 use Rattle.pmem_replay.proofs.Marks.AskedMarks.{asked_form, asked_few}
 use Rattle.pmem_replay.proofs.Steps.WorldsAfterCalls.{on_in}
 use Rattle.pmem_replay.proofs.Drains.DrainChain.{drained_none}
-use Rattle.pmem_replay.proofs.Drains.DrainLists.{queue_after}
+use Rattle.plain_model.proofs.WaitingLaws.{queue_after}
 use Rattle.pmem_replay.proofs.Drains.DrainedLaws.{fenced-good, fenced-after}
 use Rattle.pmem_replay.proofs.Drains.FenceSteps.{IsFencing, fence-put, fence_last}
 use Rattle.pmem_replay.proofs.Steps.PartsOfWorld.{since}

@@ -113,7 +113,7 @@ module _ (setup : Setup) (mid now new : WorldState) (port : ℕ) (small : port <
       → IsFencing setup mid new port (suc n) (made ++ is.given.written.made) (spent + k)
   fence-put ctr k is below =
       let g = is.given in
-      let form = state_form (given_state now.state port g.write g.later (steps_in g.taken) true true) g.written.made is.state in
+      let form = state_form (given_state setup.shape now.state port g.write g.later (steps_in g.taken) true true) g.written.made is.state in
       let waits_then : queue_of new.state.queues port ≡ g.later =
       ap (λ (s : PlainState). queue_of s.queues port) form
       ∙ get_or-set_same now.state.queues port g.later [] (omega (arith, small, whole.queues.ports.eight)) in

@@ -128,7 +128,7 @@ module _ {setup : Setup} {old mid now new : WorldState} {command : Command} {d :
       (meta-good setup mid now new command d port n made spent w.writing w.drained w.whole w.small g.write g.later g.waits g.engine g.after g.taken c x g.written
       (w.spent_within (Err (Fail.Meta x)) g refl))
       (w.counted, small_position setup.shape whole.whole_shape x in_tree, w.few g.taken g.follows.few) refl is.engine (power_after _ _ _ _ _ _ _ _ is) (λ quiet. refl) refl is.unshown
-      (λ quiet. state_form (given_state now.state port g.write g.later (steps_in g.taken) false true) g.written.made is.state
+      (λ quiet. state_form (given_state setup.shape now.state port g.write g.later (steps_in g.taken) false true) g.written.made is.state
       ∙ after_refused setup mid now command d port n made g.written.made spent (steps_in g.taken) w.writing w.drained g.write g.later g.waits (Place.Meta x))
       (λ quiet. is.holds)
       (w.seen (Say.Refused d (Place.Meta x) (spent + steps_in g.taken))
@@ -151,7 +151,7 @@ module _ {setup : Setup} {old mid now new : WorldState} {command : Command} {d :
       (tag-good setup mid now new command d port n made spent w.writing w.drained w.whole w.small g.write g.later g.waits g.engine g.after g.taken c b g.written
       (w.spent_within (Err (Fail.Tag b)) g refl))
       (w.counted, small_b, w.few g.taken g.follows.few) refl is.engine (power_after _ _ _ _ _ _ _ _ is) (λ quiet. refl) refl is.unshown
-      (λ quiet. state_form (given_state now.state port g.write g.later (steps_in g.taken) false true) g.written.made is.state
+      (λ quiet. state_form (given_state setup.shape now.state port g.write g.later (steps_in g.taken) false true) g.written.made is.state
       ∙ after_refused setup mid now command d port n made g.written.made spent (steps_in g.taken) w.writing w.drained g.write g.later g.waits (Place.Line b))
       (λ quiet. is.holds)
       (w.seen (Say.Refused d (Place.Line b) (spent + steps_in g.taken))
@@ -172,7 +172,7 @@ module _ {setup : Setup} {old mid now new : WorldState} {command : Command} {d :
       (spent-good setup mid now new command d port n made spent w.writing w.drained w.whole w.small g.write g.later g.waits g.engine g.after g.taken c page g.written
       (w.spent_within (Err (Fail.Spent page)) g refl its.0))
       (w.counted, small_page, w.few g.taken g.follows.few) refl is.engine (power_after _ _ _ _ _ _ _ _ is) (λ quiet. refl) refl is.unshown
-      (λ quiet. state_form (given_state now.state port g.write g.later (steps_in g.taken) false true) g.written.made is.state
+      (λ quiet. state_form (given_state setup.shape now.state port g.write g.later (steps_in g.taken) false true) g.written.made is.state
       ∙ after_spent setup mid now command d port n made g.written.made spent (steps_in g.taken) w.writing w.drained g.write g.later g.waits page)
       (λ quiet. is.holds) (w.seen (Say.Spent d page (spent + steps_in g.taken)) tt))
 
@@ -195,7 +195,7 @@ module _ {setup : Setup} {old mid now new : WorldState} {command : Command} {d :
       (w.step (Err Fail.Cut) g (Say.CutKept None (steps_in g.taken)) (Say.CutKept d (spent + steps_in g.taken))
       (kept-good setup mid now new command d port n made spent w.writing w.drained w.whole w.small g.write g.later g.waits g.engine g.after g.taken c g.written all (w.cut_within g))
       (w.counted, w.few g.taken g.follows.few) (cut_says setup now new port g true is.sealed) is.engine (power_after _ _ _ _ _ _ _ _ is) (λ quiet. refl) refl is.unshown
-      (λ quiet. state_form (given_state now.state port g.write g.later (steps_in g.taken) true false) g.written.made is.state
+      (λ quiet. state_form (given_state setup.shape now.state port g.write g.later (steps_in g.taken) true false) g.written.made is.state
       ∙ after_kept setup mid now command d port n made g.written.made spent (steps_in g.taken) w.writing w.drained g.write g.later g.waits)
       (λ quiet. is.holds) (w.seen (Say.CutKept d (spent + steps_in g.taken)) tt))
 
@@ -217,7 +217,7 @@ module _ {setup : Setup} {old mid now new : WorldState} {command : Command} {d :
       (w.step (Err Fail.Cut) g (Say.CutLost None (steps_in g.taken)) (Say.CutLost d (spent + steps_in g.taken))
       (lost-good setup mid now new command d port n made spent w.writing w.drained w.whole w.small g.write g.later g.waits g.engine g.after g.taken c g.written part (w.cut_within g))
       (w.counted, w.few g.taken g.follows.few) (cut_says setup now new port g false is.sealed) is.engine (power_after _ _ _ _ _ _ _ _ is) (λ quiet. refl) refl is.unshown
-      (λ quiet. state_form (given_state now.state port g.write g.later (steps_in g.taken) false false) g.written.made is.state
+      (λ quiet. state_form (given_state setup.shape now.state port g.write g.later (steps_in g.taken) false false) g.written.made is.state
       ∙ after_lost setup mid now command d port n made g.written.made spent (steps_in g.taken) w.writing w.drained g.write g.later g.waits)
       (λ quiet. is.holds) (w.seen (Say.CutLost d (spent + steps_in g.taken)) tt))
 

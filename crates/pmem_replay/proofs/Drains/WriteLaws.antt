@@ -277,7 +277,7 @@ module _ (setup : Setup) (old mid new : WorldState) (command : Command) (d : Opt
     cut_few (Some marks) there =
         let few = fewer taken (write_bound setup.shape marks) call.follows.few (cut_takes (Some marks) there).sum in
         let form = asked_form setup.shape setup.formulas (moment_of mid.state (view_in setup mid)) write marks pages_whole there in
-        let low = writing_bound-few setup.shape marks call.world.whole_shape.at_most_six_levels (asked_few setup.formulas write marks form) in
+        let low = writing_bound-few setup.shape marks call.world.whole_shape (asked_few setup.formulas write marks form) in
         (omega (arith, few, drained.bound, writing_bound-append setup.shape n 1 made marks), omega (arith, few, low))
 
     -- the bound of a cut, in a fence

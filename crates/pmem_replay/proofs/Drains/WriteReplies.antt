@@ -149,12 +149,12 @@ module _ (setup : Setup) (old mid : WorldState) (command : Command) (d : Option 
       after_marks-is setup.shape state (made ++ more)
       ∙ ap₂ (λ t f. with_flags state (touched_after t (made ++ more)) (flushed_after setup.shape f (made ++ more))) touched flushed
 
-  after_is : (answer : Answer) (state : PlainState) → after_steps (after_writes old.state port answer) answer ≡ state
+  after_is : (answer : Answer) (state : PlainState) → after_steps setup.shape (after_writes old.state port answer) answer ≡ state
       → state.touched ≡ old.state.touched → state.flushed ≡ old.state.flushed
       → state_after setup.shape old.state command (record { marks = made ++ more; answer = answer })
       ≡ with_flags state (touched_after old.state.touched (made ++ more)) (flushed_after setup.shape old.state.flushed (made ++ more))
   after_is answer state it touched flushed =
-      ap (λ s. after_marks setup.shape (after_steps s answer) (made ++ more)) (writing.effect answer)
+      ap (λ s. after_marks setup.shape (after_steps setup.shape s answer) (made ++ more)) (writing.effect answer)
       ∙ ap (λ s. after_marks setup.shape s (made ++ more)) it
       ∙ marks_all state touched flushed
 
@@ -164,7 +164,7 @@ module _ (setup : Setup) (old mid : WorldState) (command : Command) (d : Option 
       (touched_after old.state.touched (made ++ more)) (flushed_after setup.shape old.state.flushed (made ++ more))
   dropped_is = search (rules, fuse_twice, steps_twice, flushed_all, touched_all)
 
-  dropped_after : (answer : Answer) → after_steps (after_writes old.state port answer) answer ≡ counted_state (after_drop x_state port) (spent + taken)
+  dropped_after : (answer : Answer) → after_steps setup.shape (after_writes old.state port answer) answer ≡ counted_state (after_drop x_state port) (spent + taken)
       → dropped_state mid.state port later taken (touched_after mid.state.touched more) (flushed_after setup.shape mid.state.flushed more)
       ≡ state_after setup.shape old.state command (record { marks = made ++ more; answer = answer })
   dropped_after answer it =
@@ -189,34 +189,34 @@ module _ (setup : Setup) (old mid : WorldState) (command : Command) (d : Option 
 
   -- the next write is lost in a cut
   pub after_lost :
-      lost_state mid.state taken (touched_after mid.state.touched more) (flushed_after setup.shape mid.state.flushed more)
+      lost_state setup.shape mid.state taken (touched_after mid.state.touched more) (flushed_after setup.shape mid.state.flushed more)
       ≡ state_after setup.shape old.state command (record { marks = made ++ more; answer = Say.CutLost d (spent + taken) })
   after_lost =
-      ap₂ (λ t f. lost_state mid.state taken t f) touched_all flushed_all
-      ∙ ap (λ s. lost_state s taken (touched_after old.state.touched (made ++ more)) (flushed_after setup.shape old.state.flushed (made ++ more))) drained.state
-      ∙ ap (λ steps. record (after_power_loss x_state) {
+      ap₂ (λ t f. lost_state setup.shape mid.state taken t f) touched_all flushed_all
+      ∙ ap (λ s. lost_state setup.shape s taken (touched_after old.state.touched (made ++ more)) (flushed_after setup.shape old.state.flushed (made ++ more))) drained.state
+      ∙ ap (λ steps. record (after_power_loss setup.shape x_state) {
         steps = steps;
         touched = touched_after old.state.touched (made ++ more);
         flushed = flushed_after setup.shape old.state.flushed (made ++ more);
       }) (steps_twice x_state.steps spent taken)
-      ∙ sym (after_is (Say.CutLost d (spent + taken)) (after_power_loss (counted_state x_state (spent + taken)))
-      (ap (λ k. after_power_loss (counted_state (after_drains old.state port k) (spent + taken))) writing.count)
+      ∙ sym (after_is (Say.CutLost d (spent + taken)) (after_power_loss setup.shape (counted_state x_state (spent + taken)))
+      (ap (λ k. after_power_loss setup.shape (counted_state (after_drains old.state port k) (spent + taken))) writing.count)
       (drains_touched old.state port n) (drains_flushed old.state port n))
 
   -- the next write is kept in one
   pub after_kept :
-      kept_state mid.state write taken (touched_after mid.state.touched more) (flushed_after setup.shape mid.state.flushed more)
+      kept_state setup.shape mid.state port write later taken (touched_after mid.state.touched more) (flushed_after setup.shape mid.state.flushed more)
       ≡ state_after setup.shape old.state command (record { marks = made ++ more; answer = Say.CutKept d (spent + taken) })
   after_kept =
-      ap₂ (λ t f. kept_state mid.state write taken t f) touched_all flushed_all
-      ∙ ap (λ s. kept_state s write taken (touched_after old.state.touched (made ++ more)) (flushed_after setup.shape old.state.flushed (made ++ more))) drained.state
-      ∙ ap (λ steps. record (after_power_loss (after_front x_state port (write ∷ later))) {
+      ap₂ (λ t f. kept_state setup.shape mid.state port write later taken t f) touched_all flushed_all
+      ∙ ap (λ s. kept_state setup.shape s port write later taken (touched_after old.state.touched (made ++ more)) (flushed_after setup.shape old.state.flushed (made ++ more))) drained.state
+      ∙ ap (λ steps. record (after_power_loss setup.shape (after_front x_state port (write ∷ later))) {
         steps = steps;
         touched = touched_after old.state.touched (made ++ more);
         flushed = flushed_after setup.shape old.state.flushed (made ++ more);
       }) (steps_twice x_state.steps spent taken)
-      ∙ sym (after_is (Say.CutKept d (spent + taken)) (after_power_loss (counted_state (after_front x_state port (write ∷ later)) (spent + taken)))
-      (ap (λ k. after_power_loss (counted_state (after_drains old.state port k) (spent + taken))) {x = unwrap_or d 0 + 1} {y = suc n} (omega (arith, writing.count))
-      ∙ ap (λ s. after_power_loss (counted_state s (spent + taken))) (drains_more old.state port n)
-      ∙ ap (λ q. after_power_loss (counted_state (after_front x_state port q) (spent + taken))) x_queue)
+      ∙ sym (after_is (Say.CutKept d (spent + taken)) (after_power_loss setup.shape (counted_state (after_front x_state port (write ∷ later)) (spent + taken)))
+      (ap (λ k. after_power_loss setup.shape (counted_state (after_drains old.state port k) (spent + taken))) {x = unwrap_or d 0 + 1} {y = suc n} (omega (arith, writing.count))
+      ∙ ap (λ s. after_power_loss setup.shape (counted_state s (spent + taken))) (drains_more old.state port n)
+      ∙ ap (λ q. after_power_loss setup.shape (counted_state (after_front x_state port q) (spent + taken))) x_queue)
       (drains_touched old.state port n) (drains_flushed old.state port n))

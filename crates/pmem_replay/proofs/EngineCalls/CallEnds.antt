@@ -7,7 +7,7 @@ use Rattle.std.proofs.Math.Seq.{drop-append_seam}
 use Rattle.pmem_base.specs.declared.commands.Posted.{Posted}
 use Rattle.pmem_base.specs.declared.answers.Mark.{Mark}
 use Rattle.pmem_base.specs.Layout as layout
-use Rattle.pmem_base.specs.WaitingWrites.{no_writes}
+use Rattle.pmem_base.specs.WaitingWrites.{queues_after_loss}
 use Rattle.board.specs.Memory.{BoardMemory}
 use Rattle.meta_cache.specs.Banks.{IsBanksOf}
 use Rattle.seal_ledger.specs.Ledger.{LedgerState, IsMark}
@@ -40,10 +40,11 @@ lost_engine going after cut is = ap (λ (b : Bool). if b then None else Some aft
 lost_engine cut_short after cut is = ap (λ (b : Bool). if b then None else Some after) is
 lost_engine shown after cut is = ap (λ (b : Bool). if b then None else Some after) is
 
-lost_queues : (o : Outcome) (queues : List (List Posted)) (cut : Bool) → cut ≡ is_outcome_cut o → (if cut then no_writes else queues) ≡ queues_left o queues
-lost_queues going queues cut is = ap (λ (b : Bool). if b then no_writes else queues) is
-lost_queues cut_short queues cut is = ap (λ (b : Bool). if b then no_writes else queues) is
-lost_queues shown queues cut is = ap (λ (b : Bool). if b then no_writes else queues) is
+lost_queues : (durable : Bool) (o : Outcome) (queues : List (List Posted)) (cut : Bool) → cut ≡ is_outcome_cut o
+    → (if cut then queues_after_loss durable queues else queues) ≡ queues_left durable o queues
+lost_queues durable going queues cut is = ap (λ (b : Bool). if b then queues_after_loss durable queues else queues) is
+lost_queues durable cut_short queues cut is = ap (λ (b : Bool). if b then queues_after_loss durable queues else queues) is
+lost_queues durable shown queues cut is = ap (λ (b : Bool). if b then queues_after_loss durable queues else queues) is
 
 -- the parts after a call that no exhibit ended
 abbrev pub parts_made : WorldParts → List ℕ → BoardMemory → LedgerState → ℕ → Option EngineState → ℕ → ℕ → ℕ → List (List Posted) → Tampering → Dirtying → WorldParts
@@ -121,7 +122,7 @@ module _ {T : Type 0} (setup : Setup) (p : WorldParts) (keys : List ℕ) (board 
 
     state_made : (o : Outcome) → is_outcome_shown o ≡ false
         → HasPower o (device_during p.board none_taken) (device_during board taken)
-        → queues ≡ queues_left o p.queues
+        → queues ≡ queues_left setup.shape.durable o p.queues
         → tampering ≡ healed (written_line write) (drop (length p.ledger.marks) ledger.marks) p.tampering
         → ((st : PlainState) → with_dirtying st dirtying ≡ after_marks setup.shape (with_dirtying st p.dirtying) (drop (length p.ledger.marks) ledger.marks))
         → new.state ≡ called_state setup.shape o write lawful.made (steps_in taken) board.regs.loss old.state
@@ -138,7 +139,7 @@ module _ {T : Type 0} (setup : Setup) (p : WorldParts) (keys : List ℕ) (board 
         let loose = ap (λ (t : Tampering). t.loose) healing in
         let st : PlainState = record (state_in setup p) {
           memory = memory_put write lawful.made old.state.memory;
-          queues = queues_left o p.queues;
+          queues = queues_left setup.shape.durable o p.queues;
           power = power_left o p.board.powered;
           fuse = fuse_left o (steps_in taken) p.board.fuse;
           steps = steps_with p.steps (steps_in taken);
@@ -152,14 +153,14 @@ module _ {T : Type 0} (setup : Setup) (p : WorldParts) (keys : List ℕ) (board 
 
     -- no exhibit ended it
     pub was_called : (cut : Bool) → is_outcome_shown (outcome_of answer) ≡ false → cut ≡ is_outcome_cut (outcome_of answer)
-        → e ≡ (if cut then None else Some after) → queues ≡ (if cut then no_writes else p.queues)
+        → e ≡ (if cut then None else Some after) → queues ≡ (if cut then queues_after_loss setup.shape.durable p.queues else p.queues)
         → tampering ≡ healed (written_line write) (drop (length p.ledger.marks) ledger.marks) p.tampering
         → ((st : PlainState) → with_dirtying st dirtying ≡ after_marks setup.shape (with_dirtying st p.dirtying) (drop (length p.ledger.marks) ledger.marks))
         → IsBanksOf after.shape after.cache
         → HasCalledEngine setup relation write old taken answer new
     was_called cut quiet is kept moved heals noted whole_cache =
         let engine_now = kept ∙ lost_engine (outcome_of answer) after cut is in
-        let state = state_made (outcome_of answer) quiet lawful.effect.power (moved ∙ lost_queues (outcome_of answer) p.queues cut is) heals noted in
+        let state = state_made (outcome_of answer) quiet lawful.effect.power (moved ∙ lost_queues setup.shape.durable (outcome_of answer) p.queues cut is) heals noted in
         record {
           engine = engine;
           after = after;

@@ -23,7 +23,8 @@ use Rattle.pmem_engine.specs.Outcomes.{outcome_of, CallEffect, TakesSteps, Takes
 use Rattle.pmem_engine.specs.Calls.{moment_in, HasReadLine, HasTurned, HasFlushed, HasSetLoss, HasWrittenLine, AnswersRead, AnswersTurn, AnswersFlush, AnswersLoss, AnswersWrite}
 use Rattle.pmem_engine.specs.CallFacts.{IsDownAnswer, CountsTurn, IsCutInLoss}
 use Rattle.plain_model.specs.Asked.{marks_of_write}
-use Rattle.plain_model.specs.Bounds.{path_length}
+use Rattle.plain_model.specs.Bounds.{path_length, begun_lines}
+use Rattle.pmem_engine.proofs.Laws.PolicyBounds.{begun_most}
 use Rattle.watched_board.specs.Watching.{step_limit}
 use Rattle.pmem_replay.specs.EngineCalls.{IsCallStart, IsLawful}
 
@@ -156,5 +157,6 @@ write_lawful setup write memory old new answer written begun =
           ];
       early =
           λ is.
-          at_most_few (2 * path_length setup.shape + 264) old.device new.device (omega (arith, begun.whole_shape.at_most_six_levels)) written.few_steps;
+          at_most_few (2 * path_length setup.shape + 262 + 2 * begun_lines setup.shape) old.device new.device
+          (omega (arith, begun.whole_shape.at_most_six_levels, begun_most setup.shape begun.whole_shape.persists_path)) written.few_steps;
     }

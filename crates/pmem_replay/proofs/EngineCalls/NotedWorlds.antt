@@ -1,20 +1,21 @@
 -- A world in which blocks were noted as clean, or a write waits no more, is a world.
-use Rattle.std.proofs.Common.{ℕ, ◌≡◌, ◌<◌, Bool, true, false, List, ◌∷◌, Option, Some, None, IsTrue, refl, sym, ap, subst, ◌∙◌}
-use Rattle.std.specs.Prelude.{length, not, slice_set, ◌&&◌}
+use Rattle.std.proofs.Common.{ℕ, ◌≡◌, ◌<◌, Bool, true, false, List, Option, Some, None, IsTrue, refl, sym, ap, subst, ◌∙◌}
+use Rattle.std.specs.Prelude.{length, drop, not, slice_set, ◌&&◌}
 use Rattle.std.specs.List.{list_any, range_with_len}
 use Rattle.std.proofs.lemmas.Bool.{true≢false, and_parts, and_from}
 use Rattle.std.proofs.lemmas.List.{length-replicate, length-set, get_or-set_other}
 use Rattle.pmem_base.specs.declared.commands.Posted.{Posted}
+use Rattle.pmem_base.specs.Shape.{is_lazy}
 use Rattle.pmem_base.specs.Layout as layout
 use Rattle.pmem_base.specs.WaitingWrites.{queue_of}
-use Rattle.bonsai_tree.specs.Positions.{is_on_path}
+use Rattle.bonsai_tree.specs.Positions.{level_of, is_on_path}
 use Rattle.meta_cache.specs.Banks.{is_cached_dirty}
 use Rattle.suite.specs.Setup.{Setup}
 use Rattle.plain_model.specs.State.{is_flagged, with_flag, no_flags}
 use Rattle.plain_model.specs.After.{after_clean}
 use Rattle.plain_model.specs.Bounds.{can_be_dirty}
 use Rattle.pmem_engine.specs.Engine.{EngineState}
-use Rattle.pmem_replay.specs.EngineCalls.{IsCleanIn, IsCleanAt}
+use Rattle.pmem_replay.specs.EngineCalls.{IsCleanIn, IsCleanAt, without_oldest}
 use Rattle.pmem_replay.specs.World.{WorldState, HasQueues, IsPowered, IsWorld}
 use Rattle.pmem_replay.proofs.Steps.WorldsAfterCalls.{on_in}
 use Rattle.pmem_replay.proofs.Drains.WriteWorlds.{HasQueues-shorter}
@@ -34,7 +35,7 @@ restated setup old queues touched flushed whole waiting touched_count flushed_co
       whole_lines = whole.whole_lines;
       memory = record { count = whole.memory.count; each = whole.memory.each };
       chip = chip old.engine whole.chip dirty;
-      kept = record { seals = whole.kept.seals; spoiled = whole.kept.spoiled; counters = whole.kept.counters };
+      kept = record { seals = whole.kept.seals; spoiled = whole.kept.spoiled; counters = whole.kept.counters; strict = whole.kept.strict };
       flags =
           record {
             named = whole.flags.named;
@@ -103,7 +104,8 @@ flushed_noted setup old x whole clean =
   where
     touched_block : ℕ → Bool
     touched_block y =
-        list_any (λ page. is_flagged old.state.touched page && is_on_path setup.shape page y)
+        is_lazy setup.shape (level_of y)
+        && list_any (λ page. is_flagged old.state.touched page && is_on_path setup.shape page y)
         (range_with_len 0 (layout.pages setup.shape))
 
     apart : (engine : EngineState) → old.engine ≡ Some engine → (bank y : ℕ) → is_cached_dirty setup.shape engine.cache bank y ≡ true → y ≡ x → ⊥
@@ -111,11 +113,9 @@ flushed_noted setup old x whole clean =
         true≢false (sym (subst (λ z. is_cached_dirty setup.shape engine.cache bank z ≡ true) same dirty)
         ∙ (subst (λ (e : Option EngineState). IsCleanAt setup.shape e x) there clean) bank)
 
--- the front write of a port waits no more
-pub taken_world : (setup : Setup) (old : WorldState) (port : ℕ) (write : Posted) (later : List Posted) → IsWorld setup old → port < 8
-    → queue_of old.state.queues port ≡ write ∷ later
-    → IsWorld setup (record old { state = record (old.state) { queues = slice_set old.state.queues port later } })
-taken_world setup old port write later whole small waits =
-    restated setup old (slice_set old.state.queues port later) old.state.touched old.state.flushed whole
-    (HasQueues-shorter setup old.state _ port write later whole.queues small waits refl) whole.flags.touched whole.flags.flushed
+-- the oldest write of a port waits no more
+pub world-shorter : (setup : Setup) (old : WorldState) (port : ℕ) → IsWorld setup old → port < 8 → IsWorld setup (without_oldest old port)
+world-shorter setup old port whole small =
+    restated setup old (slice_set old.state.queues port (drop 1 (queue_of old.state.queues port))) old.state.touched old.state.flushed whole
+    (HasQueues-shorter setup.shape old.state _ port whole.queues small refl) whole.flags.touched whole.flags.flushed
     (λ engine there bank x dirty. (on_in setup old engine whole there).dirty bank x dirty)

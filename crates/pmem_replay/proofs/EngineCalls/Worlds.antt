@@ -30,7 +30,7 @@ use Rattle.pmem_replay.specs.During.{parts_in}
 use Rattle.pmem_replay.specs.EngineCalls.{memory_put, written_line, engine_left, is_outcome_shown, called_state, IsCall}
 use Rattle.pmem_replay.proofs.Steps.WorldsAfterCalls.{on_in, IsHealed, AreCountersKept, world-going, world-cut}
 use Rattle.pmem_replay.proofs.Steps.FaultCauses.{stored_unspoiled, counter_position-within}
-use Rattle.pmem_replay.proofs.Steps.MarklessCalls.{HasQueues-none}
+use Rattle.pmem_replay.proofs.Steps.MarklessCalls.{HasQueues-lost}
 use Rattle.pmem_replay.proofs.Marks.AfterMarks.{after_marks-is, touched_after, flushed_after, length-touched_after, length-flushed_after, may_be, may_be-kept, may_be-touched}
 
 -- ---- the write's line
@@ -199,7 +199,7 @@ module _ (setup : Setup) (old new : WorldState) (engine after : EngineState) (ta
       (ap (λ s. s.fuse) state) (ap (λ s. s.power) state) gone (sym (ap (λ s. s.loss) state))
       (subst (λ s. IsMemoryOf setup new.ledger.marks s.memory) (sym state) memory_now)
       (flags_now new.state (ap (λ s. s.named) state) (ap (λ s. s.hurt) state) (ap (λ s. s.spoiled) state) (ap (λ s. s.touched) state) (ap (λ s. s.flushed) state))
-      (HasQueues-none setup.shape new.state (ap (λ s. s.queues) state))
+      (HasQueues-lost setup.shape setup.shape.durable old.state new.state call.world.queues (ap (λ s. s.queues) state))
 
   -- the law: unless an exhibit ended it
   pub world_called : (o : Outcome) → CallEffect setup o made (parts_in old engine none_taken) (parts_in new after taken)

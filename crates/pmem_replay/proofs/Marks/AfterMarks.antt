@@ -9,10 +9,10 @@ use Rattle.std.proofs.lemmas.List.Folds.{Any-from_list_any, list_any_at}
 use Rattle.std.proofs.lemmas.List.FromFn.{length-range_with_len, get_or-range_with_len}
 use Rattle.pmem_base.specs.declared.answers.Mark.{Mark}
 use Rattle.pmem_base.specs.declared.answers.Mark.TheVariants.{Begin, Seal}
-use Rattle.pmem_base.specs.Shape.{Shape}
+use Rattle.pmem_base.specs.Shape.{Shape, is_lazy}
 use Rattle.pmem_base.specs.Layout as layout
 use Rattle.pmem_base.specs.Layout.{page_of}
-use Rattle.bonsai_tree.specs.Positions.{is_on_path}
+use Rattle.bonsai_tree.specs.Positions.{level_of, is_on_path}
 use Rattle.seal_ledger.specs.Ledger.{IsMark}
 use Rattle.plain_model.specs.State.{PlainState, no_flags, is_flagged, with_flag}
 use Rattle.plain_model.specs.After.{after_mark, after_marks}
@@ -112,29 +112,34 @@ flag_kept flags q p set =
 
 -- ---- blocks that may be dirty
 
--- x is on the path of a touched page
+-- x is of a lazy level, and on the path of a touched page
 abbrev pub is_touched_block : Shape → List Bool → ℕ → Bool
 is_touched_block g touched x =
-    list_any (λ page. is_flagged touched page && is_on_path g page x) (range_with_len 0 (layout.pages g))
+    is_lazy g (level_of x)
+    && list_any (λ page. is_flagged touched page && is_on_path g page x) (range_with_len 0 (layout.pages g))
 
 touched_block : (g : Shape) (touched : List Bool) (page x : ℕ) → page < layout.pages g → is_flagged touched page ≡ true
-    → IsTrue (is_on_path g page x) → is_touched_block g touched x ≡ true
-touched_block g touched page x within flag on =
+    → IsTrue (is_on_path g page x) → IsTrue (is_lazy g (level_of x)) → is_touched_block g touched x ≡ true
+touched_block g touched page x within flag on lazy =
     let place : slice_index_or (range_with_len 0 (layout.pages g)) page 0 ≡ page =
     get_or-range_with_len 0 (layout.pages g) page 0 within ∙ omega arith in
-    list_any_at (λ page. is_flagged touched page && is_on_path g page x) (range_with_len 0 (layout.pages g)) page 0
+    and_from (is_lazy g (level_of x)) (list_any (λ page. is_flagged touched page && is_on_path g page x) (range_with_len 0 (layout.pages g))) lazy
+    (list_any_at (λ page. is_flagged touched page && is_on_path g page x) (range_with_len 0 (layout.pages g)) page 0
     (omega (arith, within, length-range_with_len 0 (layout.pages g)))
     (subst (λ p. (is_flagged touched p && is_on_path g p x) ≡ true) (sym place)
-    (and_from (is_flagged touched page) (is_on_path g page x) flag on))
+    (and_from (is_flagged touched page) (is_on_path g page x) flag on)))
 
 touched_more : (g : Shape) (old new : List Bool) (x : ℕ) → ((p : ℕ) → is_flagged old p ≡ true → is_flagged new p ≡ true)
     → is_touched_block g old x ≡ true → is_touched_block g new x ≡ true
 touched_more g old new x kept it =
-    let found = Any-from_list_any (λ page. is_flagged old page && is_on_path g page x) (range_with_len 0 (layout.pages g)) it in
+    let both =
+    and_parts (is_lazy g (level_of x)) (list_any (λ page. is_flagged old page && is_on_path g page x) (range_with_len 0 (layout.pages g))) it in
+    let found = Any-from_list_any (λ page. is_flagged old page && is_on_path g page x) (range_with_len 0 (layout.pages g)) both.1 in
     let parts = and_parts (is_flagged old found.1) (is_on_path g found.1 x) found.4 in
-    list_any_at (λ page. is_flagged new page && is_on_path g page x) (range_with_len 0 (layout.pages g)) found.0 found.1 found.2
+    and_from (is_lazy g (level_of x)) (list_any (λ page. is_flagged new page && is_on_path g page x) (range_with_len 0 (layout.pages g))) both.0
+    (list_any_at (λ page. is_flagged new page && is_on_path g page x) (range_with_len 0 (layout.pages g)) found.0 found.1 found.2
     (subst (λ p. (is_flagged new p && is_on_path g p x) ≡ true) (sym found.3)
-    (and_from (is_flagged new found.1) (is_on_path g found.1 x) (kept found.1 parts.0) parts.1))
+    (and_from (is_flagged new found.1) (is_on_path g found.1 x) (kept found.1 parts.0) parts.1)))
 
 -- may be dirty, by these flags
 abbrev pub may_be : Shape → List Bool → List Bool → ℕ → Bool
@@ -171,41 +176,41 @@ may_be-kept g touched flushed (mark ∷ marks) x it =
 
 -- a mark makes the blocks of its page's path such ones
 may_be-touched_mark : (g : Shape) (touched flushed : List Bool) (mark : Mark) (page x : ℕ) → length touched ≡ layout.pages g
-    → IsMark g mark → is_touching page mark ≡ true → IsTrue (is_on_path g page x)
+    → IsMark g mark → is_touching page mark ≡ true → IsTrue (is_on_path g page x) → IsTrue (is_lazy g (level_of x))
     → may_be g (touched_after_mark touched mark) (flushed_after_mark g flushed mark) x ≡ true
-may_be-touched_mark g touched flushed (Begin begun) page x count its touching on =
+may_be-touched_mark g touched flushed (Begin begun) page x count its touching on lazy =
     let same = eqb-true begun page touching in
     let within : page < layout.pages g = subst (λ p. p < layout.pages g) same its in
     and_from (is_touched_block g (with_flag touched begun) x) (not (is_flagged (no_flags (layout.meta_lines g)) x))
     (touched_block g (with_flag touched begun) page x within
-    (subst (λ p. is_flagged (with_flag touched p) page ≡ true) (sym same) (flag_set touched page (omega (arith, within, count)))) on)
+    (subst (λ p. is_flagged (with_flag touched p) page ≡ true) (sym same) (flag_set touched page (omega (arith, within, count)))) on lazy)
     (ap not (unflagged (layout.meta_lines g) x))
-may_be-touched_mark g touched flushed (Seal at ctr cipher tag) page x count its touching on =
+may_be-touched_mark g touched flushed (Seal at ctr cipher tag) page x count its touching on lazy =
     let parts = and_parts (page_of at == page) (nat_lt 0 ctr.minor) touching in
     let same = eqb-true (page_of at) page parts.0 in
     let within : page < layout.pages g = subst (λ p. p < layout.pages g) same (omega (arith, its.0)) in
     subst (λ b. may_be g (cond b (with_flag touched (page_of at)) touched) (cond b (no_flags (layout.meta_lines g)) flushed) x ≡ true) (sym parts.1)
     (and_from (is_touched_block g (with_flag touched (page_of at)) x) (not (is_flagged (no_flags (layout.meta_lines g)) x))
     (touched_block g (with_flag touched (page_of at)) page x within
-    (subst (λ p. is_flagged (with_flag touched p) page ≡ true) (sym same) (flag_set touched page (omega (arith, within, count)))) on)
+    (subst (λ p. is_flagged (with_flag touched p) page ≡ true) (sym same) (flag_set touched page (omega (arith, within, count)))) on lazy)
     (ap not (unflagged (layout.meta_lines g) x)))
 
 may_be-touched_by : (g : Shape) (touched flushed : List Bool) (marks : List Mark) (page x : ℕ) → length touched ≡ layout.pages g
-    → All (IsMark g) marks → list_any (is_touching page) marks ≡ true → IsTrue (is_on_path g page x)
+    → All (IsMark g) marks → list_any (is_touching page) marks ≡ true → IsTrue (is_on_path g page x) → IsTrue (is_lazy g (level_of x))
     → may_be g (touched_after touched marks) (flushed_after g flushed marks) x ≡ true
-may_be-touched_by g touched flushed [] page x count each touching on = absurd (true≢false (sym touching))
-may_be-touched_by g touched flushed (mark ∷ marks) page x count each touching on =
+may_be-touched_by g touched flushed [] page x count each touching on lazy = absurd (true≢false (sym touching))
+may_be-touched_by g touched flushed (mark ∷ marks) page x count each touching on lazy =
     elim (or_cases (is_touching page mark) (list_any (is_touching page) marks) touching) [
       | inl here ↦
           may_be-kept g (touched_after_mark touched mark) (flushed_after_mark g flushed mark) marks x
-          (may_be-touched_mark g touched flushed mark page x count (All-head (IsMark g) mark marks each) here on)
+          (may_be-touched_mark g touched flushed mark page x count (All-head (IsMark g) mark marks each) here on lazy)
       | inr later ↦
           may_be-touched_by g (touched_after_mark touched mark) (flushed_after_mark g flushed mark) marks page x
-          (length-touched_after touched (mark ∷ []) ∙ count) (All-tail (IsMark g) mark marks each) later on
+          (length-touched_after touched (mark ∷ []) ∙ count) (All-tail (IsMark g) mark marks each) later on lazy
     ]
 
 -- so do marks
 pub may_be-touched : (g : Shape) (touched flushed : List Bool) (marks : List Mark) (x : ℕ) → length touched ≡ layout.pages g
     → All (IsMark g) marks → IsTouchedBy g marks x → may_be g (touched_after touched marks) (flushed_after g flushed marks) x ≡ true
 may_be-touched g touched flushed marks x count each touched_by =
-    may_be-touched_by g touched flushed marks touched_by.0 x count each touched_by.1 touched_by.2
+    may_be-touched_by g touched flushed marks touched_by.0 x count each touched_by.1 touched_by.2 touched_by.3

@@ -1,22 +1,23 @@
 -- No more blocks are dirty than may be.
-use Rattle.std.proofs.Common.{ℕ, ◌≡◌, ◌≤◌, ◌+◌, Bool, true, List, IsTrue, refl, sym, subst, arith}
-use Rattle.std.specs.Prelude.{◌&&◌, ◌==◌, count_by, All, slice_index_or}
-use Rattle.std.specs.List.{Contains, range_with_len}
-use Rattle.std.proofs.lemmas.Bool.{eq-eqb, and_from, and_parts}
+use Rattle.std.proofs.Common.{ℕ, ◌≡◌, ◌≢◌, ◌≤◌, ◌+◌, inl, inr, Bool, true, false, List, IsTrue, refl, sym, subst, arith}
+use Rattle.std.specs.Prelude.{◌&&◌, ◌==◌, not, count_by, All, slice_index_or, if◌then◌else◌}
+use Rattle.std.specs.List.{Contains, list_any, range_with_len}
+use Rattle.std.proofs.lemmas.Bool.{eq-eqb, eqb-true, eqb-false, ltb-true, cases_Bool, and_from, and_parts}
 use Rattle.std.proofs.lemmas.List.Sums.{count_by-le-length}
 use Rattle.std.proofs.lemmas.List.FromFn.{length-range_with_len}
 use Rattle.pmem_base.specs.declared.lines.Line.{Line}
-use Rattle.pmem_base.specs.Shape.{Shape, IsShape}
-use Rattle.pmem_base.specs.Layout.{meta_lines, slots}
-use Rattle.bonsai_tree.specs.Positions.{level_of}
+use Rattle.pmem_base.specs.Shape.{Shape, IsShape, lazy_levels, is_lazy}
+use Rattle.pmem_base.specs.Layout.{pages, meta_lines, slots}
+use Rattle.bonsai_tree.specs.Positions.{level_of, is_on_path}
 use Rattle.meta_cache.specs.declared.slot.Slot.{Slot}
 use Rattle.meta_cache.specs.Banks.{Banks, set_of, set_index, is_cached_dirty, IsBanksOf}
 use Rattle.meta_cache.proofs.SlotLemmas.{stands_at, is_cached_dirty_from}
 use Rattle.meta_path.specs.Blocks.{dirty_in, bank_dirty_count, dirty_count}
-use Rattle.plain_model.specs.State.{PlainState}
-use Rattle.plain_model.specs.Bounds.{can_be_dirty, dirty_bound}
+use Rattle.plain_model.specs.State.{PlainState, is_flagged}
+use Rattle.plain_model.specs.Bounds.{can_be_dirty, dirty_bound, dirty_blocks}
 use Rattle.pmem_engine.specs.Invariants.{IsTrueSlot}
-use Rattle.pmem_replay.proofs.Marks.DirtyCounts.{keys_bound, count_by-le, sum_below-le, sum_below-same, classes_bound}
+use Rattle.pmem_replay.proofs.Marks.DirtyCounts.{keys_bound, count_by-le, count_by-none, sum_below-le, sum_below-same, classes_bound}
+use Rattle.pmem_replay.proofs.Marks.AfterMarks.{is_touched_block}
 
 -- each cached block is a metadata line of its bank's level and in its set, and a dirty one may be dirty
 pub record AreAccounted (g : Shape) (cache : Banks) (state : PlainState) : Type 0 where
@@ -89,3 +90,28 @@ module _ (g : Shape) (cache : Banks) (state : PlainState) (accounted : AreAccoun
   dirty_slots-le bank =
       let sets = sum_below-le (λ set. dirty_in (set_of cache bank set)) (λ set. g.ways) g.sets (λ set small. set_slots bank set) in
       omega (arith, sets, sum_below-same g.ways g.sets)
+
+  -- and no counter block is dirty if their level is strict
+  pub dirty_counters-le : bank_dirty_count g cache g.levels ≤ dirty_blocks g
+  dirty_counters-le = by (g.persist == 0) refl
+    where
+      strict : (x : ℕ) → g.persist ≢ 0 → of_bank g state g.levels x ≡ false
+      strict x some =
+          elim (cases_Bool (of_bank g state g.levels x)) [
+            | inl both ↦
+                let parts = and_parts (can_be_dirty g state x) (level_of x == g.levels) both in
+                let may = and_parts (is_touched_block g state.touched x) (not (is_flagged state.flushed x)) parts.0 in
+                let lazy =
+                (and_parts (is_lazy g (level_of x))
+                (list_any (λ page. is_flagged state.touched page && is_on_path g page x) (range_with_len 0 (pages g))) may.0).0 in
+                absurd (omega (arith, ltb-true (level_of x) (lazy_levels g) lazy, eqb-true (level_of x) g.levels parts.1, some))
+            | inr none ↦ none
+          ]
+
+      by : (lazy : Bool) → (g.persist == 0) ≡ lazy → bank_dirty_count g cache g.levels ≤ (if lazy then slots g else 0)
+      by true is = dirty_slots-le g.levels
+      by false is =
+          let some : g.persist ≢ 0 = eqb-false g.persist 0 is in
+          let none : count_by (of_bank g state g.levels) (range_with_len 0 (meta_lines g)) ≡ 0 =
+          count_by-none (of_bank g state g.levels) (range_with_len 0 (meta_lines g)) (λ x. strict x some) in
+          omega (arith, bank_bound g.levels, none)

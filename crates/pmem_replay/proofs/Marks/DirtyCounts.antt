@@ -36,7 +36,7 @@ count_by-split p q r [] joins = refl
 count_by-split p q r (x ∷ xs) joins =
     omega (arith, counted_one p x xs, counted_one q x xs, counted_one r x xs, joins x, count_by-split p q r xs joins)
 
-count_by-none : {X : Type 0} (p : X → Bool) (xs : List X) → ((x : X) → p x ≡ false) → count_by p xs ≡ 0
+pub count_by-none : {X : Type 0} (p : X → Bool) (xs : List X) → ((x : X) → p x ≡ false) → count_by p xs ≡ 0
 count_by-none p [] none = refl
 count_by-none p (x ∷ xs) none =
     let here : one_if (p x) ≡ 0 = ap one_if (none x) in

@@ -19,6 +19,7 @@ use Rattle.commit_regs.specs.Groups.{redone}
 use Rattle.meta_cache.specs.Banks.{IsBanksOf, is_cached_dirty}
 use Rattle.suite.specs.Formulas.{AreInRange}
 use Rattle.suite.specs.Setup.{Setup}
+use Rattle.plain_model.specs.Bounds.{group_bound}
 use Rattle.plain_model.specs.State.{is_flagged, start_state}
 use Rattle.plain_model.specs.View.{OpenPage, start_view, view_of, IsMemoryOf, plain_memory}
 use Rattle.plain_model.proofs.Views.{length-view_of, counter_at-last}
@@ -142,6 +143,10 @@ module _ (setup : Setup) (p : WorldParts) (old : Device) (made : IsJustMade setu
   clean bank x =
       ap (λ (e : EngineState). is_cached_dirty setup.shape e.cache bank x) formatted.engine_new ∙ nothing_dirty setup.shape bank x
 
+  -- each metadata line is the true one
+  true_line : (x : ℕ) → x < layout.meta_lines setup.shape → stored_meta setup.shape (lines_in world) x ≡ line_at p.ledger.truth x
+  true_line x within = ap (λ ls. stored_meta setup.shape ls x) lines ∙ sound.true_unless_dirty x within (clean (level_of x) x)
+
   on : IsOn setup world found.0
   on =
       record {
@@ -152,7 +157,7 @@ module _ (setup : Setup) (p : WorldParts) (old : Device) (made : IsJustMade setu
         whole_cache = subst (λ (e : EngineState). IsBanksOf setup.shape e.cache) (sym formatted.engine_new) (whole_empty setup.shape);
         metadata =
             λ tight x within unnamed.
-            inl (ap (λ ls. stored_meta setup.shape ls x) lines ∙ sound.true_unless_dirty x within (clean (level_of x) x));
+            inl (true_line x within);
         dirty = λ bank x dirty. absurd (true≢false (sym dirty ∙ clean bank x));
       }
 
@@ -172,6 +177,7 @@ module _ (setup : Setup) (p : WorldParts) (old : Device) (made : IsJustMade setu
                   λ a within broken.
                   absurd (true≢false (sym broken ∙ ap (λ (t : Tampering). is_flagged t.spoiled a) made.tampering ∙ unflagged (layout.data_lines setup.shape) a));
               counters = λ tight page within unnamed. sound.durable.mendable.counters_stored page within;
+              strict = λ x within at_once unnamed. true_line x within;
             };
         flags =
             record {
@@ -188,7 +194,7 @@ module _ (setup : Setup) (p : WorldParts) (old : Device) (made : IsJustMade setu
               fuse = refl;
               snapped = refl;
               loss = refl;
-              few_armed = subst (λ (items : List (ℕ × Line)). length items ≤ 3) (sym formatted.trusted.no_group) (omega arith);
+              few_armed = subst (λ (items : List (ℕ × Line)). length items ≤ group_bound setup.shape) (sym formatted.trusted.no_group) (omega arith);
             };
         steps =
             record {

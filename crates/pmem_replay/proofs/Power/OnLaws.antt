@@ -1,6 +1,6 @@
 -- Powering on: recovery's answer is legal and fits, and the world goes on.
 use Rattle.std.proofs.Common.{rules}
-use Rattle.std.proofs.Common.{ℕ, mul-le-mul_left, mul-le-mul_right, ◌≡◌, ◌<◌, ◌≤◌, ◌-◌, ◌*◌, inl, inr, true, false, List, length, Some, None, Ok, Err, refl, sym, ap, subst, ◌∙◌, arith}
+use Rattle.std.proofs.Common.{ℕ, ◌≡◌, ◌<◌, ◌≤◌, ◌-◌, ◌*◌, inl, inr, true, false, List, length, Some, None, Ok, Err, refl, sym, ap, subst, ◌∙◌, arith}
 use Rattle.std.specs.Prelude.{All, Result, IfSome, option_map, is_some, ◌||◌}
 use Rattle.std.specs.Prelude.{◌==◌, ◌&&◌}
 use Rattle.std.specs.List.{list_any}
@@ -10,11 +10,12 @@ use Rattle.pmem_base.specs.declared.registers.Regs.{Regs}
 use Rattle.pmem_base.specs.declared.commands.Command.TheVariants as Do
 use Rattle.pmem_base.specs.declared.answers.Answer.TheVariants as Say
 use Rattle.pmem_base.specs.Counts.{last_count}
-use Rattle.pmem_base.specs.Shape.{Shape, IsShape}
+use Rattle.pmem_base.specs.Shape.{Shape, IsShape, is_lazy}
 use Rattle.pmem_base.specs.Layout as layout
 use Rattle.pmem_base.specs.Lines.{IsLine, line_at}
 use Rattle.pmem_base.specs.Registers.{without_group}
-use Rattle.pmem_base.specs.WaitingWrites.{no_writes}
+use Rattle.pmem_base.specs.WaitingWrites.{queues_after_loss}
+use Rattle.bonsai_tree.specs.Positions.{level_of}
 use Rattle.board.specs.Device.{AreLinesOf}
 use Rattle.board.specs.Memory.{BoardMemory}
 use Rattle.commit_regs.specs.Groups.{redone}
@@ -23,13 +24,14 @@ use Rattle.meta_cache.specs.State.{empty_banks}
 use Rattle.suite.specs.Setup.{Setup}
 use Rattle.plain_model.specs.State.{PlainState, is_flagged, has_flags, no_flags}
 use Rattle.plain_model.specs.After.{steps_with}
-use Rattle.plain_model.specs.Bounds.{recovery_bound, path_length}
+use Rattle.plain_model.specs.Bounds.{recovery_bound, group_bound, most_blocks}
 use Rattle.pmem_engine.specs.Engine.{EngineState, on_chip}
-use Rattle.pmem_engine.specs.Invariants.{IsTrusted, IsSound, IsDurable, IsSealStored}
+use Rattle.pmem_engine.specs.Invariants.{IsTrusted, IsSound, IsDurable, IsSealStored, stored_meta}
 use Rattle.meta_path.proofs.PathFacts.{set_of-empty_banks}
 use Rattle.call_effects.specs.declared.recovery.Work.{Work}
 use Rattle.pmem_recovery.specs.declared.faults.RecFault.{RecFault}
 use Rattle.pmem_recovery.specs.declared.faults.RecFault.TheVariants as Fail
+use Rattle.pmem_recovery.proofs.NamedLaws.{recovery_bound-small}
 use Rattle.call_effects.specs.SuiteStates.{SuiteState}
 use Rattle.pmem_recovery.specs.Recovered.{HasRecovered, HasMended}
 use Rattle.commit_regs.proofs.GroupLemmas.{one_latch}
@@ -38,7 +40,7 @@ use Rattle.watched_board.specs.declared.taken.Taken.{Taken}
 use Rattle.watched_board.specs.Watching.{AreInCount, none_taken, steps_in, device_during, FollowsOn}
 use Rattle.watched_board.proofs.StepLaws.{few_exact}
 use Rattle.pmem_replay.proofs.Steps.WorldsAfterCalls.{steps-taken}
-use Rattle.pmem_replay.proofs.Steps.MarklessCalls.{HasQueues-none}
+use Rattle.pmem_replay.proofs.Steps.MarklessCalls.{HasQueues-lost}
 use Rattle.pmem_replay.proofs.Steps.SameWorld.{same_world}
 use Rattle.pmem_replay.specs.Replies.{without_marks}
 use Rattle.pmem_replay.proofs.Steps.GoodReplies.{IsGood, good}
@@ -53,14 +55,7 @@ nothing_dirty g bank x =
 
 -- recovery's steps are few
 pub small_recovery : (g : Shape) → IsShape g → recovery_bound g < 60000
-small_recovery g shape =
-    let slots : layout.slots g ≤ 512 =
-    omega (arith, mul-le-mul_left g.sets shape.at_most_eight_ways, mul-le-mul_right 8 shape.at_most_64_sets) in
-    let path : path_length g * layout.slots g ≤ 3584 =
-    omega (arith, mul-le-mul_left (path_length g) slots, shape.at_most_six_levels) in
-    let banks : g.levels * layout.slots g ≤ 3072 =
-    omega (arith, mul-le-mul_left g.levels slots, shape.at_most_six_levels) in
-    omega (arith, slots, path, banks)
+small_recovery g shape = omega (arith, recovery_bound-small g shape)
 
 -- ---- the call
 
@@ -123,6 +118,12 @@ module _ (setup : Setup) (old new : WorldState) (left : BoardMemory) (taken : Ta
   spoiled_kept a within broken =
       subst (IsOtherCipher old.ledger.marks a) (sym (mended.data_same a (omega (arith, within)))) (call.world.kept.spoiled a within broken)
 
+  -- so are the lines of strict levels
+  pub strict_kept : (x : ℕ) → x < layout.meta_lines setup.shape → is_lazy setup.shape (level_of x) ≡ false
+      → is_flagged old.state.named (layout.meta_line setup.shape x) ≡ false
+      → stored_meta setup.shape (redone left.regs.group.items left.lines) x ≡ line_at old.ledger.truth x
+  strict_kept x within at_once unnamed = mended.strict_same x within at_once ∙ call.world.kept.strict x within at_once unnamed
+
   -- where nothing is loose afterwards, nothing was named
   tight_named : (old.state.loose || has_flags old.state.named) ≡ false → has_flags old.state.named ≡ false
   tight_named tight = (or_parts old.state.loose (has_flags old.state.named) tight).1
@@ -154,7 +155,7 @@ module _ (setup : Setup) (old new : WorldState) (left : BoardMemory) (taken : Ta
       let few = call.recovered.few_work in
       good refl (within_lasting setup old new left taken (Ok (engine, work)) call lasting) refl tt tt refl tt tt tt
       (record {
-        few_trials = subst (λ loss. work.trials ≤ 64 * loss * layout.slots setup.shape) call.world.board.loss few.trials;
+        few_trials = subst (λ loss. work.trials ≤ 64 * loss * most_blocks setup.shape) call.world.board.loss few.trials;
         few_digests = few.digests;
         few_steps = few_steps setup old new left taken (Ok (engine, work)) call;
       })
@@ -173,6 +174,7 @@ module _ (setup : Setup) (old new : WorldState) (left : BoardMemory) (taken : Ta
         counters =
             λ tight page within unnamed.
             (sound_now (tight_named setup old new left taken (Ok (engine, work)) call tight)).durable.mendable.counters_stored page within;
+        strict = strict_kept setup old new left taken (Ok (engine, work)) call;
       }
 
   up_now : engine.down ≡ false
@@ -228,7 +230,7 @@ module _ (setup : Setup) (old new : WorldState) (left : BoardMemory) (taken : Ta
                   ∙ ap (option_map (λ n. n - steps_in taken)) call.world.board.fuse;
               snapped = ap is_some call.follows.snapshot ∙ call.world.board.snapped;
               loss = ap (λ (r : Regs). r.loss) regs ∙ call.world.board.loss;
-              few_armed = subst (λ (items : List (ℕ × Line)). length items ≤ 3) (sym trusted_now.no_group) (omega arith);
+              few_armed = subst (λ (items : List (ℕ × Line)). length items ≤ group_bound setup.shape) (sym trusted_now.no_group) (omega arith);
             };
         steps = left_steps setup old new left taken (Ok (engine, work)) call (recovered_state setup.shape old.state (steps_in taken)) refl;
       })
@@ -236,11 +238,11 @@ module _ (setup : Setup) (old new : WorldState) (left : BoardMemory) (taken : Ta
 -- ---- a cut
 
 -- the state after a cut of `on`
-abbrev pub cut_on_state : PlainState → ℕ → PlainState
-cut_on_state state taken =
+abbrev pub cut_on_state : Shape → PlainState → ℕ → PlainState
+cut_on_state g state taken =
     record state {
       loose = state.loose || has_flags state.named;
-      queues = no_writes;
+      queues = queues_after_loss g.durable state.queues;
       power = false;
       fuse = None;
       steps = steps_with state.steps taken;
@@ -259,9 +261,9 @@ module _ (setup : Setup) (old new : WorldState) (left : BoardMemory) (taken : Ta
   durable_now : has_flags old.state.named ≡ false → IsDurable setup left.lines left.regs old.ledger
   durable_now honest = (mended setup old new left taken (Err Fail.Cut) call).from_durable (off_cut.durable honest)
 
-  pub cut-world : new.state ≡ cut_on_state old.state (steps_in taken) → new.board ≡ left → new.engine ≡ None → IsWorld setup new
+  pub cut-world : new.state ≡ cut_on_state setup.shape old.state (steps_in taken) → new.board ≡ left → new.engine ≡ None → IsWorld setup new
   cut-world state board there =
-      same_world setup (record new { state = cut_on_state old.state (steps_in taken); board = left; ledger = old.ledger; engine = None; start = old.start }) new
+      same_world setup (record new { state = cut_on_state setup.shape old.state (steps_in taken); board = left; ledger = old.ledger; engine = None; start = old.start }) new
       (record { shape = refl; start = call.start; board = board; ledger = call.ledger; engine = there; state = state })
       (record {
         its_shape = call.shape ∙ call.world.its_shape;
@@ -277,6 +279,7 @@ module _ (setup : Setup) (old new : WorldState) (left : BoardMemory) (taken : Ta
               counters =
                   λ tight page within unnamed.
                   (durable_now (tight_named setup old new left taken (Err Fail.Cut) call tight)).mendable.counters_stored page within;
+              strict = strict_kept setup old new left taken (Err Fail.Cut) call;
             };
         flags =
             record {
@@ -286,7 +289,7 @@ module _ (setup : Setup) (old new : WorldState) (left : BoardMemory) (taken : Ta
               touched = call.world.flags.touched;
               flushed = call.world.flags.flushed;
             };
-        queues = HasQueues-none setup.shape (cut_on_state old.state (steps_in taken)) refl;
+        queues = HasQueues-lost setup.shape setup.shape.durable old.state (cut_on_state setup.shape old.state (steps_in taken)) call.world.queues refl;
         board =
             record {
               power = cut_dark;
@@ -299,9 +302,9 @@ module _ (setup : Setup) (old new : WorldState) (left : BoardMemory) (taken : Ta
                   ];
               few_armed =
                   elim call.recovered.regs [
-                    | inl same ↦ subst (λ (r : Regs). length r.group.items ≤ 3) (sym same) call.world.board.few_armed
-                    | inr emptied ↦ subst (λ (r : Regs). length r.group.items ≤ 3) (sym emptied) (omega arith)
+                    | inl same ↦ subst (λ (r : Regs). length r.group.items ≤ group_bound setup.shape) (sym same) call.world.board.few_armed
+                    | inr emptied ↦ subst (λ (r : Regs). length r.group.items ≤ group_bound setup.shape) (sym emptied) (omega arith)
                   ];
             };
-        steps = left_steps setup old new left taken (Err Fail.Cut) call (cut_on_state old.state (steps_in taken)) refl;
+        steps = left_steps setup old new left taken (Err Fail.Cut) call (cut_on_state setup.shape old.state (steps_in taken)) refl;
       })

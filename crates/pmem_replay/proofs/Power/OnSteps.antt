@@ -17,7 +17,7 @@ use Rattle.pmem_base.specs.Layout as layout
 use Rattle.pmem_base.specs.Lines.{IsLine, IsTag, line_at, tag_slot}
 use Rattle.pmem_base.specs.Ranges.{IsAnswer}
 use Rattle.pmem_base.specs.Registers.{without_group}
-use Rattle.pmem_base.specs.WaitingWrites.{no_writes}
+use Rattle.pmem_base.specs.WaitingWrites.{queues_after_loss}
 use Rattle.board.specs.Memory.{BoardMemory}
 use Rattle.call_plan.specs.Plans.{ended}
 use Rattle.call_plan.specs.Following.{Follows}
@@ -111,9 +111,9 @@ module _ (s : RecoveryCall) where
 
   -- where it was cut
   dark_state : (engine : Option EngineState) (queues : List (List Posted)) → s.board.powered ≡ false → s.board.regs.loss ≡ s.parts.board.regs.loss
-      → queues ≡ no_writes
+      → queues ≡ queues_after_loss setup.shape.durable s.parts.queues
       → state_in setup (record (left_with engine s.board) { queues = queues })
-      ≡ cut_state (state_in setup s.parts) (steps_in s.taken)
+      ≡ cut_state setup.shape (state_in setup s.parts) (steps_in s.taken)
   dark_state engine queues dark loss empty =
       let fuse : s.board.fuse ≡ None = s.served.watched.follows.cleared dark in
       cc (dark, fuse, s.served.watched.follows.snapshot, empty, s.served.counted, loss)
@@ -247,12 +247,12 @@ module _ (s : RecoveryCall) where
 
   on_cut_none : (tampering : Tampering) (queues : List (List Posted)) → Has (Err Fail.Cut)
       → ((st : PlainState) → with_tampering st tampering ≡ after_loosening (with_tampering st s.parts.tampering))
-      → queues ≡ no_writes
+      → queues ≡ queues_after_loss setup.shape.durable s.parts.queues
       → HasStepped setup old Do.On (without_marks (Say.Cut (steps_in s.taken))) (cut_new None tampering queues)
   on_cut_none tampering queues has loosened empty =
       let new = cut_new None tampering queues in
       let call = on_call (Err Fail.Cut) has new refl refl refl in
-      let sum = has.steps.sum (omega (arith, s.served.watched.follows.few)) (omega (arith, s.served.watched.follows.few)) in
+      let sum = (has.steps.1 (inl refl)).sum (omega (arith, s.served.watched.follows.few)) (omega (arith, s.served.watched.follows.few)) in
       let latch : finishing_latches s.parts.board.regs.group.items ≤ 1 = one_latch s.parts.board.regs.group.items in
       let fewer : steps_in s.taken < recovery_bound setup.shape = omega (arith, sum, latch, s.served.going.whole.board.few_armed) in
       let dark : s.board.powered ≡ false = has.power.off in
@@ -261,9 +261,9 @@ module _ (s : RecoveryCall) where
         | inl same ↦ ap (λ (r : Regs). r.loss) same
         | inr emptied ↦ ap (λ (r : Regs). r.loss) emptied
       ] in
-      let its_state : new.state ≡ cut_on_state old.state (steps_in s.taken) =
+      let its_state : new.state ≡ cut_on_state setup.shape old.state (steps_in s.taken) =
       ap (λ (st : PlainState). with_tampering st tampering) (dark_state None queues dark loss empty)
-      ∙ loosened (cut_state (state_in setup s.parts) (steps_in s.taken)) in
+      ∙ loosened (cut_state setup.shape (state_in setup s.parts) (steps_in s.taken)) in
       powered (Err Fail.Cut) has (Say.Cut (steps_in s.taken)) new
       (cut-good setup old new s.board s.taken call fewer)
       few
@@ -273,7 +273,7 @@ module _ (s : RecoveryCall) where
       (λ quiet. cut-world setup old new s.board s.taken call its_state refl refl)
       tt
 
-  pub on-cut : (tampering : Tampering) (queues : List (List Posted)) → s.outcome ≡ Err Fail.Cut → ((st : PlainState) → with_tampering st tampering ≡ after_loosening (with_tampering st s.parts.tampering)) → queues ≡ no_writes
+  pub on-cut : (tampering : Tampering) (queues : List (List Posted)) → s.outcome ≡ Err Fail.Cut → ((st : PlainState) → with_tampering st tampering ≡ after_loosening (with_tampering st s.parts.tampering)) → queues ≡ queues_after_loss setup.shape.durable s.parts.queues
       → EndsOn (Say.Cut s.said) (record (left_with s.engine s.board) { tampering = tampering; queues = queues })
   on-cut tampering queues is loosened empty =
       let apart = refused_as Fail.Cut is in

@@ -25,6 +25,7 @@ use Rattle.suite.specs.Setup.{Setup}
 use Rattle.plain_model.specs.State.{is_flagged, has_flags}
 use Rattle.plain_model.specs.View.{counter_at}
 use Rattle.plain_model.proofs.Views.{counter_at-last}
+use Rattle.plain_model.specs.Bounds.{group_bound, redo_bound}
 use Rattle.plain_model.specs.Shown.{IsTwinOfSeal}
 use Rattle.pmem_engine.specs.Invariants.{IsAnchored, IsSealTagged}
 use Rattle.pmem_engine.proofs.Laws.TrueLines.{true_line-is}
@@ -53,8 +54,8 @@ module _ (setup : Setup) (old new : WorldState) (left : BoardMemory) (taken : Ta
   abbrev its_off : IsOff setup old
   its_off = off setup old new left taken (Err fault) call
 
-  -- four steps at most
-  pub refused_few : steps_in taken ≤ 4
+  -- its steps are those of the redo
+  pub refused_few : steps_in taken ≤ redo_bound setup.shape
   refused_few =
       let exact = exact setup old new left taken (Err fault) call in
       let writes : taken.writes ≡ 0 + length old.board.regs.group.items = redo.writes.exact exact.0 in
@@ -94,7 +95,7 @@ module _ (setup : Setup) (old new : WorldState) (left : BoardMemory) (taken : Ta
               durable = λ honest. absurd (tampered honest);
             };
         kept =
-            record { seals = refused_kept.seals; spoiled = refused_kept.spoiled; counters = refused_kept.counters };
+            record { seals = refused_kept.seals; spoiled = refused_kept.spoiled; counters = refused_kept.counters; strict = refused_kept.strict };
         flags =
             record {
               named = call.world.flags.named;
@@ -110,7 +111,7 @@ module _ (setup : Setup) (old new : WorldState) (left : BoardMemory) (taken : Ta
               fuse = call.follows.burnt lasting ∙ ap (option_map (λ n. n - steps_in taken)) call.world.board.fuse;
               snapped = ap is_some call.follows.snapshot ∙ call.world.board.snapped;
               loss = same_loss ∙ call.world.board.loss;
-              few_armed = subst (λ (r : Regs). length r.group.items ≤ 3) (sym regs) (omega arith);
+              few_armed = subst (λ (r : Regs). length r.group.items ≤ group_bound setup.shape) (sym regs) (omega arith);
             };
         steps =
             let it = left_steps setup old new left taken (Err fault) call (counted_state old.state (steps_in taken)) refl in

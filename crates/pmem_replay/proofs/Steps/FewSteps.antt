@@ -10,11 +10,11 @@ use Rattle.pmem_base.specs.declared.answers.Answer.{Answer}
 use Rattle.pmem_base.specs.declared.answers.Answer.TheVariants as Say
 use Rattle.pmem_base.specs.Shape.{Shape, is_loss}
 use Rattle.pmem_base.specs.Layout.{Content, data_line, tags_from, content_of, data_lines}
-use Rattle.pmem_base.specs.WaitingWrites.{queue_of}
+use Rattle.pmem_base.specs.WaitingWrites.{queue_of, is_queue_full}
 use Rattle.write_ports.specs.Queues.{ArePorts}
 use Rattle.suite.specs.Setup.{Setup}
 use Rattle.plain_model.specs.State.{PlainState, Reply}
-use Rattle.plain_model.specs.After.{steps_of, is_cut, steps_with, after_front, after_drain, after_drains, without_front, after_drop, after_writes, after_power_loss, after_hurting, after_command, after_steps, state_after}
+use Rattle.plain_model.specs.After.{steps_of, is_cut, steps_with, after_front, after_drain, after_drains, without_front, after_drop, after_writes, after_power_loss, after_hurting, after_command, after_steps, state_after, posted_line, posted_part}
 use Rattle.plain_model.specs.Answers.{decided_answer, posting_answer, seen_line, is_covered, is_on_device, is_shown}
 use Rattle.seal_ledger.specs.Ledger.{LedgerState}
 use Rattle.pmem_engine.specs.declared.fault.Fault.{Fault}
@@ -79,16 +79,16 @@ steps-command g s (Do.Back d) Say.Ok = steps-hurting s false (content_of g d)
 steps-command g s (Do.Loss n) (Say.LossSet steps) = refl
 steps-command g s command answer = refl
 
-steps_if : (cut : Bool) (s : PlainState) → (if cut then after_power_loss s else s).steps ≡ s.steps
-steps_if true s = refl
-steps_if false s = refl
+steps_if : (g : Shape) (cut : Bool) (s : PlainState) → (if cut then after_power_loss g s else s).steps ≡ s.steps
+steps_if g true s = refl
+steps_if g false s = refl
 
 -- and the answer's are added
 steps-after : (g : Shape) (s : PlainState) (command : Command) (reply : Reply)
     → (state_after g s command reply).steps ≡ steps_with s.steps (steps_of reply.answer)
 steps-after g s command reply =
-    ap (λ (st : PlainState). st.steps) (after_marks-is g (after_steps (after_command g s command reply.answer) reply.answer) reply.marks)
-    ∙ steps_if (is_cut reply.answer) _
+    ap (λ (st : PlainState). st.steps) (after_marks-is g (after_steps g (after_command g s command reply.answer) reply.answer) reply.marks)
+    ∙ steps_if g (is_cut reply.answer) _
     ∙ ap (λ n. steps_with n (steps_of reply.answer)) (steps-command g s command reply.answer)
 
 -- ---- the steps of an answer
@@ -101,16 +101,16 @@ none_if : (b : Bool) (x y : Option Answer) → NamesNoSteps x → NamesNoSteps y
 none_if true x y first second = first
 none_if false x y first second = second
 
-none-posting : (g : Shape) (s : PlainState) (port at end : ℕ) → NamesNoSteps (posting_answer g s port at end)
-none-posting g s port at end =
+none-posting : (g : Shape) (s : PlainState) (port : ℕ) (write : Posted) → NamesNoSteps (posting_answer g s port write)
+none-posting g s port write =
     none_if s.power _ (Some Say.Off)
-    (none_if (nat_lt at (data_lines g) && nat_le end 64) _ (Some Say.Range)
-    (none_if (nat_le 16 (length (queue_of s.queues port))) (Some Say.Full) (Some Say.Ok) refl refl) refl)
+    (none_if (nat_lt write.at (data_lines g) && nat_le (write.from + write.len) 64) _ (Some Say.Range)
+    (none_if (is_queue_full g.combines (queue_of s.queues port) write) (Some Say.Full) (Some Say.Ok) refl refl) refl)
     refl
 
 none-decided : (g : Shape) (s : PlainState) (command : Command) → NamesNoSteps (decided_answer g s command)
-none-decided g s (Do.Post port at line) = none-posting g s port at 64
-none-decided g s (Do.Part port at from count line) = none-posting g s port at (from + count)
+none-decided g s (Do.Post port at line) = none-posting g s port (posted_line at line)
+none-decided g s (Do.Part port at from count line) = none-posting g s port (posted_part at from count line)
 none-decided g s (Do.Drain port) =
     none_if s.power _ (Some Say.Off) (none_if (length (queue_of s.queues port) == 0) (Some Say.Empty) None refl tt) refl
 none-decided g s (Do.Fence port) = none_if s.power None (Some Say.Off) tt refl

@@ -1,14 +1,14 @@
 -- Calls that make no mark: the state stays but for its counts, or power is cut.
-use Rattle.std.proofs.Common.{ℕ, ◌≡◌, ◌<◌, ◌≤◌, ◌+◌, ◌-◌, false, List, [], length, None, sym, ap, subst, ◌∙◌, arith}
+use Rattle.std.proofs.Common.{ℕ, ◌≡◌, ◌<◌, ◌≤◌, ◌+◌, ◌-◌, Bool, true, false, List, [], length, None, sym, ap, subst, ◌∙◌, arith}
 use Rattle.std.specs.Prelude.{MatchOption, option_map, All}
 use Rattle.std.proofs.lemmas.List.{length-replicate, get_or-replicate}
 use Rattle.pmem_base.specs.declared.commands.Posted.{Posted}
 use Rattle.pmem_base.specs.declared.commands.Command.{Command}
 use Rattle.pmem_base.specs.Shape.{Shape}
 use Rattle.pmem_base.specs.Layout as layout
-use Rattle.pmem_base.specs.WaitingWrites.{no_writes}
+use Rattle.pmem_base.specs.WaitingWrites.{no_writes, queues_after_loss}
 use Rattle.board.specs.Memory.{BoardMemory}
-use Rattle.write_ports.specs.Queues.{IsQueue}
+use Rattle.write_ports.specs.Queues.{IsQueue, ArePorts}
 use Rattle.suite.specs.Setup.{Setup}
 use Rattle.plain_model.specs.State.{PlainState}
 use Rattle.plain_model.specs.After.{steps_with}
@@ -48,9 +48,14 @@ counted_state state taken =
     record state { steps = steps_with state.steps taken; fuse = option_map (λ n. n - taken) state.fuse }
 
 -- the state with these steps counted and power cut
-abbrev pub cut_state : PlainState → ℕ → PlainState
-cut_state state taken =
-    record state { steps = steps_with state.steps taken; queues = no_writes; power = false; fuse = None }
+abbrev pub cut_state : Shape → PlainState → ℕ → PlainState
+cut_state g state taken =
+    record state {
+      steps = steps_with state.steps taken;
+      queues = queues_after_loss g.durable state.queues;
+      power = false;
+      fuse = None;
+    }
 
 IsQueue-nil : IsQueue []
 IsQueue-nil = record { room = omega arith; posted = λ k d within. absurd (omega (arith, within)) }
@@ -75,6 +80,17 @@ HasQueues-none g state none =
           (sym (get_or-replicate 8 k [] d (omega (arith, within, length-replicate {A = List Posted} 8 []))))
           (λ i e inside. absurd (omega (arith, inside))));
     }
+
+-- what a power loss leaves
+pub HasQueues-lost : (g : Shape) (durable : Bool) (old new : PlainState) → HasQueues g old → new.queues ≡ queues_after_loss durable old.queues
+    → HasQueues g new
+HasQueues-lost g true old new queues left =
+    record {
+      ports = subst ArePorts (sym left) queues.ports;
+      on_memory =
+          subst (λ queues. All (λ queue. All (λ write. write.at < layout.data_lines g) queue) queues) (sym left) queues.on_memory;
+    }
+HasQueues-lost g false old new queues left = HasQueues-none g new left
 
 -- ---- worlds
 

@@ -5,6 +5,7 @@ use Rattle.std.specs.Prelude.{Bool, not, IfSome, option_map}
 use Rattle.std.proofs.lemmas.Option.{same_Some}
 use Rattle.pmem_base.specs.declared.answers.Mark.{Mark}
 use Rattle.pmem_base.specs.Counts.{last_count, HasRisen}
+use Rattle.pmem_base.specs.Shape.{Shape}
 use Rattle.pmem_base.specs.Layout as layout
 use Rattle.pmem_base.specs.declared.answers.Stat.{Stat}
 use Rattle.board.specs.Memory.{BoardMemory}
@@ -15,7 +16,7 @@ use Rattle.meta_cache.specs.Banks.{IsBanksOf, is_cached_dirty}
 use Rattle.suite.specs.Setup.{Setup}
 use Rattle.plain_model.specs.State.{PlainState, is_flagged, has_flags}
 use Rattle.plain_model.specs.After.{steps_with}
-use Rattle.plain_model.specs.Bounds.{can_be_dirty}
+use Rattle.plain_model.specs.Bounds.{can_be_dirty, group_bound}
 use Rattle.plain_model.specs.View.{IsMemoryOf}
 use Rattle.pmem_engine.specs.Engine.{EngineState}
 use Rattle.pmem_engine.specs.Invariants.{IsCounterStored}
@@ -98,6 +99,10 @@ module _ (setup : Setup) (old new : WorldState) (engine after : EngineState) (ta
             let before_unnamed : is_flagged old.state.named (layout.meta_line setup.shape (counter_position setup.shape page)) ≡ false =
             subst (λ flags. is_flagged flags (layout.meta_line setup.shape (counter_position setup.shape page)) ≡ false) healed.named unnamed in
             counters.each before_tight page within before_unnamed (kept.counters before_tight page within before_unnamed);
+        strict =
+            λ x within at_once unnamed.
+            places.strict x within at_once
+            (kept.strict x within at_once (subst (λ flags. is_flagged flags (layout.meta_line setup.shape x) ≡ false) healed.named unnamed));
       }
 
   -- the chip after a call that goes on
@@ -150,31 +155,31 @@ pub steps-taken : (old_state new_state : PlainState) (old new : BoardMemory) (st
 steps-taken old_state new_state old new start taken steps in_count follows after = search (rules, arith, counted-exact, counted-rises)
 
 -- the board after a call that goes on
-pub board-going : (old_state new_state : PlainState) (old new : BoardMemory) (taken : Taken)
-    → HasBoard old_state old → FollowsOn old new taken
+pub board-going : {g : Shape} (old_state new_state : PlainState) (old new : BoardMemory) (taken : Taken)
+    → HasBoard g old_state old → FollowsOn old new taken
     → new.powered ≡ true → new_state.power ≡ true → new_state.snapped ≡ old_state.snapped
     → new_state.fuse ≡ option_map (λ n. n - steps_in taken) old_state.fuse
-    → new.regs.loss ≡ new_state.loss → length new.regs.group.items ≤ 3
-    → HasBoard new_state new
+    → new.regs.loss ≡ new_state.loss → length new.regs.group.items ≤ group_bound g
+    → HasBoard g new_state new
 board-going old_state new_state old new taken board follows powered power snapped fuse loss few = search rules
 
 -- the board after a cut
-pub board-cut : (old_state new_state : PlainState) (old new : BoardMemory) (taken : Taken)
-    → HasBoard old_state old → FollowsOn old new taken
+pub board-cut : {g : Shape} (old_state new_state : PlainState) (old new : BoardMemory) (taken : Taken)
+    → HasBoard g old_state old → FollowsOn old new taken
     → new.powered ≡ false → new_state.power ≡ false → new_state.snapped ≡ old_state.snapped
     → new_state.fuse ≡ None
-    → new.regs.loss ≡ new_state.loss → length new.regs.group.items ≤ 3
-    → HasBoard new_state new
+    → new.regs.loss ≡ new_state.loss → length new.regs.group.items ≤ group_bound g
+    → HasBoard g new_state new
 board-cut old_state new_state old new taken board follows powered power snapped fuse loss few = search rules
 
 -- a cut below the limit comes where the fuse stood at the steps taken
-pub cut_at_fuse : (state : PlainState) (old new : BoardMemory) (taken : Taken) → HasBoard state old → FollowsOn old new taken
+pub cut_at_fuse : {g : Shape} (state : PlainState) (old new : BoardMemory) (taken : Taken) → HasBoard g state old → FollowsOn old new taken
     → new.powered ≡ false → steps_in taken < step_limit → state.fuse ≡ Some (steps_in taken)
 cut_at_fuse state old new taken board follows off few =
     sym board.fuse ∙ follows.spent off few
 
 -- steps are within the fuse while power lasts
-pub within_fuse : (state : PlainState) (old new : BoardMemory) (taken : Taken) → HasBoard state old → FollowsOn old new taken
+pub within_fuse : {g : Shape} (state : PlainState) (old new : BoardMemory) (taken : Taken) → HasBoard g state old → FollowsOn old new taken
     → new.powered ≡ true → IfSome state.fuse (λ n. steps_in taken ≤ n)
 within_fuse state old new taken board follows on =
     subst (λ fuse. IfSome fuse (λ n. steps_in taken ≤ n)) board.fuse (follows.lasting on)
@@ -228,7 +233,7 @@ world-going setup old new engine after taken made call gone counters healed coun
       queues = queues;
       board =
           board-going old.state new.state old.board new.board taken call.world.board call.follows powered power counted_on.snapped fuse loss
-          (subst (λ g. length g.items ≤ 3) (sym group) call.world.board.few_armed);
+          (subst (λ its. length its.items ≤ group_bound setup.shape) (sym group) call.world.board.few_armed);
       steps =
           subst (λ start. HasSteps new.state new.board start) (sym call.start)
           (steps-taken old.state new.state old.board new.board old.start taken call.world.steps call.in_count call.follows counted_on.steps);

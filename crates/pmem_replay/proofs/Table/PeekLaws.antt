@@ -1,7 +1,7 @@
 -- What a look at a device line shows, and the counts.
 use Rattle.std.proofs.Common.{ℕ, suc, ◌≡◌, ◌<◌, ◌≤◌, ◌+◌, ◌-◌, ◌*◌, ◌%◌, ◌++◌, ◌⊎◌, inl, inr, Bool, true, false, List, length, drop, Option, Some, None, IsTrue, refl, sym, ap, ap₂, subst, lt_irrefl, ◌∙◌, arith}
 use Rattle.std.specs.Prelude.{MatchBool, option_map, slice_range, nat_le, not, ◌&&◌, ◌||◌, ⊤}
-use Rattle.std.specs.List.{range_with_len}
+use Rattle.std.specs.List.{list_any, range_with_len}
 use Rattle.std.proofs.lemmas.Option.{same_Some, none-some}
 use Rattle.std.proofs.lemmas.Bool.{true≢false, cases_lt, le-leb, lt-leb, and_parts, or_parts}
 use Rattle.std.proofs.lemmas.List.{append-nil, append_assoc, drop_all, get_or_past}
@@ -12,7 +12,7 @@ use Rattle.pmem_base.specs.declared.commands.Command.TheVariants as Do
 use Rattle.pmem_base.specs.declared.answers.Answer.TheVariants as Say
 use Rattle.pmem_base.specs.declared.answers.Stat.{Stat}
 use Rattle.pmem_base.specs.Counts.{last_count}
-use Rattle.pmem_base.specs.Shape.{Shape}
+use Rattle.pmem_base.specs.Shape.{Shape, is_lazy, counter_window}
 use Rattle.pmem_base.specs.Layout.{Content, data_line, tags_from, metadata, shadow, nothing, content_of, data_lines, tag_line, meta_line, shadow_line, device_lines, pages, meta_lines, level_start}
 use Rattle.pmem_base.specs.Lines.{IsLine, line_at, line_of, tag_slot}
 use Rattle.pmem_base.specs.Marks.{SealOf, last_seal}
@@ -150,11 +150,11 @@ module _ (setup : Setup) (world : WorldState) (whole : IsWorld setup world) (eng
   shown_block : (page : ℕ) → page < pages setup.shape
       → ShowsCounterBlock setup.shape world.state (view_in setup world) page (line_at world.board.lines (meta_line setup.shape (counter_position setup.shape page)))
   shown_block page within = λ power tight unnamed. (
-    subst (λ block. IsStoredBlock world.state.loss (unpacked (line_at world.board.lines (meta_line setup.shape (counter_position setup.shape page)))) block)
+    subst (λ block. IsStoredBlock (counter_window setup.shape world.state.loss) (unpacked (line_at world.board.lines (meta_line setup.shape (counter_position setup.shape page)))) block)
         (sym (view-block setup world.board.regs world.ledger on.trusted.anchored page within))
-        (subst (λ loss. IsStoredBlock loss (unpacked (line_at world.board.lines (meta_line setup.shape (counter_position setup.shape page)))) (true_block setup.shape world.ledger.truth page))
+        (subst (λ loss. IsStoredBlock (counter_window setup.shape loss) (unpacked (line_at world.board.lines (meta_line setup.shape (counter_position setup.shape page)))) (true_block setup.shape world.ledger.truth page))
         whole.board.loss
-        (subst (λ lines. IsStoredBlock world.board.regs.loss (unpacked (line_at lines (meta_line setup.shape (counter_position setup.shape page)))) (true_block setup.shape world.ledger.truth page))
+        (subst (λ lines. IsStoredBlock (counter_window setup.shape world.board.regs.loss) (unpacked (line_at lines (meta_line setup.shape (counter_position setup.shape page)))) (true_block setup.shape world.ledger.truth page))
         lines_now (whole.kept.counters tight page within unnamed))),
     λ untouched.
         elim (on.metadata tight (counter_position setup.shape page) (counter_position-within setup.shape page within) unnamed) [
@@ -171,7 +171,10 @@ module _ (setup : Setup) (world : WorldState) (whole : IsWorld setup world) (eng
     where
       some_touched : (x : ℕ) → IsTrue (can_be_dirty setup.shape world.state x) → has_flags world.state.touched ≡ false → ⊥
       some_touched x may untouched =
-          let touched = (and_parts (is_touched_block setup.shape world.state.touched x) (not (is_flagged world.state.flushed x)) may).0 in
+          let block = (and_parts (is_touched_block setup.shape world.state.touched x) (not (is_flagged world.state.flushed x)) may).0 in
+          let touched =
+          (and_parts (is_lazy setup.shape (level_of x))
+          (list_any (λ page. is_flagged world.state.touched page && is_on_path setup.shape page x) (range_with_len 0 (pages setup.shape))) block).1 in
           let found = Any-from_list_any (λ page. is_flagged world.state.touched page && is_on_path setup.shape page x) (range_with_len 0 (pages setup.shape)) touched in
           let flag = (and_parts (is_flagged world.state.touched found.1) (is_on_path setup.shape found.1 x) found.4).0 in
           let inside : found.1 < length world.state.touched =

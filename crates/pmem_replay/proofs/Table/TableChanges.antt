@@ -1,7 +1,7 @@
 -- Commands that the table answers and that change the world.
-use Rattle.std.proofs.Common.{ℕ, ◌≡◌, ◌≢◌, ◌<◌, ◌≤◌, ◌+◌, ◌++◌, Bool, true, false, List, [], ◌∷◌, Option, Some, None, refl, sym, ap, ap₂, subst, ◌∙◌, arith}
-use Rattle.std.specs.Prelude.{All, length, slice_set, is_some, not}
-use Rattle.std.proofs.lemmas.Bool.{lt-ltb, le-leb, lt-leb, true≢false}
+use Rattle.std.proofs.Common.{ℕ, ◌≡◌, ◌≢◌, ◌<◌, ◌≤◌, ◌+◌, Bool, true, false, List, Option, Some, None, refl, sym, ap, ap₂, subst, ◌∙◌, arith}
+use Rattle.std.specs.Prelude.{All, ◌↔◌, length, slice_set, is_some, not, IsTrue}
+use Rattle.std.proofs.lemmas.Bool.{lt-ltb, le-leb, true≢false, false_from_ne_true}
 use Rattle.std.proofs.lemmas.List.{get_or-set_same, append-nil}
 use Rattle.pmem_base.specs.declared.lines.Line.{Line}
 use Rattle.pmem_base.specs.declared.commands.Posted.{Posted}
@@ -13,7 +13,7 @@ use Rattle.pmem_base.specs.Layout as layout
 use Rattle.pmem_base.specs.Lines.{IsLine, line_at, zero_line}
 use Rattle.pmem_base.proofs.LineLemmas.{IsLine-line_at}
 use Rattle.pmem_base.specs.Ranges.{IsPosted, IsStat}
-use Rattle.pmem_base.specs.WaitingWrites.{queue_of, no_writes}
+use Rattle.pmem_base.specs.WaitingWrites.{queue_of, queue_posted, is_queue_full, queues_after_loss}
 use Rattle.board.specs.Memory.{BoardMemory, with_line_at, with_lines, flipped_line, restored_lines}
 use Rattle.suite.specs.Setup.{Setup}
 use Rattle.plain_model.specs.State.{PlainState}
@@ -39,6 +39,12 @@ counted_zero state range =
     sym (ap₂ (λ (steps : ℕ) (fuse : Option ℕ). record state { steps = steps; fuse = fuse })
     {x = state.steps} {y = steps_with state.steps 0} (omega (arith, range)) (fuse_none state.fuse))
 
+-- a post that isn't refused had room, as the machine says it
+pub has_room : (b combines : Bool) (queue : List Posted) (w write : Posted) (E : Type 0) → (E ↔ IsTrue (is_queue_full b queue w)) → (E → ⊥)
+    → b ≡ combines → w ≡ write → is_queue_full combines queue write ≡ false
+has_room b combines queue w write E full fine same is =
+    ap₂ (λ d x. is_queue_full d queue x) (sym same) (sym is) ∙ false_from_ne_true (is_queue_full b queue w) (λ holds. fine (full.1 holds))
+
 module _ (setup : Setup) (p : WorldParts) (going : IsGoingOn setup (world_of setup p)) where
   abbrev old : WorldState
   old = world_of setup p
@@ -48,16 +54,17 @@ module _ (setup : Setup) (p : WorldParts) (going : IsGoingOn setup (world_of set
 
   -- ---- a write waits
 
-  has_room : (port : ℕ) → port < 8 → length (queue_of p.queues port) ≢ 16 → length (queue_of p.queues port) < 16
-  has_room port small full =
-      omega (arith, full, (going.whole.queues.ports.each port [] (omega (arith, small, going.whole.queues.ports.eight))).room)
+  abbrev Room : ℕ → Posted → Type 0
+  Room port write = is_queue_full setup.shape.combines (queue_of p.queues port) write ≡ false
+
+  abbrev posted_to : ℕ → Posted → List (List Posted)
+  posted_to port write = slice_set p.queues port (queue_posted setup.shape.combines (queue_of p.queues port) write)
 
   posted : (engine : EngineState) → p.engine ≡ Some engine → (port : ℕ) (write : Posted) (queues : List (List Posted)) → port < 8
-      → length (queue_of p.queues port) ≢ 16 → IsPosted write → write.at < layout.data_lines setup.shape
-      → queues ≡ slice_set p.queues port (queue_of p.queues port ++ write ∷ [])
+      → Room port write → IsPosted write → write.at < layout.data_lines setup.shape → queues ≡ posted_to port write
       → IsWorld setup (world_of setup (record p { queues = queues }))
   posted engine there port write queues small room its on_memory is =
-      world-posted setup old (world_of setup (record p { queues = queues })) port write going.whole small (has_room port small room) its on_memory
+      world-posted setup old (world_of setup (record p { queues = queues })) port write going.whole small room its on_memory
       (record {
         shape = refl;
         start = refl;
@@ -68,36 +75,35 @@ module _ (setup : Setup) (p : WorldParts) (going : IsGoingOn setup (world_of set
       })
 
   pub post-ok : (engine : EngineState) → p.engine ≡ Some engine → (port at : ℕ) (line : Line) (queues : List (List Posted)) → port < 8
-      → length (queue_of p.queues port) ≢ 16 → IsPosted (posted_line at line) → at < layout.data_lines setup.shape
-      → queues ≡ slice_set p.queues port (queue_of p.queues port ++ posted_line at line ∷ [])
+      → Room port (posted_line at line) → IsPosted (posted_line at line) → at < layout.data_lines setup.shape
+      → queues ≡ posted_to port (posted_line at line)
       → HasStepped setup old (Do.Post port at line) (without_marks Say.Ok) (world_of setup (record p { queues = queues }))
   post-ok engine there port at line queues small room its on_memory is =
       stepped_by_table setup old (world_of setup (record p { queues = queues })) (Do.Post port at line) Say.Ok
       (rw (lit_in setup old engine going.whole there) (rw (lt-ltb at (layout.data_lines setup.shape) on_memory)
-      (rw (lt-leb 16 (length (queue_of p.queues port)) (has_room port small room)) refl)))
+      (rw room refl)))
       refl tt
       (record { marks_asked = refl; peek_true = tt; steps_counted = tt; flush_true = tt; within_bounds = tt })
       (record { shape = refl; keys = refl; start = refl }) going.unshown
       (record { board = refl; engine = refl; ledger = refl; capacity = refl; tags = refl; digests = refl })
       (ap (λ (queues : List (List Posted)). record (state_in setup p) { queues = queues }) is
-      ∙ sym (counted_zero (after_post (state_in setup p) port (posted_line at line)) range))
+      ∙ sym (counted_zero (after_post setup.shape (state_in setup p) port (posted_line at line)) range))
       (posted engine there port (posted_line at line) queues small room its on_memory is) tt
 
   pub part-ok : (engine : EngineState) → p.engine ≡ Some engine → (port at from count : ℕ) (line : Line) (queues : List (List Posted)) → port < 8
-      → length (queue_of p.queues port) ≢ 16 → IsPosted (posted_part at from count line) → at < layout.data_lines setup.shape
-      → from + count ≤ 64
-      → queues ≡ slice_set p.queues port (queue_of p.queues port ++ posted_part at from count line ∷ [])
+      → Room port (posted_part at from count line) → IsPosted (posted_part at from count line) → at < layout.data_lines setup.shape
+      → from + count ≤ 64 → queues ≡ posted_to port (posted_part at from count line)
       → HasStepped setup old (Do.Part port at from count line) (without_marks Say.Ok) (world_of setup (record p { queues = queues }))
   part-ok engine there port at from count line queues small room its on_memory inside is =
       stepped_by_table setup old (world_of setup (record p { queues = queues })) (Do.Part port at from count line) Say.Ok
       (rw (lit_in setup old engine going.whole there) (rw (lt-ltb at (layout.data_lines setup.shape) on_memory)
-      (rw (le-leb (from + count) 64 inside) (rw (lt-leb 16 (length (queue_of p.queues port)) (has_room port small room)) refl))))
+      (rw (le-leb (from + count) 64 inside) (rw room refl))))
       refl tt
       (record { marks_asked = refl; peek_true = tt; steps_counted = tt; flush_true = tt; within_bounds = tt })
       (record { shape = refl; keys = refl; start = refl }) going.unshown
       (record { board = refl; engine = refl; ledger = refl; capacity = refl; tags = refl; digests = refl })
       (ap (λ (queues : List (List Posted)). record (state_in setup p) { queues = queues }) is
-      ∙ sym (counted_zero (after_post (state_in setup p) port (posted_part at from count line)) range))
+      ∙ sym (counted_zero (after_post setup.shape (state_in setup p) port (posted_part at from count line)) range))
       (posted engine there port (posted_part at from count line) queues small room its on_memory is) tt
 
   -- ---- the fuse, a copy, and power off
@@ -127,7 +133,7 @@ module _ (setup : Setup) (p : WorldParts) (going : IsGoingOn setup (world_of set
       (record { shape = refl; start = refl; board = refl; ledger = refl; engine = refl; state = refl })) tt)
 
   pub off-ok : (there : Bool) → is_some p.engine ≡ not there → there ≡ false → (board : BoardMemory) (queues : List (List Posted))
-      → board ≡ record (p.board) { powered = false; fuse = None } → queues ≡ no_writes
+      → board ≡ record (p.board) { powered = false; fuse = None } → queues ≡ queues_after_loss setup.shape.durable p.queues
       → HasStepped setup old Do.Off (without_marks Say.Ok) (world_of setup (record p { board = board; queues = queues; engine = None }))
   off-ok there its some board queues is empty = by_engine p.engine refl
     where
@@ -138,13 +144,13 @@ module _ (setup : Setup) (p : WorldParts) (going : IsGoingOn setup (world_of set
           subst (λ b. HasStepped setup old Do.Off (without_marks Say.Ok) (world_of setup (record p { board = b; queues = queues; engine = None }))) (sym is)
           (subst (λ q. HasStepped setup old Do.Off (without_marks Say.Ok)
           (world_of setup (record p { board = record (p.board) { powered = false; fuse = None }; queues = q; engine = None }))) (sym empty)
-          (stepped_by_table setup old (world_of setup (record p { board = record (p.board) { powered = false; fuse = None }; queues = no_writes; engine = None })) Do.Off Say.Ok
+          (stepped_by_table setup old (world_of setup (record p { board = record (p.board) { powered = false; fuse = None }; queues = queues_after_loss setup.shape.durable p.queues; engine = None })) Do.Off Say.Ok
           (rw (lit_in setup old engine going.whole on) refl) refl tt
           (record { marks_asked = refl; peek_true = tt; steps_counted = tt; flush_true = tt; within_bounds = tt })
           (record { shape = refl; keys = refl; start = refl }) going.unshown
           (record { board = refl; engine = refl; ledger = refl; capacity = refl; tags = refl; digests = refl })
-          (sym (counted_zero (after_power_loss (state_in setup p)) range))
-          (world-off setup old (world_of setup (record p { board = record (p.board) { powered = false; fuse = None }; queues = no_writes; engine = None })) engine going.whole on
+          (sym (counted_zero (after_power_loss setup.shape (state_in setup p)) range))
+          (world-off setup old (world_of setup (record p { board = record (p.board) { powered = false; fuse = None }; queues = queues_after_loss setup.shape.durable p.queues; engine = None })) engine going.whole on
           (record { shape = refl; start = refl; board = refl; ledger = refl; engine = refl; state = refl })) tt))
 
   -- ---- tampering

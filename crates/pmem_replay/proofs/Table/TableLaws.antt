@@ -1,16 +1,17 @@
 -- Commands that the table decides: the world goes on.
-use Rattle.std.proofs.Common.{rules, ℕ, ◌≡◌, ◌<◌, ◌++◌, Bool, true, false, List, [], ◌∷◌, length, Option, Some, None, refl, sym, ap, ap₂, subst, ◌∙◌, arith}
+use Rattle.std.proofs.Common.{rules, ℕ, ◌≡◌, ◌<◌, Bool, true, false, List, [], length, Option, Some, None, refl, sym, ap, ap₂, subst, ◌∙◌, arith}
 use Rattle.std.specs.Prelude.{All, MatchOption, is_some, slice_set}
-use Rattle.std.proofs.lemmas.List.{length-set, length-append}
-use Rattle.std.proofs.lemmas.List.Elements.{All-set, All-push}
+use Rattle.std.proofs.lemmas.List.{length-set}
+use Rattle.std.proofs.lemmas.List.Elements.{All-set}
 use Rattle.pmem_base.specs.declared.lines.Line.{Line}
 use Rattle.pmem_base.specs.declared.commands.Posted.{Posted}
 use Rattle.pmem_base.specs.declared.commands.Command.{Command}
 use Rattle.pmem_base.specs.Layout as layout
 use Rattle.pmem_base.specs.Ranges.{IsPosted}
-use Rattle.pmem_base.specs.WaitingWrites.{queue_of}
+use Rattle.pmem_base.specs.WaitingWrites.{queue_of, queue_posted, is_queue_full}
 use Rattle.board.specs.Memory.{BoardMemory}
 use Rattle.write_ports.specs.Queues.{IsQueue}
+use Rattle.write_ports.proofs.PostLemmas.{posted_queue, posted_all}
 use Rattle.suite.specs.Setup.{Setup}
 use Rattle.plain_model.specs.State.{PlainState, Reply}
 use Rattle.plain_model.specs.After.{after_post, after_power_loss, steps_with}
@@ -19,7 +20,7 @@ use Rattle.plain_model.specs.Answers.{decided_answer}
 use Rattle.plain_model.specs.Shown.{IsLegal, IsEngineReply}
 use Rattle.pmem_engine.specs.Engine.{EngineState}
 use Rattle.pmem_replay.specs.World.{WorldState, HasQueues, IsOn, IsWorld, IsPowered}
-use Rattle.pmem_replay.proofs.Steps.MarklessCalls.{counted_state, HasQueues-none}
+use Rattle.pmem_replay.proofs.Steps.MarklessCalls.{counted_state, HasQueues-lost}
 use Rattle.pmem_replay.proofs.Drains.DrainChain.{fuse_none}
 use Rattle.pmem_replay.proofs.Steps.SameWorld.{IsSameWorld, same_world}
 
@@ -87,14 +88,13 @@ other_parts setup old new queues snapped fuse snapshot world same its_queues its
 -- ---- a posted write
 
 pub world-posted : (setup : Setup) (old new : WorldState) (port : ℕ) (write : Posted) → IsWorld setup old → port < 8
-    → length (queue_of old.state.queues port) < 16 → IsPosted write → write.at < layout.data_lines setup.shape
-    → IsSameWorld (record old { state = after_post old.state port write }) new → IsWorld setup new
+    → is_queue_full setup.shape.combines (queue_of old.state.queues port) write ≡ false → IsPosted write → write.at < layout.data_lines setup.shape
+    → IsSameWorld (record old { state = after_post setup.shape old.state port write }) new → IsWorld setup new
 world-posted setup old new port write world small room posted on_memory same =
     let within : port < length old.state.queues = omega (arith, small, world.queues.ports.eight) in
     let queue = queue_of old.state.queues port in
-    let its = world.queues.ports.each port [] within in
-    let on = world.queues.on_memory port [] within in
-    other_parts setup old new (slice_set old.state.queues port (queue ++ write ∷ [])) old.state.snapped old.state.fuse old.board.snapshot world
+    let posted_to = queue_posted setup.shape.combines queue write in
+    other_parts setup old new (slice_set old.state.queues port posted_to) old.state.snapped old.state.fuse old.board.snapshot world
     (record {
       shape = same.shape;
       start = same.start;
@@ -106,18 +106,15 @@ world-posted setup old new port write world small room posted on_memory same =
     (record {
       ports =
           record {
-            eight = length-set old.state.queues port (queue ++ write ∷ []) ∙ world.queues.ports.eight;
+            eight = length-set old.state.queues port posted_to ∙ world.queues.ports.eight;
             each =
-                All-set IsQueue old.state.queues port (queue ++ write ∷ [])
-                (record {
-                  room = omega (arith, room, length-append queue (write ∷ []));
-                  posted = All-push IsPosted queue write its.posted posted;
-                })
+                All-set IsQueue old.state.queues port posted_to
+                (posted_queue setup.shape.combines queue write (world.queues.ports.each port [] within) posted room)
                 world.queues.ports.each;
           };
       on_memory =
-          All-set (λ queue. All (λ write. write.at < layout.data_lines setup.shape) queue) old.state.queues port (queue ++ write ∷ [])
-          (All-push (λ write. write.at < layout.data_lines setup.shape) queue write on on_memory)
+          All-set (λ queue. All (λ write. write.at < layout.data_lines setup.shape) queue) old.state.queues port posted_to
+          (posted_all (λ write. write.at < layout.data_lines setup.shape) setup.shape.combines queue write (world.queues.on_memory port [] within) on_memory)
           world.queues.on_memory;
     })
     world.board.snapped
@@ -135,13 +132,23 @@ world-armed setup old new n world same =
 pub world-snapped : (setup : Setup) (old new : WorldState) → IsWorld setup old
     → IsSameWorld (record old { state = record (old.state) { snapped = true }; board = record (old.board) { snapshot = Some old.board.lines } }) new
     → IsWorld setup new
-world-snapped setup old new world same = search (rules, other_parts)
+world-snapped setup old new world same =
+    other_parts setup old new old.state.queues true old.state.fuse (Some old.board.lines) world
+    (record {
+      shape = same.shape;
+      start = same.start;
+      board = same.board ∙ ap (λ fuse. record (old.board) { fuse = fuse; snapshot = Some old.board.lines }) world.board.fuse;
+      ledger = same.ledger;
+      engine = same.engine;
+      state = same.state;
+    })
+    (record { ports = world.queues.ports; on_memory = world.queues.on_memory }) refl
 
 -- ---- power off
 
 pub world-off : (setup : Setup) (old new : WorldState) (engine : EngineState) → IsWorld setup old → old.engine ≡ Some engine
     → IsSameWorld (record old {
-      state = after_power_loss old.state;
+      state = after_power_loss setup.shape old.state;
       board = record (old.board) { powered = false; fuse = None };
       engine = None;
     }) new
@@ -149,7 +156,7 @@ pub world-off : (setup : Setup) (old new : WorldState) (engine : EngineState) �
 world-off setup old new engine world there same =
     let on : IsOn setup old engine = subst (λ e. IsPowered setup old e) there world.chip in
     same_world setup (record old {
-      state = after_power_loss old.state;
+      state = after_power_loss setup.shape old.state;
       board = record (old.board) { powered = false; fuse = None };
       engine = None;
     }) new same
@@ -162,7 +169,7 @@ world-off setup old new engine world there same =
       chip = record { unpowered = refl; anchored = on.trusted.anchored; durable = λ honest. (on.sound honest).durable };
       kept = search rules;
       flags = search rules;
-      queues = HasQueues-none setup.shape (after_power_loss old.state) refl;
+      queues = HasQueues-lost setup.shape setup.shape.durable old.state (after_power_loss setup.shape old.state) world.queues refl;
       board =
           record {
             power = refl;

@@ -9,7 +9,7 @@ use Rattle.std.proofs.lemmas.List.{length-set, get_or-set_same, get_or-set_other
 use Rattle.std.proofs.lemmas.List.Folds.{list_any_at}
 use Rattle.std.proofs.lemmas.Nat.Bits.{bit_at_xor, bit_at-pow_same, bit_at-lt}
 use Rattle.pmem_base.specs.declared.lines.Line.{Line}
-use Rattle.pmem_base.specs.Shape.{Shape}
+use Rattle.pmem_base.specs.Shape.{Shape, counter_window}
 use Rattle.pmem_base.specs.Layout.{content_of, data_lines, tag_line, meta_line, shadow_line, device_lines}
 use Rattle.pmem_base.specs.Lines.{IsLine, line_at, tag_slot, zero_line}
 use Rattle.pmem_base.specs.Marks.{SealOf, last_seal}
@@ -296,9 +296,13 @@ module _ (setup : Setup) (old : WorldState) (d : ℕ) (line : Line) (flipped : B
         counters =
             λ tight page within none.
             let was = unnamed (meta_line setup.shape (counter_position setup.shape page)) none in
-            subst (λ (line : Line). IsStoredBlock old.board.regs.loss (unpacked line) (true_block setup.shape old.ledger.truth page))
+            subst (λ (line : Line). IsStoredBlock (counter_window setup.shape old.board.regs.loss) (unpacked line) (true_block setup.shape old.ledger.truth page))
             (sym (alike.elsewhere (meta_line setup.shape (counter_position setup.shape page)) was.1))
             (world.kept.counters (sym (ap (λ (s : PlainState). s.loose) hurt.others) ∙ tight) page within was.0);
+        strict =
+            λ x within at_once none.
+            let was = unnamed (meta_line setup.shape x) none in
+            alike.elsewhere (meta_line setup.shape x) was.1 ∙ world.kept.strict x within at_once was.0;
       }
 
   chip : (engine : Option EngineState) → IsPowered setup old engine → IsPowered setup new engine

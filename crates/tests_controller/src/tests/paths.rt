@@ -163,7 +163,12 @@ fn renew(rt: &impl Abort, bench: &mut Bench, persisted: bool) -> Result<Tag, Pat
     let mut block = Line::default();
     block.0[8] = 2;
     let path = next_path(&bench.geo, &bench.cache, &mut bench.suite, 0, &block);
-    store_path(&mut bench.cache, &mut bench.ledger, &path, persisted);
+    store_path(
+        &mut bench.cache,
+        &mut bench.ledger,
+        &path,
+        u8::from(persisted),
+    );
     Ok(path.root)
 }
 

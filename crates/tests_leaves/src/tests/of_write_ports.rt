@@ -28,10 +28,10 @@ fn part(at: u32, from: u8, len: u8, byte: u8) -> Posted
 #[test]
 fn parts_over_each_other(rt: HostRuntime) -> Result<(), Fail> {
     let mut ports = Ports::new();
-    assert!(rt; ports.post(3, &part(5, 0, 4, 0x11)).is_ok());
-    assert!(rt; ports.post(3, &part(6, 0, 64, 0x22)).is_ok());
-    assert!(rt; ports.post(3, &part(5, 2, 4, 0x33)).is_ok());
-    assert!(rt; ports.post(3, &part(5, 60, 4, 0x44)).is_ok());
+    assert!(rt; ports.post(3, &part(5, 0, 4, 0x11), false).is_ok());
+    assert!(rt; ports.post(3, &part(6, 0, 64, 0x22), false).is_ok());
+    assert!(rt; ports.post(3, &part(5, 2, 4, 0x33), false).is_ok());
+    assert!(rt; ports.post(3, &part(5, 60, 4, 0x44), false).is_ok());
     let seen = ports.look(3, 5);
     assert_eq!(rt; seen.mask, 0xf000_0000_0000_003f);
     let line = overlay(&Line([0xee; 64]), &seen);

@@ -88,6 +88,85 @@ fn answers_traces(rt: HostRuntime) -> Result<(), Fail> {
 }
 
 #[test]
+fn keeps_and_combines_waiting_writes(rt: HostRuntime) -> Result<(), Fail> {
+    check_rows(
+        &rt,
+        "
+        run --suite weak --queue durable
+        post 0 0 [11] / cut 0 / drain 0 / on / read 0 0 / drain 0 / drain 0
+        0: ok / ok / cut lost 0 / on 0 1 0 / line [11] 0 / seal 0 0.1 {51} / ok 7 / empty
+
+        run --suite weak --queue durable
+        post 0 0 [11] / cut 4 / drain 0 / on / read 0 0 / drain 0
+        0: ok / ok / seal 0 0.1 {51} / cut kept 4 / on 256 9 8 / line [11] 0 / empty
+
+        run --suite weak --queue durable
+        post 0 0 [11] / off / read 0 0 / drain 0 / on / read 0 0 / read 1 0 / drain 0
+        0: ok / ok / off / off / on 0 1 0 / line [11] 0 / line [00] 0 / seal 0 0.1 {51} / ok 7
+
+        run --suite weak --queue durable
+        post 0 0 [11] / post 0 1 [22] / post 0 2 [33] / post 3 9 [44] / cut 9 / fence 0 / on / read 3 9 / read 0 2 / fence 0
+        0: 5x ok / seal 0 0.1 {51} / seal 1 0.1 {10} / cut kept 1 9 / on 256 9 8 / line [44] 0 / line [33] 0 / seal 2 0.1 {53} / ok 1 7
+
+        run --suite weak --queue durable
+        post 0 0 [11] / cut 4 / drain 0 / post 0 0 [22] / cut 3 / on / on / read 0 0 / drain 0
+        0: ok / ok / seal 0 0.1 {51} / cut kept 4 / off / ok / cut 3 / on 256 9 5 / line [11] 0 / empty
+
+        run --suite weak --queue durable
+        flip 0 0 / part 0 0 0 ff / off / on / drain 0 / drain 0
+        0: 3x ok / on 0 1 0 / refused data 0 0 / empty
+
+        run --suite weak --queue durable
+        16x post 2 0 [00] / off / on / post 2 0 [00] / post 1 0 [00]
+        0: 17x ok / on 0 1 0 / full / ok
+
+        run --suite weak --queue=volatile
+        post 0 0 [11] / off / on / read 0 0 / drain 0
+        0: ok / ok / on 0 1 0 / line [00] 0 / empty
+
+        run --suite weak --combine on
+        post 0 0 [11] / post 0 0 [22] / read 0 0 / drain 0 / drain 0 / read 0 0
+        0: ok / ok / line [22] 0 / seal 0 0.1 {51} / ok 7 / empty / line [22] 0
+
+        run --suite weak --combine on
+        post 0 0 [11] / part 0 0 0 aa / post 0 0 [22] / read 0 0 / fence 0 / read 0 0
+        0: 3x ok / line [22] 0 / seal 0 0.1 {51} / seal 0 0.2 {a9} / seal 0 0.3 {53} / ok 3 15 / line [22] 0
+
+        run --suite weak --combine on
+        post 0 0 [11] / part 0 0 0 aa / 3x drain 0
+        0: ok / ok / seal 0 0.1 {51} / ok 7 / seal 0 0.2 {a9} / ok 4 / empty
+
+        run --suite weak --combine on
+        post 0 0 [11] / part 0 0 0 aa / post 0 0 [22] / post 0 0 [33] / read 0 0 / fence 0
+        0: 4x ok / line [33] 0 / seal 0 0.1 {51} / seal 0 0.2 {a9} / seal 0 0.3 {53} / ok 3 15
+
+        run --suite weak --combine on
+        post 0 0 [11] / post 1 0 [22] / read 0 0 / read 1 0 / fence 0 / fence 1
+        0: ok / ok / line [11] 0 / line [22] 0 / seal 0 0.1 {51} / ok 1 7 / seal 0 0.2 {12} / ok 1 4
+
+        run --suite weak --combine on
+        post 0 0 [11] / post 0 1 [22] / post 0 0 [33] / 3x drain 0
+        0: 3x ok / seal 0 0.1 {51} / ok 7 / seal 1 0.1 {10} / ok 4 / empty
+
+        run --suite weak --combine on
+        post 0 0 [00] / post 0 1 [00] / post 0 2 [00] / post 0 3 [00] / post 0 4 [00] / post 0 5 [00] / post 0 6 [00] / post 0 7 [00] / post 0 8 [00] / post 0 9 [00] / post 0 10 [00] / post 0 11 [00] / post 0 12 [00] / post 0 13 [00] / post 0 14 [00] / post 0 15 [00] / post 0 3 [77] / post 0 16 [00] / part 0 3 0 aa / read 0 3
+        0: 17x ok / full / full / line [77] 0
+
+        run --suite weak --combine on
+        post 0 0 [11] / part 0 0 0 [22] / part 0 0 0 [33] / drain 0 / drain 0 / read 0 0
+        0: 3x ok / seal 0 0.1 {51} / ok 7 / empty / line [33] 0
+
+        run --suite weak --combine on --queue durable
+        post 0 0 [11] / off / post 0 0 [22] / on / post 0 0 [33] / cut 0 / drain 0 / on / post 0 0 [44] / drain 0 / drain 0 / read 0 0
+        0: ok / ok / off / on 0 1 0 / ok / ok / cut lost 0 / on 0 1 0 / ok / seal 0 0.1 {51} / ok 7 / empty / line [44] 0
+
+        run --suite weak --combine off
+        post 0 0 [11] / post 0 0 [22] / fence 0
+        0: ok / ok / seal 0 0.1 {51} / seal 0 0.2 {12} / ok 2 11",
+    )
+}
+
+#[test]
 fn answers_traces_that_are_cut_at_each_step(rt: HostRuntime) -> Result<(), Fail> {
     check_rows(
         &rt,
@@ -344,6 +423,16 @@ const REFUSED: &str = "ran
     run --log --log
     run --log=1
     check --log
+    run --queue kept
+    run --queue durable --queue durable
+    run --combine
+    run --combine 1
+    wear --queue durable
+    wear --combine on
+    txn --queue volatile
+    txn --combine=off
+    tree --queue durable
+    check --queue volatile
     make 1
     make 1 1000000
     make 1 2 3

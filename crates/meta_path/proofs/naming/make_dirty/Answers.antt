@@ -1,7 +1,9 @@
 -- The levels so far and the next one, whether its entry is written or cut.
-use Rattle.std.proofs.Common.{rules, ◌≡◌, ℕ, ◌+◌, ◌<◌, ◌≤◌, List, Result, Ok, Err, subst, ◌∙◌, arith}
+use Rattle.std.proofs.Common.{rules, ◌≡◌, ℕ, ◌<◌, ◌≤◌, List, Result, Ok, Err, subst, ◌∙◌, arith}
 use Rattle.std.specs.Prelude.{slice_index_or}
+use Rattle.pmem_base.specs.Shape.{named_levels}
 use Rattle.pmem_base.specs.Geo.{shape_of}
+use Rattle.pmem_base.proofs.LayoutLemmas.{named-shadow}
 use Rattle.pmem_base.specs.Layout.{slots}
 use Rattle.pmem_base.specs.declared.faults.Cut.{Cut}
 use Rattle.pmem_base.specs.declared.lines.Line.{Line}
@@ -14,7 +16,7 @@ use Rattle.shadow_tables.specs.Naming.{Names}
 use Rattle.meta_path.specs.Blocks.{path_at, number_in}
 use Rattle.meta_path.specs.Naming.{path_number, IsNamedTo}
 use Rattle.meta_path.specs.Plans.{slot_plan}
-use Rattle.meta_path.proofs.PathFacts.{position_is, all_levels}
+use Rattle.meta_path.proofs.PathFacts.{position_is}
 use Rattle.meta_path.proofs.NameLemmas.{IsNamedTo-more, IsNamingCut-at, on_err, path_number_low, length-naming_writes}
 use Rattle.meta_path.proofs.naming.make_dirty.Given.{Over}
 use Rattle.meta_path.proofs.naming.make_dirty.Goals.{After-from}
@@ -23,7 +25,7 @@ use Rattle.meta_path.proofs.naming.make_dirty.Goals as goal
 -- at a level, whose position was read
 module _ (g : Over) (c : After-from g) where
   le : c.levels.bank ≤ (shape_of c.args.geo.now).levels
-  le = omega (arith, c.levels-test.true, c.levels-bank-end.ensures)
+  le = omega (arith, c.levels-test.true, c.named_levels-bank-end.ensures.value, c.named_levels-bank-end.ensures.bound)
 
   at : slice_index_or c.as_slice.result.now c.from.result 0 ≡ path_at (shape_of c.args.geo.now) c.args.page c.levels.bank
   at =
@@ -41,8 +43,8 @@ module _ (g : Over) (c : After-from g) where
       Follows (slot_plan (shape_of c.args.geo.now) c.levels.bank (number_in (shape_of c.args.geo.now) c.args.cache.now.banks c.levels.bank x) x c.levels.mirror)
       (g.B.Board.device c.levels.board) new end
 
-  levels_end : c.levels.bank < (shape_of c.args.geo.now).levels + 1
-  levels_end = omega (arith, le)
+  levels_end : c.levels.bank < named_levels (shape_of c.args.geo.now)
+  levels_end = omega (arith, c.levels-test.true, c.named_levels-bank-end.ensures.value)
 
 pub levels-init : goal.levels-init
 levels-init g c =
@@ -61,7 +63,7 @@ returns-in_err-name_level-clause-plan g c =
     c.in_err-name_level.ensures.plan))
 
 pub returns-clause-plan : goal.returns-clause-plan
-returns-clause-plan g c = turns_end c.levels.invariant.reached (omega (arith, c.levels-test.false, c.levels-bank-end.ensures))
+returns-clause-plan g c = turns_end c.levels.invariant.reached (omega (arith, c.levels-test.false, c.named_levels-bank-end.ensures.value))
 
 pub returns-in_err-name_level-clause-cut : goal.returns-in_err-name_level-clause-cut
 returns-in_err-name_level-clause-cut g c =
@@ -70,13 +72,18 @@ returns-in_err-name_level-clause-cut g c =
     on_err c.from_residual.result _
     (IsNamingCut-at (low g place) c.levels.invariant.named
     (subst (λ x. Names shape c.levels.mirror c.name_level.new.mirror c.levels.bank (number_in shape c.args.cache.now.banks c.levels.bank x) x)
-    (at g place) c.name_level.ensures.names) (le g place)
+    (at g place) c.name_level.ensures.names) (levels_end g place)
     (subst (FollowsLevel g place (g.B.Board.device c.name_level.new.board) (Err (c.name_level.new.mirror, the_cut))) (at g place)
     c.in_err-name_level.ensures.plan))
 
 pub returns-in_err-name_level-clause-one_a_level :
     goal.returns-in_err-name_level-clause-one_a_level
 returns-in_err-name_level-clause-one_a_level g c = search (rules, length-naming_writes)
+
+pub name_level-requires-clause-tables : goal.name_level-requires-clause-tables
+name_level-requires-clause-tables g c =
+    let place = (goal.at.name_level-requires-clause-tables g c).After-from in
+    named-shadow (shape_of c.args.geo.now) c.levels.bank (levels_end g place)
 
 pub levels-preserved : goal.levels-preserved
 levels-preserved g c =
@@ -98,13 +105,12 @@ pub returns-clause-ok : goal.returns-clause-ok
 returns-clause-ok g c =
     subst (λ n. IsNamedTo (shape_of c.args.geo.now) c.args.cache.now.banks c.args.page n c.args.mirror.now c.levels.mirror
     (g.B.Board.device c.args.board.now) (g.B.Board.device c.levels.board))
-    (all_levels (shape_of c.args.geo.now).levels c.levels.bank c.levels-bank-end.result c.levels-bank-end.ensures
-    c.levels.auto.bank-end c.levels-test.false) c.levels.invariant.named
+    (omega (arith, c.named_levels-bank-end.ensures.value, c.levels.auto.bank-end, c.levels-test.false)) c.levels.invariant.named
 
 pub returns-clause-others : goal.returns-clause-others
 returns-clause-others g c bank n h apart =
     c.levels.invariant.named.entries.others bank n h
-    (λ e. apart (omega (arith, e.0, c.levels.auto.bank-end, c.levels-bank-end.ensures), e.1))
+    (λ e. apart (omega (arith, e.0, c.levels.auto.bank-end, c.named_levels-bank-end.ensures.value), e.1))
 
 pub returns-clause-one_a_level : goal.returns-clause-one_a_level
 returns-clause-one_a_level g c = search (rules, length-naming_writes)

@@ -1,4 +1,5 @@
-use Rattle.std.proofs.Common.{◌≡◌, ◌+◌, length}
+use Rattle.std.proofs.Common.{◌≡◌, length}
+use Rattle.pmem_base.specs.Shape.{named_levels}
 use Rattle.pmem_base.specs.Geo.{shape_of}
 use Rattle.pmem_base.specs.Layout.{shadow_lines}
 use Rattle.call_plan.proofs.Loops.{AreTurnsLeft}
@@ -14,7 +15,7 @@ invariant-levels g l =
           (g.B.Board.device l.fn.board) (g.B.Board.device l.board);
       reached :
           AreTurnsLeft (naming_plan (shape_of l.fn.geo) l.fn.cache.banks l.fn.page l.fn.mirror) (g.B.Board.device l.fn.board)
-          (naming_turn (shape_of l.fn.geo) l.fn.cache.banks l.fn.page) l.bank ((shape_of l.fn.geo).levels + 1) (l.mirror, tt)
+          (naming_turn (shape_of l.fn.geo) l.fn.cache.banks l.fn.page) l.bank (named_levels (shape_of l.fn.geo)) (l.mirror, tt)
           (g.B.Board.device l.board);
       long : length l.mirror ≡ shadow_lines (shape_of l.fn.geo);
     }

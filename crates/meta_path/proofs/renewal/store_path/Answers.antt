@@ -1,5 +1,5 @@
 -- The levels so far and the next one.
-use Rattle.std.proofs.Common.{rules, ◌≡◌, ℕ, ◌+◌, ◌-◌, ◌<◌, List, [], take, length, get_or, refl, sym, ap, subst, ◌∙◌, arith}
+use Rattle.std.proofs.Common.{rules, ◌≡◌, ℕ, ◌+◌, ◌<◌, List, [], take, length, get_or, refl, sym, ap, subst, ◌∙◌, arith}
 use Rattle.std.proofs.Math.Seq.{take-length}
 use Rattle.pmem_base.specs.declared.lines.Line.{Line}
 use Rattle.meta_path.specs.Storing.{IsStoredTo, HasMetaLines}
@@ -60,8 +60,8 @@ levels-preserved g c =
           IsStoredTo-more (c.levels.invariant.stored page path) (level_stored shape page _ lines c.levels.bank
           (get_or c.as_slice-x-items.result.now c.levels.bank past) past c.is_left_dirty-dirty.result c.levels.cache c.store_level.new.cache
           path within (c.levels.invariant.stored page path).shape entry
-          (mark_is shape.levels c.levels.bank (c.len-last.result - 1) _ c.is_left_dirty-dirty.result
-          (omega (arith, c.len-last.ensures.value, length-path_lines shape page lines path)) c.is_left_dirty-dirty.ensures)
+          (mark_is shape.levels c.levels.bank c.len-count.result _ c.is_left_dirty-dirty.result
+          (omega (arith, c.len-count.ensures.value, length-path_lines shape page lines path)) c.is_left_dirty-dirty.ensures)
           c.store_level.ensures.cache);
       told = HasMetaLines-more lines c.levels.bank _ _ past _ _ _ within (sym entry) c.levels.invariant.told c.store_level.ensures.ledger;
       capacity = c.store_level.ensures.capacity ∙ c.levels.invariant.capacity;
@@ -78,7 +78,7 @@ returns-clause-cache g c page path =
       length-path_lines c.args.cache.now.shape page lines path,
       ap (λ (xs : List (ℕ × Line)). length xs) c.as_slice-x-items.ensures.value,
     ) in
-    subst (λ n. IsStoredTo c.args.cache.now.shape page c.args.persisted lines n c.args.cache.now c.levels.cache) all
+    subst (λ n. IsStoredTo c.args.cache.now.shape page c.args.grouped lines n c.args.cache.now c.levels.cache) all
     (c.levels.invariant.stored page path)
 
 pub returns-clause-slots : goal.returns-clause-slots

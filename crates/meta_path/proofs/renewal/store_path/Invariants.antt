@@ -8,7 +8,7 @@ invariant-levels g l =
     let lines = l.fn.path.lines.items in
     record {
       stored :
-          (page : ℕ) → IsPathOf shape page lines → IsStoredTo shape page l.fn.persisted lines l.bank l.fn.cache l.cache;
+          (page : ℕ) → IsPathOf shape page lines → IsStoredTo shape page l.fn.grouped lines l.bank l.fn.cache l.cache;
       told : HasMetaLines (take l.bank lines) (g.A.Audit.ledger l.fn.audit) (g.A.Audit.ledger l.audit);
       capacity : g.A.Audit.capacity l.audit ≡ g.A.Audit.capacity l.fn.audit;
     }

@@ -1,5 +1,5 @@
 -- The page's register is marked, or goes; where the page has none, no line is marked.
-use Rattle.std.proofs.Common.{◌≡◌, ◌<◌, ◌∙◌, get_or, [], rules}
+use Rattle.std.proofs.Common.{get_or, [], rules}
 use Rattle.std.proofs.lemmas.List.{length-set}
 use Rattle.pmem_base.specs.declared.registers.Progress.{Progress}
 use Rattle.meta_cache.proofs.ListLemmas.{refill_same}

@@ -16,7 +16,7 @@ pub returns-in_err-read-clause-plan : goal.returns-in_err-read-clause-plan
 returns-in_err-read-clause-plan g c =
     ended_err c.from_residual.result c.from_residual.ensures.1
     (block_unread (setup_with g.S.Suite c.args.geo.now c.args.suite.now) c.args.regs.now c.args.x
-    (recovery_parts c.args.made.now.items (counts_at g.S.Suite c.args.suite.now)) c.in_err-read.ensures.cut c.in_err-read.ensures.only_off)
+    (recovery_parts c.args.made.now.entries (counts_at g.S.Suite c.args.suite.now)) c.in_err-read.ensures.cut c.in_err-read.ensures.only_off)
 
 -- the block was read, and its page's lines are tried
 module _ (g : Over) (c : After-fix_minors g) where
@@ -24,7 +24,7 @@ module _ (g : Over) (c : After-fix_minors g) where
   setup = setup_with g.S.Suite c.args.geo.now c.args.suite.now
 
   abbrev before : RecoveryParts
-  before = recovery_parts c.args.made.now.items (counts_at g.S.Suite c.args.suite.now)
+  before = recovery_parts c.args.made.now.entries (counts_at g.S.Suite c.args.suite.now)
 
   was_read : HasRead (g.B.Board.device c.args.board.now) (meta_line setup.shape c.args.x) c.in_ok-read.read (g.B.Board.device c.read_line.new.self)
   was_read = rw c.meta_line.ensures.value at c.in_ok-read.ensures.ok
@@ -41,6 +41,6 @@ pub returns-clause-plan : goal.returns-clause-plan
 returns-clause-plan g c =
     let here = (goal.at.returns-clause-plan g c).After-fix_minors in
     block_made_so (setup g here) c.args.regs.now c.args.x (before g here) (was_read g here) c.is_whole.ensures (counts_at g.S.Suite c.fix_minors.new.suite)
-    c.in_ok-fixed.fixed c.in_ok-fixed.trials c.push_reserved.new.self.items
-    (same_made c.args.made.now.items c.args.x c.in_ok-read.read c.push_reserved.ensures.items c.pack-line.ensures c.is_other.ensures)
+    c.in_ok-fixed.fixed c.in_ok-fixed.trials c.push.new.self.entries
+    (same_made c.args.made.now.entries c.args.x c.in_ok-read.read c.push.ensures.entries c.pack-line.ensures c.is_other.ensures)
     (rw (c.unpack.ensures.value, c.pages.ensures.value) at c.in_ok-fixed.ensures.plan)

@@ -3,45 +3,46 @@ use Rattle.std.proofs.lemmas.Nat.{mul-le}
 use Rattle.pmem_base.specs.declared.lines.Line.{Line}
 use Rattle.pmem_base.specs.Geo.{shape_of}
 use Rattle.pmem_base.specs.Shape.{Shape, is_loss}
-use Rattle.pmem_base.specs.Layout.{meta_lines, slots, level_start}
+use Rattle.pmem_base.specs.Layout.{meta_lines, level_start}
 use Rattle.bonsai_tree.proofs.Levels.{meta_lines-counters}
+use Rattle.plain_model.specs.Bounds.{most_blocks}
 use Rattle.stop_loss.proofs.Windows.{is_loss_cases}
-use Rattle.pmem_recovery.specs.Named.{names, count_named, IsNextAt}
+use Rattle.pmem_recovery.specs.Named.{doubts, count_doubted, IsNextAt}
 use Rattle.call_effects.specs.SuiteStates.{setup_with}
-use Rattle.pmem_recovery.proofs.PartLaws.{IsShape-geo, slots-small, few_and_one}
-use Rattle.pmem_recovery.proofs.NamedLaws.{count_named-gap, count_named-next, count_named-le, count_named-counters}
+use Rattle.pmem_recovery.proofs.PartLaws.{IsShape-geo, few_and_one}
+use Rattle.pmem_recovery.proofs.NamedLaws.{count_doubted-gap, count_doubted-next, count_doubted-le, count_doubted-counters, most_blocks-small}
 use Rattle.call_plan.specs.Plans.{for_each}
 use Rattle.call_plan.proofs.Steps.{ended_err}
 use Rattle.call_plan.proofs.Bind.{mapped_follows}
 use Rattle.call_plan.proofs.Loops.{HasReached, reached_start}
-use Rattle.pmem_recovery.specs.Plans.{RecoveryParts, recovery_parts, counts_at, named_positions, block_turn, blocks_plan}
+use Rattle.pmem_recovery.specs.Plans.{RecoveryParts, recovery_parts, counts_at, doubted_positions, block_turn, blocks_plan}
 use Rattle.pmem_recovery.proofs.NamedPlans.{named_ok, named_err, named_end}
 use Rattle.pmem_recovery.proofs.counters.fix_counters.Given.{Over}
 use Rattle.pmem_recovery.proofs.counters.fix_counters.Goals.{In-Some}
 use Rattle.pmem_recovery.proofs.counters.fix_counters.Goals as goal
 
 -- the next one has room
-next_fits : (g : Shape) (shadow : List Line) (n from x : ℕ) → n ≡ count_named g shadow (level_start g.levels) from → level_start g.levels ≤ from → IsNextAt (names g shadow) from (meta_lines g) x → count_named g shadow (level_start g.levels) (meta_lines g) ≤ slots g → n < slots g
+next_fits : (g : Shape) (shadow : List Line) (n from x : ℕ) → n ≡ count_doubted g shadow (level_start g.levels) from → level_start g.levels ≤ from → IsNextAt (doubts g shadow) from (meta_lines g) x → count_doubted g shadow (level_start g.levels) (meta_lines g) ≤ most_blocks g → n < most_blocks g
 next_fits g shadow n from x e low next most =
-    let more = count_named-next g shadow (level_start g.levels) from (meta_lines g) x low next in
-    let up = count_named-le g shadow (level_start g.levels) (x + 1) (meta_lines g) (omega (arith, low, next.low)) (omega (arith, next.high)) in
+    let more = count_doubted-next g shadow (level_start g.levels) from (meta_lines g) x low next in
+    let up = count_doubted-le g shadow (level_start g.levels) (x + 1) (meta_lines g) (omega (arith, low, next.low)) (omega (arith, next.high)) in
     omega (arith, e, more, up, most)
 
--- at a named counter block
+-- at a doubted counter block
 module _ (g : Over) (c : In-Some g) where
   abbrev shape : Shape
   shape = shape_of c.args.geo.now
 
-  next : IsNextAt (names shape c.args.shadow.now) c.positions.from (meta_lines shape) c.in-Some.x
-  next = subst (λ n. IsNextAt (names shape c.args.shadow.now) c.positions.from n c.in-Some.x) c.metas.ensures.value c.in-Some.ensures
+  next : IsNextAt (doubts shape c.args.shadow.now) c.positions.from (meta_lines shape) c.in-Some.x
+  next = subst (λ n. IsNextAt (doubts shape c.args.shadow.now) c.positions.from n c.in-Some.x) c.metas.ensures.value c.in-Some.ensures
 
-  room : length c.positions.made.items < slots shape
+  room : length c.positions.made.entries < most_blocks shape
   room =
-      next_fits shape c.args.shadow.now (length c.positions.made.items) c.positions.from c.in-Some.x c.positions.invariant.counted c.positions.invariant.low next
-      (count_named-counters shape c.args.shadow.now (IsShape-geo c.args.geo.now))
+      next_fits shape c.args.shadow.now (length c.positions.made.entries) c.positions.from c.in-Some.x c.positions.invariant.counted c.positions.invariant.low next
+      (count_doubted-counters shape c.args.shadow.now (IsShape-geo c.args.geo.now))
 
   abbrev parts : RecoveryParts
-  parts = recovery_parts c.positions.made.items (counts_at g.S.Suite c.positions.suite)
+  parts = recovery_parts c.positions.made.entries (counts_at g.S.Suite c.positions.suite)
 
 pub positions-init : goal.positions-init
 positions-init g c =
@@ -54,35 +55,42 @@ positions-init g c =
       reached =
           let turn = block_turn (setup_with g.S.Suite c.args.geo.now c.args.suite.now) c.args.regs.now in
           let all = blocks_plan (setup_with g.S.Suite c.args.geo.now c.args.suite.now) c.args.regs.now c.args.shadow.now
-          (recovery_parts c.args.made.now.items (counts_at g.S.Suite c.args.suite.now)) in
-          subst (λ n. HasReached all (g.B.Board.device c.args.board.now) (for_each turn (named_positions shape c.args.shadow.now n (meta_lines shape))
-          (recovery_parts c.args.made.now.items (counts_at g.S.Suite c.args.suite.now), 0)) (g.B.Board.device c.args.board.now)) (sym start)
+          (recovery_parts c.args.made.now.entries (counts_at g.S.Suite c.args.suite.now)) in
+          subst (λ n. HasReached all (g.B.Board.device c.args.board.now) (for_each turn (doubted_positions shape c.args.shadow.now n (meta_lines shape))
+          (recovery_parts c.args.made.now.entries (counts_at g.S.Suite c.args.suite.now), 0)) (g.B.Board.device c.args.board.now)) (sym start)
           (reached_start all (g.B.Board.device c.args.board.now));
       low = omega (arith, start);
       high = omega (arith, start, meta_lines-counters shape);
-      counted = ap length c.requires.empty ∙ sym (count_named-gap shape c.args.shadow.now (level_start shape.levels) from (λ x low high. absurd (omega (arith, low, high, start))));
+      counted = ap length c.requires.empty ∙ sym (count_doubted-gap shape c.args.shadow.now (level_start shape.levels) from (λ x low high. absurd (omega (arith, low, high, start))));
       few = omega arith;
       capacity = refl;
+      positions = refl;
     }
 
 pub fix_counter-requires-clause-room : goal.fix_counter-requires-clause-room
 fix_counter-requires-clause-room g c =
-    omega (arith, room g (goal.at.fix_counter-requires-clause-room g c).In-Some, c.positions.made.ok, c.positions.invariant.capacity, c.requires.room)
+    omega (arith, room g (goal.at.fix_counter-requires-clause-room g c).In-Some, c.positions.invariant.capacity, c.requires.room)
+
+pub fix_counter-requires-clause-most : goal.fix_counter-requires-clause-most
+fix_counter-requires-clause-most g c = omega (arith, c.positions.invariant.capacity, c.requires.few)
+
+pub fix_counter-requires-clause-positions : goal.fix_counter-requires-clause-positions
+fix_counter-requires-clause-positions g c = c.positions.invariant.positions ∙ c.requires.positions
 
 loss_small : (n : ℕ) → IsTrue (is_loss n) → n ≤ 16
 loss_small n h = let cases = is_loss_cases n h in omega arith
 
-fits : (n loss slots : ℕ) → n ≤ 64 * loss * slots → loss ≤ 16 → slots ≤ 512 → n < 2 ^ 64
-fits n loss slots h low small =
-    let m = mul-le (64 * loss) slots 1024 512 (omega arith) small in
+fits : (n loss blocks : ℕ) → n ≤ 64 * loss * blocks → loss ≤ 16 → blocks ≤ 4096 → n < 2 ^ 64
+fits n loss blocks h low small =
+    let m = mul-le (64 * loss) blocks 1024 4096 (omega arith) small in
     omega arith
 
 pub overflow_add-trials : goal.overflow_add-trials
 overflow_add-trials g c =
-    let small = fits (c.positions.trials + c.in_ok-trials.field-0) c.args.regs.now.loss (slots (shape_of c.args.geo.now))
-    (few_and_one c.positions.trials c.in_ok-trials.field-0 (64 * c.args.regs.now.loss) (length c.positions.made.items) (slots (shape_of c.args.geo.now)) c.positions.invariant.few
+    let small = fits (c.positions.trials + c.in_ok-trials.field-0) c.args.regs.now.loss (most_blocks (shape_of c.args.geo.now))
+    (few_and_one c.positions.trials c.in_ok-trials.field-0 (64 * c.args.regs.now.loss) (length c.positions.made.entries) (most_blocks (shape_of c.args.geo.now)) c.positions.invariant.few
     c.in_ok-trials.ensures.few (room g (goal.at.overflow_add-trials g c).In-Some))
-    (loss_small c.args.regs.now.loss c.requires.loss) (slots-small (shape_of c.args.geo.now) (IsShape-geo c.args.geo.now)) in
+    (loss_small c.args.regs.now.loss c.requires.loss) (most_blocks-small (shape_of c.args.geo.now) (IsShape-geo c.args.geo.now)) in
     omega (arith, small)
 
 pub positions-preserved : goal.positions-preserved
@@ -101,22 +109,23 @@ positions-preserved g c =
           (mapped_follows _ _ (rw inv.keys at ok.plan));
       low = omega (arith, inv.low, its_next.low);
       high = omega (arith, its_next.high);
-      counted = ok.longer ∙ ap (λ n. n + 1) inv.counted ∙ sym (count_named-next its_shape c.args.shadow.now (level_start its_shape.levels) c.positions.from (meta_lines its_shape) c.in-Some.x inv.low its_next);
+      counted = ok.longer ∙ ap (λ n. n + 1) inv.counted ∙ sym (count_doubted-next its_shape c.args.shadow.now (level_start its_shape.levels) c.positions.from (meta_lines its_shape) c.in-Some.x inv.low its_next);
       few =
           subst (λ n. c.positions.trials + c.in_ok-trials.field-0 ≤ n * (64 * c.args.regs.now.loss)) (sym ok.longer)
           (let few = inv.few in let more = ok.few in omega arith);
       capacity = c.fix_counter.ensures.capacity ∙ inv.capacity;
+      positions = c.fix_counter.ensures.positions ∙ inv.positions;
     }
 
 -- at the end
-few_at_end : (g : Shape) (shadow : List Line) (n from : ℕ) → n ≡ count_named g shadow (level_start g.levels) from → level_start g.levels ≤ from → from ≤ meta_lines g → count_named g shadow (level_start g.levels) (meta_lines g) ≤ slots g → n ≤ slots g
+few_at_end : (g : Shape) (shadow : List Line) (n from : ℕ) → n ≡ count_doubted g shadow (level_start g.levels) from → level_start g.levels ≤ from → from ≤ meta_lines g → count_doubted g shadow (level_start g.levels) (meta_lines g) ≤ most_blocks g → n ≤ most_blocks g
 few_at_end g shadow n from e low high most =
-    omega (arith, e, count_named-le g shadow (level_start g.levels) from (meta_lines g) low high, most)
+    omega (arith, e, count_doubted-le g shadow (level_start g.levels) from (meta_lines g) low high, most)
 
 pub returns-clause-few_made : goal.returns-clause-few_made
 returns-clause-few_made g c =
     let shape = shape_of c.args.geo.now in
-    few_at_end shape c.args.shadow.now (length c.positions.made.items) c.positions.from c.positions.invariant.counted c.positions.invariant.low c.positions.invariant.high (count_named-counters shape c.args.shadow.now (IsShape-geo c.args.geo.now))
+    few_at_end shape c.args.shadow.now (length c.positions.made.entries) c.positions.from c.positions.invariant.counted c.positions.invariant.low c.positions.invariant.high (count_doubted-counters shape c.args.shadow.now (IsShape-geo c.args.geo.now))
 
 -- ---- the plan
 
@@ -131,5 +140,5 @@ returns-in_err-trials-clause-plan g c =
 pub returns-clause-plan : goal.returns-clause-plan
 returns-clause-plan g c =
     named_end (block_turn (setup_with g.S.Suite c.args.geo.now c.args.suite.now) c.args.regs.now) (shape_of c.args.geo.now) c.args.shadow.now c.positions.from
-    (meta_lines (shape_of c.args.geo.now)) (recovery_parts c.positions.made.items (counts_at g.S.Suite c.positions.suite), c.positions.trials) c.positions.invariant.reached
+    (meta_lines (shape_of c.args.geo.now)) (recovery_parts c.positions.made.entries (counts_at g.S.Suite c.positions.suite), c.positions.trials) c.positions.invariant.reached
     (λ y low high. c.in_default.ensures y low (omega (arith, high, c.metas.ensures.value)))

@@ -15,12 +15,12 @@ made_or_read-requires-clause-position g c = level_start-le 1 ((shape_of c.args.g
 pub returns-in_err-top-clause-plan : goal.returns-in_err-top-clause-plan
 returns-in_err-top-clause-plan g c =
     ended_err c.from_residual.result c.from_residual.ensures.1
-    (top_cut (setup_with g.S.Suite c.args.geo.now c.args.suite.now) c.args.regs.now.root c.args.made.now (counts_at g.S.Suite c.args.suite.now)
+    (top_cut (setup_with g.S.Suite c.args.geo.now c.args.suite.now) c.args.regs.now.root c.args.made.now.entries (counts_at g.S.Suite c.args.suite.now)
     c.in_err-top.ensures.plan)
 
 pub returns-clause-plan : goal.returns-clause-plan
 returns-clause-plan g c =
-    top_compared (setup_with g.S.Suite c.args.geo.now c.args.suite.now) c.args.regs.now.root c.args.made.now (counts_at g.S.Suite c.args.suite.now)
+    top_compared (setup_with g.S.Suite c.args.geo.now c.args.suite.now) c.args.regs.now.root c.args.made.now.entries (counts_at g.S.Suite c.args.suite.now)
     c.in_ok-top.top (counts_at g.S.Suite c.digest-found.new.self) c.digest-found.result
     (same_counts c.digest-found.ensures.tags c.digest-found.ensures.digests)
     c.digest-found.ensures.digest c.in_ok-top.ensures.plan

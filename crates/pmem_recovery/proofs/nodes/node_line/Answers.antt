@@ -21,7 +21,7 @@ children-init g c =
       keys = refl;
       pads = refl;
       reached =
-          turns_start (child_turn (setup_with g.S.Suite c.args.geo.now c.args.suite.now) c.args.made.now c.args.x) 4 (counts_at g.S.Suite c.args.suite.now, [])
+          turns_start (child_turn (setup_with g.S.Suite c.args.geo.now c.args.suite.now) c.args.made.now.entries c.args.x) 4 (counts_at g.S.Suite c.args.suite.now, [])
           (g.B.Board.device c.args.board.now);
       long = refl;
     }
@@ -40,7 +40,7 @@ children-preserved g c =
           let here = (goal.at.children-preserved g c).After-from in
           let keys = c.children.invariant.keys in
           turn_ok c.children.invariant.reached c.children-test.true
-          (child_made (setup_with g.S.Suite c.args.geo.now c.args.suite.now) c.args.made.now c.args.x c.children.i (counts_at g.S.Suite c.children.suite)
+          (child_made (setup_with g.S.Suite c.args.geo.now c.args.suite.now) c.args.made.now.entries c.args.x c.children.i (counts_at g.S.Suite c.children.suite)
           (take c.children.i c.children.digests) (place g here) c.in_ok-line.line (counts_at g.S.Suite c.digest.new.self)
           _ c.digest.result
           (same_counts c.digest.ensures.tags c.digest.ensures.digests)
@@ -70,14 +70,14 @@ pub returns-in_err-line-clause-plan : goal.returns-in_err-line-clause-plan
 returns-in_err-line-clause-plan g c =
     let here = (goal.at.returns-in_err-line-clause-plan g c).After-from in
     ended_err c.from_residual.result c.from_residual.ensures.1
-    (children_cut (setup_with g.S.Suite c.args.geo.now c.args.suite.now) c.args.made.now c.args.x (counts_at g.S.Suite c.args.suite.now) (counts_at g.S.Suite c.children.suite)
+    (children_cut (setup_with g.S.Suite c.args.geo.now c.args.suite.now) c.args.made.now.entries c.args.x (counts_at g.S.Suite c.args.suite.now) (counts_at g.S.Suite c.children.suite)
     (turn_err c.children.invariant.reached c.children-test.true
-    (child_cut (setup_with g.S.Suite c.args.geo.now c.args.suite.now) c.args.made.now c.args.x c.children.i (counts_at g.S.Suite c.children.suite)
+    (child_cut (setup_with g.S.Suite c.args.geo.now c.args.suite.now) c.args.made.now.entries c.args.x c.children.i (counts_at g.S.Suite c.children.suite)
     (take c.children.i c.children.digests) (place g here) c.in_err-line.ensures.plan)))
 
 pub returns-clause-plan : goal.returns-clause-plan
 returns-clause-plan g c =
-    children_made (setup_with g.S.Suite c.args.geo.now c.args.suite.now) c.args.made.now c.args.x (counts_at g.S.Suite c.args.suite.now) (counts_at g.S.Suite c.children.suite)
+    children_made (setup_with g.S.Suite c.args.geo.now c.args.suite.now) c.args.made.now.entries c.args.x (counts_at g.S.Suite c.args.suite.now) (counts_at g.S.Suite c.children.suite)
     (take c.children.i c.children.digests) c.node_of.result
     (c.node_of.ensures ∙ ap node_of (sym (take_all c.children.i c.children.digests (omega (arith, c.children.invariant.long, c.children-test.false)))))
     (turns_end c.children.invariant.reached (omega (arith, c.children-test.false)))

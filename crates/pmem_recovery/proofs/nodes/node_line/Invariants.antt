@@ -11,7 +11,7 @@ invariant-children g l =
       keys : g.S.Suite.keys l.suite ≡ g.S.Suite.keys l.initial.suite;
       pads : g.S.Suite.pads l.suite ≡ g.S.Suite.pads l.initial.suite;
       reached :
-          let turn = child_turn (setup_with g.S.Suite l.geo l.initial.suite) l.made l.x in
+          let turn = child_turn (setup_with g.S.Suite l.geo l.initial.suite) l.made.entries l.x in
           AreTurnsLeft (repeated turn 0 4 (counts_at g.S.Suite l.initial.suite, [])) (g.B.Board.device l.initial.board) turn l.i 4
           (counts_at g.S.Suite l.suite, take l.i l.digests) (g.B.Board.device l.board);
       long : length l.digests ≡ 4;

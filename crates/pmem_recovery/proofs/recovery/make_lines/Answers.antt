@@ -1,18 +1,18 @@
-use Rattle.std.proofs.Common.{◌≤◌, ◌*◌, List, ◌∙◌, arith}
+use Rattle.std.proofs.Common.{◌≤◌, ◌+◌, List, ◌∙◌, arith}
 use Rattle.pmem_base.specs.declared.lines.Line.{Line}
 use Rattle.pmem_base.specs.declared.geometry.Geo.{Geo}
 use Rattle.pmem_base.specs.Geo.{shape_of}
-use Rattle.pmem_base.specs.Layout.{slots, level_start}
-use Rattle.pmem_recovery.specs.Named.{count_named}
+use Rattle.pmem_base.specs.Layout.{level_start}
+use Rattle.plain_model.specs.Bounds.{most_blocks, most_nodes}
+use Rattle.pmem_recovery.specs.Named.{count_doubted}
 use Rattle.pmem_recovery.proofs.PartLaws.{IsShape-geo}
-use Rattle.pmem_recovery.proofs.NamedLaws.{count_named-nodes}
+use Rattle.pmem_recovery.proofs.NamedLaws.{count_doubted-nodes, most_blocks-small, most_nodes-small}
 use Rattle.call_plan.proofs.Keeping.{follows_size}
 use Rattle.pmem_recovery.proofs.RecoveryPlans.{made_err, making_unread, making_undecided, making_cut, making_refused, making_done}
 use Rattle.pmem_recovery.proofs.recovery.make_lines.Goals as goal
 
--- nodes are named in as many slots as there are
-few_nodes : (geo : Geo) (shadow : List Line) → count_named (shape_of geo) shadow 0 (level_start (shape_of geo).levels) ≤ (shape_of geo).levels * slots (shape_of geo)
-few_nodes geo shadow = count_named-nodes (shape_of geo) shadow (IsShape-geo geo)
+few_nodes : (geo : Geo) (shadow : List Line) → count_doubted (shape_of geo) shadow 0 (level_start (shape_of geo).levels) ≤ most_nodes (shape_of geo)
+few_nodes geo shadow = count_doubted-nodes (shape_of geo) shadow (IsShape-geo geo)
 
 -- reads leave the size as it is
 pub fix_counters-requires-clause-size : goal.fix_counters-requires-clause-size
@@ -22,9 +22,28 @@ pub fix_nodes-requires-clause-size : goal.fix_nodes-requires-clause-size
 fix_nodes-requires-clause-size g c =
     follows_size c.fix_counters.ensures.plan ∙ follows_size c.read_shadow.ensures.plan ∙ c.requires.size
 
-pub check_root-requires : goal.check_root-requires
-check_root-requires g c =
-    record { size = follows_size c.fix_nodes.ensures.plan ∙ follows_size c.fix_counters.ensures.plan ∙ follows_size c.read_shadow.ensures.plan ∙ c.requires.size }
+pub check_root-requires-clause-size : goal.check_root-requires-clause-size
+check_root-requires-clause-size g c =
+    follows_size c.fix_nodes.ensures.plan ∙ follows_size c.fix_counters.ensures.plan ∙ follows_size c.read_shadow.ensures.plan ∙ c.requires.size
+
+-- the lines made are few
+few_lines : (geo : Geo) → most_blocks (shape_of geo) + most_nodes (shape_of geo) ≤ 65535
+few_lines geo = omega (arith, most_blocks-small (shape_of geo) (IsShape-geo geo), most_nodes-small (shape_of geo) (IsShape-geo geo))
+
+pub fix_counters-requires-clause-room : goal.fix_counters-requires-clause-room
+fix_counters-requires-clause-room g c = omega (arith, c.requires.made_room)
+
+pub fix_counters-requires-clause-few : goal.fix_counters-requires-clause-few
+fix_counters-requires-clause-few g c = omega (arith, c.requires.made_room, few_lines c.args.geo.now)
+
+pub fix_nodes-requires-clause-few : goal.fix_nodes-requires-clause-few
+fix_nodes-requires-clause-few g c = omega (arith, c.fix_counters.ensures.capacity, c.requires.made_room, few_lines c.args.geo.now)
+
+pub fix_nodes-requires-clause-positions : goal.fix_nodes-requires-clause-positions
+fix_nodes-requires-clause-positions g c = c.fix_counters.ensures.positions ∙ c.requires.positions
+
+pub check_root-requires-clause-positions : goal.check_root-requires-clause-positions
+check_root-requires-clause-positions g c = c.fix_nodes.ensures.positions ∙ c.fix_counters.ensures.positions ∙ c.requires.positions
 
 pub fix_nodes-requires-clause-room : goal.fix_nodes-requires-clause-room
 fix_nodes-requires-clause-room g c =
@@ -35,29 +54,29 @@ fix_nodes-requires-clause-room g c =
 
 pub returns-in_err-read_shadow-clause-plan : goal.returns-in_err-read_shadow-clause-plan
 returns-in_err-read_shadow-clause-plan g c =
-    made_err c.from_residual.result c.read_shadow.new.shadow.items c.args.room.now.made.items c.from_residual.ensures.1
+    made_err c.from_residual.result c.read_shadow.new.shadow.items c.args.room.now.made.entries c.from_residual.ensures.1
     (making_unread _ _ _ _ c.in_err-read_shadow.ensures.plan)
 
 pub returns-in_err-trials-clause-plan : goal.returns-in_err-trials-clause-plan
 returns-in_err-trials-clause-plan g c =
-    made_err c.from_residual-in_err-trials.result c.read_shadow.new.shadow.items c.fix_counters.new.made.items c.from_residual-in_err-trials.ensures.1
+    made_err c.from_residual-in_err-trials.result c.read_shadow.new.shadow.items c.fix_counters.new.made.entries c.from_residual-in_err-trials.ensures.1
     (making_undecided _ _ _ _ c.in_ok-read_shadow.ensures.plan _ _ (rw (c.deref.ensures.value, c.requires.made) at c.in_err-trials.ensures.plan))
 
 pub returns-in_err-digests-clause-plan : goal.returns-in_err-digests-clause-plan
 returns-in_err-digests-clause-plan g c =
-    made_err c.from_residual-in_err-digests.result c.read_shadow.new.shadow.items c.fix_nodes.new.made.items c.from_residual-in_err-digests.ensures.1
+    made_err c.from_residual-in_err-digests.result c.read_shadow.new.shadow.items c.fix_nodes.new.made.entries c.from_residual-in_err-digests.ensures.1
     (making_cut _ _ _ _ c.in_ok-read_shadow.ensures.plan _ _ (rw (c.deref.ensures.value, c.requires.made) at c.in_ok-trials.ensures.plan) _
     (rw (c.deref-2.ensures.value, c.fix_counters.ensures.keys) at c.in_err-digests.ensures.plan))
 
 pub returns-in_err-check_root-clause-plan : goal.returns-in_err-check_root-clause-plan
 returns-in_err-check_root-clause-plan g c =
-    made_err c.from_residual-in_err-check_root.result c.read_shadow.new.shadow.items c.fix_nodes.new.made.items c.from_residual-in_err-check_root.ensures.1
+    made_err c.from_residual-in_err-check_root.result c.read_shadow.new.shadow.items c.fix_nodes.new.made.entries c.from_residual-in_err-check_root.ensures.1
     (making_refused _ _ _ _ c.in_ok-read_shadow.ensures.plan _ _ (rw (c.deref.ensures.value, c.requires.made) at c.in_ok-trials.ensures.plan) _ _
     (rw (c.deref-2.ensures.value, c.fix_counters.ensures.keys) at c.in_ok-digests.ensures.plan) _ _
-    (rw (c.deref-3.ensures.value, c.fix_nodes.ensures.keys, c.fix_counters.ensures.keys) at c.in_err-check_root.ensures.plan))
+    (rw (c.fix_nodes.ensures.keys, c.fix_counters.ensures.keys) at c.in_err-check_root.ensures.plan))
 
 pub returns-clause-plan : goal.returns-clause-plan
 returns-clause-plan g c =
     making_done _ _ _ _ c.in_ok-read_shadow.ensures.plan _ _ (rw (c.deref.ensures.value, c.requires.made) at c.in_ok-trials.ensures.plan) _ _
     (rw (c.deref-2.ensures.value, c.fix_counters.ensures.keys) at c.in_ok-digests.ensures.plan) _
-    (rw (c.deref-3.ensures.value, c.fix_nodes.ensures.keys, c.fix_counters.ensures.keys) at c.in_ok-check_root.ensures.plan)
+    (rw (c.fix_nodes.ensures.keys, c.fix_counters.ensures.keys) at c.in_ok-check_root.ensures.plan)

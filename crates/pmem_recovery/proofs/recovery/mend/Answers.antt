@@ -15,7 +15,7 @@ use Rattle.pmem_recovery.proofs.recovery.mend.Goals as goal
 -- all was made
 module _ (g : Over) (c : In_ok-work g) where
   abbrev its_made : MadeLines
-  its_made = record { shadow = c.make_lines.new.room.shadow.items; made = c.make_lines.new.room.made.items; work = c.in_ok-work.work }
+  its_made = record { shadow = c.make_lines.new.room.shadow.items; made = c.make_lines.new.room.made.entries; work = c.in_ok-work.work }
 
   ready : All (λ entry. entry.at < meta_lines (shape_of c.args.geo.now)) its_made.made × (length its_made.shadow ≡ shadow_lines (shape_of c.args.geo.now))
   ready =
@@ -33,11 +33,11 @@ clear_shadow-requires-clause-size g c = follows_size c.write_made.ensures.plan �
 
 pub write_made-requires-clause-on_tree : goal.write_made-requires-clause-on_tree
 write_made-requires-clause-on_tree g c =
-    rw c.deref.ensures.value (ready g (goal.at.write_made-requires-clause-on_tree g c).In_ok-work).0
+    rw c.entries.ensures (ready g (goal.at.write_made-requires-clause-on_tree g c).In_ok-work).0
 
 pub clear_shadow-requires-clause-shadow : goal.clear_shadow-requires-clause-shadow
 clear_shadow-requires-clause-shadow g c =
-    ap length c.deref-2.ensures.value ∙ (ready g (goal.at.clear_shadow-requires-clause-shadow g c).In_ok-work).1
+    ap length c.deref.ensures.value ∙ (ready g (goal.at.clear_shadow-requires-clause-shadow g c).In_ok-work).1
 
 -- ---- the plan, by the registers of the board
 
@@ -50,15 +50,15 @@ pub returns-in_err-write_made-clause-plan : goal.returns-in_err-write_made-claus
 returns-in_err-write_made-clause-plan g c =
     ended_err c.from_residual-in_err-write_made.result c.from_residual-in_err-write_made.ensures.1
     (mend_unwritten _ _ _ _ _ (rw (c.same-regs.ensures, c.regs.ensures) at c.in_ok-work.ensures.plan)
-    (rw c.deref.ensures.value at c.in_err-write_made.ensures.plan))
+    (rw c.entries.ensures at c.in_err-write_made.ensures.plan))
 
 pub returns-in_err-clear_shadow-clause-plan : goal.returns-in_err-clear_shadow-clause-plan
 returns-in_err-clear_shadow-clause-plan g c =
     ended_err c.from_residual-in_err-clear_shadow.result c.from_residual-in_err-clear_shadow.ensures.1
     (mend_uncleared _ _ _ _ _ (rw (c.same-regs.ensures, c.regs.ensures) at c.in_ok-work.ensures.plan)
-    (rw c.deref.ensures.value at c.in_ok-write_made.ensures.plan) (rw c.deref-2.ensures.value at c.in_err-clear_shadow.ensures.plan))
+    (rw c.entries.ensures at c.in_ok-write_made.ensures.plan) (rw c.deref.ensures.value at c.in_err-clear_shadow.ensures.plan))
 
 pub returns-clause-plan : goal.returns-clause-plan
 returns-clause-plan g c =
     mend_done _ _ _ _ _ (rw (c.same-regs.ensures, c.regs.ensures) at c.in_ok-work.ensures.plan)
-    (rw c.deref.ensures.value at c.in_ok-write_made.ensures.plan) (rw c.deref-2.ensures.value at c.in_ok-clear_shadow.ensures.plan)
+    (rw c.entries.ensures at c.in_ok-write_made.ensures.plan) (rw c.deref.ensures.value at c.in_ok-clear_shadow.ensures.plan)

@@ -14,6 +14,7 @@ returns-clause-ranges c =
       at_most_eight_ways = geo.has_ways.1;
       known_loss = geo.has_loss;
       major_in_range = geo.has_major;
+      persists_path = geo.has_persist;
     }
 
 pub returns-clause-places : goal.returns-clause-places

@@ -1,5 +1,5 @@
 -- The begin is cut, or done.
-use Rattle.std.proofs.Common.{ℕ, ◌≡◌, ◌≤◌, Result, Ok, Err, refl, sym, ap, subst, subst₂, ◌∙◌}
+use Rattle.std.proofs.Common.{ℕ, ◌≡◌, ◌≤◌, ◌+◌, Result, Ok, Err, refl, sym, ap, subst, ◌∙◌}
 use Rattle.pmem_base.specs.declared.faults.Cut.{Cut}
 use Rattle.pmem_base.specs.declared.registers.Regs.{Regs}
 use Rattle.call_plan.specs.Following.{Follows}
@@ -58,7 +58,7 @@ module _ (g : Over) (c : After-commit_begin g) where
       ∙ ap packed (rolled-next c.block.result c.in_ok-block.block c.in_ok-block.ensures.block ∙ ap next_block c.block.ensures.cached)
 
   begun_so : (end : Result (Unit {0}) Cut)
-      → HasBeginEnded setup.shape c.args.page c.in_ok-block.register c.pack-block.result c.next_path-path.result.lines.items
+      → HasBeginEnded setup.shape c.args.page c.in_ok-block.register c.next_path-path.result.lines.items
       c.next_path-path.result.root old.engine new.engine old.device new.device old.ledger new.ledger end
       → HasBegunPage setup c.args.page old new (of_cut end)
   begun_so end was =
@@ -66,6 +66,7 @@ module _ (g : Over) (c : After-commit_begin g) where
       new.digests c.next_path-path.result.lines.items c.next_path-path.result.root c.requires.usable
       (subst (λ (e : ChipState). e.shape.levels ≤ 6) c.self.view_is c.self.inside.geo.has_levels.1)
       (g.met.S.Suite.in_range c.args.suite.now) c.requires.page c.requires.cached c.requires.named c.requires.closed c.requires.major
+      (subst (λ (e : ChipState). e.shape.persist ≤ e.shape.levels + 1) c.self.view_is c.self.inside.geo.has_persist)
       (subst IsBlock c.block.ensures.cached c.block.ensures.valid)
       (λ truth is.
       subst
@@ -80,9 +81,9 @@ module _ (g : Over) (c : After-commit_begin g) where
       (c.next_path-path.ensures.digests
       ∙ ap (λ (e : ChipState). risen_times (path_length e.shape) (g.S.Suite.digests c.args.suite.now)) c.self.view_is)
       (g.met.B.Board.whole c.args.board.now) (g.met.B.Board.whole c.commit_begin.new.board) end
-      (subst₂
-      (λ r line. HasBeginEnded setup.shape c.args.page r line c.next_path-path.result.lines.items c.next_path-path.result.root
-      old.engine new.engine old.device new.device old.ledger new.ledger end) register_is block_is was)
+      (subst
+      (λ r. HasBeginEnded setup.shape c.args.page r c.next_path-path.result.lines.items c.next_path-path.result.root
+      old.engine new.engine old.device new.device old.ledger new.ledger end) register_is was)
 
 pub returns-in_err-commit_begin-clause-begun : goal.returns-in_err-commit_begin-clause-begun
 returns-in_err-commit_begin-clause-begun g c =
@@ -141,7 +142,7 @@ module _ (g : Over) (c : After-commit_begin g) where
       ∙ ap (λ (e : ChipState). risen_times (path_length e.shape) (g.S.Suite.digests c.args.suite.now)) c.self.view_is))
 
   its_end : (end : Result (Chip × Regs) (Chip × Cut))
-      → Follows (commit_begin_plan c.args.self.now.shape c.args.page c.in_ok-block.register c.pack-block.result c.next_path-path.result.lines.items
+      → Follows (commit_begin_plan c.args.self.now.shape c.args.page c.in_ok-block.register c.next_path-path.result.lines.items
       c.next_path-path.result.root (old g c).device.regs (with_path_digests c.args.self.now.shape was)) (old g c).device (new g c).device end
       → Follows (begin_page_plan (setup g c) c.args.page (old g c).device.regs was) (old g c).device (new g c).device
       (mapped_end (λ left. (left.0, fault_of_cut left.1)) (λ end. end) end)

@@ -23,8 +23,8 @@ returns-in_err-arm-clause-plan g c tags digests =
     let next : NextSeal = c.args.next.now in
     let before : Chip = chip_with c.args.self.now (g.A.Audit.ledger c.args.audit.now) tags digests in
     ended_with_err (g.B.Board.device c.arm.new.board).regs c.from_residual.result c.from_residual.ensures.1
-    (group_cut (seal_armed shape next c.args.persisted c.args.block.now c.args.path.now.root (g.B.Board.device c.args.board.now).regs) before
-    (with_marked_path shape (mark_of next) (page_of next.at) c.args.persisted c.args.path.now.lines.items before) c.in_err-arm.ensures.cut)
+    (group_cut (seal_armed shape next c.args.grouped c.args.path.now.lines.items c.args.path.now.root (g.B.Board.device c.args.board.now).regs) before
+    (with_marked_path shape (mark_of next) (page_of next.at) c.args.grouped c.args.path.now.lines.items before) c.in_err-arm.ensures.cut)
 
 pub returns-clause-plan : goal.returns-clause-plan
 returns-clause-plan g c tags digests =
@@ -33,13 +33,13 @@ returns-clause-plan g c tags digests =
     let regs : Regs = (g.B.Board.device c.args.board.now).regs in
     let ledger : LedgerState = g.A.Audit.ledger c.args.audit.now in
     let before : Chip = chip_with c.args.self.now ledger tags digests in
-    group_end (seal_armed shape next c.args.persisted c.args.block.now c.args.path.now.root regs) before
-    (with_marked_path shape (mark_of next) (page_of next.at) c.args.persisted c.args.path.now.lines.items before) c.put_seal_and_path.new.regs
+    group_end (seal_armed shape next c.args.grouped c.args.path.now.lines.items c.args.path.now.root regs) before
+    (with_marked_path shape (mark_of next) (page_of next.at) c.args.grouped c.args.path.now.lines.items before) c.put_seal_and_path.new.regs
     (chip_with c.store.new.self (g.A.Audit.ledger c.store.new.audit) tags digests) c.finish_armed.result
-    (seal_armed_is shape next c.args.persisted c.args.block.now c.args.path.now.root regs c.set.new.self c.put_seal_and_path.new.regs
+    (seal_armed_is shape next c.args.grouped c.args.path.now.lines.items c.args.path.now.root regs c.set.new.self c.put_seal_and_path.new.regs
     (c.set.ensures ∙ c.regs.ensures) c.put_seal_and_path.ensures.root c.put_seal_and_path.ensures.progress c.put_seal_and_path.ensures.loss
     c.put_seal_and_path.ensures.group)
-    (marked_path_is shape (mark_of next) (page_of next.at) c.args.persisted c.args.path.now.lines.items c.args.self.now c.store.new.self ledger
+    (marked_path_is shape (mark_of next) (page_of next.at) c.args.grouped c.args.path.now.lines.items c.args.self.now c.store.new.self ledger
     (g.A.Audit.ledger c.note_seal.new.self) (g.A.Audit.ledger c.store.new.audit) tags digests c.note_seal.ensures.mark c.store.ensures.true_path
     c.store.ensures.exact)
     c.in_ok-arm.ensures.ok c.finish_armed.ensures.ok c.finish_armed.ensures.plan

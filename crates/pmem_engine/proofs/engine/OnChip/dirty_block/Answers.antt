@@ -1,9 +1,8 @@
 -- Where no position of the bank is dirty, no slot is.
-use Rattle.std.proofs.Common.{◌≡◌, ◌∙◌, ℕ, false, subst, subst₂, rules}
+use Rattle.std.proofs.Common.{◌≡◌, ℕ, false, subst, subst₂, rules}
 use Rattle.pmem_base.specs.Shape.{Shape}
 use Rattle.pmem_base.specs.Geo.{shape_of}
 use Rattle.meta_cache.specs.Banks.{is_cached_dirty}
-use Rattle.meta_cache.specs.State.{oldest_dirty_of}
 use Rattle.meta_path.specs.Blocks.{bank_dirty_count}
 use Rattle.meta_path.proofs.PathFacts.{AreSets}
 use Rattle.pmem_engine.specs.Engine.{ChipState}

@@ -4,7 +4,7 @@ use Rattle.std.specs.Prelude.{All, length}
 use Rattle.std.proofs.lemmas.Result.{err_from_is_err_and}
 use Rattle.pmem_base.specs.declared.faults.Cut.{Cut}
 use Rattle.pmem_base.specs.declared.lines.Line.{Line}
-use Rattle.pmem_base.specs.Shape.{Shape}
+use Rattle.pmem_base.specs.Shape.{Shape, named_levels}
 use Rattle.pmem_base.specs.Geo.{shape_of}
 use Rattle.pmem_base.specs.Layout.{pages, device_lines, shadow_lines}
 use Rattle.pmem_base.specs.Lines.{IsLine}
@@ -47,7 +47,7 @@ invariant_of-self-2 g c =
       c.self.invariant.0,
       c.self.invariant.1,
       c.make_dirty.ensures.long,
-      whole_named shape c.self.inside.cache.banks c.args.page (shape.levels + 1) c.self.inside.mirror c.make_dirty.new.mirror
+      whole_named shape c.self.inside.cache.banks c.args.page (named_levels shape) c.self.inside.mirror c.make_dirty.new.mirror
           c.self.invariant.2 c.self.invariant.3 c.in_ok-make_dirty.ensures.ok.mirror,
     )
 
@@ -75,7 +75,7 @@ returns-clause-named g c = λ setup ledger tags digests same.
     cached
     (subst (λ (s : Shape). IsMirror s old.mirror) its (record { long = c.self.invariant.2; whole = c.self.invariant.3 }))
     (c.requires.size ∙ ap (λ (s : Shape). device_lines s) (sym same)) (g.met.B.Board.whole c.args.board.now)
-    (subst (λ (s : Shape). IsNamedTo s old.cache c.args.page (s.levels + 1) old.mirror new.mirror before after) its
+    (subst (λ (s : Shape). IsNamedTo s old.cache c.args.page (named_levels s) old.mirror new.mirror before after) its
     c.in_ok-make_dirty.ensures.ok))
 
 pub returns-in_err-make_dirty-clause-named : goal.returns-in_err-make_dirty-clause-named

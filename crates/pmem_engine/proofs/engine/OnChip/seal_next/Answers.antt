@@ -1,6 +1,5 @@
 -- The tag line isn't read, or the seal is cut, or done.
-use Rattle.std.proofs.Common.{ℕ, ◌≡◌, ◌≤◌, ◌%◌, IsTrue, Result, Ok, Err, refl, sym, ap, subst, subst₂, ◌∙◌}
-use Rattle.std.specs.Prelude.{◌↔◌}
+use Rattle.std.proofs.Common.{ℕ, ◌≡◌, ◌≤◌, ◌+◌, Result, Ok, Err, refl, sym, ap, ap₂, subst, subst₂, ◌∙◌}
 use Rattle.pmem_base.specs.declared.lines.Line.{Line}
 use Rattle.pmem_base.specs.declared.faults.Cut.{Cut}
 use Rattle.pmem_base.specs.declared.lines.Ctr.{Ctr}
@@ -28,13 +27,14 @@ use Rattle.pmem_engine.specs.Outcomes.{NeverFalls}
 use Rattle.pmem_engine.specs.Parts.{Parts, parts_with}
 use Rattle.pmem_engine.specs.Plans.{Chip, chip_with, chip_with_at, with_tags}
 use Rattle.pmem_engine.specs.SealPlans.{commit_seal_plan, seal_next_plan, with_path_digests}
+use Rattle.pmem_engine.specs.CallFacts.{grouped_lines}
 use Rattle.pmem_engine.specs.Committing.{next_seal_of}
 use Rattle.pmem_engine.specs.Sealing.{next_counter_of, raised_block, HasSealEnded, HasSealedNext}
 use Rattle.call_effects.proofs.ResultLaws.{is_err_of}
 use Rattle.pmem_engine.proofs.Seals.NextPaths.{times_never_fall}
 use Rattle.pmem_engine.proofs.Seals.SealOutcomes.{seal_unread, some_steps, seal_ended}
 use Rattle.pmem_engine.proofs.PlannedCalls.Chips.{same_chip}
-use Rattle.pmem_engine.proofs.PlannedCalls.SealPlans.{due_is, lines_over, root_over, seal_unread as tag_line_unread, seal_end}
+use Rattle.pmem_engine.proofs.PlannedCalls.SealPlans.{lines_over, root_over, seal_unread as tag_line_unread, seal_end}
 use Rattle.pmem_engine.proofs.engine.OnChip.seal_next.Given.{Over}
 use Rattle.pmem_engine.proofs.engine.OnChip.seal_next.Goals.{After-next_path-path, After-commit_seal}
 use Rattle.pmem_engine.proofs.engine.OnChip.seal_next.Goals as goal
@@ -56,7 +56,7 @@ returns-in_err-tag_line-clause-sealed g c =
     (subst (λ (n : ℕ). NeverFalls (g.S.Suite.digests c.args.suite.now) n) (sym c.next_path-path.ensures.digests)
     (times_never_fall _ (g.S.Suite.digests c.args.suite.now)))
     c.in_err-tag_line.field-0.0 c.in_err-tag_line.ensures.cut
-    (some_steps old.regs.loss (next_counter_of setup.shape c.args.self.now c.args.at)))
+    (some_steps setup.shape old.regs.loss (next_counter_of setup.shape c.args.self.now c.args.at)))
 
 -- ---- after the commit
 
@@ -104,18 +104,18 @@ module _ (g : Over) (c : After-commit_seal g) where
       c.next_path-path.ensures.keys
       ∙ ap (λ x. next_seal_of setup.formulas c.args.at x c.args.plain.now c.in_ok-tag_line.tag_line) ctr
 
-  due : IsTrue c.due-persisted.result ↔ ((next_counter_of setup.shape c.args.self.now c.args.at).minor % old.device.regs.loss ≡ 0)
-  due =
-      subst₂ (λ (x : Ctr) (n : ℕ). IsTrue c.due-persisted.result ↔ (x.minor % n ≡ 0)) ctr
-      (ap (λ regs. regs.loss) (c.regs.ensures ∙ read.regs)) c.due-persisted.ensures
+  grouping : c.grouped_lines-grouped.result ≡ grouped_lines setup.shape old.device.regs.loss (next_counter_of setup.shape c.args.self.now c.args.at).minor
+  grouping =
+      c.grouped_lines-grouped.ensures.value
+      ∙ ap₂ (grouped_lines setup.shape) (ap (λ regs. regs.loss) (c.regs.ensures ∙ read.regs)) (ap (λ (x : Ctr). x.minor) ctr)
 
   sealed_so : (end : Result (Unit {0}) Cut)
-      → HasSealEnded setup.shape c.next_seal-next.result c.due-persisted.result c.next_counter.result.1 c.next_path-path.result.lines.items
+      → HasSealEnded setup.shape c.next_seal-next.result c.grouped_lines-grouped.result c.next_path-path.result.lines.items
       c.next_path-path.result.root old.engine new.engine mid new.device old.ledger new.ledger end
       → HasSealedNext setup c.args.at c.args.plain.now old new
       (mapped_end (λ cut. cut) (λ value. next_counter_of setup.shape c.args.self.now c.args.at) end)
   sealed_so end was =
-      seal_ended setup c.args.at c.args.plain.now c.in_ok-tag_line.tag_line c.due-persisted.result old.engine new.engine old.device mid
+      seal_ended setup c.args.at c.args.plain.now c.in_ok-tag_line.tag_line c.grouped_lines-grouped.result old.engine new.engine old.device mid
       new.device old.ledger new.ledger old.tags old.digests new.tags new.digests c.next_path-path.result.lines.items
       c.next_path-path.result.root c.requires.usable
       (subst (λ (e : ChipState). e.shape.levels ≤ 6) c.self.view_is c.self.inside.geo.has_levels.1)
@@ -130,13 +130,14 @@ module _ (g : Over) (c : After-commit_seal g) where
       (λ (e : ChipState). AreCachedTrue e.cache truth → IsRenewed e.shape setup.formulas truth (page_of c.args.at)
       c.next_counter.result.1 c.next_path-path.result.lines.items c.next_path-path.result.root)
       c.self.view_is (c.next_path-path.ensures.on_truth truth) is))
-      read due (c.next_seal-next.ensures.tags ∙ ap risen c.next_path-path.ensures.tags)
+      read grouping (subst (λ (e : ChipState). e.shape.persist ≤ e.shape.levels + 1) c.self.view_is c.self.inside.geo.has_persist)
+      (c.next_seal-next.ensures.tags ∙ ap risen c.next_path-path.ensures.tags)
       (c.next_seal-next.ensures.digests ∙ c.next_path-path.ensures.digests
       ∙ ap (λ (e : ChipState). risen_times (path_length e.shape) (g.S.Suite.digests c.args.suite.now)) c.self.view_is)
       (g.met.B.Board.whole c.read_line.new.self) (g.met.B.Board.whole c.commit_seal.new.board) end
-      (subst₂
-      (λ (next : NextSeal) line. HasSealEnded setup.shape next c.due-persisted.result line c.next_path-path.result.lines.items
-      c.next_path-path.result.root old.engine new.engine mid new.device old.ledger new.ledger end) sealing block_is was)
+      (subst
+      (λ (next : NextSeal). HasSealEnded setup.shape next c.grouped_lines-grouped.result c.next_path-path.result.lines.items
+      c.next_path-path.result.root old.engine new.engine mid new.device old.ledger new.ledger end) sealing was)
 
 pub returns-in_err-commit_seal-clause-sealed : goal.returns-in_err-commit_seal-clause-sealed
 returns-in_err-commit_seal-clause-sealed g c =
@@ -208,16 +209,16 @@ module _ (g : Over) (c : After-commit_seal g) where
       ∙ ap (λ (e : ChipState). risen_times (path_length e.shape) (g.S.Suite.digests c.args.suite.now)) c.self.view_is))
 
   its_end : (end : Result (Chip × Regs) (Chip × Cut))
-      → Follows (commit_seal_plan c.args.self.now.shape c.next_seal-next.result c.due-persisted.result c.next_counter.result.1
+      → Follows (commit_seal_plan c.args.self.now.shape c.next_seal-next.result c.grouped_lines-grouped.result
       c.next_path-path.result.lines.items c.next_path-path.result.root (mid g c).regs
       (with_tags (with_path_digests c.args.self.now.shape start) (risen start.tags))) (mid g c) (new g c).device end
       → Follows (seal_next_plan (setup g c) c.args.at c.args.plain.now (old g c).device.regs start) (old g c).device (new g c).device
       (mapped_end (λ left. left) (λ end. (end.0, next_counter_of (setup g c).shape c.args.self.now c.args.at)) end)
   its_end end it =
-      seal_end (setup g c) c.args.at c.args.plain.now (old g c).device.regs start c.next_seal-next.result c.due-persisted.result
+      seal_end (setup g c) c.args.at c.args.plain.now (old g c).device.regs start c.next_seal-next.result c.grouped_lines-grouped.result
       c.next_counter.result.1 c.next_path-path.result.lines.items c.next_path-path.result.root c.in_ok-tag_line.tag_line (sealing g c)
-      (due_is c.due-persisted.result _ (due g c)) (block_is g c) lines_are root_is (read g c) c.is_whole-2.ensures end
-      (subst (λ (regs : Regs). Follows (commit_seal_plan c.args.self.now.shape c.next_seal-next.result c.due-persisted.result c.next_counter.result.1
+      (grouping g c) (block_is g c) lines_are root_is (read g c) c.is_whole-2.ensures end
+      (subst (λ (regs : Regs). Follows (commit_seal_plan c.args.self.now.shape c.next_seal-next.result c.grouped_lines-grouped.result
       c.next_path-path.result.lines.items c.next_path-path.result.root regs
       (with_tags (with_path_digests c.args.self.now.shape start) (risen start.tags))) (mid g c) (new g c).device end) (read g c).regs it)
 

@@ -14,8 +14,8 @@ returns-clause-stored g c =
     let shape : Shape = shape_of c.self.inside.geo in
     let new : ChipState =
     record { shape = shape; cache = c.store_path.new.cache.banks; mirror = c.self.inside.mirror } in
-    subst (λ (e : ChipState). HasStoredPath e.shape c.args.page c.args.persisted c.args.path.now.lines.items e new) c.self.view_is
-    (stored_path shape c.args.page c.args.persisted c.args.path.now.lines.items c.self.inside.cache c.store_path.new.cache
+    subst (λ (e : ChipState). HasStoredPath e.shape c.args.page c.args.grouped c.args.path.now.lines.items e new) c.self.view_is
+    (stored_path shape c.args.page c.args.grouped c.args.path.now.lines.items c.self.inside.cache c.store_path.new.cache
     c.self.inside.mirror c.self.invariant.0 c.store_path.ensures.shape
     (subst (λ (e : ChipState). IsPathOf e.shape c.args.page c.args.path.now.lines.items) (sym c.self.view_is) c.requires.path)
     (subst (λ (e : ChipState). IsPathCached e.shape e.cache c.args.page) (sym c.self.view_is) c.requires.cached)

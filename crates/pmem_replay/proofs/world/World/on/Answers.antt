@@ -2,6 +2,7 @@
 use Rattle.std.proofs.Common.{arith, rules, ◌≡◌, ap, subst, sym, ◌∙◌, inr}
 use Rattle.std.specs.Prelude.{false}
 use Rattle.pmem_base.specs.Geo.{shape_of}
+use Rattle.pmem_base.specs.WaitingWrites.{queues_after_loss}
 use Rattle.board.specs.MemBoard.{memory_of}
 use Rattle.board.specs.Memory.{BoardMemory}
 use Rattle.seal_ledger.specs.View.{capacity_of, ledger_of}
@@ -14,7 +15,7 @@ use Rattle.access_log.proofs.TraceLemmas.{goes_on-between}
 use Rattle.pmem_replay.proofs.Power.OnLaws.{lit}
 use Rattle.pmem_replay.proofs.Power.RecoveryCalls.{RecoveryCall, none_there}
 use Rattle.pmem_replay.proofs.Power.OnSteps.{on-recovered, on-cut, on-counter, on-root, on-twin, on-memory}
-use Rattle.pmem_replay.proofs.Steps.PartsOfWorld.{held, setup_in, going_in, none_wait}
+use Rattle.pmem_replay.proofs.Steps.PartsOfWorld.{held, setup_in, going_in}
 use Rattle.pmem_replay.proofs.Table.UnchangedSteps.{dark_in}
 use Rattle.pmem_replay.proofs.world.World.on.Given.{Over}
 use Rattle.pmem_replay.proofs.world.World.on.Goals.{After-saturating_add-self-inside}
@@ -101,14 +102,14 @@ returns-in-Ok-clause-stepped g c =
 pub invariant_of-self-in-Err-Cut : goal.invariant_of-self-in-Err-Cut
 invariant_of-self-in-Err-Cut g c =
     let place = (goal.at.invariant_of-self-in-Err-Cut g c).After-saturating_add-self-inside in
-    (on-cut (call g place) c.loosen-in-Err-Cut.new.self c.clear.new.self (let h = c.in-Err-Cut.is in search rules)
-    c.loosen-in-Err-Cut.ensures (none_wait c.clear.new.self c.clear.ensures)).holds
+    (on-cut (call g place) c.loosen-in-Err-Cut.new.self c.lose_power.new.self (let h = c.in-Err-Cut.is in search rules)
+    c.loosen-in-Err-Cut.ensures (c.lose_power.ensures ∙ ap (λ b. queues_after_loss b c.self.inside.ports) c.is_durable.ensures)).holds
 
 pub returns-in-Err-Cut-clause-stepped : goal.returns-in-Err-Cut-clause-stepped
 returns-in-Err-Cut-clause-stepped g c =
     let place = (goal.at.returns-in-Err-Cut-clause-stepped g c).After-saturating_add-self-inside in
-    (on-cut (call g place) c.loosen-in-Err-Cut.new.self c.clear.new.self (let h = c.in-Err-Cut.is in search rules)
-    c.loosen-in-Err-Cut.ensures (none_wait c.clear.new.self c.clear.ensures)).stepped
+    (on-cut (call g place) c.loosen-in-Err-Cut.new.self c.lose_power.new.self (let h = c.in-Err-Cut.is in search rules)
+    c.loosen-in-Err-Cut.ensures (c.lose_power.ensures ∙ ap (λ b. queues_after_loss b c.self.inside.ports) c.is_durable.ensures)).stepped
 
 pub invariant_of-self-in-Err-NoCounter : goal.invariant_of-self-in-Err-NoCounter
 invariant_of-self-in-Err-NoCounter g c =

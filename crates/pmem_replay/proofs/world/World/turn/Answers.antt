@@ -1,15 +1,17 @@
 -- A line is sealed anew, or the turn is stopped, or no page is open.
-use Rattle.std.proofs.Common.{ℕ, ◌≡◌, rules, subst, sym, Ok, Err, Option, Some, None, true, inr}
+use Rattle.std.proofs.Common.{ℕ, ◌≡◌, rules, refl, ap, subst, sym, Ok, Err, Option, Some, None, true, inr}
 use Rattle.std.specs.Prelude.{Result}
 use Rattle.pmem_base.specs.declared.commands.Command.TheVariants as Do
 use Rattle.pmem_base.specs.declared.answers.Answer.TheVariants as Say
 use Rattle.suite.specs.Setup.{Setup}
 use Rattle.pmem_engine.specs.declared.fault.Fault.{Fault}
+use Rattle.access_log.specs.Traced.{traced_of}
+use Rattle.access_log.proofs.TraceLemmas.{goes_on-between}
 use Rattle.pmem_replay.specs.Planned.{TurnsPage}
 use Rattle.pmem_replay.specs.EngineCalls.{HasCalledEngine, IsFaultAnswered}
 use Rattle.pmem_replay.specs.Replies.{with_marks_since}
 use Rattle.pmem_replay.specs.Stepped.{HasStepped}
-use Rattle.pmem_replay.specs.World.{setup_of_world}
+use Rattle.pmem_replay.specs.World.{WorldState, setup_of_world}
 use Rattle.pmem_replay.proofs.EngineCalls.CommandSteps.{Serving, serving_roomy}
 use Rattle.pmem_replay.proofs.Commands.TurnSteps.{turn_idle, turn_turned, turn_stopped}
 use Rattle.pmem_replay.proofs.Drains.FenceLaws.{on_lit}
@@ -51,6 +53,11 @@ returns-in-Err-clause-stepped g c =
     since _ c.args.self.now _ Do.Turn _ _
     (turn_stopped c.in-Err.fault (served g at (Err c.in-Err.fault) c.in-Err.is) c.stopped.result
     (subst (λ n. IsFaultAnswered c.call-done.new.self.ledger.exhibit None c.in-Err.fault n c.stopped.result) c.steps-steps.ensures c.stopped.ensures))
+
+pub returns-in-Ok-Some-clause-logged : goal.returns-in-Ok-Some-clause-logged
+returns-in-Ok-Some-clause-logged g c =
+    goes_on-between c.args.log.now c.call-done.new.log c.args.self.now.board c.make_room.new.self.board c.call-done.new.self.board c.call-done.new.self.board
+    (ap (λ (w : WorldState). traced_of w.board) c.in_ok-make_room.ensures.ok.same) refl c.call-done.ensures.logged
 
 pub returns-in-Ok-None-clause-kept : goal.returns-in-Ok-None-clause-kept
 returns-in-Ok-None-clause-kept g c = inr (on g (goal.at.returns-in-Ok-None-clause-kept g c).After-steps-steps)

@@ -1,4 +1,4 @@
--- Power comes on, and the store may be stuck; or it is cut, memory is wanted, or a twin is shown.
+-- Power comes on, and the store may be stuck; or it is cut, memory runs out, or a twin is shown.
 use Rattle.std.proofs.Common.{Option, rules}
 use Rattle.txn_session.proofs.Common.{option_map, Entries}
 use Rattle.txn_session.proofs.Served.{IsTurnedOn, turned_served}

@@ -1,4 +1,4 @@
--- A line is put, or isn't, where the transaction is full.
+-- A line is put, or isn't if the transaction is full.
 use Rattle.std.proofs.Common.{◌≡◌, Some, sym, ap, subst, arith}
 use Rattle.txn_session.proofs.Common.{option_map, Setup, setup_in, txn_store}
 use Rattle.txn_session.proofs.Puts.{put_txn}

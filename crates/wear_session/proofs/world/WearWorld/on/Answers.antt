@@ -1,4 +1,4 @@
--- Power comes on; or it is cut, memory is wanted, or a twin is shown.
+-- Power comes on; or it is cut, memory runs out, or a twin is shown.
 use Rattle.std.proofs.Common.{rules}
 use Rattle.line_session.specs.Turned.{unturned}
 use Rattle.wear_session.specs.declared.commands.WearCommand.TheVariants as Do

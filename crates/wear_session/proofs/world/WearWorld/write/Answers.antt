@@ -1,4 +1,4 @@
--- A line is written, or memory is wanted.
+-- A line is written, or memory runs out.
 use Rattle.std.proofs.Common.{◌≡◌, rules}
 use Rattle.pmem_base.specs.declared.faults.MemFault.{MemFault}
 use Rattle.wear_session.proofs.Common.{WearState, wear_of, setup_in, IsWearMemoryWanted}
@@ -23,7 +23,7 @@ module _ (g : Over) (c : After-write_answer g) where
   abbrev left : WearState
   left = wear_of (setup_in g.S.Suite.formulas_of c.make-done.new.self.state) c.self.inside.every c.make-done.new.self
 
-  -- whatever is shown of a want of memory
+  -- whatever is shown of running out of memory
   module _ (why : MemFault → Type 0)
       (wants : (fault : MemFault) → left ≡ c.args.self.now → IsWearMemoryWanted c.args.self.now (Do.Write c.args.at c.args.line.now) → why fault) where
     served : IsWriteServed call c.args.self.now c.self.view_is c.make-done.ensures.world c.args.at c.args.line.now c.is_whole.ensures why wants

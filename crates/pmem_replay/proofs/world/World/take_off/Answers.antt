@@ -1,17 +1,14 @@
 -- The port's oldest write waits no more.
-use Rattle.std.proofs.Common.{List, sym, subst, ◌∙◌}
-use Rattle.std.specs.Prelude.{drop}
+use Rattle.std.proofs.Common.{List, sym, subst}
 use Rattle.pmem_base.specs.declared.commands.Posted.{Posted}
 use Rattle.pmem_base.specs.Geo.{shape_of}
-use Rattle.pmem_base.specs.WaitingWrites.{queue_of}
 use Rattle.board.specs.MemBoard.{memory_of}
 use Rattle.seal_ledger.specs.View.{capacity_of, ledger_of}
 use Rattle.suite.specs.Setup.{Setup}
 use Rattle.pmem_replay.specs.World.{WorldParts, IsWorld, world_of}
-use Rattle.pmem_replay.proofs.EngineCalls.NotedWorlds.{taken_world}
-use Rattle.pmem_replay.proofs.Drains.GivenWrites.{front_is}
-use Rattle.pmem_replay.proofs.Steps.PartsOfWorld.{held, setup_in, going_in}
-use Rattle.pmem_replay.proofs.world.World.take.Goals as goal
+use Rattle.pmem_replay.proofs.EngineCalls.NotedWorlds.{world-shorter}
+use Rattle.pmem_replay.proofs.Steps.PartsOfWorld.{held, setup_in}
+use Rattle.pmem_replay.proofs.world.World.take_off.Goals as goal
 
 pub invariant_of-self : goal.invariant_of-self
 invariant_of-self g c =
@@ -20,8 +17,6 @@ invariant_of-self g c =
     (g.S.Suite.tags c.self.inside.suite) (g.S.Suite.digests c.self.inside.suite) c.self.inside.ports c.self.inside.tampered
     c.self.inside.dirtied c.self.inside.steps c.self.inside.start c.self.inside.shown in
     let setup : Setup = setup_in g.S.Suite.formulas_of (shape_of c.self.inside.geo) p in
-    let going = going_in g.S.Suite.formulas_of (shape_of c.self.inside.geo) p c.args.self.now c.self.view_is c.requires.shown c.self.invariant in
     (λ unshown.
     subst (λ (queues : List (List Posted)). IsWorld setup (world_of setup (record p { queues = queues }))) (sym c.pop.ensures)
-    (taken_world setup (world_of setup p) c.args.port c.in-Some.write (drop 1 (queue_of p.queues c.args.port)) going.whole c.requires.port
-    (front_is (queue_of p.queues c.args.port) c.in-Some.write (sym c.front.ensures.value ∙ c.in-Some.is))))
+    (world-shorter setup (world_of setup p) c.args.port (c.self.invariant unshown) c.requires))

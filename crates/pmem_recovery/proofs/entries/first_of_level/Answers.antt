@@ -1,7 +1,7 @@
 use Rattle.std.proofs.Common.{arith}
 use Rattle.std.proofs.Math.Nat.{one-le-pow}
 use Rattle.pmem_base.proofs.LayoutLemmas.{pages-most}
-use Rattle.pmem_recovery.proofs.nodes.first_of_level.Goals as goal
+use Rattle.pmem_recovery.proofs.entries.first_of_level.Goals as goal
 
 pub pow-requires : goal.pow-requires
 pow-requires c = omega (arith, pages-most c.from.result (omega (arith, c.requires, c.from.ensures)))

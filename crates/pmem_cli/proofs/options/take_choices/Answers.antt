@@ -3,7 +3,7 @@ use Rattle.std.proofs.lemmas.Grind.{common_steps}
 use Rattle.std.specs.Prelude.{map, string_bytes}
 use Rattle.pmem_cli.specs.Words.{take_options}
 use Rattle.pmem_cli.proofs.WordLemmas.{one_first}
-use Rattle.pmem_cli.proofs.options.read_options.Goals as goal
+use Rattle.pmem_cli.proofs.options.take_choices.Goals as goal
 
 pub returns-in-None-clause-choices : goal.returns-in-None-clause-choices
 returns-in-None-clause-choices c =
