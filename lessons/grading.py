@@ -18,7 +18,7 @@ HERE = os.path.dirname(os.path.realpath(__file__))
 FOLDERS = {"first": "first", "lesson": ".", "exercise": "exercises"}
 MOST_BYTES = 2_000_000
 DEFAULTS = {"levels": "2", "sets": "4", "ways": "2", "loss": "4", "major": "0", "suite": "aes", "key": "", "tag-key": "",
-            "every": "100"}
+            "every": "100", "persist": "0", "shadow": "on", "queue": "volatile", "combine": "off"}
 FAULTS = {"1": "does not begin with a command", "2": "has too few or too many words", "3": "has a word that is not a number",
           "4": "has a port that is too great", "5": "has a wrong hex value", "6": "is longer than 1,024 bytes"}
 TASK = re.compile(r"(?P<student>.*?)[-_ ]*\b(?P<kind>first|lesson|exercise|f|l|e)[-_ ]?(?P<number>\d{1,3})", re.IGNORECASE)

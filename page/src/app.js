@@ -9,7 +9,7 @@ import {blankState, isAsGiven, lessonNamed, seedIn, showLesson, stateOf} from '.
 import {goalOf, missing} from './goal.js';
 import {device} from './map.js';
 import {faultText, Model} from './model.js';
-import {defaults, OPTIONS, quoted, wordsFor} from './options.js';
+import {clash, defaults, OPTIONS, quoted, wordsFor} from './options.js';
 import {referencePanel} from './reference.js';
 import {abbreviated, commandsOf, isComment, isStop, spelledOut} from './trace.js';
 import * as view from './view.js';
@@ -439,7 +439,12 @@ export class App {
   }
 
   setOption(name, value) {
-    this.take({...this.state, options: {...this.state.options, [name]: value}, at: {...this.state.at, step: 0}});
+    const options = {...this.state.options, [name]: value}, why = clash(options);
+    if (why) {
+      this.showControls();
+      return this.tell(`${name} isn't ${value} now: ${why}.`);
+    }
+    return this.take({...this.state, options, at: {...this.state.at, step: 0}});
   }
 
   // The same trace on another machine: its writes, reads, cuts and power in the other machine's commands.

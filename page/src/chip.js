@@ -43,17 +43,17 @@ export function chip(app) {
   const on = model.chip(command);
   const parts = [element('h2', {}, 'On the chip'), element('h3', {}, 'Registers'), registerTable(app)];
   const since = step ? ', before this command' : '';
-  if (model.machine === 'run') parts.push(element('h3', {}, `Writes that wait${since}`), queues(on));
+  if (model.machine === 'run') parts.push(element('h3', {}, `Writes that wait${since}`), queues(on, model.options.queue === 'durable'));
   if (model.machine === 'txn') parts.push(...transaction(app, on, since));
   if (model.machine === 'wear') parts.push(...ring(app, since));
   parts.push(...cache(app, since), element('h3', {}, `Work so far${since}`), work(model.counts(command)));
   fill('chip', parts);
 }
 
-function queues(on) {
+function queues(on, isDurable) {
   const ports = on.waiting.map((writes, port) => writes.length ? element('div', {}, `port ${port}: `, element('span', {class: 'chips'},
     writes.map(words => element('span', {}, short(words.slice(2).join(' ')))))) : null).filter(it => it);
-  return element('div', {}, ports.length ? ports : 'none');
+  return element('div', {}, ports.length ? ports : 'none', isDurable ? element('p', {class: 'legend'}, 'They outlive power.') : null);
 }
 
 function work(counts) {
@@ -124,9 +124,16 @@ function cache(app, since) {
   const says = `${count} of ${cached.length} are cached`;
   const image = pyramid(levels, says, (position, level, x, y, size) =>
     node(model, {position, level, x, y, size, cached, named, versions, firstMeta}));
-  return [head, image, element('p', {class: 'legend'}, `${says} (filled).`, lines ? ` ${named.size} are named in the shadow (framed): `
-    + 'these may be newer in the cache than on the device.' : '', versions ? ' The number is a node\'s version: the writes below it.'
-    : ' The last row is the counter blocks.')];
+  return [head, image, element('p', {class: 'legend'}, `${says} (filled).`, lines && model.layout.hasTables
+    ? ` ${named.size} are named in the shadow (framed): these may be newer in the cache than on the device.` : '',
+  versions ? ' The number is a node\'s version: the writes below it.' : ' The last row is the counter blocks.', strictText(model))];
+}
+
+// Which rows of the tree are written with each write.
+function strictText({machine, options}) {
+  if (machine === 'tree' || !options.persist) return '';
+  return options.persist > options.levels ? ' Each write also writes its whole path.'
+    : ` Each write also writes its path's lines of the last ${options.persist === 1 ? 'row' : `${options.persist} rows`}.`;
 }
 
 function node(model, {position, level, x, y, size, cached, named, versions, firstMeta}) {

@@ -2,7 +2,7 @@
 
 import {byId, element} from './dom.js';
 import {MACHINES, Model} from './model.js';
-import {choicesOf, defaults, OPTIONS, rangeOf, valueOf, wordsFor} from './options.js';
+import {choicesOf, clash, defaults, OPTIONS, rangeOf, valueOf, wordsFor} from './options.js';
 import {isCut, short} from './trace.js';
 import {classOf} from './view.js';
 
@@ -131,7 +131,12 @@ function chooser(app) {
 
 function optionFields(app) {
   const {machine, options} = app.state.compared;
-  const take = (name, value) => app.compareWith({machine, options: {...options, [name]: value}});
+  const take = (name, value) => {
+    const changed = {...options, [name]: value}, why = clash(changed);
+    if (!why) return app.compareWith({machine, options: changed});
+    app.compareWith({machine, options});
+    return app.tell(`${name} isn't ${value} now: ${why}.`);
+  };
   return OPTIONS[machine].filter(name => !name.endsWith('key')).map(name => element('label', {}, `${name} `,
     optionField(`compared-${name}`, name, options[name], value => take(name, value), app)));
 }

@@ -14,25 +14,26 @@ const upTo = (first, count) => Array.from({length: count}, (_, i) => first + i);
 
 // The device of the first controller.
 export class Layout {
-  constructor({levels, sets, ways}) {
+  constructor({levels, sets, ways, shadow}) {
     this.levels = levels;
     this.pages = 4 ** levels;
+    this.hasTables = shadow !== 'off';
     this.dataLines = 64 * this.pages;
     this.firstTag = this.dataLines;
     this.firstMeta = 80 * this.pages;
     this.nodes = (this.pages - 1) / 3;
-    this.slots = sets * ways;
+    this.slots = this.hasTables ? sets * ways : 0;
     this.firstShadow = this.firstMeta + this.nodes + this.pages;
     this.firstNodeShadow = this.firstShadow + Math.ceil(this.slots / 16);
     this.size = this.firstNodeShadow + Math.ceil(levels * this.slots / 16);
-    this.parts = PARTS;
+    this.parts = this.hasTables ? PARTS : PARTS.filter(part => part !== SHADOWS);
   }
 
   // The lines of each part, as [part, first line, count].
   get regions() {
     const blocks = this.firstMeta + this.nodes;
     return [[DATA, 0, this.dataLines], [TAGS, this.firstTag, this.dataLines / 4], [NODES, this.firstMeta, this.nodes],
-      [COUNTERS, blocks, this.pages], [SHADOWS, this.firstShadow, this.size - this.firstShadow]];
+      [COUNTERS, blocks, this.pages], ...(this.hasTables ? [[SHADOWS, this.firstShadow, this.size - this.firstShadow]] : [])];
   }
 
   partOf(line) {

@@ -162,16 +162,24 @@ export class Model {
     if (word === 'cut') chip.fuse = Number(words[1]);
     if (word === 'snap') chip.hasSnapshot = true;
     this.followTransaction(chip, at);
-    if ((word === 'post' || word === 'part') && answer === 'ok') chip.waiting[Number(words[1])].push(words);
+    if ((word === 'post' || word === 'part') && answer === 'ok') this.post(chip.waiting[Number(words[1])], words);
     if ((word === 'drain' || word === 'fence') && !['off', 'empty', 'cut'].includes(said[0])) {
       const drained = word === 'fence' ? Number(said[1]) + (['refused', 'spent'].includes(said[0]) ? 1 : 0) : 1;
       chip.waiting[Number(words[1])].splice(0, drained);
     }
     if (said[0] === 'cut' || (word === 'off' && answer === 'ok')) {
-      Object.assign(chip, {isOn: false, fuse: null, open: null, waiting: Array.from({length: 8}, () => [])});
+      const waiting = this.options.queue === 'durable' ? afterCut(chip.waiting, word, words, said) : Array.from({length: 8}, () => []);
+      Object.assign(chip, {isOn: false, fuse: null, open: null, waiting});
     }
     if (word === 'on' && ['on', 'stuck'].includes(said[0])) chip.isOn = true;
     if (word === 'on' && said[0] === 'refused') chip.isOn = false;
+  }
+
+  // Adds a write to a port's queue. With combining, a whole line takes the place of the newest write to it, if that is a whole line too.
+  post(queue, words) {
+    const newest = queue.map(([, , line]) => BigInt(line)).lastIndexOf(BigInt(words[2]));
+    const isCombined = this.options.combine === 'on' && newest >= 0 && isWhole(words) && isWhole(queue[newest]);
+    queue.splice(isCombined ? newest : queue.length, isCombined ? 1 : 0, words);
   }
 
   // The transaction that is open, and the one that is in force: each group with the header's line puts one in force or ends it.
@@ -303,6 +311,15 @@ export class Model {
   run() {
     return this.replies.map((reply, index) => [this.texts[index], reply.answer]);
   }
+}
+
+const isWhole = words => words[words.length - 1].length === 128;
+
+// What waits in durable queues after a cut: what has reached memory leaves its queue.
+function afterCut(waiting, word, words, said) {
+  if (word !== 'drain' && word !== 'fence') return waiting;
+  const done = (word === 'fence' ? Number(said[2]) : 0) + (said[1] === 'kept' ? 1 : 0);
+  return waiting.map((queue, port) => port === Number(words[1]) ? queue.slice(done) : queue);
 }
 
 export function readingOf(reply) {

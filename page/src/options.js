@@ -16,10 +16,16 @@ const OPTION = {
   key: {is: '', check: isHex(32, 32), says: '32 hex digits'},
   'tag-key': {is: '', check: isHex(2, 128), says: '2 to 128 hex digits, an even number'},
   every: {is: 100, check: isFrom(1, 1000000), says: 'a number from 1 to 1000000'},
+  persist: {is: 0, values: [0, 1, 2, 3, 4]},
+  shadow: {is: 'on', values: ['on', 'off']},
+  queue: {is: 'volatile', values: ['volatile', 'durable']},
+  combine: {is: 'off', values: ['off', 'on']},
 };
-const OF_BOTH = ['levels', 'sets', 'ways', 'loss', 'major', 'suite', 'key', 'tag-key'];
+const OF_ALL = ['levels', 'sets', 'ways', 'loss', 'major', 'suite', 'key', 'tag-key'];
+const POLICY = ['persist', 'shadow'];
 
-export const OPTIONS = {run: OF_BOTH, wear: [...OF_BOTH, 'every'], txn: OF_BOTH, tree: ['levels', 'sets', 'suite', 'key', 'tag-key']};
+export const OPTIONS = {run: [...OF_ALL, ...POLICY, 'queue', 'combine'], wear: [...OF_ALL, 'every', ...POLICY], txn: [...OF_ALL, ...POLICY],
+  tree: ['levels', 'sets', 'suite', 'key', 'tag-key']};
 
 export const defaults = () => Object.fromEntries(Object.entries(OPTION).map(([name, {is}]) => [name, is]));
 
@@ -37,6 +43,11 @@ export function valueOf(name, text) {
   return name === 'major' ? String(BigInt(text)) : text.toLowerCase();
 }
 
+// Why options don't go together, or null if they do: a path has a line on each level, and one more.
+export function clash({levels, persist}) {
+  return persist <= levels + 1 ? null : `persist is at most ${levels + 1} with levels ${levels}`;
+}
+
 // The options that command-line arguments choose, and a sentence for each argument that the page doesn't take.
 export function readOptions(machine, words) {
   const options = defaults(), faults = [];
@@ -48,7 +59,9 @@ export function readOptions(machine, words) {
     if (value !== undefined && text) options[name] = value;
     else faults.push(isKnown ? `${given[i]} ${text}: the page takes ${rangeOf(name)}` : `${given[i]}: ${machine} has no such option here`);
   }
-  return {options, faults};
+  const why = clash(options);
+  if (!why) return {options, faults};
+  return {options: {...options, persist: OPTION.persist.is}, faults: [...faults, `--persist ${options.persist}: ${why}`]};
 }
 
 export const optionsOf = (machine, words) => readOptions(machine, words).options;

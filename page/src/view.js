@@ -144,7 +144,8 @@ export function now(app) {
       ? element('span', {class: outcome.answer ? classOf(outcome.answer.answer) : ''}, outcomeText(outcome)) : '..'));
 }
 
-const LEGEND = [['●', 'data line'], ['■', 'tag line'], ['▲', 'counter block'], ['▼', 'tree node'], ['✚', 'shadow line'],
+const SHADOW_LINE = 'shadow line';
+const LEGEND = [['●', 'data line'], ['■', 'tag line'], ['▲', 'counter block'], ['▼', 'tree node'], ['✚', SHADOW_LINE],
   ['◆', 'the latch that arms a group'], ['◇', 'another latch'], ['✕', 'an attacker\'s change'], ['┆', 'a power cut'],
   ['┃', 'this moment']];
 
@@ -152,7 +153,7 @@ export function time(app) {
   const {box, here} = lanes(app.model, app.state.at, (command, step) => app.go(command, step));
   const old = byId('time').querySelector('.scroll')?.scrollLeft ?? 0;
   fill('time', element('h2', {}, 'Persist steps'), box, element('p', {class: 'legend'},
-    LEGEND.map(([shape, what]) => element('span', {}, element('b', {}, shape), ` ${what}`)),
+    LEGEND.filter(([, what]) => what !== SHADOW_LINE || app.model.layout.hasTables !== false).map(([shape, what]) => element('span', {}, element('b', {}, shape), ` ${what}`)),
     element('span', {}, element('i', {class: 'swatch off'}), ' power is off'), element('span', {}, element('i', {class: 'swatch on'}), ' recovery'),
     element('span', {}, element('i', {class: 'swatch due'}), ' the step that is due; pale: not done yet')));
   const scroll = byId('time').querySelector('.scroll');

@@ -14,6 +14,7 @@ class Layout:
     levels: int = 2
     sets: int = 4
     ways: int = 2
+    shadow: bool = True
 
     @property
     def pages(self) -> int:
@@ -22,9 +23,9 @@ class Layout:
 
     @property
     def parts(self) -> Dict[str, range]:
-        """The device lines of each part."""
+        """The device lines of each part. Without shadow tables those have none."""
         nodes = (4**(self.levels + 1) - 1) // 3
-        slots = self.sets * self.ways
+        slots = self.sets * self.ways if self.shadow else 0
         sizes = {
             "data lines": 64 * self.pages, "tag lines": 16 * self.pages, "tree nodes": nodes - self.pages, "counter blocks": self.pages,
             "shadow lines of counter blocks": -(-slots // 16), "shadow lines of tree nodes": -(-self.levels * slots // 16),
@@ -78,6 +79,8 @@ class Device:
     def _repr_html_(self) -> str:
         rows = []
         for name, places in self.layout.parts.items():
+            if not places:
+                continue
             first = "<br>".join(f"{place}: {code(self.lines[place].hex())}" for place in places[:SHOWN_LINES])
             more = f"<br>and {len(places) - SHOWN_LINES} more" if len(places) > SHOWN_LINES else ""
             rows.append((name, f"{places.start} to {places.stop - 1}", first + more))

@@ -24,6 +24,8 @@ Bytes = Union[bytes, bytearray, memoryview]
 A = TypeVar("A", bound=Answer)
 S = TypeVar("S", bound="Session")
 SUITES = ("aes", "weak", "blur")
+QUEUES = ("volatile", "durable")
+DEFAULT_LEVELS = 2
 
 
 def raise_not_done(answer: Answer) -> NoReturn:
@@ -254,6 +256,27 @@ def _options(numbers: Dict[str, Tuple[Optional[int], int, int]], loss: Optional[
     return words
 
 
+def _policy(levels: Optional[int], persist: Optional[int], shadow: Optional[bool]) -> List[str]:
+    """The words of a persistence policy: at most one line of a path for each level, and one more, is persisted with a write."""
+    most = (DEFAULT_LEVELS if levels is None else levels) + 1
+    words = [] if persist is None else ["--persist", _number("persist", persist, most)]
+    return words if shadow is None else [*words, "--shadow", _switch("shadow", shadow)]
+
+
+def _queues(queue: Optional[str], combine: Optional[bool]) -> List[str]:
+    """The words of the write queues."""
+    if queue is not None and queue not in QUEUES:
+        raise ValueError(f"queue must be volatile or durable, not {queue!r}")
+    words = [] if queue is None else ["--queue", queue]
+    return words if combine is None else [*words, "--combine", _switch("combine", combine)]
+
+
+def _switch(name: str, value: bool) -> str:
+    if not isinstance(value, bool):
+        raise TypeError(f"{name} must be True or False, not {value!r}")
+    return "on" if value else "off"
+
+
 def _suite(suite: Optional[str], key: Optional[Bytes], tag_key: Optional[Bytes]) -> List[str]:
     if suite is not None and suite not in SUITES:
         raise ValueError(f"suite must be aes, weak or blur, not {suite!r}")
@@ -268,6 +291,10 @@ class Controller(Session):
     8 or 16. `major` is the first major counter. `suite` is `aes`, `weak` or `blur`; its keys have 16 and 1 to 64 bytes. None is the
     program's default: 2, 4, 2, 4, 0, `aes`.
 
+    `persist`, 0 to levels + 1, is the number of levels whose lines are persisted with each write, the counter blocks first; with
+    `shadow=False` the device has no shadow tables. `queue` is `volatile` or `durable`: whether what waits at the ports outlives power. With
+    `combine=True` a posted line takes the place of the newest one that waits for it. The defaults: 0, True, `volatile`, False.
+
     >>> with Controller() as controller:
     ...     controller.post(0, 7, b"a" * 64)
     ...     controller.drain(0).steps
@@ -281,9 +308,12 @@ class Controller(Session):
 
     def __init__(self, *, levels: Optional[int] = None, sets: Optional[int] = None, ways: Optional[int] = None, loss: Optional[int] = None,
                  major: Optional[int] = None, suite: Optional[str] = None, key: Optional[Bytes] = None, tag_key: Optional[Bytes] = None,
+                 persist: Optional[int] = None, shadow: Optional[bool] = None, queue: Optional[str] = None, combine: Optional[bool] = None,
                  log: bool = False, through: Through = None) -> None:
         options = _options({"levels": (levels, 1, 6), "sets": (sets, 1, 64), "ways": (ways, 1, 8), "major": (major, 0, MOST_NUMBER)}, loss)
-        self._layout = Layout(*(given if given is not None else default for given, default in ((levels, 2), (sets, 4), (ways, 2))))
+        options += [*_policy(levels, persist, shadow), *_queues(queue, combine)]
+        numbers = [given if given is not None else default for given, default in ((levels, DEFAULT_LEVELS), (sets, 4), (ways, 2))]
+        self._layout = Layout(numbers[0], numbers[1], numbers[2], shadow is not False)
         super().__init__(options, _suite(suite, key, tag_key), log, through)
 
     @property
@@ -383,16 +413,17 @@ class LevelledMemory(Session):
     """A memory whose lines keep moving over the controller, so that none wears out one place: `pmem wear`.
 
     After each `every`th write, 1 to 1,000,000 and by default 100, the line next to the gap moves into it. The other options are those of
-    `Controller`.
+    `Controller`, without `queue` and `combine`.
     """
 
     WORD = "wear"
 
     def __init__(self, *, levels: Optional[int] = None, sets: Optional[int] = None, ways: Optional[int] = None, loss: Optional[int] = None,
                  major: Optional[int] = None, suite: Optional[str] = None, key: Optional[Bytes] = None, tag_key: Optional[Bytes] = None,
-                 every: Optional[int] = None, log: bool = False, through: Through = None) -> None:
+                 every: Optional[int] = None, persist: Optional[int] = None, shadow: Optional[bool] = None, log: bool = False,
+                 through: Through = None) -> None:
         options = _options({"levels": (levels, 1, 6), "sets": (sets, 1, 64), "ways": (ways, 1, 8), "major": (major, 0, MOST_NUMBER),
-                            "every": (every, 1, 1_000_000)}, loss)
+                            "every": (every, 1, 1_000_000)}, loss) + _policy(levels, persist, shadow)
         super().__init__(options, _suite(suite, key, tag_key), log, through)
 
     def write(self, line: int, data: Bytes) -> Union[Stepped, Held]:
@@ -417,7 +448,7 @@ class LevelledMemory(Session):
 class TransactionMemory(Session):
     """A memory over the controller that is written by transactions of up to 15 lines, each whole or absent after a cut: `pmem txn`.
 
-    The options are those of `Controller`.
+    The options are those of `Controller`, without `queue` and `combine`.
 
     >>> with TransactionMemory() as memory:
     ...     with memory.transaction():
@@ -433,8 +464,9 @@ class TransactionMemory(Session):
 
     def __init__(self, *, levels: Optional[int] = None, sets: Optional[int] = None, ways: Optional[int] = None, loss: Optional[int] = None,
                  major: Optional[int] = None, suite: Optional[str] = None, key: Optional[Bytes] = None, tag_key: Optional[Bytes] = None,
-                 log: bool = False, through: Through = None) -> None:
+                 persist: Optional[int] = None, shadow: Optional[bool] = None, log: bool = False, through: Through = None) -> None:
         options = _options({"levels": (levels, 1, 6), "sets": (sets, 1, 64), "ways": (ways, 1, 8), "major": (major, 0, MOST_NUMBER)}, loss)
+        options += _policy(levels, persist, shadow)
         super().__init__(options, _suite(suite, key, tag_key), log, through)
 
     def begin(self) -> Ok:
