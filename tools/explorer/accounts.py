@@ -110,9 +110,9 @@ class Accountant:
         return account
 
     def add_accesses(self, account: Account, entry: Entry) -> int:
-        """Adds reads, writes and latches; answers how many pages were begun to be re-encrypted: those are the groups of one
+        """Adds reads, writes and latches; answers how many pages were begun to be re-encrypted: those are the groups without a data
         line."""
-        reads = lines = begins = 0
+        reads = lines = begins = data_before = 0
         armed = False
         for access, number in entry.accesses:
             if access == LOOK:
@@ -131,8 +131,8 @@ class Accountant:
                 account.single_writes += lines
             else:
                 account.groups[lines] += 1
-            armed, lines = bool(number), 0
-            begins += number == 1
+            begins += armed and account.writes[DATA_PART] == data_before
+            armed, lines, data_before = bool(number), 0, account.writes[DATA_PART]
         if reads:
             account.read_runs[reads] += 1
         if armed and lines:

@@ -8,19 +8,22 @@ from dataclasses import dataclass, field
 from typing import Any, Dict, List, Optional, Sequence, Tuple
 
 from .accounts import DATA_PART, Account
-from .chip import chip_bytes, position_bytes
+from .chip import chip_bytes, group_lines, position_bytes
 from .costs import Costs
+from .designs import machine_of, policy_words, with_design
+from .errors import WRONG_WORDS, ExploreError
+from .machines import POLICY
 from .output import csv_text, json_text, table_text
 from .settings import LEVELS, Settings
 
 LINE = 64
-# `whole` is `run` if each block and node may be stale: what recovery takes if nothing names those that are.
-DESIGNS = ("run", "tree", "whole")
+# What is shown unless other designs are named: `osiris` is `run` without shadow tables, whose recovery takes all of memory.
+DESIGNS = ("run", "tree", "osiris")
 UNITS = {"": 1, "K": 1 << 10, "M": 1 << 20, "G": 1 << 30, "T": 1 << 40, "P": 1 << 50}
 MOST_BYTES = 1 << 60
 SLOTS_IN_A_LINE = 16
-# The lines of a group of `run` that a recovery may find armed, and the latch that empties it.
-GROUP_LINES, GROUP_LATCHES = 3, 1
+# The latch that empties the group of `run` that a recovery may find armed.
+GROUP_LATCHES = 1
 # How far measured means may lie off a straight line that is followed, of the greatest of them.
 CLOSE = 0.02
 # The means that are extrapolated: the names of `compare`, and what they are called.
@@ -81,6 +84,22 @@ class Bounds:
         return 1 << 2 * self.settings.levels
 
     @property
+    def doubted_blocks(self) -> int:
+        """How many counter blocks of `run` a recovery makes at most: none if they are persisted with each write, otherwise those in the
+        cache, which the tables name, or all."""
+        if self.settings.persist:
+            return 0
+        return self.slots if self.settings.has_tables else self.pages
+
+    @property
+    def doubted_nodes(self) -> int:
+        """The same for its nodes: those in the cache, or those of all levels that are persisted later."""
+        levels, lazy = self.settings.levels, self.settings.lazy_levels
+        if not lazy:
+            return 0
+        return levels * self.slots if self.settings.has_tables else ((1 << 2 * min(lazy, levels)) - 1) // 3
+
+    @property
     def nodes(self) -> int:
         """The nodes of the tree: of `run` those over its counter blocks, of `tree` all."""
         return ((1 if self.machine_name == "run" else 4) * self.pages - 1) // 3
@@ -96,7 +115,7 @@ class Bounds:
         """The lines of the device that name or copy what is cached."""
         if self.machine_name == "tree":
             return self.slots
-        if self.design == "whole":
+        if not self.settings.has_tables:
             return 0
         return -(-self.slots // SLOTS_IN_A_LINE) - (-self.settings.levels * self.slots // SLOTS_IN_A_LINE)
 
@@ -110,20 +129,17 @@ class Bounds:
     @property
     def is_in_range(self) -> bool:
         """Whether the program has such a memory, so that its contracts state these bounds."""
-        return self.settings.levels in LEVELS and self.design != "whole"
+        return self.settings.levels in LEVELS
 
     def recovery(self) -> Account:
         """The most that a recovery takes."""
         return self.recovery_of_tree() if self.machine_name == "tree" else self.recovery_of_run()
 
     def recovery_of_run(self) -> Account:
-        """For `run`: by its cache. Without names: by its memory, since each block and node is made again."""
-        levels, slots, shadow = self.settings.levels, self.slots, self.shadow_lines
-        if self.design == "whole":
-            blocks, reads, digests = self.pages, 129 * self.pages + self.nodes, 4 * self.nodes + 1
-        else:
-            blocks, reads, digests = slots, shadow + 129 * slots + 5 * levels * slots + 1, 4 * levels * slots + 1
-        return account_of(reads, GROUP_LINES + (levels + 1) * slots + shadow, GROUP_LATCHES, LINE * self.settings.loss * blocks, digests)
+        """For `run`: by what it may have to make."""
+        blocks, nodes, shadow = self.doubted_blocks, self.doubted_nodes, self.shadow_lines
+        return account_of(shadow + 129 * blocks + 5 * nodes + 1, group_lines(self.settings) + blocks + nodes + shadow, GROUP_LATCHES,
+                          LINE * self.settings.loss * blocks, 4 * nodes + 1)
 
     def recovery_of_tree(self) -> Account:
         """For `tree`: its slot lines are read, and the shadow tree over them is made."""
@@ -133,14 +149,16 @@ class Bounds:
         return account_of(self.slots, self.settings.levels + 3, 1, 0, (4 ** (height + 1) - 1) // 3)
 
     def write_steps(self) -> int:
-        """The most persist steps of a write of one line that begins no page."""
-        return 2 * self.settings.levels + (5 if self.machine_name == "tree" else 7)
+        """The most persist steps of a write of one line that begins no page: in each level that is persisted later a line is evicted and,
+        with tables, one is named; then come the group's lines and two latches."""
+        settings = self.settings
+        if self.machine_name == "tree":
+            return 2 * settings.levels + 5
+        return (1 + settings.has_tables) * settings.lazy_levels + group_lines(settings) + 2
 
     def row(self, costs: Optional[Costs]) -> Row:
         """It by name."""
         account, chip = self.recovery(), chip_bytes(self.settings)
-        if self.design == "whole":
-            chip["shadow"] = 0
         row: Row = {"design": self.design, "levels": self.settings.levels, "memory_bytes": LINE * self.settings.data_lines,
                     "device_bytes": LINE * self.device_lines, "chip_bytes": sum(chip.values()), "chip_cache": chip["cache"],
                     "write_steps_most": self.write_steps(), "recovery_tags_most": account.tags,
@@ -160,12 +178,15 @@ def account_of(reads: int, writes: int, latches: int, tags: int, digests: int) -
 
 
 def bounds_of(designs: Sequence[str], size: int, base: Settings) -> List[Bounds]:
-    """These designs for a memory of at least that many bytes, with the sets, ways and stop-loss number of `base`."""
+    """These designs for a memory of at least that many bytes, with the sets, ways, stop-loss number and policy of `base`."""
     found = []
     for design in designs:
-        machine_name = "tree" if design == "tree" else "run"
-        own = {name: getattr(base, name) for name in ("sets", "ways", "loss") if name in Settings(machine_name=machine_name).machine.options}
-        found.append(Bounds(design, Settings(levels=levels_for(machine_name, size), machine_name=machine_name, **own)))
+        settings = Settings(machine_name=machine_of(design))
+        own = {name: getattr(base, name) for name in ("sets", "ways", "loss", *POLICY) if name in settings.machine.options}
+        settings = with_design(settings.changed(levels=levels_for(settings.machine_name, size), **own), design)
+        if settings.lazy_levels < 0:
+            raise ExploreError(f"--persist {settings.persist} is more than the {settings.levels + 1} lines of a path in this memory", WRONG_WORDS)
+        found.append(Bounds(design, settings))
     return found
 
 
@@ -238,10 +259,9 @@ class Answer:
         """What stands before the table."""
         heads = [f"memory: at least {size_text(self.asked)}"]
         for each in self.bounds:
-            if each.design == "whole":
-                heads.append("whole: run if nothing names what is stale, so that each counter block and node is made again; a formula, not a "
-                             "design of the program")
-            elif not each.is_in_range:
+            if each.settings.design or each.settings.policy():
+                heads.append(f"{each.design}: run {' '.join(policy_words(each.settings))}")
+            if not each.is_in_range:
                 heads.append(f"{each.design}: {each.settings.levels} levels; the program has at most {LEVELS[-1]} "
                              f"({size_text(bytes_of(each.machine_name, LEVELS[-1]))}): the proved formulas are evaluated beyond their range, with "
                              f"{position_bytes(each.settings)} bytes for the number of a device line")

@@ -3,18 +3,22 @@ recovery against the moment of the cut, and how often lines are written. Only th
 from typing import Any, Dict, List, Optional, Sequence, Tuple
 
 from .accounts import PART_WORDS
-from .compare import NUMBERS, RECOVERY
+from .compare import RECOVERY, VARIED
+from .designs import family_of
 from .draw import (BLACK, BLUE, DARK_GREY, GREEN, GREY, ORANGE, PURPLE, SKY, VERMILION, label_of, load_matplotlib, picture)
 from .errors import WRONG_WORDS, ExploreError
 from .labels import add_labels
+from .machines import MACHINE_NAMES
+from .settings import LATER
 from .units import time_text
 
 Row = Dict[str, Any]
 
 PART_COLOURS = dict(zip(PART_WORDS, (BLUE, SKY, ORANGE, GREEN, PURPLE)))
-DESIGN_MARKS = {"run": (BLUE, "o"), "wear": (ORANGE, "s"), "txn": (GREEN, "^"), "tree": (VERMILION, "D"), "plain": (DARK_GREY, "P")}
-# What can tell designs of one machine apart: their numbers, and the figures that their times are made with.
-VARIED = (*NUMBERS, "figures")
+DESIGN_MARKS = {"run": (BLUE, "o"), "wear": (ORANGE, "s"), "txn": (GREEN, "^"), "tree": (VERMILION, "D"), "plain": (DARK_GREY, "P"),
+                "anubis": (BLUE, "o"), "osiris": (SKY, "v"), "counters": (GREEN, "p"), "triad": (PURPLE, "h"), "strict": (BLACK, "X")}
+# What can tell designs of one name apart: their options, and the figures that their times are made with.
+TOLD_APART = (*VARIED, "figures")
 MOST_MOMENTS = 8
 TIME = "time"
 
@@ -43,6 +47,11 @@ def plain(text: str) -> str:
     return text.replace("$", r"\$")
 
 
+def mark_of(design: str) -> Tuple[str, str]:
+    """The colour and the mark of a design."""
+    return DESIGN_MARKS[family_of(design)]
+
+
 def shown_rows(value: Dict[str, Any]) -> List[Row]:
     """The rows that are drawn: of several traces their means."""
     rows: List[Row] = value["designs"]
@@ -53,13 +62,14 @@ def shown_rows(value: Dict[str, Any]) -> List[Row]:
 def varied(rows: Sequence[Row]) -> List[str]:
     """The numbers that tell the designs of one machine apart."""
     machines = {row["design"] for row in rows}
-    return [name for name in VARIED
+    return [name for name in TOLD_APART
             if any(len({row.get(name) for row in rows if row["design"] == machine}) > 1 for machine in machines)]
 
 
 def name_of(row: Row, names: Sequence[str]) -> str:
     """A design by its machine and the numbers that vary."""
-    numbers = [f"{label_of(name).split('-')[0] if name != 'loss' else 'loss'} {row[name]}" for name in names if row[name] is not None]
+    numbers = [f"{label_of(name).split('-')[0] if name != 'loss' else 'loss'} {row[name]}" for name in names
+               if row.get(name) is not None and (row["design"] in MACHINE_NAMES or name not in LATER)]
     return ", ".join([row["design"], *numbers])
 
 
@@ -155,9 +165,9 @@ def trade_off(value: Dict[str, Any], title: str, kind: str) -> bytes:
     names = varied(rows)
     told: List[Tuple[float, float, str]] = []
     for cost, recovery, row in points:
-        colour, marker = DESIGN_MARKS[row["design"]]
+        colour, marker = mark_of(row["design"])
         axes.plot([cost], [recovery], marker=marker, color=colour, linestyle="", zorder=2)
-        text = ", ".join(str(row[name]) for name in names if row[name] is not None)
+        text = ", ".join(str(row[name]) for name in names if row.get(name) is not None)
         told.append((cost, recovery, "" if is_beside(told, text, cost, recovery, points[-1][0]) else text))
     if names:
         axes.text(0.99, 0.98, f"at each point: {', '.join(map(label_of, names))}", transform=axes.transAxes, ha="right", va="top",
@@ -171,8 +181,8 @@ def trade_off(value: Dict[str, Any], title: str, kind: str) -> bytes:
         axes.yaxis.set_major_formatter(time_mark)
     axes.grid(color=GREY, linewidth=0.5, which="both")
     axes.margins(x=0.15, y=0.12)
-    handles = [Line2D([], [], color=colour, marker=marker, linestyle="", label=design) for design, (colour, marker) in
-               DESIGN_MARKS.items() if any(row["design"] == design for row in rows)]
+    handles = [Line2D([], [], color=mark_of(design)[0], marker=mark_of(design)[1], linestyle="", label=design) for design in
+               sorted({row["design"] for row in rows}, key=lambda design: list(DESIGN_MARKS).index(family_of(design)))]
     axes.legend(handles=handles, frameon=False, fontsize=8, loc="lower left")
     add_title(figure, axes, plain(title_of(rows, title)), value["heads"])
     add_labels(axes, told, DARK_GREY)
@@ -257,7 +267,7 @@ def worn(value: Dict[str, Any], title: str, kind: str) -> bytes:
     from matplotlib.patches import Patch
     designs: Dict[Tuple[Any, ...], List[Row]] = {}
     for row in value["parts"]:
-        designs.setdefault((row["trace"], row["design"], *(row[name] for name in NUMBERS)), []).append(row)
+        designs.setdefault((row["trace"], row["design"], *(row.get(name) for name in VARIED)), []).append(row)
     firsts = [rows[0] for rows in designs.values()]
     several = len({row["trace"] for row in firsts}) > 1
     bins = max((list(row["histogram"]) for row in value["parts"]), key=len)

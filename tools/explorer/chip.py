@@ -22,9 +22,23 @@ def chip_bytes(settings: Settings) -> Dict[str, int]:
         return {"cache": slots * (4 * COUNTER + position), "shadow": (4 ** (height + 1) - 1) // 3 * LINE,
                 "registers": DIGEST + (levels + 3) * entry, "waiting": 0}
     slots = settings.sets * settings.ways
+    tables = ((slots + 15) // 16 + (levels * slots + 15) // 16) * LINE if settings.has_tables else 0
     waiting = {"run": PORTS * QUEUE * entry, "wear": 2 * position, "txn": TRANSACTION * entry}
-    return {"cache": (levels + 1) * slots * entry, "shadow": ((slots + 15) // 16 + (levels * slots + 15) // 16) * LINE,
-            "registers": DIGEST + 3 * entry + PAGES_OPEN * (entry + COUNTER) + 1, "waiting": waiting[settings.machine_name]}
+    return {"cache": (levels + 1) * slots * entry, "shadow": tables,
+            "registers": DIGEST + group_lines(settings) * entry + PAGES_OPEN * (entry + COUNTER) + 1,
+            "waiting": waiting[settings.machine_name]}
+
+
+def group_lines(settings: Settings) -> int:
+    """How many lines the largest commit group of `run`, `wear` or `txn` has: a data line, its tag line, and the path lines that are
+    persisted with them, or the counter block alone if none are."""
+    return 2 + max(settings.persist, 1)
+
+
+def kept_bytes(settings: Settings) -> int:
+    """How many of a design's bytes on the chip outlive power: its registers, and durable write queues."""
+    found = chip_bytes(settings)
+    return found["registers"] + (found["waiting"] if settings.is_durable else 0)
 
 
 def position_bytes(settings: Settings) -> int:

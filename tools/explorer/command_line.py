@@ -6,8 +6,8 @@ import re
 import sys
 from typing import Any, Callable, Dict, List, NoReturn, Optional, Sequence, Tuple, Union
 
-from . import (attacks, bounds, charts, compare, convert, costs, curves, cuts, draw, endurance, export, figure, importing, outcomes, ranges,
-               readers, settings, shell, steps, sweep)
+from . import (attacks, bounds, charts, compare, convert, costs, curves, cuts, designs, draw, endurance, export, figure, importing, outcomes,
+               ranges, readers, settings, shell, steps, sweep)
 from .cluster import SECONDS_TO_JOIN, Cluster, ClusterTogether
 from .about import about, comments_of, version
 from .checks import Checks
@@ -15,7 +15,7 @@ from .errors import CHECK_BROKEN, CHECK_FAILED, DONE, FAILURE, INTERRUPTED, WRON
 from .finding import REPOSITORY, default_program, found_program
 from .fork_server import remove_temporary
 from .logged import LoggedProgram, LoggedRecording
-from .machines import MACHINE_NAMES, MACHINES
+from .machines import MACHINE_NAMES, MACHINES, POLICY
 from .orders import Orders, Tried, orders_text
 from .output import check_writable, json_text, put, write_file
 from .processes import INTERRUPTS, TOLD, end_all
@@ -92,7 +92,8 @@ own commands, over a memory of the same size, with each write of a whole line at
 Lines that one of the memories does not have are left out of all; standard error says so before anything runs. It adds up the
 program's log: persist steps, line writes and reads by part of the device, latches, tags, digests; and what follows from it:
 pads, hits and misses of the metadata cache. Recovery is measured after cuts that are spread over the workload. --levels, --sets,
---ways, --loss and --every take several numbers each. With --cost FILE it prints times and energy too (docs/COSTS.md)."""
+--ways, --loss, --every and the options of a policy take several values each. With --cost FILE it prints times and energy too
+(docs/COSTS.md)."""
 
 ENDURANCE_HELP = """\
 Counts how often a workload writes each line of the device, on several designs, as `explore compare` makes it: by part of the
@@ -109,8 +110,8 @@ changed a line that nothing read. The exit status is 1 if memory answered wrong 
 BOUNDS_HELP = """\
 Prints what a recovery takes at most on a memory of any size: the bounds that are proved (docs/RECOVERY.md, TREE_MACHINE.md) for
 memories that the program has, and the same formulas for larger ones, marked as such. With --trace it also measures the means of
-a workload at several levels, and follows a straight line through them to the size that was asked for. `whole` is run if
-nothing names what is stale, so that recovery takes all of memory. For example:
+a workload at several levels, and follows a straight line through them to the size that was asked for. `osiris` is run without
+shadow tables: nothing names what is stale, so that recovery takes all of memory. For example:
   tools/explore bounds --memory 1T --sets 64 --ways 8 --cost optane"""
 
 FIGURE_HELP = """\
@@ -118,7 +119,7 @@ Draws a curve that papers on secure memories show, and writes its table:
 %s
 `explore figure all -o FOLDER` makes all of them. Workloads are those of examples/workloads, or the traces that you name; each counts the
 same, and pictures show their means. recovery-memory has the proved bounds of recovery, with dashes where the formulas go on beyond the
-program's memories, and what workloads took if you name some. For example:
+program's memories, and what the workloads took. For example:
   tools/explore figure trade-off my.trace -o trade-off.pdf --table trade-off.csv
 Pictures need matplotlib.""" % "\n".join(f"  {name:<16} {what}" for name, what in curves.FIGURES.items())
 
@@ -347,6 +348,37 @@ def add_settings(parser: argparse.ArgumentParser, several: bool) -> None:
     group.add_argument("--tag-key", type=hex_digits(2, 128), metavar="HEX", help="2 to 128 hex digits")
     group.add_argument("--every", type=number_in(settings.EVERY), default=default.every, metavar="N",
                        help="wear: move a line after every N writes (default 100)")
+    add_policy(group, several)
+
+
+def add_policy(group: Any, several: bool, with_queue: bool = True) -> None:
+    """The options of the persistence policy and of the write queues; several values each, for a sweep."""
+    default = Settings()
+    several_numbers, several_words = (numbers_in, words_in) if several else (number_in, word_in)
+    group.add_argument("--persist", type=several_numbers(settings.PERSISTED), default=None if several else default.persist,
+                       metavar="0,1,.." if several else "N",
+                       help="run, wear, txn: the lowest lines of a path that are persisted with each write, at most LEVELS + 1 (default 0)")
+    for name, values, what in (
+            ("shadow", settings.SHADOWS, "run, wear, txn: whether shadow tables name the lines that may be stale"),
+            ("queue", settings.QUEUE_KINDS, "run: whether the write queues outlive power (durable: ADR)"),
+            ("combine", settings.COMBINING, "run: whether a posted line takes the place of one that waits"))[:3 if with_queue else 1]:
+        group.add_argument(f"--{name}", type=several_words(values), default=None if several else getattr(default, name),
+                           metavar=",".join(values) if several else "|".join(values), help=f"{what} (default {getattr(default, name)})")
+
+
+def word_in(values: Sequence[str]) -> Callable[[str], str]:
+    """Reads one of these words."""
+    def read(text: str) -> str:
+        if text not in values:
+            raise argparse.ArgumentTypeError(f"{text!r} is not one of {', '.join(values)}")
+        return text
+    return read
+
+
+def words_in(values: Sequence[str]) -> Callable[[str], List[str]]:
+    """Reads some of these words with commas between."""
+    read = word_in(values)
+    return lambda text: [read(word.strip()) for word in text.split(",")]
 
 
 def add_designs(parser: argparse.ArgumentParser, baselines: Sequence[str] = ()) -> None:
@@ -354,10 +386,9 @@ def add_designs(parser: argparse.ArgumentParser, baselines: Sequence[str] = ()) 
     parser.add_argument("trace", metavar="TRACE", nargs="+",
                         help="traces for pmem run; a folder is all its files in .trace, such as examples/workloads; - is standard input")
     add_output(parser)
-    names = (*MACHINE_NAMES, *baselines)
-    parser.add_argument("--designs", type=design_names(names), default=list(MACHINE_NAMES), metavar="run,wear,..",
-                        help="some of run, wear, txn and tree (default: all)" + ", and plain, a memory without security, whose figures "
-                        "are computed" * bool(baselines))
+    parser.add_argument("--designs", type=design_names(baselines), default=list(MACHINE_NAMES), metavar="run,wear,..",
+                        help="some of run, wear, txn and tree (default: these)" + ", plain, a memory without security, whose figures "
+                        "are computed" * bool(baselines) + f", and policies of run {designs.NAMES_HELP}; docs/DESIGNS.md has what they are")
     parser.add_argument("--fold", action="store_true",
                         help="put a line that the smallest memory does not have onto the line with its remainder (default: leave it out)")
     formats = parser.add_mutually_exclusive_group()
@@ -376,15 +407,17 @@ def add_designs(parser: argparse.ArgumentParser, baselines: Sequence[str] = ()) 
         group.add_argument(f"--{name}", type=numbers_in(values), metavar="1,2,..", default=[getattr(default, name)],
                            help=f"{what}: {words_for(values)} (default {getattr(default, name)})")
     group.add_argument("--suite", choices=settings.SUITES, default=default.suite, help="the ciphers (default aes)")
+    add_policy(group, True)
 
 
-def design_names(allowed: Sequence[str]) -> Callable[[str], List[str]]:
-    """Reads some of these names with commas between."""
+def design_names(baselines: Sequence[str], machines: Sequence[str] = tuple(MACHINE_NAMES)) -> Callable[[str], List[str]]:
+    """Reads names of designs with commas between: these machines, policies, and baselines."""
     def read(text: str) -> List[str]:
-        names = list(dict.fromkeys(word.strip() for word in text.split(",")))
-        wrong = [name for name in names if name not in allowed]
+        names = designs.ordered([word.strip() for word in text.split(",")])
+        wrong = [name for name in names if name not in (*machines, *baselines) and not designs.is_policy(name)]
         if wrong:
-            raise argparse.ArgumentTypeError(f"{wrong[0]!r} is not one of {', '.join(allowed)}")
+            raise argparse.ArgumentTypeError(f"{wrong[0]!r} is not one of {', '.join((*machines, *baselines))}, {designs.NAMES}, or "
+                                             f"one of the latter with {designs.WITH_ADR}")
         return names
     return read
 
@@ -631,12 +664,13 @@ def add_bounds(commands: Any) -> None:
     add_output(each)
     each.add_argument("--memory", type=bounds.memory_bytes, required=True, metavar="SIZE",
                       help="the size of memory at least, such as 1T, 64G or 16M (bytes)")
-    each.add_argument("--designs", type=design_names(bounds.DESIGNS), default=list(bounds.DESIGNS), metavar="run,tree,whole",
-                      help="some of these (default: all)")
+    each.add_argument("--designs", type=design_names((), ("run", "tree")), default=list(bounds.DESIGNS), metavar="run,tree,..",
+                      help=f"run, tree, and policies of run {designs.NAMES_HELP} (default: {', '.join(bounds.DESIGNS)})")
     default = Settings()
     for name, values in (("sets", settings.SETS), ("ways", settings.WAYS), ("loss", settings.LOSSES)):
         each.add_argument(f"--{name}", type=number_in(values), default=getattr(default, name), metavar=name.upper(),
                           help=f"as of pmem run: {words_for(values)} (default {getattr(default, name)})")
+    add_policy(each, False, False)
     each.add_argument("--cost", metavar="FILE", help=f"figures of time and energy: a file in TOML, or one of {', '.join(costs.bundled())}")
     each.add_argument("--trace", metavar="TRACE", help="a workload whose means are measured and extrapolated")
     each.add_argument("--levels", type=numbers_in(settings.LEVELS), default=[1, 2, 3], metavar="1,2,..",
@@ -676,10 +710,12 @@ def add_figure(commands: Any) -> None:
     each.add_argument("--cuts", type=count_from(0), default=FIGURE_CUTS, metavar="N",
                       help=f"look at recovery after N cuts of each workload and design, spread evenly; 0: after each step (default {FIGURE_CUTS})")
     each.add_argument("--attack-writes", type=count_from(1), default=ATTACK_WRITES, metavar="N",
-                      help=f"of wear: the attack writes its line N times (default {ATTACK_WRITES:,})")
+                      help=f"of wear: the attack writes its line N times, and workloads are repeated until they wrote N lines "
+                           f"(default {ATTACK_WRITES:,})")
+    each.add_argument("--bounds", action="store_true", help="of recovery-memory: only the proved bounds and the formulas; nothing runs")
     each.add_argument("--levels", type=number_in(range(1, curves.MOST_OF_TREE + 1)), default=curves.MEASURED_LEVELS, metavar="LEVELS",
                       help=f"the levels of run for whose memory workloads are measured: 1 to {curves.MOST_OF_TREE}, as tree has no larger one "
-                           f"(default {curves.MEASURED_LEVELS}: 4,096 lines)")
+                           f"(default {curves.MEASURED_LEVELS}: 4,096 lines); `designs` has all memories")
     default = Settings()
     for name, values in (("sets", settings.SETS), ("ways", settings.WAYS), ("loss", settings.LOSSES)):
         each.add_argument(f"--{name}", type=number_in(values), default=getattr(default, name), metavar=name.upper(),
@@ -709,7 +745,7 @@ def add_draw(commands: Any) -> None:
     each.add_argument("-o", "--output", metavar="FILE", required=True, help="the picture: a name in .svg, .png or .pdf")
     add_lines(each)
     each.add_argument("--title", metavar="TEXT", help="the picture's title (default: the trace's name)")
-    each.add_argument("--along", choices=sweep.NUMBERS,
+    each.add_argument("--along", choices=sweep.VARIED,
                       help="for a sweep: the number along the curves (default: the one with most values)")
     each.add_argument("--trade-off", action="store_true",
                       help="for a sweep or a comparison: the cost of a recovery against the cost of a write, a point for each setting")
@@ -750,7 +786,7 @@ def make_parser() -> Parser:
 def settings_of(words: argparse.Namespace) -> Settings:
     """The settings that the words choose."""
     chosen = Settings(words.levels, words.sets, words.ways, words.loss, words.major, words.suite, words.key or "",
-                      words.tag_key or "", words.every, words.machine_name)
+                      words.tag_key or "", words.every, words.machine_name, words.persist, words.shadow, words.queue, words.combine)
     chosen.check()
     return chosen
 
@@ -928,7 +964,7 @@ def run_sweep(words: argparse.Namespace) -> None:
     together = together_of(words)
     base = Settings(major=words.major, suite=words.suite, key=words.key or "", tag_key=words.tag_key or "",
                     every=words.every, machine_name=words.machine_name)
-    values: Dict[str, Sequence[int]] = {name: getattr(words, name) for name in sweep.NUMBERS if getattr(words, name)}
+    values: Dict[str, Sequence[Any]] = {name: getattr(words, name) for name in sweep.VARIED if getattr(words, name)}
     trace = read_trace(words.trace)
     costs = sweep.trace_sweep(trace, sweep.settings_of(base, values), together)
     text = sweep.sweep_csv(costs) if words.csv else sweep.sweep_latex(costs) if words.latex else \
@@ -938,7 +974,7 @@ def run_sweep(words: argparse.Namespace) -> None:
 
 def designs_of(words: argparse.Namespace) -> List[Tuple[int, Settings]]:
     """The designs that the words choose."""
-    values: Dict[str, Sequence[int]] = {name: list(dict.fromkeys(getattr(words, name))) for name in compare.NUMBERS}
+    values: Dict[str, Sequence[Any]] = {name: list(dict.fromkeys(getattr(words, name))) for name in compare.VARIED if getattr(words, name)}
     return compare.designs_of(words.designs, Settings(suite=words.suite), values)
 
 
@@ -1019,7 +1055,7 @@ def run_bounds(words: argparse.Namespace) -> None:
     """`explore bounds`."""
     check_writable(words.output)
     figures = costs.read_costs(words.cost) if words.cost else None
-    base = Settings(sets=words.sets, ways=words.ways, loss=words.loss)
+    base = Settings(sets=words.sets, ways=words.ways, loss=words.loss, persist=words.persist, shadow=words.shadow)
     found = bounds.Answer(bounds.bounds_of(words.designs, words.memory, base), words.memory, figures)
     if words.trace:
         measured_means(words, found, base)
@@ -1032,7 +1068,7 @@ def measured_means(words: argparse.Namespace, found: bounds.Answer, base: Settin
     levels = sorted(set(words.levels))
     if len(levels) < 2 or not names:
         raise ExploreError("--trace needs two or more --levels, and run or tree among --designs", WRONG_WORDS)
-    values: Dict[str, Sequence[int]] = {"levels": levels, "sets": [base.sets], "ways": [base.ways], "loss": [base.loss], "every": [base.every]}
+    values: Dict[str, Sequence[Any]] = {"levels": levels, **{name: [getattr(base, name)] for name in ("sets", "ways", "loss", *POLICY)}}
     comparison = compare.Comparison(compare.designs_of(names, Settings(), values), together_of(words, True), words.fold, words.cuts)
     trace = read_trace(words.trace)
     found.means = bounds.extrapolated(compare.compare([trace], comparison, [found.costs] if found.costs else []).every, names)
@@ -1047,6 +1083,8 @@ def run_figure(words: argparse.Namespace) -> None:
     """`explore figure`."""
     if words.source and (words.table or words.trace):
         raise ExploreError("--from goes without --table and traces", WRONG_WORDS)
+    if words.bounds and (words.source or words.trace or words.name != "recovery-memory"):
+        raise ExploreError("--bounds is for recovery-memory, without --from and traces", WRONG_WORDS)
     if words.name == ALL_FIGURES:
         run_all_figures(words)
         return
@@ -1082,9 +1120,9 @@ def check_figure(picture: Optional[str], names: Sequence[Optional[str]]) -> None
             draw.load_matplotlib()
 
 
-def figure_choice(words: argparse.Namespace, names: Sequence[str]) -> curves.Choice:
-    """What the figures are made with. The bounds of recovery-memory need no workload, and have none unless one is named."""
-    needs_traces = not words.source and list(names) != ["recovery-memory"]
+def figure_choice(words: argparse.Namespace) -> curves.Choice:
+    """What the figures are made with. The bounds of recovery-memory need no workload."""
+    needs_traces = not words.source and not words.bounds
     given = words.trace or ([str(WORKLOADS)] if WORKLOADS.is_dir() and needs_traces else [])
     base = Settings(levels=words.levels, sets=words.sets, ways=words.ways, loss=words.loss)
     return curves.Choice(base, costs.read_costs(words.cost), traces_of(given), words.cuts, words.attack_writes)
@@ -1092,7 +1130,7 @@ def figure_choice(words: argparse.Namespace, names: Sequence[str]) -> curves.Cho
 
 def make_figures(words: argparse.Namespace, files: Dict[str, FigureFiles]) -> None:
     """Makes figures: their pictures and their tables."""
-    choice = figure_choice(words, list(files))
+    choice = figure_choice(words)
     needs_program = not words.source and any(curves.needs_program(name, bool(choice.traces)) for name in files)
     together = together_of(words, True) if needs_program else None
     for name, (picture, table, source) in files.items():

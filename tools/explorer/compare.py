@@ -7,15 +7,16 @@ from dataclasses import dataclass, field
 from typing import Any, Dict, Iterator, List, Mapping, Optional, Sequence, Tuple
 
 from .accounts import COUNTS, DATA_PART, PART_WORDS, Account, Accountant, added
-from .chip import CHIP_PARTS, chip_bytes
+from .chip import CHIP_PARTS, chip_bytes, kept_bytes
 from .convert import Converted, converted, levels_for, outside_text
 from .costs import SPLIT, Costs, Spent, heads_of
+from .designs import machine_of, with_design
 from .errors import WRONG_WORDS, ExploreError
 from .layout import layout_of
 from .logged import LoggedProgram, LoggedRecording, entries_of
 from .output import csv_text, json_text, latex_text, table_text
 from .program import Question, Run, first_word, text_of
-from .settings import Settings
+from .settings import LATER, Settings
 from .together import Together
 from .trace import Trace, trace_of
 
@@ -23,6 +24,8 @@ CUTS = 200
 LINE_BYTES = 64
 COLUMNS = 6
 NUMBERS = ("levels", "sets", "ways", "loss", "every")
+# What varies: these numbers, and the options of the policy and of the queues, which rows have only if one of them isn't the default.
+VARIED = (*NUMBERS, *LATER)
 RECOVERY = ("tags", "digests", "steps", "line_reads", "line_writes")
 RECOVERY_TEXTS = {"tags": "tags (trials)", "digests": "digests", "steps": "persist steps", "line_reads": "line reads",
                   "line_writes": "line writes"}
@@ -59,6 +62,7 @@ class Found:
     settings: Settings
     levels: int
     made: Converted
+    with_policy: bool = False
     units: List[Tuple[str, int, Account]] = field(default_factory=list)
     total: Account = field(default_factory=Account)
     recoveries: List[Recovered] = field(default_factory=list)
@@ -78,15 +82,19 @@ class Found:
         return sum(lines for each, lines, _ in self.units if each == kind)
 
 
-def designs_of(names: Sequence[str], base: Settings, values: Mapping[str, Sequence[int]]) -> List[Tuple[int, Settings]]:
-    """Each design with each combination of the numbers that it has, once, and the levels by which `run` has its memory."""
+def designs_of(names: Sequence[str], base: Settings, values: Mapping[str, Sequence[Any]]) -> List[Tuple[int, Settings]]:
+    """Each design with each combination of the values that it has, once, and the levels by which `run` has its memory. Names of policies
+    (`designs.py`) have their own policy."""
     found: Dict[Settings, int] = {}
-    for name, numbers in itertools.product(names, itertools.product(*(values[number] for number in NUMBERS))):
-        levels, chosen = numbers[0], dict(zip(NUMBERS, numbers))
-        settings = Settings(machine_name=name)
+    lists = [values.get(name) or [getattr(base, name)] for name in VARIED]
+    for name, some in itertools.product(names, itertools.product(*lists)):
+        levels, chosen = some[0], dict(zip(VARIED, some))
+        settings = Settings(machine_name=machine_of(name))
         options = {option: getattr(base, option) for option in ("suite", "key", "tag_key", "major") if option in settings.machine.options}
-        options.update((number, value) for number, value in chosen.items() if number in settings.machine.options)
-        found.setdefault(settings.changed(**{**options, "levels": levels_for(name, levels)}), levels)
+        options.update((option, value) for option, value in chosen.items() if option in settings.machine.options)
+        settings = with_design(settings.changed(**{**options, "levels": levels_for(settings.machine_name, levels)}), name)
+        settings.check()
+        found.setdefault(settings, levels)
     return [(levels, settings) for settings, levels in found.items()]
 
 
@@ -101,17 +109,18 @@ class Comparison:
         self.folded = folded
         self.cuts = cuts
         self.lines = min(settings.data_lines for _, settings in designs)
+        self.with_policy = any(settings.design or settings.policy() for _, settings in designs)
 
     def workloads(self, trace: Trace) -> List[Found]:
         """The workload of a trace in each design's language."""
-        return [Found(settings, levels, converted(trace.commands, settings.machine_name, settings.levels, self.lines, self.folded))
-                for levels, settings in self.designs]
+        return [Found(settings, levels, converted(trace.commands, settings.machine_name, settings.levels, self.lines, self.folded),
+                      self.with_policy) for levels, settings in self.designs]
 
     def notes(self, trace: Trace, workloads: Sequence[Found]) -> List[str]:
         """What of the trace isn't in the workload, or not as it was."""
         made = workloads[0].made
         least = next(found for found in workloads if found.settings.data_lines == self.lines)
-        name = f"{least.settings.machine_name} with {least.settings.levels} levels"
+        name = f"{least.settings.name} with {least.settings.levels} levels"
         told = []
         if self.folded:
             told.append(f"each line is put onto the line with its remainder modulo {self.lines}, the lines of {name}")
@@ -139,7 +148,7 @@ class Comparison:
         accountant = Accountant(found.settings)
         accounts = [accountant.account(command.word, entry) for command, entry in zip(recording.commands, recording.entries)]
         if recording.ends_in_exhibit or len(accounts) != len(recording.commands):
-            raise ExploreError(f"{recording.trace.name}: on {found.settings.machine_name} the workload ends with an exhibit: "
+            raise ExploreError(f"{recording.trace.name}: on {found.settings.name} the workload ends with an exhibit: "
                                f"{recording.replies[-1].answer[:60]}")
         found.units = [(unit.kind, unit.lines, added([accounts[place] for place in unit.commands])) for unit in found.made.units]
         found.total = added([account for _, _, account in found.units])
@@ -159,11 +168,11 @@ class Comparison:
         some = spread(moments, self.cuts - 1) if self.cuts else moments
         questions = [Question(index, (b"cut %d" % number, recording.commands[index].text, b"on")) for index, number, _ in some]
         accountant = Accountant(found.settings)
-        what = f"recoveries of {found.settings.machine_name}"
+        what = f"recoveries of {found.settings.name}"
         for (index, number, before), (_, data) in zip(some, self.together.answers(recording, questions, len(questions), what)):
             entries = entries_of(data, self.program.path)
             if len(entries) < 3 or not entries[1].reply.is_cut:
-                raise ExploreError(f"{recording.trace.name}: {recording.commands[index].short} of {found.settings.machine_name} is not "
+                raise ExploreError(f"{recording.trace.name}: {recording.commands[index].short} of {found.settings.name} is not "
                                    f"cut after {number} steps")
             yield Recovered(before, entries[2].reply.answer, accountant.account("on", entries[2]))
 
@@ -192,8 +201,9 @@ def rounded(value: Any) -> Any:
 def row_of(found: Found, trace_name: str, costs: Optional[Costs]) -> Row:
     """What a workload took on a design, by name. What a design lacks, or what there is no figure of, is None."""
     settings = found.settings
-    row: Row = {"trace": trace_name, "design": settings.machine_name, "figures": costs.name if costs else None}
-    row.update((name, getattr(settings, name) if name in settings.machine.options else None) for name in NUMBERS)
+    row: Row = {"trace": trace_name, "design": settings.name, "figures": costs.name if costs else None}
+    shown = VARIED if found.with_policy else NUMBERS
+    row.update((name, getattr(settings, name) if name in settings.machine.options else None) for name in shown)
     row.update({"memory_lines": settings.data_lines, "writes": found.count("write"), "reads": found.count("read"),
                 "fences": len(found.of("write")), "power_cycles": len(found.of("on"))})
     row.update((f"total_{name}", number) for name, number in found.total.numbers().items())
@@ -203,6 +213,8 @@ def row_of(found: Found, trace_name: str, costs: Optional[Costs]) -> Row:
     row.update((f"chip_{name}", number) for name, number in chip_bytes(settings).items())
     row["chip_bytes"] = sum(chip_bytes(settings).values())
     row["chip_same_basis"] = row["chip_bytes"] - row["chip_waiting"]
+    if found.with_policy:
+        row["chip_kept"] = kept_bytes(settings)
     device = layout_of(settings)
     row.update(device_bytes=LINE_BYTES * device.size, device_bytes_of_line=device.size / device.data_lines * LINE_BYTES)
     done = [each for each in found.recoveries if each.is_done]
@@ -248,7 +260,7 @@ def together_spent(all_spent: Sequence[Spent]) -> Spent:
 
 def plain_of(found: Found, lines: int) -> Found:
     """What the baseline takes for a design's workload, over a memory of that many lines."""
-    plain = Found(found.settings, found.levels, found.made)
+    plain = Found(found.settings, found.levels, found.made, found.with_policy)
     for unit in found.made.units:
         account = Account()
         if unit.kind == "write":
@@ -264,7 +276,8 @@ def plain_of(found: Found, lines: int) -> Found:
 def plain_row(found: Found, trace_name: str, costs: Optional[Costs], lines: int) -> Row:
     """The row of the baseline. It has nothing on the chip, and no recovery."""
     row = row_of(plain_of(found, lines), trace_name, costs)
-    row.update({name: None for name in (*NUMBERS, "recoveries", "recoveries_of", "recoveries_refused", "recovery_dominant")})
+    row.update({name: None for name in VARIED if name in row})
+    row.update({name: None for name in ("recoveries", "recoveries_of", "recoveries_refused", "recovery_dominant")})
     row.update({name: 0 for name in row if name.startswith("chip_")})
     row.update(design=PLAIN, memory_lines=lines, device_bytes=LINE_BYTES * lines, device_bytes_of_line=LINE_BYTES)
     return row
@@ -285,7 +298,7 @@ def mean_rows(rows_of_traces: Sequence[Sequence[Row]]) -> List[Row]:
         mean: Row = {}
         for name, first in rows[0].items():
             values = [row[name] for row in rows if row[name] is not None]
-            if name in ("trace", *NUMBERS, "design", "figures") or not all(isinstance(value, (int, float)) for value in values):
+            if name in ("trace", *VARIED, "design", "figures") or not all(isinstance(value, (int, float)) for value in values):
                 mean[name] = first if all(value == first for value in values) else None
             elif name.endswith("_greatest"):
                 mean[name] = max(values, default=None)
@@ -299,7 +312,8 @@ SPLIT_TEXTS = {"chip": "latches, pads, tags, digests"}
 # The lines of the table: a heading, or a name and what it is called.
 SECTIONS: Tuple[Tuple[str, Tuple[Tuple[str, str], ...]], ...] = (
     ("design", (("levels", "levels"), ("sets", "sets"), ("ways", "ways"), ("loss", "stop-loss number"),
-                ("every", "writes between moves"), ("memory_lines", "lines of memory"), ("figures", "figures"))),
+                ("every", "writes between moves"), ("persist", "levels persisted with a write"), ("shadow", "shadow tables"),
+                ("queue", "write queues"), ("combine", "combining"), ("memory_lines", "lines of memory"), ("figures", "figures"))),
     ("workload", (("writes", "lines written"), ("fences", "drains and fences of them"), ("reads", "lines read"))),
     ("a line written", (("write_steps", "persist steps"), ("write_line_writes", "line writes"),
                         *((f"write_writes_{word}", f"  {word}") for word in PART_WORDS),
@@ -315,7 +329,7 @@ SECTIONS: Tuple[Tuple[str, Tuple[Tuple[str, str], ...]], ...] = (
       for of in ("mean", "greatest")),
     ("bytes on the chip", (("chip_bytes", "all"), *((f"chip_{name}", f"  {what}") for name, what in zip(
         CHIP_PARTS, ("metadata cache", "copy of the shadow", "registers", "what waits"))),
-                           ("chip_same_basis", "all but what waits"))),
+                           ("chip_same_basis", "all but what waits"), ("chip_kept", "kept without power"))),
     ("bytes on the device", (("device_bytes", "all"), ("device_bytes_of_line", "for a line of 64 bytes"))),
     ("times those of plain", (("over_plain_line_writes", "line writes, a line written"), ("over_plain_ns", "ns, a line written"),
                               ("over_plain_nj", "nJ, a line written"), ("over_plain_device_bytes", "bytes on the device"))),
@@ -469,13 +483,19 @@ def moments_of(found: Found, costs: Optional[Costs]) -> List[List[Any]]:
 
 def notes_of(trace: Trace, found: Found) -> List[str]:
     """What a reader should know of a design's run."""
-    name = ", ".join([found.settings.machine_name, *(f"{number} {getattr(found.settings, number)}" for number in NUMBERS
-                                                     if number in found.settings.machine.options)])
+    name = name_of(found.settings)
     notes = [f"{trace.name}, {name}: {count} answers {word}" for word, count in sorted(found.odd.items())]
     refused = sum(not each.is_done for each in found.recoveries)
     if refused:
         notes.append(f"{trace.name}, {name}: {refused} of {len(found.recoveries)} recoveries are refused, and in no mean")
     return notes
+
+
+def name_of(settings: Settings) -> str:
+    """A design with its numbers, and with what isn't the default of its policy if it is named after its machine."""
+    policy = {} if settings.design else settings.policy()
+    return ", ".join([settings.name, *(f"{number} {getattr(settings, number)}" for number in NUMBERS if number in settings.machine.options),
+                      *(f"{option} {value}" for option, value in policy.items())])
 
 
 def cuts_note(every: Sequence[Found]) -> List[str]:

@@ -17,7 +17,7 @@ from .shared import Shared
 from .steps import Totals, mentioned_lines, stepping_indexes, tampered_lines
 from .together import Together
 from .trace import TAMPERING_WORDS, Command, short_text
-from .waiting import PORTS, Waiting, Write
+from .waiting import PORTS, Waiting, Write, port_of
 
 NO_CUT = b"cut 18446744073709551615"
 MOST_NAMED = 8
@@ -141,6 +141,7 @@ class CutFinder:
         self.rows = Rows(recording.trace)
         self.recovery = Recovery("", self.machine.recovery)
         self.totals = Totals(recording, together)
+        self.drains = drains_of(recording)
         self.lines = list(range(recording.settings.data_lines)) if every_line else self.lines_to_read()
         self.places = {line: place for place, line in enumerate(self.lines)}
         self.reads = text_of([self.machine.read(line) for line in self.lines])
@@ -166,7 +167,10 @@ class CutFinder:
 
     def asked_before(self) -> Tuple[List[bytes], int]:
         """What is run before the reads that show memory before a command, and the port of those reads: one at which no
-        write of the trace waits, or else any with power off and on."""
+        write of the trace waits, or else any with power off and on. What waits in durable queues is written first, so that
+        each port shows the same."""
+        if self.drains:
+            return [NO_CUT, b"on", *self.drains], 0
         if self.machine.has_ports:
             used = {command.words[1].lstrip("0") or "0" for command in self.recording.commands
                     if command.word in ("post", "part") and len(command.words) > 1}
@@ -195,11 +199,11 @@ class CutFinder:
         if moment.kind == "before":
             return self.before_script
         if moment.kind == "end":
-            return [b"off", b"on"]
+            return [b"off", b"on", *self.drains]
         cut = [b"cut %d" % moment.number, self.recording.commands[moment.index].text]
         if moment.recovery_steps is None:
-            return [*cut, b"on"]
-        return [*cut, b"cut %d" % moment.recovery_steps, b"on", b"on"]
+            return [*cut, b"on", *self.drains]
+        return [*cut, b"cut %d" % moment.recovery_steps, b"on", b"on", *self.drains]
 
     def question(self, moment: Moment, lines: Optional[Sequence[int]] = None) -> Question:
         """The question that shows what a moment leaves; with `lines` it reads those."""
@@ -237,7 +241,7 @@ class CutFinder:
         if self.seconds is not None:
             yield from self.seconds.answers(moments, what)
             return
-        if sum(moment.kind == "cut" for moment in moments) >= len(self.recording.commands) \
+        if not self.drains and sum(moment.kind == "cut" for moment in moments) >= len(self.recording.commands) \
                 and self.together.library_for(self.recording, len(moments)):
             log = self.recording.program.logged(self.recording.script, self.recording.settings)
             if log is not None:
@@ -252,7 +256,7 @@ class CutFinder:
     def cuts(self, moments: Sequence[Moment], what: str) -> Iterator[Cut]:
         """The cuts of these moments."""
         before: Readings = []
-        waiting, done = Waiting(), 0
+        waiting, done = waiting_of(self.recording), 0
         for moment, data in self.answers(moments, what):
             while done < moment.index:
                 waiting.go_on(self.recording.commands[done], self.recording.replies[done])
@@ -267,8 +271,9 @@ class CutFinder:
 
     def cut(self, moment: Moment, data: bytes, before: Readings, waiting: Waiting) -> Cut:
         """The cut that the answers to a moment's question show."""
-        count = len(self.script(moment))
+        count = len(self.script(moment)) - len(self.drains)
         answers, printed = answers_before(data, count)
+        _, printed = answers_before(printed, len(self.drains))
         if len(answers) < count:
             raise ExploreError(f"{self.recording.trace.name}, line {self.recording.commands[moment.index].number}: "
                                f"a cut after {moment.number} steps ends the run")
@@ -400,13 +405,27 @@ class CutFinder:
         return [replace(cut, again=tuple(again.get((cut.index, cut.number), ()))) for cut in cuts]
 
 
+def waiting_of(recording: Recording) -> Waiting:
+    """The queues before a trace's first command."""
+    settings = recording.settings
+    return Waiting(settings.is_durable, settings.combine == "on")
+
+
+def drains_of(recording: Recording) -> List[bytes]:
+    """What writes all that waits in durable queues to memory, a port after the other: nothing if they aren't durable."""
+    if not recording.settings.is_durable:
+        return []
+    ports = {port_of(command) for command in recording.commands if command.word in ("post", "part")}
+    return [b"fence %d" % port for port in sorted(ports)]
+
+
 class InPlay:
     """The lines that a cut of `run` can leave otherwise if nobody tampers: those of the writes that wait, those that
     the command seals, and those that were so before the last command that had such lines."""
 
     def __init__(self, recording: Recording, places: Dict[int, int]) -> None:
         self.lines: List[Tuple[int, ...]] = []
-        waiting = Waiting()
+        waiting = waiting_of(recording)
         last: FrozenSet[int] = frozenset()
         for command, reply in zip(recording.commands, recording.replies):
             now = {line for _, line, _ in waiting.all()}

@@ -9,8 +9,8 @@ from .errors import WRONG_WORDS, ExploreError
 from .labels import add_labels
 from .layout import CHIP, COUNTERS, DATA, NODES, SHADOWS, TAGS, AnyLayout, Place, layout_of
 from .program import first_word
-from .settings import Settings
-from .sweep import NUMBERS
+from .settings import DEFAULTS, LATER, Settings
+from .sweep import NUMBERS, VARIED
 from .trace import TAMPERING_WORDS, number_of
 from .traced import ARMS, EMPTIES, KEPT, LATCH, LOST, SETS, UNSEEN, UNTOLD, Step, Traced
 
@@ -70,6 +70,8 @@ CURVES: Tuple[Tuple[str, str], ...] = (
     (DARK_GREY, "*"))
 FEW_CURVES = 8
 LINE_STYLES = ("-", "--", ":", "-.")
+# How many options colours, marks and dashes tell apart.
+MOST_VARIED = 3
 RECOVERY = "recovery_trials"
 
 
@@ -469,14 +471,22 @@ def timeline(traced: Sequence[Traced], settings: Settings, title: str, kind: str
     return picture(pyplot, figure, kind)
 
 
+def options_of(records: Sequence[Dict[str, Any]]) -> List[str]:
+    """The options that the records of a sweep name: its numbers, and those of a policy and of the queues if one of these isn't the
+    default."""
+    return [name for name in VARIED if name in NUMBERS or all(name in record for record in records)]
+
+
 def varied(records: Sequence[Dict[str, Any]]) -> List[str]:
-    """The numbers that have several values in a sweep."""
-    return [name for name in NUMBERS if len({record[name] for record in records}) > 1]
+    """The options that have several values in a sweep."""
+    return [name for name in options_of(records) if len({record[name] for record in records}) > 1]
 
 
 def chosen_number(records: Sequence[Dict[str, Any]], along: Optional[str]) -> str:
-    """The number that goes along the curves: the one chosen, else that with most values."""
-    return along or max(NUMBERS, key=lambda name: len({record[name] for record in records}))
+    """The option that goes along the curves: the one chosen, else that with most values."""
+    if along and along not in options_of(records):
+        raise ExploreError(f"--along {along}: it is the default in all settings of this sweep")
+    return along or max(options_of(records), key=lambda name: len({record[name] for record in records}))
 
 
 @dataclass(frozen=True)
@@ -485,12 +495,12 @@ class Curves:
     numbers, the one with most values, is shown by the colour, the next by the mark, the last by the dashes."""
 
     along: str
-    values: Tuple[int, ...]
+    values: Tuple[Any, ...]
     others: Tuple[str, ...]
-    choices: Dict[str, Tuple[int, ...]]
-    groups: Tuple[Tuple[Tuple[int, ...], Tuple[Dict[str, Any], ...]], ...]
+    choices: Dict[str, Tuple[Any, ...]]
+    groups: Tuple[Tuple[Tuple[Any, ...], Tuple[Dict[str, Any], ...]], ...]
 
-    def style(self, place: int, value: int) -> Dict[str, Any]:
+    def style(self, place: int, value: Any) -> Dict[str, Any]:
         """What tells the value of the number at this place."""
         number = self.choices[self.others[place]].index(value)
         if place == 0:
@@ -512,9 +522,11 @@ class Curves:
 
 def curves_of(records: Sequence[Dict[str, Any]], along: str) -> Curves:
     """The curves of a sweep along one of its numbers."""
-    choices = {name: tuple(sorted({record[name] for record in records})) for name in NUMBERS}
+    choices = {name: tuple(sorted({record[name] for record in records})) for name in options_of(records)}
     others = tuple(sorted((name for name in varied(records) if name != along), key=lambda name: -len(choices[name])))
-    groups: Dict[Tuple[int, ...], List[Dict[str, Any]]] = {}
+    if len(others) > MOST_VARIED:
+        raise ExploreError(f"{1 + len(others)} options vary in this sweep, and a picture has room for {1 + MOST_VARIED}")
+    groups: Dict[Tuple[Any, ...], List[Dict[str, Any]]] = {}
     for record in sorted(records, key=lambda record: [record[name] for name in (*others, along)]):
         groups.setdefault(tuple(record[name] for name in others), []).append(record)
     return Curves(along, choices[along], others, choices,
@@ -633,8 +645,13 @@ def label_of(name: str) -> str:
     return "stop-loss number" if name == "loss" else name
 
 
+def is_quiet(name: str, value: Any) -> bool:
+    """Whether an option needs no mention: it is one of a policy or of the queues, and the default."""
+    return name in LATER and value == DEFAULTS[name]
+
+
 def title_of(records: Sequence[Dict[str, Any]], title: str) -> str:
     """The title, with the numbers that don't vary."""
-    fixed = [f"{label_of(name)} {records[0][name]}" for name in NUMBERS
-             if name not in varied(records) and records[0][name] is not None]
+    fixed = [f"{label_of(name)} {records[0][name]}" for name in options_of(records)
+             if name not in varied(records) and records[0][name] is not None and not is_quiet(name, records[0][name])]
     return title + (f" ({', '.join(fixed)})" if fixed else "")

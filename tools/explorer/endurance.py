@@ -5,7 +5,7 @@ from dataclasses import dataclass
 from typing import Any, Dict, List, Optional, Sequence, Tuple
 
 from .accounts import PART_WORDS
-from .compare import DONE, NUMBERS, Comparison, Found
+from .compare import DONE, NUMBERS, VARIED, Comparison, Found, name_of
 from .errors import WRONG_WORDS, ExploreError
 from .layout import PARTS, Parts, layout_of
 from .logged import counted
@@ -30,18 +30,19 @@ class Worn:
     writes: int
     counts: Dict[int, int]
     other_answers: Dict[str, int]
+    with_policy: bool = False
 
     @property
     def name(self) -> str:
         """The design with its numbers."""
-        return ", ".join([self.settings.machine_name, *(f"{number} {getattr(self.settings, number)}" for number in NUMBERS
-                                                        if number in self.settings.machine.options)])
+        return name_of(self.settings)
 
     @property
     def design(self) -> Dict[str, Any]:
         """The trace, the design and its numbers, for scripts."""
-        return {"trace": self.trace_name, "design": self.settings.machine_name,
-                **{name: getattr(self.settings, name) if name in self.settings.machine.options else None for name in NUMBERS}}
+        shown = VARIED if self.with_policy else NUMBERS
+        return {"trace": self.trace_name, "design": self.settings.name,
+                **{name: getattr(self.settings, name) if name in self.settings.machine.options else None for name in shown}}
 
     def of_part(self, part: int) -> Dict[int, int]:
         """The lines of a part."""
@@ -126,14 +127,14 @@ class Endurance:
             raise ExploreError(f"{trace.name} has no write that all these designs can do", WRONG_WORDS)
         count = len(found.made.commands) * self.repeat
         if count > MOST_COMMANDS:
-            raise ExploreError(f"{trace.name}, {self.repeat} times over, has {count:,} commands for {found.settings.machine_name}: "
+            raise ExploreError(f"{trace.name}, {self.repeat} times over, has {count:,} commands for {found.settings.name}: "
                                f"a trace has at most {MOST_COMMANDS:,} lines", WRONG_WORDS)
 
     def worn(self, trace: Trace, found: Found, output: Output) -> Worn:
         """Counts the writes of a run."""
         written, answers = counted(output.data, self.repeat * len(found.made.commands), self.comparison.program.path)
         return Worn(found.settings, trace.name, self.repeat * found.count_of_units("write"), dict(written),
-                    {word: count for word, count in answers.items() if word not in DONE})
+                    {word: count for word, count in answers.items() if word not in DONE}, found.with_policy)
 
 
 @dataclass(frozen=True)

@@ -1,8 +1,8 @@
 """The pictures of `explore figure`: curves that papers on secure memories show, in the width of a paper's column."""
 from typing import Any, Callable, Dict, List, Sequence, Tuple
 
-from .charts import DESIGN_MARKS, PART_COLOURS
-from .curves import MOVES, Choice, Row, is_mean, means
+from .charts import DESIGN_MARKS, PART_COLOURS, mark_of
+from .curves import ATTACK, MOVES, POLICY_DESIGNS, Choice, Row, is_mean, means
 from .draw import BLACK, BLUE, DARK_GREY, GREEN, GREY, ORANGE, PURPLE, SKY, load_matplotlib, picture
 from .units import bytes_text, time_text
 
@@ -11,9 +11,12 @@ WIDTHS = {1: 3.5, 2: 7.16}
 SHAPE = 0.7
 SMALL, SMALLEST = 7, 6
 FEW_DECADES = 200
-BOUND_TEXTS = {"run": "run, at most (dashes: a formula)", "tree": "tree, at most (the same)", "whole": "nothing named (a formula)"}
-BOUND_MARKS = {**DESIGN_MARKS, "whole": (BLACK, "^")}
-LOSS_COLOURS = {1: SKY, 4: BLUE, 16: PURPLE}
+BOUND_TEXTS = {"run": "run, at most (dashes: a formula)", "tree": "tree, at most (the same)", "osiris": "osiris, at most (the same)"}
+BOUND_MARKS = {**DESIGN_MARKS, "osiris": (BLACK, "^")}
+TABLE_TEXTS = {"on": "shadow tables", "off": "no shadow tables"}
+TABLE_MARKS = {"on": (BLUE, "o"), "off": (BLACK, "^")}
+LOSS_STYLES = {1: ":", 4: "-", 16: "--"}
+MOVE_COLOURS: Dict[Any, str] = {None: DARK_GREY, 100: SKY, 16: ORANGE, 4: PURPLE}
 WORN_MARKS: Dict[str, Tuple[str, str, str]] = {
     "data": (BLUE, "o", "data line"), "record": (ORANGE, "s", "record of start and gap"), "tags": (SKY, "v", "tag line"),
     "counters": (GREEN, "^", "counter block")}
@@ -49,8 +52,8 @@ def doubling_axis(axes: Any, label: str, values: Sequence[float], text: Callable
     axes.set_xlabel(label, fontsize=SMALL)
 
 
-def finish(figure: Any, every: Sequence[Any], choice: Choice, columns: int) -> None:
-    """What all pictures have: small marks, a light grid, one legend below, and on what the times rest."""
+def finish(figure: Any, every: Sequence[Any], choice: Choice, columns: int, has_times: bool = True) -> None:
+    """What all pictures have: small marks, a light grid, one legend below, and on what the times rest if there are some."""
     handles: Dict[str, Any] = {}
     for axes in every:
         axes.tick_params(labelsize=SMALLEST)
@@ -63,6 +66,8 @@ def finish(figure: Any, every: Sequence[Any], choice: Choice, columns: int) -> N
     figure.tight_layout(pad=0.3, rect=(0, below, 1, 1))
     figure.legend(handles.values(), handles, loc="lower center", ncol=columns, fontsize=SMALLEST, frameon=False, borderaxespad=0.1,
                   bbox_to_anchor=(0.5, 0.15 / height))
+    if not has_times:
+        return
     rests = "; ".join(head.split(": ", 1)[1] for head in choice.costs.heads()[:2])
     figure.text(0.5, 0.03 / height, rests, fontsize=4.5, color=DARK_GREY, ha="center")
 
@@ -100,7 +105,7 @@ def two_panels(pyplot: Any, rows: Sequence[Row], choice: Choice, width: float, a
         own = [row for row in means(rows) if row["design"] == design]
         for axes, name in ((upper, "recovery_ns_mean"), (lower, "write_steps")):
             axes.plot(*places(own, along, name), marker=mark, color=colour, markersize=3.5, linewidth=1, label=design)
-    shown = max((sorted({row[along] for row in rows if row["design"] == design}) for design in {row["design"] for row in rows}), key=len)
+    shown = max((sorted({row[along] for row in rows if row["design"] == design}) for design in dict.fromkeys(row["design"] for row in rows)), key=len)
     doubling_axis(lower, label, shown, text)
     time_axis(upper, "recovery, mean")
     count_axis(lower, "persist steps, a line written")
@@ -118,17 +123,55 @@ def stop_loss(pyplot: Any, rows: Sequence[Row], choice: Choice, width: float) ->
     return two_panels(pyplot, rows, choice, width, "loss", "stop-loss number", "{:.0f}".format)
 
 
+def policy_panels(pyplot: Any, curves: Dict[str, Tuple[List[Row], str, str]], along: str, width: float) -> Tuple[Any, Any, Any]:
+    """Operations of a recovery over persist steps of a line written. A curve is rows, a colour and a mark, by its name."""
+    figure, (upper, lower) = pyplot.subplots(2, 1, figsize=(width, 1.15 * width if width < 5 else 0.6 * width), sharex=True)
+    for text, (rows, colour, mark) in curves.items():
+        for axes, name in ((upper, "recovery_operations_mean"), (lower, "write_steps")):
+            axes.plot(*places(rows, along, name), marker=mark, color=colour, markersize=3.5, linewidth=1, label=text)
+    log_axis(upper, "operations, a recovery", "{:,.0f}".format)
+    count_axis(lower, "persist steps, a line written")
+    return figure, upper, lower
+
+
+def persist(pyplot: Any, rows: Sequence[Row], choice: Choice, width: float) -> Any:
+    """Against the lines of a path that are persisted with each write, with and without tables."""
+    drawn = {TABLE_TEXTS[shadow]: ([row for row in means(rows) if row["shadow"] == shadow], *TABLE_MARKS[shadow]) for shadow in TABLE_TEXTS}
+    figure, upper, lower = policy_panels(pyplot, drawn, "persist", width)
+    every = sorted({row["persist"] for row in rows})
+    lower.set_xticks(every, [f"{number}" for number in every])
+    lower.set_xlabel("levels persisted with each write", fontsize=SMALL)
+    finish(figure, [upper, lower], choice, 2, False)
+    return figure
+
+
+def designs(pyplot: Any, rows: Sequence[Row], choice: Choice, width: float) -> Any:
+    """The classical designs, against the size of memory."""
+    drawn = {design: ([row for row in means(rows) if row["design"] == design], *style_of(design))
+             for design in POLICY_DESIGNS}
+    figure, upper, lower = policy_panels(pyplot, drawn, "memory_bytes", width)
+    doubling_axis(lower, "memory (bytes)", sorted({row["memory_bytes"] for row in rows}), bytes_text)
+    finish(figure, [upper, lower], choice, 3, False)
+    return figure
+
+
+def style_of(design: str) -> Tuple[str, str]:
+    """The colour and the mark of a design; those of one family differ by their marks."""
+    colour, mark = mark_of(design)
+    return colour, {"triad-1": "<", "triad-2": ">"}.get(design, mark)
+
+
 def trade_off(pyplot: Any, rows: Sequence[Row], choice: Choice, width: float) -> Any:
     """A curve for each design along its sets."""
-    figure, axes = pyplot.subplots(figsize=(width, (SHAPE + 0.1) * width))
+    figure, axes = pyplot.subplots(figsize=(width, (SHAPE + 0.2) * width))
     drawn = means(rows)
     for design, loss in dict.fromkeys((row["design"], row["loss"]) for row in drawn):
         own = [row for row in drawn if (row["design"], row["loss"]) == (design, loss)]
-        colour, mark = DESIGN_MARKS[design]
-        text = f"{design}, stop-loss {loss}" if design == "run" else design
-        axes.plot(*places(own, "write_ns", "recovery_ns_mean"), marker=mark, markersize=3.5, linewidth=1, label=text,
-                  color=LOSS_COLOURS.get(loss, colour) if design == "run" else colour)
-        if len(own) > 1 and loss in (None, choice.base.loss):
+        colour, mark = style_of(design)
+        is_run = design == "run"
+        axes.plot(*places(own, "write_ns", "recovery_ns_mean"), marker=mark, markersize=3.5, linewidth=1, color=colour,
+                  linestyle=LOSS_STYLES.get(loss, "-") if is_run else "-", label=f"{design}, stop-loss {loss}" if is_run else design)
+        if len(own) > 1 and design in ("run", "tree") and loss in (None, choice.base.loss):
             axes.annotate("1 set", (own[0]["write_ns"], own[0]["recovery_ns_mean"]), fontsize=SMALLEST - 1, color=DARK_GREY, ha="right",
                           textcoords="offset points", xytext=(-4, -5))
     axes.set_xlim(0, 1.1 * max(row["write_ns"] for row in drawn))
@@ -140,19 +183,34 @@ def trade_off(pyplot: Any, rows: Sequence[Row], choice: Choice, width: float) ->
 
 
 def wear(pyplot: Any, rows: Sequence[Row], choice: Choice, width: float) -> Any:
-    """The most written line of each part against how often the gap moves; dashes without start-gap."""
-    figure, axes = pyplot.subplots(figsize=(width, (SHAPE + 0.12) * width))
+    """The most written line of each part against how often the gap moves, dashes without start-gap; below the most written place of data by
+    workload."""
+    figure, (upper, lower) = pyplot.subplots(2, 1, figsize=(width, 1.45 * width if width < 5 else 0.8 * width))
+    attack = [row for row in rows if row["trace"] == ATTACK]
     for part, (colour, mark, text) in WORN_MARKS.items():
-        own = [row for row in rows if row["part"] == part and row["every"] is not None]
-        axes.plot(*places(own, "every", "line_writes"), marker=mark, color=colour, markersize=3.5, linewidth=1, label=text)
-        for row in rows:
+        own = [row for row in attack if row["part"] == part and row["every"] is not None]
+        upper.plot(*places(own, "every", "line_writes"), marker=mark, color=colour, markersize=3.5, linewidth=1, label=text)
+        for row in attack:
             if row["part"] == part and row["every"] is None:
-                axes.axhline(row["line_writes"], color=colour, linewidth=0.8, linestyle=(0, (4, 3)))
-    axes.plot([], [], color=DARK_GREY, linewidth=0.8, linestyle=(0, (4, 3)), label="without start-gap")
-    doubling_axis(axes, "writes between moves of the gap", MOVES, "{:.0f}".format)
-    log_axis(axes, f"most writes of a line, of {rows[0]['writes']:,}", "{:,.0f}".format)
-    finish(figure, [axes], choice, 2)
+                upper.axhline(row["line_writes"], color=colour, linewidth=0.8, linestyle=(0, (4, 3)))
+    upper.plot([], [], color=DARK_GREY, linewidth=0.8, linestyle=(0, (4, 3)), label="without start-gap")
+    doubling_axis(upper, "an attack on one line: writes between moves of the gap", MOVES, "{:.0f}".format)
+    log_axis(upper, f"most writes of a line, of {attack[0]['writes']:,}", "{:,.0f}".format)
+    worn_by_workload(lower, [row for row in rows if row["trace"] != ATTACK and row["part"] == "data"])
+    finish(figure, [upper, lower], choice, 2)
     return figure
+
+
+def worn_by_workload(axes: Any, rows: Sequence[Row]) -> None:
+    """Bars for each workload: the most written place of data, without start-gap and with it, in hundredths of all lines written."""
+    names = list(dict.fromkeys(row["trace"] for row in rows))
+    moves = sorted({row["every"] for row in rows}, key=lambda every: -(every or 1_000_000))
+    for number, every in enumerate(moves):
+        own = {row["trace"]: row for row in rows if row["every"] == every}
+        axes.bar([place + 0.2 * number for place in range(len(names))], [100 * own[name]["line_writes"] / own[name]["writes"] for name in names],
+                 0.18, color=MOVE_COLOURS.get(every, BLACK), label=f"a move each {every} writes" if every else "bars: no move")
+    count_axis(axes, "most writes of a data line,\n% of all lines written")
+    axes.set_xticks([place + 0.1 * (len(moves) - 1) for place in range(len(names))], names, rotation=30, ha="right")
 
 
 def trees(pyplot: Any, rows: Sequence[Row], choice: Choice, width: float) -> Any:
@@ -181,7 +239,7 @@ def trees(pyplot: Any, rows: Sequence[Row], choice: Choice, width: float) -> Any
 
 DRAWN: Dict[str, Callable[[Any, Sequence[Row], Choice, float], Any]] = {
     "recovery-memory": recovery_memory, "recovery-cache": recovery_cache, "stop-loss": stop_loss, "trade-off": trade_off, "wear": wear,
-    "trees": trees}
+    "trees": trees, "persist": persist, "designs": designs}
 
 
 def drawn(name: str, rows: Sequence[Row], choice: Choice, width: float, kind: str) -> bytes:

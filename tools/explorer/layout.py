@@ -32,11 +32,10 @@ class Place:
 
 
 class Layout:
-    """The place of each part of the device of `run`, `wear` and `txn`."""
-
-    parts = PARTS
+    """The place of each part of the device of `run`, `wear` and `txn`. Without shadow tables there is nothing behind the counter blocks."""
 
     def __init__(self, settings: Settings) -> None:
+        self.parts = PARTS if settings.has_tables else PARTS[:-1]
         self.machine_name = settings.machine_name
         self.own_lines = settings.data_lines
         self.levels = settings.levels
@@ -46,7 +45,7 @@ class Layout:
         self.first_meta = 80 * self.pages
         self.nodes = (self.pages - 1) // 3
         self.meta_lines = self.nodes + self.pages
-        slots = settings.sets * settings.ways
+        slots = settings.sets * settings.ways if settings.has_tables else 0
         self.first_counter_shadow = self.first_meta + self.meta_lines
         self.first_node_shadow = self.first_counter_shadow + (slots + 15) // 16
         self.size = self.first_node_shadow + (self.levels * slots + 15) // 16

@@ -44,15 +44,18 @@ class Machine:
         return b"read %d %d" % (port, line) if self.has_ports else b"read %d" % line
 
 
-RUN_OPTIONS = ("levels", "sets", "ways", "loss", "major", "suite", "key", "tag_key")
+# The options of a persistence policy, and those of the write queues. They are passed on only if they aren't the defaults.
+POLICY = ("persist", "shadow")
+QUEUES = ("queue", "combine")
+HASH_TREE = ("levels", "sets", "ways", "loss", "major", "suite", "key", "tag_key", *POLICY)
 
 RUN = Machine("run", frozenset(("drain", "fence", "read", "turn", "flush", "on", "loss")), frozenset(("drain", "fence")),
               {"post": 2, "part": 2, "read": 2}, {"poke": 1, "flip": 1, "move": 2, "back": 1},
-              ("trials", "digests", "steps"), RUN_OPTIONS)
+              ("trials", "digests", "steps"), (*HASH_TREE, *QUEUES))
 WEAR = Machine("wear", frozenset(("write", "read", "on")), frozenset(("write",)), {"write": 1, "read": 1}, {},
-               ("start", "gap", "steps"), (*RUN_OPTIONS, "every"))
+               ("start", "gap", "steps"), (*HASH_TREE, "every"))
 TXN = Machine("txn", frozenset(("commit", "read", "on")), frozenset(("commit",)), {"put": 1, "read": 1}, {},
-              ("redone", "steps"), RUN_OPTIONS)
+              ("redone", "steps"), HASH_TREE)
 TREE = Machine("tree", frozenset(("write", "read", "on")), frozenset(("write",)), {"write": 1, "read": 1},
                {"poke": 1, "back": 1}, ("digests", "steps"), ("levels", "sets", "suite", "key", "tag_key"))
 

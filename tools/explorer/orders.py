@@ -283,6 +283,9 @@ class Orders:
         if not finder.machine.has_ports:
             raise ExploreError(f"--orders is for traces of pmem run: {finder.machine.name} has no writes that wait",
                                WRONG_WORDS)
+        if finder.recording.settings.is_durable:
+            raise ExploreError("--orders needs --queue volatile: its states have all those that a durable queue may leave, in which each write "
+                               "that was posted is sure", WRONG_WORDS)
         self.kind: Union[StoreOrders, WriteOrders] = StoreOrders(finder, lines, torn) if early and finder.rows.knows_stores \
             else WriteOrders(finder, lines)
         self.moments = [asked for asked in self.kind.moments if not asked.is_changed]

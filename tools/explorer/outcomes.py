@@ -256,7 +256,7 @@ def junit_case(cuts: Sequence[Cut], outcomes: Outcomes, name: str) -> str:
         told = [f"{moment_text(cut)}: {verdict.reason}" for cut in cuts for verdict in [outcomes.of(cut).verdict]
                 if verdict is not None and verdict.text == word]
         if told:
-            parts.append(f"    <{kind} message={attribute(chr(10).join(told))}/>\n")
+            parts.append(f"    <{kind} message={attribute(chr(10).join(dict.fromkeys(told)))}/>\n")
     if not parts:
         return f"  <testcase classname={name} name={case}/>\n"
     return f"  <testcase classname={name} name={case}>\n" + "".join(parts) + "  </testcase>\n"

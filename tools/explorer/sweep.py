@@ -10,12 +10,14 @@ from .layout import COUNTERS, NODES, PARTS, Parts, layout_of
 from .logged import Entry, entries_of
 from .output import csv_text, json_text, latex_text, table_text
 from .program import MOST_LINES, Counts, Output, Recording, Reply, Run, check_length, counts_of, first_word, replies_of, text_of
-from .settings import Settings
+from .settings import LATER, Settings
 from .together import Together
 from .trace import Command, Trace
 from .waiting import Waiting
 
 NUMBERS = ("levels", "sets", "ways", "loss")
+# What a sweep varies: these numbers, and the options of the policy and of the queues, which results have only if one isn't the default.
+VARIED = (*NUMBERS, *LATER)
 FIELDS = ("levels", "sets", "ways", "loss", "writes", "reads", "out_of_range", "steps_per_write",
           "write_amplification", "metadata_reads_per_write", "digests_per_write", "metadata_reads_per_read",
           "digests_per_read", "recovery", "recovery_trials", "recovery_digests", "recovery_steps", "end")
@@ -56,9 +58,9 @@ class Cost:
     commands: int
     has_counts: bool = True
 
-    def record(self) -> Dict[str, Any]:
-        """The numbers by name, in the order of `FIELDS` and `MORE_FIELDS`. What a machine lacks, or doesn't show, is
-        None."""
+    def record(self, with_policy: bool = False) -> Dict[str, Any]:
+        """The numbers by name, in the order of `FIELDS` and `MORE_FIELDS`, and with the policy of `LATER`. What a machine lacks, or doesn't
+        show, is None."""
         writes, reads = self.writes, self.reads
         recovery = {}
         if self.recovery is not None and self.recovery.numbers is not None:
@@ -73,7 +75,8 @@ class Cost:
             self.recovery.answer if self.recovery else None,
             *(recovery.get(name) for name in ("trials", "digests", "steps")), self.end,
             self.settings.machine_name, self.commands]
-        return dict(zip((*FIELDS, *MORE_FIELDS), values))
+        later = {name: getattr(self.settings, name) if name in self.settings.machine.options else None for name in LATER if with_policy}
+        return {**dict(zip((*FIELDS, *MORE_FIELDS), values)), **later}
 
 
 def rounded(value: Optional[float]) -> Optional[float]:
@@ -180,10 +183,10 @@ def cost_in(output: Output, settings: Settings, commands: Sequence[Command], log
     return replace(cost, out_of_range=out_of_range, recovery=recovery, end=end)
 
 
-def settings_of(base: Settings, values: Dict[str, Sequence[int]]) -> List[Settings]:
-    """All settings with these numbers, the last one turning fastest."""
-    lists = [list(dict.fromkeys(values.get(name) or [getattr(base, name)])) for name in NUMBERS]
-    return [base.changed(**dict(zip(NUMBERS, numbers))) for numbers in itertools.product(*lists)]
+def settings_of(base: Settings, values: Dict[str, Sequence[Any]]) -> List[Settings]:
+    """All settings with these values, the last one turning fastest."""
+    lists = [list(dict.fromkeys(values.get(name) or [getattr(base, name)])) for name in VARIED]
+    return [base.changed(**dict(zip(VARIED, chosen))) for chosen in itertools.product(*lists)]
 
 
 def trace_sweep(trace: Trace, settings: Sequence[Settings], together: Together) -> List[Cost]:
@@ -210,24 +213,32 @@ def cell(value: Any) -> str:
     return f"{value:.2f}" if isinstance(value, float) else str(value)
 
 
+def records_of(costs: Sequence[Cost]) -> List[Dict[str, Any]]:
+    """The numbers of each setting, with the policy and the queues if one of them isn't the default."""
+    with_policy = any(cost.settings.policy() for cost in costs)
+    return [cost.record(with_policy) for cost in costs]
+
+
 def sweep_text(costs: Sequence[Cost]) -> str:
     """The sweep for people."""
-    heads = [["", "", "", "", "", "steps", "lines", "a write:", "", "a read:", "", "recovery:", "", ""],
-             ["levels", "sets", "ways", "loss", "writes", "a write", "a write", "meta reads", "digests", "meta reads",
+    records = records_of(costs)
+    later = [name for name in LATER if len({record.get(name) for record in records}) > 1 or any(name in cost.settings.policy() for cost in costs)]
+    heads = [["", "", "", "", *("" for _ in later), "", "steps", "lines", "a write:", "", "a read:", "", "recovery:", "", ""],
+             ["levels", "sets", "ways", "loss", *later, "writes", "a write", "a write", "meta reads", "digests", "meta reads",
               "digests", "trials", "digests", "steps"]]
-    names = ("levels", "sets", "ways", "loss", "writes", "steps_per_write", "write_amplification",
+    names = ("levels", "sets", "ways", "loss", *later, "writes", "steps_per_write", "write_amplification",
              "metadata_reads_per_write", "digests_per_write", "metadata_reads_per_read", "digests_per_read",
              "recovery_trials", "recovery_digests", "recovery_steps")
-    records = [cost.record() for cost in costs]
     table = table_text(heads, [[cell(record[name]) for name in names] for record in records], left=())
     return table + "".join(f"{note}\n" for note in notes_of(costs))
 
 
 def sweep_latex(costs: Sequence[Cost]) -> str:
     """The sweep as a table for LaTeX; its notes stand behind it as comments."""
-    records = [cost.record() for cost in costs]
-    names = [name for name in LATEX_NAMES if any(record[name] is not None for record in records)]
-    table = latex_text([LATEX_NAMES[name] for name in names], [[cell(record[name]) for name in names] for record in records])
+    records = records_of(costs)
+    latex_names = {**{name: name for name in LATER if name in records[0]}, **LATEX_NAMES}
+    names = [name for name in latex_names if any(record[name] is not None for record in records)]
+    table = latex_text([latex_names[name] for name in names], [[cell(record[name]) for name in names] for record in records])
     return table + "".join(f"% {note}\n" for note in notes_of(costs))
 
 
@@ -235,7 +246,7 @@ def notes_of(costs: Sequence[Cost]) -> List[str]:
     """What a reader of the table should know of single settings."""
     notes: List[str] = []
     for cost in costs:
-        numbers = ", ".join(f"{name} {value}" for name, value in cost.settings.geometry().items())
+        numbers = ", ".join(f"{name} {value}" for name, value in {**cost.settings.geometry(), **cost.settings.policy()}.items())
         if cost.out_of_range:
             notes.append(f"{numbers}: {cost.out_of_range} commands name a place that is not there (range)")
         if cost.end != "end":
@@ -247,12 +258,13 @@ def notes_of(costs: Sequence[Cost]) -> List[str]:
 
 def sweep_csv(costs: Sequence[Cost]) -> str:
     """The sweep as CSV."""
-    return csv_text((*FIELDS, *MORE_FIELDS), [list(cost.record().values()) for cost in costs])
+    records = records_of(costs)
+    return csv_text(list(records[0]), [list(record.values()) for record in records])
 
 
 def sweep_json(costs: Sequence[Cost], trace: Trace) -> str:
     """The sweep as JSON, which `explore draw` takes."""
-    return json_text({"sweep": trace.name, "settings": [cost.record() for cost in costs]})
+    return json_text({"sweep": trace.name, "settings": records_of(costs)})
 
 
 def points_of(value: Any) -> Optional[Tuple[str, List[Dict[str, Any]]]]:

@@ -4,6 +4,7 @@ from typing import Any, Dict, List, Optional, Sequence, Tuple, Union
 
 from . import compare, cuts, sweep
 from .costs import read_costs
+from .designs import NAMES, WITH_ADR, is_design
 from .finding import default_program, found_program
 from .logged import LoggedProgram
 from .machines import MACHINE_NAMES
@@ -52,7 +53,8 @@ class Explored:
 def open_trace(trace: Union[str, "os.PathLike[str]", bytes], program: Optional[str] = None, jobs: Optional[int] = None,
                **settings: Any) -> Explored:
     """Runs a trace, a file by its name or the bytes themselves. The settings are the fields of `Settings`: `levels`, `sets`,
-    `ways`, `loss`, `major`, `suite`, `key`, `tag_key`, `every`, and `machine_name`, which is run, wear, txn or tree."""
+    `ways`, `loss`, `major`, `suite`, `key`, `tag_key`, `every`, `persist`, `shadow`, `queue`, `combine`, and `machine_name`, which is run,
+    wear, txn or tree."""
     together = Together(Program(found_program(program or default_program())), jobs)
     read = trace_of("the trace", trace) if isinstance(trace, bytes) else read_trace(os.fspath(trace))
     return Explored(read, Settings(**settings), together)
@@ -60,17 +62,21 @@ def open_trace(trace: Union[str, "os.PathLike[str]", bytes], program: Optional[s
 
 def compare_designs(traces: Sequence[Union[str, "os.PathLike[str]", bytes]], designs: Sequence[str] = tuple(MACHINE_NAMES),
                     cost: Optional[str] = None, program: Optional[str] = None, jobs: Optional[int] = None, fold: bool = False,
-                    recoveries: int = compare.CUTS, suite: str = "aes", **numbers: Sequence[int]) -> List[Dict[str, Any]]:
-    """What workloads take on several designs, as `explore compare` finds it: a row for each trace and each design, and those of
-    the means if there are several traces. `designs` may have `plain` besides machines. `numbers` are lists: `levels`, `sets`, `ways`,
-    `loss`, `every`; `cost` is a file of figures; `recoveries` after how many cuts recovery is looked at."""
+                    recoveries: int = compare.CUTS, suite: str = "aes", **numbers: Sequence[Any]) -> List[Dict[str, Any]]:
+    """What workloads take on several designs, as `explore compare` finds it: a row for each trace and each design, and those of the
+    means if there are several traces. `designs` may have `plain` and policies such as `osiris` besides machines. `numbers` are lists:
+    `levels`, `sets`, `ways`, `loss`, `every`, `persist`, `shadow`, `queue`, `combine`; `cost` is a file of figures; `recoveries` after how
+    many cuts recovery is looked at."""
     base = Settings(suite=suite)
-    wrong = sorted(set(numbers) - set(compare.NUMBERS))
+    wrong = sorted(set(numbers) - set(compare.VARIED))
     if wrong:
-        raise TypeError(f"there is no number {wrong[0]}: {', '.join(compare.NUMBERS)}")
-    values = {name: list(numbers.get(name, [getattr(base, name)])) for name in compare.NUMBERS}
+        raise TypeError(f"there is no number {wrong[0]}: {', '.join(compare.VARIED)}")
+    values = {name: list(numbers.get(name, [getattr(base, name)])) for name in compare.VARIED}
     together = Together(LoggedProgram(found_program(program or default_program())), jobs)
-    machines = [name for name in designs if name != compare.PLAIN]
-    comparison = compare.Comparison(compare.designs_of(machines, base, values), together, fold, recoveries)
+    names = [name for name in designs if name != compare.PLAIN]
+    wrong = [name for name in names if not is_design(name)]
+    if wrong:
+        raise ValueError(f"there is no design {wrong[0]}: {', '.join(MACHINE_NAMES)}, {NAMES}, or one of the latter with {WITH_ADR}")
+    comparison = compare.Comparison(compare.designs_of(names, base, values), together, fold, recoveries)
     read = [trace_of("the trace", trace) if isinstance(trace, bytes) else read_trace(os.fspath(trace)) for trace in traces]
     return compare.compare(read, comparison, [read_costs(cost)] if cost else [], compare.PLAIN in designs).every

@@ -17,6 +17,9 @@ static const struct {
     {"check\0--suite\0weak", 18},
     {"check", 5},
     {"run\0--suite=weak\0--levels=1\0--sets=1\0--ways=1\0--loss=1\0--major=18446744073709551615", 83},
+    {"run\0--suite=weak\0--levels=1\0--persist=2\0--shadow=off\0--queue=durable\0--combine=on", 81},
+    {"wear\0--suite=weak\0--levels=1\0--every=1\0--shadow=off", 51},
+    {"txn\0--suite=weak\0--levels=1\0--persist=1", 39},
 };
 
 /* `make` and `sample` may print a million lines, and read no trace. */

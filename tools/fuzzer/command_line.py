@@ -73,7 +73,8 @@ def _seeds(folder: Path) -> None:
 def _dictionary(folder: Path) -> str:
     """Writes the words of the grammar for libFuzzer."""
     words = ("post part drain fence read turn flush loss cut off on poke flip move snap back peek stat write place begin put commit abort "
-             "--suite --levels --sets --ways --loss --major --key --tag-key --every --log weak blur aes run wear txn tree check").split()
+             "--suite --levels --sets --ways --loss --major --key --tag-key --every --log --persist --shadow --queue --combine weak blur aes "
+             "off volatile durable run wear txn tree check").split()
     path = folder / "words.dict"
     path.write_text("".join(f'"{word}"\n' for word in [*words, "11" * 64]), encoding="ascii")
     return str(path)

@@ -18,6 +18,9 @@ FORMS = ("post 0 N L", "drain 0", "fence 0", "read 0 N", "turn", "flush", "cut N
 NUMBERS = ("0", "1", "2", "3", "7", "1303", "18446744073709551615")
 PIECES = (1, 7, 100, 4096, 1_000_000)
 SMALL = ("--suite", "weak", "--levels", "1")
+# Options of the persistence policy and of the queues, and the machines that take them. One run in three has the defaults.
+POLICIES = ((), ("--shadow", "off"), ("--persist", "1"), ("--persist", "2", "--shadow", "off"))
+QUEUES = ((), ("--queue", "durable"), ("--combine", "on"), ("--queue", "durable", "--combine", "on"))
 ROOM_BYTES = 1 << 20
 SECONDS = 60
 Answer = Tuple[int, bytes]
@@ -88,13 +91,23 @@ def piped(program: str, words: List[str], trace: bytes, chance: random.Random) -
     return child.returncode, said
 
 
+def chosen_words(chance: random.Random) -> List[str]:
+    """The arguments of a run."""
+    machine = chance.choice(("run", "wear", "txn", "tree"))
+    words = [machine, *SMALL]
+    if machine != "tree" and chance.random() < 2 / 3:
+        words += chance.choice(POLICIES)
+        words += chance.choice(QUEUES) if machine == "run" else ()
+    return words
+
+
 def compared(seconds: int, seed: int, native: Optional[Path]) -> Tuple[int, str, str]:
     """Compares for some seconds. Gives how many runs there were, what is wrong (or nothing), and the arguments and trace that show it."""
     asked, chance = library(native), random.Random(seed or None)
     program = os.environ.get("PMEM_PROGRAM") or str(TOP / "pmem")
     count, end = 0, time.monotonic() + seconds
     while count == 0 or time.monotonic() < end:
-        words = [chance.choice(("run", "wear", "txn", "tree")), *SMALL]
+        words = chosen_words(chance)
         trace = made_trace(chance)
         found, due = piped(program, words, trace, chance), asked.answer(words, trace)
         count += 1

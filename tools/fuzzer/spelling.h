@@ -77,11 +77,18 @@ static inline void spell_line(spelling *its, input *given) {
     if (kind > 244) spell_byte(its, '\r');
 }
 
-/* An option with a value that it may have, or not. */
+/* An option with a value that it may have, or not; one in four is of the persistence policy or of the queues, and has one of its values. */
 static inline void spell_option(spelling *its, input *given) {
-    static const char *const names[] = {"--sets", "--ways", "--loss", "--major", "--key", "--tag-key", "--every", "--log", "--suite", "--x", "x"};
+    static const char *const names[] = {"--sets", "--ways", "--loss", "--major", "--key", "--tag-key", "--every", "--log", "--suite", "--x", "x",
+                                        "--persist", "--shadow", "--queue", "--combine"};
+    static const char *const policies[] = {"--persist=1", "--persist=2", "--shadow=off", "--queue=durable", "--combine=on", "--persist=0",
+                                           "--shadow=on", "--queue=volatile", "--combine=off"};
     uint8_t kind = next_byte(given);
     spell_byte(its, 0);
+    if (kind % 4 == 3) {
+        spell(its, policies[kind / 4 % (sizeof policies / sizeof *policies)]);
+        return;
+    }
     spell(its, names[kind % (sizeof names / sizeof *names)]);
     spell_byte(its, kind & 64 ? '=' : 0);
     if (kind < 128) spell_number(its, given);

@@ -7,7 +7,8 @@ enum { HANDLES = 3, STEPS = 60, MARKS = 40 };
 /* Opens a handle with the fuzzer's bytes or with one of these texts. */
 static void open_one(input *given, pmem *handle, const uint8_t *line, size_t len) {
     static const char *const words[] = {"run", "wear --every 1", "txn --levels 1", "tree --suite weak --log",
-                                        "run --tag-key=aa --major=18446744073709551615", ""};
+                                        "run --tag-key=aa --major=18446744073709551615", "",
+                                        "run --persist 1 --shadow off --queue durable --combine on"};
     bool was_open = handle->is_open;
     uint8_t kind = next_byte(given), status;
     if (kind & 1) status = pmem_open(handle, len != 0 ? line : NULL, len);

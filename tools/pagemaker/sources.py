@@ -13,7 +13,7 @@ SOURCES = f"{TOP}/page/src"
 MODULES = ("dom", "trace", "options", "layout", "address", "variants", "goal", "engine", "bounded", "program", "device", "model", "reference",
            "lanes", "view", "chip", "map", "compare", "lessons", "files", "app", "main")
 DEFAULTS = {"--levels": "2", "--sets": "4", "--ways": "2", "--loss": "4", "--major": "0", "--suite": "aes", "--key": "", "--tag-key": "",
-            "--every": "100"}
+            "--every": "100", "--persist": "0", "--shadow": "on", "--queue": "volatile", "--combine": "off"}
 # The folders of lessons, and what the ids of their lessons begin with.
 PREFIXES = {"first/": "first-", "": "", "exercises/": "exercise-"}
 EXAMPLES = (("first", "run", "A write waits until it is drained"), ("power_cut", "run", "Power cuts"), ("attack", "run", "An attack"),

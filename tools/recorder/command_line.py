@@ -33,7 +33,8 @@ knows. A value that is stored and overwritten between two such calls is not seen
 sfence in the program's own code: for these see include/pmem_record.h.
 
 Only the first process that touches such a file is recorded. It needs Linux, glibc and a C compiler.
-For lines of the source, compile the program with -g, and install addr2line (Debian: binutils).
+For lines of the source, compile the program with -g, and with -O0 or -fno-optimize-sibling-calls
+so that a last call stays a call; and install addr2line (Debian: binutils).
 
 The exit status is that of the program, 128 plus the number of the signal that ended it, 1 if it
 could not be recorded, or 2 if the arguments are invalid."""

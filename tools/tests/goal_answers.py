@@ -155,7 +155,7 @@ def add_first() -> None:
 
 
 def add_second() -> None:
-    """Lessons 6 to 14."""
+    """Lessons 6 to 15."""
     it = add("lesson-6")
     it(True, "by the command", lines("loss 1", TWICE))
     it(True, "by the option", "# pmem: run --loss 1\n" + lines(TWICE))
@@ -219,6 +219,22 @@ def add_second() -> None:
     it(False, "no fence", lost_and_kept("read 0 64", "cut 9, fence 0", both))
     it(False, "the length is kept", lost_and_kept("fence 0", "cut 9, fence 0", both))
     it(False, "the length first", lines(f"part 0 0 0 01, fence 0, part 0 64 0 65, {cut}, on, {both}"))
+    it = add("lesson-15")
+    twice = f"post 0 0 {A}, drain 0, post 0 0 {B}, drain 0"
+    it(True, "tables in words, and fences", "# pmem: run --persist 1 --shadow on\n" + lines(twice.replace("drain", "fence"), "off, on"))
+    it(True, "a cut in a third write", "# pmem: run --persist=1\n" + lines(twice, f"post 0 64 {C}, cut 4, drain 0, on, read 0 0"))
+    it(True, "parts, and another page of the same node too", "# pmem: run --persist 1\n"
+       + lines(f"part 0 0 0 aa, drain 0, post 1 200 {C}, drain 1, part 0 0 1 bb, drain 0, off, on"))
+    it(True, "durable queues too", "# pmem: run --persist 1 --queue durable\n" + lines(twice, "off, on"))
+    it(False, "strict persistence", "# pmem: run --persist 3 --shadow off\n" + lines(twice, "off, on"))
+    it(False, "Triad-NVM", "# pmem: run --persist 2 --shadow off\n" + lines(twice, "off, on"))
+    it(False, "the tree is rebuilt", "# pmem: run --persist 1 --shadow off\n" + lines(twice, "off, on"))
+    it(False, "Osiris with tables", "# pmem: run\n" + lines(twice, "off, on"))
+    it(False, "the stop-loss number 1, whose counters are tried once", "# pmem: run --loss 1\n" + lines(twice, "off, on"))
+    it(False, "a recovery with trials before", "# pmem: run --loss 1\n" + lines(twice, f"off, on, post 0 64 {C}, cut 2, drain 0, on"))
+    it(False, "power stays on", "# pmem: run --persist 1\n" + lines(twice, "read 0 0"))
+    it(False, "one write", "# pmem: run --persist 1\n" + lines(f"post 0 0 {A}, drain 0, off, on"))
+    it(False, "levels that change the bounds", "# pmem: run --levels 1 --persist 1\n" + lines(twice, "off, on"))
 
 
 def add_exercises() -> None:
@@ -270,6 +286,20 @@ def add_exercises() -> None:
     it(False, "another bit is flipped", lines(bit.replace("on, flip 0 0", "on, flip 0 1")))
     it(True, "a bit of the page's major counter", lines(bit.replace("flip 0 0", "flip 1285 0")))
     it(False, "a bit of the tree, which recovery makes again", lines(bit.replace("flip 0 0", "flip 1281 0")))
+    it = add("exercise-6")
+    erased = f"post 0 5 {OLD}, drain 0, off, poke 1302 {ZERO}, poke 1301 {ZERO}, on, read 0 5"
+    it(True, "the second line first", "# pmem: run --persist 3\n" + lines(erased))
+    it(True, "fence, and port 1", "# pmem: run --persist 3 --shadow on\n" + lines(erased.replace("post 0", "post 1").replace("drain 0", "fence 1")))
+    it(True, "another suite", "# pmem: run --persist 3 --suite weak\n" + lines(erased))
+    it(False, "the default", "# pmem: run\n" + lines(erased))
+    it(False, "the top is still lazy", "# pmem: run --persist 2\n" + lines(erased))
+    it(False, "there are no tables", "# pmem: run --persist 3 --shadow off\n" + lines(erased))
+    it(False, "flushed", "# pmem: run\n" + lines(erased.replace("off,", "flush, flush, flush, off,")))
+    it(False, "recovered before", "# pmem: run\n" + lines(erased.replace("off,", "off, on, off,", 1)))
+    it(False, "one line is erased", "# pmem: run --persist 3\n" + lines(erased.replace(f"poke 1302 {ZERO}, ", "")))
+    it(False, "power is on", "# pmem: run --persist 3\n" + lines(erased.replace("off, ", "").replace("on, ", "off, on, ")))
+    it(False, "zeros are written", "# pmem: run --persist 3\n" + lines(erased.replace(OLD, ZERO)))
+    it(False, "other tables", "# pmem: run --persist 3 --sets 64 --ways 8\n" + lines(erased))
 
 
 add_steps()

@@ -4,7 +4,7 @@ import sys
 from functools import reduce
 from operator import xor
 from pathlib import Path
-from typing import Any, Dict, List, Optional
+from typing import Any, Dict, List, Optional, Tuple
 
 from .helpers import ONES, ExploreTest, program_path
 
@@ -117,6 +117,31 @@ class AttacksTest(ExploreTest):
                 self.assertEqual(reply or each["ending"], Expected(each, reads).ending())
         self.assertEqual({each["ending"] for each in found}, {"read_refused", "recovery_refused", "mended", "never_read"})
         self.assertGreater(len(found), 500)
+
+    def test_each_class_of_bits_and_each_kind_of_old_line(self) -> None:
+        """Each line has as many bits of each class as were asked for, none twice, each in its class.
+
+        The fourth write persists the counter block."""
+        found = self.attacks(4 * ZERO_WRITE, *WEAK, "--part-lines", "2", "--bits", "60")
+        classes = {"a bit of the cipher": range(512), "a bit of a tag": range(512), "a bit of the major": range(64),
+                   "a bit of a minor": range(64, 512), "a bit of a digest": range(512), "a bit of a name": range(512)}
+        flips: Dict[Tuple[str, str, int], List[int]] = {}
+        for each in found:
+            word, line, *bit = each["commands"][0].split(" ")
+            if word == "flip":
+                flips.setdefault((each["power"], each["attack"], int(line)), []).append(int(bit[0]))
+        self.assertEqual({what for _, what, _ in flips}, set(classes))
+        for (_, what, line), bits in flips.items():
+            self.assertEqual((len(bits), len(set(bits))), (60, 60), (what, line))
+            self.assertLessEqual(set(bits), set(classes[what]))
+            self.assertGreater(max(bits) - min(bits), len(classes[what]) // 2)
+        kinds = {part: {each["attack"] for each in found if each["part"] == part and not each["attack"].startswith("a bit")}
+                 for part in ("data", "tags", "counters", "tree", "shadow", "device")}
+        exchanged = {"copied from another line", "swapped with another line"}
+        self.assertEqual(kinds["data"], {"zeros", "put back", "put back with its tag line", *exchanged})
+        self.assertEqual((kinds["tags"], kinds["counters"]), ({"zeros", "put back", *exchanged}, {"zeros", "put back", *exchanged}))
+        self.assertEqual((kinds["tree"], "zeros" in kinds["shadow"]), ({"zeros", *exchanged}, True))  # no node was written since the format
+        self.assertEqual(kinds["device"], {"all lines put back"})
 
     def test_a_tag_beside_the_one_that_is_read(self) -> None:
         """Tag line 1024 has the tags of lines 0 to 3; of page 5's lines only 321 is read, whose tag line has 320's too."""

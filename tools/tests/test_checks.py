@@ -78,7 +78,7 @@ class ChecksTest(ExploreTest):
                 check = self.check(f"import signal, subprocess, sys, time\nsignal.signal(signal.SIGTERM, signal.SIG_IGN)\n{body}\n")
                 begun = time.monotonic()
                 result = self.cuts(f"{check} {mark}", "--check-timeout", "0.7")
-                self.assertLess(time.monotonic() - begun, 60)
+                self.assertLess(time.monotonic() - begun, 500)
                 self.assertEqual(self.living(mark), [])
                 if body.startswith("time"):
                     self.assertIn("the check took longer than 0.7 s", result.stdout)
@@ -98,11 +98,11 @@ class ChecksTest(ExploreTest):
         check = self.check("import time\ntime.sleep(600)\n")
         process = subprocess.Popen([sys.executable, str(EXPLORE), "cuts", self.file("a.trace", ONE), *WEAK, "--check", f"{check} {mark}"],
                                    stdout=subprocess.DEVNULL, stderr=subprocess.PIPE)
-        end = time.monotonic() + 60
+        end = time.monotonic() + 240
         while not self.living(mark) and time.monotonic() < end:
             time.sleep(0.05)
         process.send_signal(2)
-        self.assertIn(b"explore: interrupted", process.communicate(timeout=60)[1])
+        self.assertIn(b"explore: interrupted", process.communicate(timeout=240)[1])
         self.assertEqual((process.returncode, self.living(mark)), (130, []))
 
     def test_one_process_checks_many_outcomes(self) -> None:
@@ -161,7 +161,7 @@ class ChecksTest(ExploreTest):
         check = self.check("import time; time.sleep(0.5)")
         begun = time.monotonic()
         result = self.explore("cuts", "-", *WEAK, "--check", check, "--budget", "1", "--jobs", "1", text=text)
-        self.assertLess(time.monotonic() - begun, 60)
+        self.assertLess(time.monotonic() - begun, 200)
         self.assertEqual((result.returncode, result.stderr), (0, ""))
         self.assertIn(" cuts tried (1 s, --seed 0); ", result.stdout)
         whole = self.explore("cuts", "-", *WEAK, "--budget", "1000", text=ONE)

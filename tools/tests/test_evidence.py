@@ -1,10 +1,12 @@
 """Stored traces and sessions are what the program answers, tools/evidence makes them again, and typed traces of them."""
 import os
+import re
 import subprocess
 import sys
 import tempfile
 import unittest
 from pathlib import Path
+from typing import Any, Dict
 
 from .helpers import program_path
 from .test_outputs import SESSIONS, read_session, spelled
@@ -24,7 +26,7 @@ class EvidenceTest(unittest.TestCase):
         *rows, last = result.stdout.splitlines()
         self.assertEqual([row for row in rows if not row.endswith("as stored")], [], result.stderr)
         self.assertEqual(sorted(row.split(":")[0] for row in rows), sorted(path.stem for path in TRACES.glob("*.txt")))
-        self.assertEqual((last, result.returncode), ("19 passed, 0 failed", 0))
+        self.assertEqual((last, result.returncode), ("34 passed, 0 failed", 0))
 
     def test_typed_traces_are_what_is_made_of_stored_ones(self) -> None:
         for name in ("Random.antt", "Rare.antt"):
@@ -32,6 +34,35 @@ class EvidenceTest(unittest.TestCase):
                 result = self.run_evidence("--make", name)
                 self.assertEqual((result.returncode, result.stderr), (0, ""))
                 self.assertEqual(result.stdout, (SPECS / name).read_text(encoding="utf-8"))
+
+    def test_policies_are_typed(self) -> None:
+        """The setups of the traces under policies have their options, and a write that a cut left in a durable queue is sealed later."""
+        result = self.run_evidence("--make", "Policies.antt")
+        self.assertEqual((result.returncode, result.stderr), (0, ""))
+        shapes = dict(re.findall(r"^abbrev pub policy_(\w+)_setup : Setup\n.*\n.*\n +shape = record \{ (.*) \};$", result.stdout, re.M))
+        self.assertEqual(len(shapes), 15)
+        self.assertEqual(shapes["two_triad"], "levels = 2; sets = 1; ways = 1; loss = 1; major = 0; persist = 2; shadow = false; "
+                                              "durable = false; combines = false")
+        self.assertTrue(shapes["durable_combining"].endswith("persist = 0; shadow = true; durable = true; combines = true"))
+
+    def test_seals_of_typed_traces(self) -> None:
+        """Under the weak suite a cipher is the line with (line + major + minor + place) added to each byte by exclusive or."""
+        rows = ["post 0 0 [11]: ok", "post 0 0 [22]: ok", "cut 1: ok", "drain 0: cut lost 1", "on: on 0 1 0",
+                "drain 0: seal 0 0.1 00000000000000000000000000000000 | ok 4"]
+        for queue, combine, byte in (("durable", "off", 0x11), ("durable", "on", 0x22)):
+            with tempfile.TemporaryDirectory() as folder:
+                traces = Path(folder, "traces")
+                traces.mkdir()
+                (traces / "policy_durable.txt").write_text(
+                    f"# run --levels=1 --sets=1 --ways=1 --loss=1 --major=0 --suite=weak --queue={queue} --combine={combine}: status 0\n# A trace\n"
+                    + "\n".join(rows) + "\n")
+                code = EVIDENCE.read_text().replace('TRACES = TOP / "tools" / "tests" / "traces"', f"TRACES = Path({str(traces)!r})")
+                given: Dict[str, Any] = {"__file__": str(EVIDENCE), "__name__": "evidence"}
+                exec(compile(code, str(EVIDENCE), "exec"), given)  # pylint: disable=exec-used
+                given["FILES"]["Policies.antt"] = ("One.", ["policy_durable"])
+                made = given["made"]("Policies.antt")
+            cipher = [byte ^ (1 + place) for place in range(64)]
+            self.assertIn(f"Seal 0 (ctr 0 1) {given['line_text'](cipher)} ", made)
 
     def test_other_replies_are_told(self) -> None:
         with tempfile.TemporaryDirectory() as folder:

@@ -150,7 +150,8 @@ class BuildTest:
                   "loss": ("1", "2", "4", "8", "16", "3", "260"), "major": ("0", str(2**64 - 1), str(2**64), "9" * 21, "-1"),
                   "suite": ("weak", "blur", "aes", "Weak", ""), "key": ("0f" * 16, "0F" * 16, "0f" * 15, "0g" * 16),
                   "tag-key": ("aB", "0" * 128, "a", "", "0" * 130), "every": ("1", "1000000", "1000001", "0", str(2**32)), "nothing": ("1",),
-                  "log": ("", "1")}
+                  "log": ("", "1"), "persist": ("0", "1", "3", "7", "8", "01", "-1", ""), "shadow": ("on", "off", "On", ""),
+                  "queue": ("durable", "volatile", "kept", ""), "combine": ("on", "off", "1", "")}
         strange: List[List[str]] = [[], ["Run"], ["ru"], ["", "run"]]
         for _ in range(400):
             words = [chance.choice(("run", "wear", "txn", "tree"))] if chance.randrange(40) else [*chance.choice(strange)]
@@ -179,6 +180,10 @@ class BuildTest:
 
     def test_typed_calls(self: Any) -> None:
         self.assertEqual(self.runs([self.built(SOURCES / "typed.c")]), "")
+
+    def test_policies(self: Any) -> None:
+        """Memories by the arguments of policies and queues; those that the program refuses aren't opened."""
+        self.assertEqual(self.runs([self.built(SOURCES / "policies.c")]), "")
 
     def test_wrong_use(self: Any) -> None:
         self.assertEqual(self.runs([self.built(SOURCES / "misuse.c", *SANITIZED)]), "")

@@ -23,6 +23,7 @@ X, Y = 0x1000, 0x1040
 PROGRAMS: List[Tuple[str, str, str]] = [
     ("fails", "two lines, no flush", "x; y"),
     ("passes", "one line: stores keep their order", "x; x8"),
+    ("passes", "the same with a flush behind both", "x; x8; clwb x; sfence"),
     ("fails", "a flush that no fence follows", "x; clwb x; y"),
     ("fails", "the same with clflushopt", "x; clflushopt x; y"),
     ("passes", "clflush comes before later stores", "x; clflush x; y"),

@@ -7,6 +7,7 @@ import time
 import unittest
 from typing import Any, Dict, List, Tuple
 
+from librarymaker import portable
 from pagemaker import sources
 
 from . import browser
@@ -388,6 +389,83 @@ class ShownTest(PageTest):
         self.assertIn("Not yet", page.text("#verdict"))
         self.type("stat")
         self.assertEqual(page.text("#verdict"), "")
+
+
+def has_policies() -> bool:
+    """Whether the page's module takes the options of persistence policies."""
+    return portable.is_current()
+
+
+@unittest.skipUnless(browser.is_here(), "chromium or chromedriver isn't there")
+@unittest.skipUnless(has_policies(), "module/pmem.wasm was made of other sources: tools/module makes it again")
+class PolicyTest(PageTest):
+    """Persistence policies, durable queues and combining: the program's replies, and what the page shows of them."""
+
+    TRACE = "post_0_5_77x64~drain_0~off~on~read_0_5"
+
+    def choose(self, name: str, value: str) -> None:
+        """Chooses an option from its list."""
+        self.shown.run("const box = document.querySelector(`#option-${arguments[0]}`); box.value = arguments[1];"
+                       "box.dispatchEvent(new Event('change'))", name, value)
+        self.shown.wait(IDLE, 240)
+
+    def replies(self) -> List[str]:
+        """The answers."""
+        found: List[str] = self.shown.run("return pmem.model.replies.map(({answer}) => answer)")
+        return found
+
+    def test_strict_persistence(self) -> None:
+        """Each write has its path in the group; there are no tables, so no lane for them and nothing to name."""
+        page = self.open(f"#machine=run&options=--persist_3_--shadow_off&trace={self.TRACE}&at=1.7")
+        self.assertEqual(self.replies()[1:4], ["ok 7", "ok", "on 0 1 0"])
+        self.assertEqual(page.run("return pmem.model.step(1, 1).name"), "latch: a group of 5 lines is armed")
+        self.assertEqual([page.run("return pmem.model.step(1, arguments[0]).line", step) for step in range(2, 7)], [5, 1025, 1280, 1281, 1285])
+        lanes = page.run("return document.querySelector('#time').textContent")
+        self.assertIn("counter blocks", lanes)
+        self.assertNotIn("shadow", lanes)
+        page.wait("return document.querySelector('#chip svg.tree') !== null", 120)
+        self.assertIn("Each write also writes its whole path.", page.text("#chip"))
+        self.assertNotIn("named in the shadow", page.text("#chip"))
+        self.assertIn("./pmem run --persist 3 --shadow off", page.text("#shell"))
+
+    def test_options_by_their_lists(self) -> None:
+        page = self.open(f"#machine=run&trace={self.TRACE}&at=0.0")
+        self.assertEqual(self.replies()[3], "on 256 9 5")
+        self.choose("shadow", "off")
+        self.assertEqual(self.replies()[3], "on 4096 21 3")
+        self.choose("persist", "2")
+        self.assertEqual(self.replies()[1:4], ["ok 6", "ok", "on 0 5 1"])
+        page.wait("return location.hash.includes('options=--persist_2_--shadow_off')", 120)
+
+    def test_levels_that_are_too_few(self) -> None:
+        """A path of one level has two lines."""
+        page = self.open(f"#machine=run&options=--persist_3&trace={self.TRACE}&at=0.0")
+        self.choose("levels", "1")
+        self.assertEqual(page.text("#notice"), "levels isn't 1 now: persist is at most 2 with levels 1.")
+        self.assertEqual(page.run("return [pmem.state.options.levels, document.querySelector('#option-levels').value]"), [2, "2"])
+        page = self.open(f"#machine=run&options=--persist_4&trace={self.TRACE}&at=0.0")
+        self.assertIn("--persist 4: persist is at most 3 with levels 2", page.text("#notice"))
+
+    def test_a_durable_queue(self) -> None:
+        """The write is lost in the cut and waits on; the port sees it, memory doesn't."""
+        trace = "post_0_5_77x64~cut_3~drain_0~on~read_0_5~read_1_5~drain_0~read_1_5"
+        page = self.open(f"#machine=run&options=--queue_durable&trace={trace}&at=4.0")
+        self.assertEqual(self.replies()[2:4], ["cut lost 3", "on 256 9 2"])
+        self.assertEqual([answer.split(" ")[1][:2] for answer in self.replies() if answer.startswith("line ")], ["77", "00", "77"])
+        self.assertIn("port 0:\n5 77..77", page.text("#chip"))
+        self.assertIn("They outlive power.", page.text("#chip"))
+
+    def test_combining(self) -> None:
+        page = self.open("#machine=run&options=--combine_on&trace=post_0_5_11x64~post_0_5_22x64~drain_0~drain_0~read_0_5&at=2.0")
+        self.assertEqual(self.replies()[2:4], ["ok 7", "empty"])
+        self.assertIn("port 0:\n5 22..22\n", page.text("#chip"))
+        self.assertNotIn("11..11", page.text("#chip"))
+
+    def test_two_policies_side_by_side(self) -> None:
+        page = self.open(f"#machine=run&trace={self.TRACE}&at=2.0")
+        page.run("pmem.compareWith({machine: 'run', options: {...pmem.state.options, persist: 3, shadow: 'off'}})")
+        self.assertIn("pmem run --persist 3 --shadow off", page.text("#compared"))
+        self.assertIn("on 0 1 0", page.text("#compared"))
 
 
 @unittest.skipUnless(browser.is_here(), "chromium or chromedriver isn't there")

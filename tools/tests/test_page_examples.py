@@ -12,7 +12,7 @@ from .helpers import TOOLS, program_path
 
 TOP = TOOLS.parent
 # The pages whose every example is run.
-PAGES = ("README.md", "docs/HOW_IT_WORKS.md", "docs/TUTORIAL.md", "docs/FAQ.md", "docs/LIMITS.md")
+PAGES = ("README.md", "docs/HOW_IT_WORKS.md", "docs/TUTORIAL.md", "docs/FAQ.md", "docs/LIMITS.md", "docs/DESIGNS.md")
 BLOCK = re.compile(r"^```console\n(.*?)^```$", re.M | re.S)
 # A table whose first columns are commands and their replies; a comment just above it may give the machine and options.
 TABLE = re.compile(r"(?:^<!-- (\w+[^\n]*?) -->\n+)?^\| Command \| Reply \|[^\n]*\n\|[-| :]+\|\n((?:\|[^\n]*\n)+)", re.M)

@@ -365,7 +365,7 @@ class PlantRandomTest(unittest.TestCase):
             while len(self.calls()) < 2 and command.poll() is None:
                 time.sleep(0.05)
             command.send_signal(signal.SIGTERM)
-            self.assertEqual(command.wait(timeout=20), 130)
+            self.assertEqual(command.wait(timeout=240), 130)
         self.assertEqual(list(self.rooms.iterdir()), [])
         self.assertEqual(self.records(), {})
 

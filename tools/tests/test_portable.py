@@ -540,7 +540,7 @@ chmod +x "$2"
                 run.send_signal(signal.SIGTERM)
                 if is_read:
                     said = run.stderr.read()
-                self.assertEqual(run.wait(timeout=60), 130 if is_read else run.returncode)
+                self.assertEqual(run.wait(timeout=240), 130 if is_read else run.returncode)
                 self.assertEqual(said.endswith("interrupted\n"), is_read)
             for process in map(int, seen.read_text().split()):
                 with self.assertRaises(ProcessLookupError):

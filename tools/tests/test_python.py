@@ -50,7 +50,9 @@ def opened(words: List[str], through: Any) -> Any:
     options: Dict[str, Any] = {}
     for name, value in zip(words[1::2], words[2::2]):
         is_key = name.endswith("key")
-        options[name[2:].replace("-", "_")] = value if name == "--suite" else bytes.fromhex(value) if is_key else int(value)
+        is_word, is_switch = name in ("--suite", "--queue"), name in ("--shadow", "--combine")
+        options[name[2:].replace("-", "_")] = (
+            value if is_word else value == "on" if is_switch else bytes.fromhex(value) if is_key else int(value))
     return KINDS[words[0]](through=through, **options)
 
 

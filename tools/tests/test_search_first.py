@@ -272,7 +272,7 @@ class SearchFirstTest(unittest.TestCase):
         child = subprocess.Popen(self.words("low"), env=self.environment, stdin=subprocess.DEVNULL, stdout=subprocess.PIPE,
                                  stderr=subprocess.PIPE, universal_newlines=True, start_new_session=True)
         self.addCleanup(child.kill)
-        until = time.monotonic() + 60
+        until = time.monotonic() + 240
         while not (self.state / "words").exists():
             self.assertLess(time.monotonic(), until)
             time.sleep(0.05)
@@ -280,7 +280,7 @@ class SearchFirstTest(unittest.TestCase):
         kept = sorted(str(path.relative_to(place.parent)) for path in place.parent.glob("*/out/**/*") if path.is_file())
         self.assertEqual(kept, ["low/out/incremental/one", "lowest/out/rlib/lowest.rlib/format"])
         os.killpg(child.pid, signal.SIGINT)
-        _, complained = child.communicate(timeout=60)
+        _, complained = child.communicate(timeout=240)
         self.assertEqual((child.returncode, complained), (130, "search_first: interrupted\n"))
         self.assertEqual(os.listdir(self.rooms), [])
         self.assertEqual(self.laws(), LAWS)

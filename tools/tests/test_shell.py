@@ -145,11 +145,11 @@ class TerminalTest(ExploreTest):
         os.write(ours, b"stat\n")
         self.wait_for(ours, b"> stat 0 0 0 0 0", b"pmem> ")
         os.write(ours, b"\x04")
-        self.assertEqual(process.wait(timeout=60), 0)
+        self.assertEqual(process.wait(timeout=240), 0)
 
     def wait_for(self, terminal: int, *texts: bytes) -> None:
         """Reads until these texts came, one after another."""
-        read, end = b"", time.monotonic() + 60
+        read, end = b"", time.monotonic() + 240
         for text in texts:
             while text not in read:
                 self.assertTrue(select.select([terminal], [], [], max(0, end - time.monotonic()))[0], read)

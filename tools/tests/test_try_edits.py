@@ -177,7 +177,7 @@ class TryEditsTest(unittest.TestCase):
         child = subprocess.Popen(self.words("low"), env=self.environment, stdin=subprocess.DEVNULL, stdout=subprocess.PIPE,
                                  stderr=subprocess.PIPE, universal_newlines=True, start_new_session=True)
         self.addCleanup(child.kill)
-        until = time.monotonic() + 60
+        until = time.monotonic() + 240
         while not (self.state / "pid").exists() or not (self.state / "pid").read_text().strip():
             self.assertLess(time.monotonic(), until)
             time.sleep(0.05)
@@ -185,7 +185,7 @@ class TryEditsTest(unittest.TestCase):
         self.assertTrue((place / "crates.txt").exists())
         self.assertFalse((place / "crates" / "low" / "out" / "kept").exists())
         os.killpg(child.pid, signal.SIGINT)
-        _, complained = child.communicate(timeout=60)
+        _, complained = child.communicate(timeout=240)
         self.assertEqual(child.returncode, 130)
         self.assertIn("interrupted", complained)
         self.assertEqual(os.listdir(self.rooms), [])

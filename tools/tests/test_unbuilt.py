@@ -70,7 +70,7 @@ class UnbuiltTest(unittest.TestCase):
             while not (self.root / "calls").exists():
                 self.assertIsNone(run.poll())
             os.killpg(run.pid, signal.SIGINT)
-            self.assertEqual(run.communicate(timeout=60), ("", "lessons/check: interrupted\n"))
+            self.assertEqual(run.communicate(timeout=240), ("", "lessons/check: interrupted\n"))
         self.assertEqual(run.returncode, 130)
 
     def test_an_interrupt_of_the_lessons_amid_their_imports(self) -> None:

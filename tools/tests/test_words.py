@@ -20,7 +20,7 @@ runs = len(os.listdir(os.path.join(here, "runs")))
 open(os.path.join(here, "runs", str(os.getpid())), "w").close()
 if runs < {quick}:
     os.execv({program!r}, [{program!r}, *sys.argv[1:]])
-time.sleep(60)
+time.sleep(900)
 """
 
 
@@ -152,14 +152,14 @@ class InterruptsTest(ExploreTest):
                                    stdout=subprocess.PIPE, stderr=subprocess.PIPE, universal_newlines=True)
         self.wait_until(lambda: len(os.listdir(runs)) > quick)
         process.send_signal(signal.SIGINT)
-        out, err = process.communicate(timeout=20)
+        out, err = process.communicate(timeout=240)
         self.assertFalse(any(is_running(int(name)) for name in os.listdir(runs)))
         shutil.rmtree(runs)
         return subprocess.CompletedProcess(words, process.returncode, out, err)
 
     def wait_until(self, condition: Callable[[], bool]) -> None:
         """Waits for something that comes soon."""
-        end = time.monotonic() + 60
+        end = time.monotonic() + 240
         while not condition():
             self.assertLess(time.monotonic(), end)
             time.sleep(0.05)
@@ -185,7 +185,7 @@ class InterruptsTest(ExploreTest):
             time.sleep(0.03 * number)
             process.send_signal(signal.SIGTERM if number == 19 else signal.SIGINT)
             try:
-                _, err = process.communicate(timeout=20)
+                _, err = process.communicate(timeout=240)
             finally:
                 process.kill()
             self.assertIn((process.returncode, err), ((130, "explore: interrupted\n"), (0, "")), (number, words))
@@ -233,13 +233,13 @@ except KeyboardInterrupt:
 
     def test_an_interrupt_ends_a_compiler(self) -> None:
         begun = Path(self.path("begun"))
-        compiler = self.script("compiler", f"import time\nopen({str(begun)!r}, 'w').close()\ntime.sleep(60)")
+        compiler = self.script("compiler", f"import time\nopen({str(begun)!r}, 'w').close()\ntime.sleep(900)")
         with subprocess.Popen([sys.executable, str(EXPLORE), "cuts", self.file("a.trace", WRITE)], stdout=subprocess.PIPE,
                               stderr=subprocess.PIPE, universal_newlines=True,
                               env={**os.environ, "CC": compiler, "XDG_CACHE_HOME": self.path("cache")}) as process:
             self.wait_until(begun.exists)
             process.send_signal(signal.SIGINT)
-            out, err = process.communicate(timeout=20)
+            out, err = process.communicate(timeout=240)
         self.assertEqual((process.returncode, out, err), (130, "", "explore: interrupted\n"))
         self.assertEqual(os.listdir(self.path("cache/pmem-explore")), [])
 
@@ -258,7 +258,7 @@ except KeyboardInterrupt:
             text = b""
             while told not in text:
                 text += os.read(main, 4096)
-            self.assertEqual(process.wait(timeout=60), 0)
+            self.assertEqual(process.wait(timeout=240), 0)
 
     def test_a_reader_that_goes_away(self) -> None:
         trace = self.file("a.trace", WRITE * 50)
@@ -267,7 +267,7 @@ except KeyboardInterrupt:
         assert process.stdout is not None and process.stderr is not None
         process.stdout.close()
         self.assertEqual(process.stderr.read(), b"")
-        self.assertEqual(process.wait(timeout=60), 1)
+        self.assertEqual(process.wait(timeout=240), 1)
         process.stderr.close()
 
 

@@ -1,12 +1,13 @@
 """examples/workloads: the traces hold what the programs stored, and make.py makes them."""
 import importlib.util
+import os
 import re
 import shutil
 import sqlite3
 import subprocess
 import sys
 from pathlib import Path
-from typing import Any, Dict, List
+from typing import Any, Dict, Iterator, List
 
 from .helpers import EXAMPLES, ExploreTest, program_path
 
@@ -15,7 +16,7 @@ MAKE = FOLDER / "make.py"
 NAMES = ["log", "pmdk-btree", "pmdk-hashmap", "redis-aof", "sqlite-wal", "uniform"]
 MOST_BYTES = 1_500_000
 # The addresses that tools/record gives to the first files that a program writes.
-FIRST, SECOND = 0x1000000000, 0x2000000000
+FIRST, SECOND, THIRD = 0x1000000000, 0x2000000000, 0x3000000000
 
 
 def maker() -> Any:
@@ -34,6 +35,12 @@ def text_of(name: str) -> str:
 
 def memory_of(name: str) -> Dict[int, bytes]:
     """What memory holds in the end: each line that was posted, by its address in the program."""
+    *_, last = memories_of(name)
+    return last
+
+
+def memories_of(name: str) -> Iterator[Dict[int, bytes]]:
+    """What memory holds after each fence, and in the end."""
     memory: Dict[int, bytes] = {}
     places: Dict[int, int] = {}
     for line in text_of(name).splitlines():
@@ -44,7 +51,9 @@ def memory_of(name: str) -> Dict[int, bytes]:
         elif line.startswith("post "):
             _, _, number, data = line.split(" ")
             memory[places[int(number)]] = bytes.fromhex(data)
-    return memory
+        elif line.startswith("fence "):
+            yield memory
+    yield memory
 
 
 def file_at(memory: Dict[int, bytes], address: int) -> bytes:
@@ -86,6 +95,28 @@ class WorkloadsTest(ExploreTest):
         found = dict(base.execute("select key, value from pair").fetchall())
         base.close()
         self.assertEqual(found, {7 * number % 13: f"value {number} of a key that is updated" for number in range(108, 121)})
+
+    def test_sqlite_recovers_each_update(self) -> None:
+        """After each fence SQLite itself finds all updates up to one, by the checksums of its write-ahead log, and no update is lost later."""
+        seen = [0]
+        for memory in memories_of("sqlite-wal"):
+            for name in self.names():
+                os.unlink(self.path(name))
+            for name, address in (("a.db", FIRST), ("a.db-wal", THIRD)):
+                Path(self.path(name)).write_bytes(file_at(memory, address) if any(address <= place < address + FIRST for place in memory) else b"")
+            base = sqlite3.connect(self.path("a.db"))
+            try:
+                found = dict(base.execute("select key, value from pair").fetchall())
+            except sqlite3.OperationalError as error:
+                self.assertEqual((str(error), seen), ("no such table: pair", [0]))
+                continue
+            finally:
+                base.close()
+            count = max((int(value.split(" ")[1]) for value in found.values()), default=0)
+            self.assertEqual(found, {7 * number % 13: f"value {number} of a key that is updated" for number in range(1, count + 1)})
+            self.assertIn(count - seen[-1], (0, 1))
+            seen.append(count)
+        self.assertEqual(seen[-1], 120)
 
     def test_the_append_only_file_has_all_commands(self) -> None:
         data = file_at(memory_of("redis-aof"), SECOND).rstrip(b"\0").decode()
