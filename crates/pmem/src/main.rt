@@ -4,6 +4,7 @@
 ghost use Rattle.std.specs.Prelude.{◌≡◌, ◌⊎◌, drop, map, string_bytes, IfOk};
 ghost use Rattle.std.specs.Vec.Iter.{into_iter_items};
 ghost use Rattle.pmem_cli.specs.Determined.{call_over, IsCallWith, IsByMachine};
+ghost use Rattle.pmem_cli.specs.Wholes.{ForEachWhole, left_in};
 
 use pmem_cli::{Sink, Source, StdSink, StdSource, run};
 use std::alloc::{AllocError, Global};
@@ -28,10 +29,10 @@ fn command_words(alloc: Global, args: Args) -> Result<Vec<String>, AllocError>
 /// there is no memory for the words the status is 1, and nothing is pulled or put.
 fn program<S: Source, K: Sink>(alloc: Global, args: Args, trace: &mut S, out: &mut K) -> u8
     ensures { ((result ≡ 1) × (trace.new ≡ trace.old) × (out.new ≡ out.old))
-        ⊎ (IsCallWith (map string_bytes (drop 1 (into_iter_items args)))
-        (call_over result S.left S.faults trace.old trace.new K.put K.faults out.old out.new)
+        ⊎ ForEachWhole (S.known trace.new) (λ whole. IsCallWith (map string_bytes (drop 1 (into_iter_items args)))
+        (call_over result (left_in S.known whole) S.faults trace.old trace.new K.put K.faults out.old out.new)
         × IsByMachine (map string_bytes (drop 1 (into_iter_items args)))
-        (call_over result S.left S.faults trace.old trace.new K.put K.faults out.old out.new)) }
+        (call_over result (left_in S.known whole) S.faults trace.old trace.new K.put K.faults out.old out.new)) }
 {
     match command_words(alloc, args) {
         Ok(words) => run(alloc, words.as_slice(), trace, out),

@@ -4,7 +4,7 @@ ghost use Rattle.pmem_c.specs.Answered.{IsAnswer, IsCopied};
 
 use crate::ends::{HeapSink, SliceSource};
 use crate::words::{Unread, read_words};
-use pmem_cli::run;
+use pmem_cli::{run, told_is_left};
 use std::alloc::Global;
 
 /// Copies as many bytes as there is room for.
@@ -24,6 +24,7 @@ pub(crate) fn answer(alloc: Global, words: &[u8], trace: &[u8], out: &mut HeapSi
 {
     match read_words(alloc, words) {
         Ok(words) => {
+            told_is_left();
             let mut source = SliceSource::new(trace);
             run(alloc, words.as_slice(), &mut source, out)
         }

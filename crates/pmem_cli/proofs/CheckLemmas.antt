@@ -1,5 +1,5 @@
 -- The lines of a check, one after the other.
-use Rattle.std.proofs.Common.{rules, ◌≡◌, ◌∙◌, ◌+◌, ◌<◌, ◌≤◌, ℕ, List, [], ◌∷◌, ◌++◌, length, refl, sym, ap, subst, arith, append_assoc, length-append, lt-ltb, inl, inr}
+use Rattle.std.proofs.Common.{rules, ◌≡◌, ◌≢◌, ◌∙◌, ◌+◌, ◌<◌, ◌≤◌, ℕ, List, [], ◌∷◌, ◌++◌, length, refl, sym, ap, subst, arith, append_assoc, length-append, lt-ltb, inl, inr}
 use Rattle.std.specs.Prelude.{◌⊎◌, Option, None, Some, IfSome, Ok, Err}
 use Rattle.std.specs.List.{flat_map}
 use Rattle.std.specs.Io.KnownBytes.{Consumes, Keeps, IsAtEnd, prepend_known}
@@ -8,12 +8,14 @@ use Rattle.std.proofs.lemmas.Bool.{lt-leb}
 use Rattle.std.proofs.lemmas.List.Elements.{All-cons, All-nil}
 use Rattle.pmem_base.specs.declared.commands.Kind.{Kind}
 use Rattle.pmem_base.specs.declared.answers.Exhibit.{Exhibit}
+use Rattle.suite.specs.Formulas.{Formulas}
 use Rattle.collision_witness.specs.Reading.{exhibit_of_line}
 use Rattle.plain_model.specs.declared.Stop.{Stop}
 use Rattle.plain_model.specs.declared.Stop.TheVariants.{Finished, ReadFault, Refused, TooManyLines}
 use Rattle.plain_model.specs.Lines.{lines_of, ended, IsWithin}
 use Rattle.plain_model.specs.Run.{line_limit}
-use Rattle.pmem_cli.specs.Checked.{is_skipped, found_with, found_on, found_in_lines, IsRefusedIn, IsBrokenOff, LooksTo, HasCheckedLines, HasLookedFirst, ChecksLine, ChecksNext}
+use Rattle.pmem_cli.specs.declared.ending.Ending.TheVariants.{Stopped}
+use Rattle.pmem_cli.specs.Checked.{is_skipped, found_with, found_on, found_in_lines, IsRefusedIn, IsBrokenOff, LooksTo, HasCheckedLines, HasLookedFirst, ChecksLine, ChecksNext, IsChecked}
 use Rattle.pmem_cli.specs.Pulling.{IsUndecided, PullsUndecided}
 use Rattle.pmem_cli.proofs.LineLemmas.{lines_ahead, lines_of-last, lines_of-begins, lines_of-some}
 use Rattle.pmem_cli.proofs.TurnLemmas.{IfSome-ahead, all_unread}
@@ -202,6 +204,16 @@ pub HasCheckedLines-kept : (stop : Stop) (a b left : Option (List ℕ)) (found a
 HasCheckedLines-kept stop None b left found after served kept looked = (looked.0, looked.1, tt)
 HasCheckedLines-kept stop (Some x) None left found after served kept looked = absurd kept
 HasCheckedLines-kept stop (Some x) (Some y) left found after served kept looked = (looked.0, looked.1, subst (λ bytes. LooksTo found served stop bytes left after) kept looked.2)
+
+-- a stop before all lines were read is the check's end
+pub IsChecked-stopped : (formulas : Formulas) (stop : Stop) (ahead left : Option (List ℕ)) (after : Option Exhibit) → stop ≢ Finished → HasCheckedLines stop ahead left None after 0
+    → IfSome ahead (λ bytes. IsChecked formulas (Stopped stop) bytes left)
+IsChecked-stopped formulas stop None left after early looked = tt
+IsChecked-stopped formulas Finished (Some bytes) left after early looked = absurd (early refl)
+IsChecked-stopped formulas ReadFault (Some bytes) left after early looked = (after, looked.2)
+IsChecked-stopped formulas (Refused number kind) (Some bytes) left after early looked = inl looked.2
+IsChecked-stopped formulas TooManyLines (Some bytes) left after early looked = (after, looked.2)
+IsChecked-stopped formulas stop (Some bytes) left after early looked = absurd looked.2
 
 -- ---- before a pull
 

@@ -1,4 +1,5 @@
 pub mod PieceLemmas
+pub mod WholeLemmas
 pub mod LineLemmas
 pub mod ShownLemmas
 pub mod StandingLemmas

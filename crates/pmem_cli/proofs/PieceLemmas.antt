@@ -53,6 +53,10 @@ view_length chunk xs at end view inside = rw (← view) (grind (arith, common_st
 pub gives_front : (items to : List ℕ) (at n : ℕ) → take n to ≡ take n (drop at items) → drop at items ≡ take n to ++ drop (at + n) items
 gives_front items to at n copied = rw (copied, ← drop-drop n at items) (sym (take-append-drop n (drop at items)))
 
+-- and what it gave
+pub given_further : (items to : List ℕ) (at n : ℕ) → take n to ≡ take n (drop at items) → take (at + n) items ≡ take at items ++ take n to
+given_further items to at n copied = rw copied (take-add at n items)
+
 -- what a sink holds after it took some bytes
 pub takes_behind : (front back : List ℕ) (at n : ℕ) → length front ≡ at → take (at + n) (front ++ back) ≡ front ++ take n back
 takes_behind front back at n is =

@@ -4,6 +4,7 @@ use Rattle.std.specs.Prelude.{◌≡◌, ◌≢◌, ◌↔◌, ◌++◌, ℕ, Li
 use Rattle.collision_witness.specs.Words.{Word}
 use Rattle.pmem_cli.specs.Causes.{Rose}
 use Rattle.pmem_cli.specs.HasRun.{TaskOutcome, TaskMachine, AreRefusedWords}
+use Rattle.pmem_cli.specs.Wholes.{Known, HasGiven, MayBe, ForEachWhole, left_in}
 use Rattle.pmem_cli.specs.Words.{task_of}
 use Rattle.plain_model.specs.declared.Stop.{Stop}
 use Rattle.plain_model.specs.declared.Stop.TheVariants.{Memory, ReadFault}
@@ -100,3 +101,40 @@ abbrev pub DisturbedRunIsFront : Type 0
 DisturbedRunIsFront =
     (words : List Word) (trace put : List ℕ) (a b : Call) → IsCallWith words a → IsCallWith words b → IsByMachine words a → IsByMachine words b
     → a.trace ≡ Some trace → a.put_before ≡ Some put → IsUndisturbed trace put b → IsFrontOf put a b
+
+-- ---- a source that exposes what it has left
+
+-- this call, if these bytes were left before it and after it
+abbrev pub over_bytes : Call → Option (List ℕ) → Option (List ℕ) → Call
+over_bytes call trace left =
+    record {
+      status = call.status;
+      pulls_before = call.pulls_before;
+      pulls_after = call.pulls_after;
+      pushes_before = call.pushes_before;
+      pushes_after = call.pushes_after;
+      trace = trace;
+      left = left;
+      put_before = call.put_before;
+      put_after = call.put_after;
+    }
+
+-- There always is a list that may be all bytes of a source.
+abbrev pub HasWhole : Type 0
+HasWhole = (known : Known) → (whole : List ℕ) × MayBe known whole
+
+-- What a source exposes before a call and after it is what is left of one list that may be all its bytes.
+abbrev pub ExposesWhole : Type 0
+ExposesWhole =
+    (before now : Known) (told : List ℕ) → HasGiven before now → before.left ≡ Some told
+    → (whole : List ℕ) × MayBe now whole × (left_in (λ known. known) whole before ≡ before.left) × (left_in (λ known. known) whole now ≡ now.left)
+
+-- If the source exposes what it has left, what holds of a call whatever all bytes of the source may be, holds of what it exposed before the
+-- call and exposes after it.
+abbrev pub ToldIsLeft : Type 0
+ToldIsLeft =
+    (words : List Word) (call : Call) (before now : Known) (told : List ℕ) → HasGiven before now → before.left ≡ Some told
+    → ForEachWhole now (λ whole.
+    IsCallWith words (over_bytes call (left_in (λ known. known) whole before) (left_in (λ known. known) whole now))
+    × IsByMachine words (over_bytes call (left_in (λ known. known) whole before) (left_in (λ known. known) whole now)))
+    → IsCallWith words (over_bytes call before.left now.left) × IsByMachine words (over_bytes call before.left now.left)

@@ -1,5 +1,6 @@
 pub mod Causes
 pub mod Pulling
+pub mod Wholes
 pub mod Memory
 pub mod StdParts
 pub mod Printed

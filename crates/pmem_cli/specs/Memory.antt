@@ -5,8 +5,10 @@ use Rattle.pmem_cli.specs.declared.pulls.Pulls.{Pulls}
 pub record MemoryInput : Type 0 where
   -- the bytes that are still to be given
   pub left : List ℕ
-  -- the bytes that were so before the last call
-  pub left_before : List ℕ
+  -- the bytes that were given
+  pub given : List ℕ
+  -- those that had been given before the last call
+  pub given_before : List ℕ
   -- the numbers of the calls that fail, counted from 0
   pub failing : List ℕ
   -- the number of calls so far, up to 2^64 - 1, so the number of the next one

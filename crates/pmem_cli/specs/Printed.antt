@@ -1,6 +1,7 @@
 -- What a printer, which holds bytes back for a while, has put of the texts that it was given.
 use Rattle.std.specs.Prelude.{◌≡◌, ◌++◌, ◌⊎◌, ℕ, List, Option}
 use Rattle.std.specs.Io.KnownBytes.{Appends}
+use Rattle.pmem_cli.specs.Wholes.{Known, ForEachWhole, left_in, left_before_in}
 
 -- a prefix of these bytes was put
 pub record AppendsFront (before after : Option (List ℕ)) (bytes : List ℕ) : Type 0 where
@@ -42,15 +43,17 @@ abbrev pub HasPrintedFront : {K : Type 0} → (K → Option (List ℕ)) → K �
 HasPrintedFront put out_old out_new waited waiting text =
     PrintsFront (with_waiting (put out_old) waited) (with_waiting (put out_new) waiting) text
 
--- A fact of what the source had left and has left, and of what was printed before and after.
+-- A fact of what the source had left and has left, whatever all its bytes may be, and of what was printed before and after.
 abbrev pub Across : {S K : Type 0} → (Option (List ℕ) → Option (List ℕ) → Output → Output → Type 0)
-    → (S → Option (List ℕ)) → S → S → (K → Option (List ℕ)) → K → K → List ℕ → List ℕ → Type 0
-Across fact left trace_old trace_new put out_old out_new waited waiting =
-    fact (left trace_old) (left trace_new) (with_waiting (put out_old) waited) (with_waiting (put out_new) waiting)
+    → (S → Known) → S → S → (K → Option (List ℕ)) → K → K → List ℕ → List ℕ → Type 0
+Across fact known trace_old trace_new put out_old out_new waited waiting =
+    ForEachWhole (known trace_new) (λ whole.
+    fact (left_in known whole trace_old) (left_in known whole trace_new) (with_waiting (put out_old) waited) (with_waiting (put out_new) waiting))
 
 -- The source is as it was. Or a fact of what it had left at first and before its last pull, of what was printed before,
--- and of what is put now.
+-- and of what is put now. So it is whatever all its bytes may be.
 abbrev pub IfPulled : {S K : Type 0} → (Option (List ℕ) → Option (List ℕ) → Output → Option (List ℕ) → Type 0)
-    → (S → Option (List ℕ)) → (S → Option (List ℕ)) → S → S → (K → Option (List ℕ)) → K → K → List ℕ → Type 0
-IfPulled fact left left_before trace_old trace_new put out_old out_new waited =
-    (trace_new ≡ trace_old) ⊎ fact (left trace_old) (left_before trace_new) (with_waiting (put out_old) waited) (put out_new)
+    → (S → Known) → S → S → (K → Option (List ℕ)) → K → K → List ℕ → Type 0
+IfPulled fact known trace_old trace_new put out_old out_new waited =
+    ForEachWhole (known trace_new) (λ whole.
+    (trace_new ≡ trace_old) ⊎ fact (left_in known whole trace_old) (left_before_in known whole trace_new) (with_waiting (put out_old) waited) (put out_new))

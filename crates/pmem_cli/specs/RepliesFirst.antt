@@ -14,6 +14,7 @@ use Rattle.pmem_cli.specs.Sessions.{HasSpokenFirst, HasSaidFirst}
 use Rattle.pmem_cli.specs.Tree.{tree_language, tree_chosen}
 use Rattle.pmem_cli.specs.Txn.{txn_language, txn_chosen}
 use Rattle.pmem_cli.specs.Wear.{wear_language, wear_chosen}
+use Rattle.pmem_cli.specs.Wholes.{Known, ForEachWhole, left_in, left_before_in}
 
 -- The whole lines of these bytes were answered, and all their replies were put; what was given of the next line decides
 -- no stop.
@@ -56,14 +57,16 @@ MachineRepliesFirst (Task.Tree c) trace left left_before from put = left ≢ tra
 MachineRepliesFirst (Task.Txn c) trace left left_before from put = left ≢ trace → HasSaidFirst (txn_chosen c) c.log trace left_before from put
 MachineRepliesFirst task trace left left_before from put = ⊤
 
--- the same of a source and a sink before and after a call, of which so much waited to be put before
-abbrev pub MachineRepliesBeforePull : {S K : Type 0} → Task → (S → Option (List ℕ)) → (S → Option (List ℕ)) → S → S → (K → Option (List ℕ)) → K → K
-    → List ℕ → Type 0
-MachineRepliesBeforePull task left left_before trace_old trace_new put out_old out_new waited =
-    MachineRepliesFirst task (left trace_old) (left trace_new) (left_before trace_new) (with_waiting (put out_old) waited) (put out_new)
+-- The same of a source and a sink before and after a call, of which so much waited to be put before, whatever all bytes of the source may be.
+abbrev pub MachineRepliesBeforePull : {S K : Type 0} → Task → (S → Known) → S → S → (K → Option (List ℕ)) → K → K → List ℕ → Type 0
+MachineRepliesBeforePull task known trace_old trace_new put out_old out_new waited =
+    ForEachWhole (known trace_new) (λ whole.
+    MachineRepliesFirst task (left_in known whole trace_old) (left_in known whole trace_new) (left_before_in known whole trace_new)
+    (with_waiting (put out_old) waited) (put out_new))
 
 -- and without a machine
-abbrev pub RepliesBeforePull : {S K : Type 0} → Task → (S → Option (List ℕ)) → (S → Option (List ℕ)) → S → S → (K → Option (List ℕ)) → K → K
-    → List ℕ → Type 0
-RepliesBeforePull task left left_before trace_old trace_new put out_old out_new waited =
-    TaskRepliesFirst task (left trace_old) (left trace_new) (left_before trace_new) (with_waiting (put out_old) waited) (put out_new)
+abbrev pub RepliesBeforePull : {S K : Type 0} → Task → (S → Known) → S → S → (K → Option (List ℕ)) → K → K → List ℕ → Type 0
+RepliesBeforePull task known trace_old trace_new put out_old out_new waited =
+    ForEachWhole (known trace_new) (λ whole.
+    TaskRepliesFirst task (left_in known whole trace_old) (left_in known whole trace_new) (left_before_in known whole trace_new)
+    (with_waiting (put out_old) waited) (put out_new))

@@ -1,5 +1,5 @@
 -- What a clause reads of a source over a reader, and of a sink over a writer.
-use Rattle.std.specs.Prelude.{ℕ, List, Option, Some, None}
+use Rattle.std.specs.Prelude.{ℕ, List, Bool, Option, Some, None}
 use Rattle.pmem_cli.specs.declared.pulls.Pulls.{Pulls}
 use Rattle.pmem_cli.specs.declared.source.StdSource.{StdSource}
 use Rattle.pmem_cli.specs.declared.sink.StdSink.{StdSink}
@@ -7,9 +7,17 @@ use Rattle.pmem_cli.specs.declared.sink.StdSink.{StdSink}
 abbrev pub reader_of : {R : Type 0} → StdSource R → R
 reader_of source = source.inner
 
--- as it was before the last pull, and at first as it is
-abbrev pub reader_before : {R : Type 0} → StdSource R → R
-reader_before source = source.before.value
+-- the bytes that it gave, in their order
+abbrev pub bytes_given : {R : Type 0} → StdSource R → List ℕ
+bytes_given source = source.given
+
+-- as they were before the last pull
+abbrev pub bytes_given_before : {R : Type 0} → StdSource R → List ℕ
+bytes_given_before source = source.before.value
+
+-- whether it gave its end
+abbrev pub has_ended : {R : Type 0} → StdSource R → Bool
+has_ended source = source.ended
 
 -- how often a pull failed
 abbrev pub pull_faults : {R : Type 0} → StdSource R → ℕ

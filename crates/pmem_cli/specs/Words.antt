@@ -43,12 +43,16 @@ suite_named word =
     else if bytes_eq word (codes "blur") then Some Blur
     else None
 
--- the second of two words, or the first
-abbrev pub is_second : List ℕ → List ℕ → Word → Option Bool
-is_second first second word =
-    if bytes_eq word first then Some false
-    else if bytes_eq word second then Some true
+-- a switch, by the names of its two states: off and on
+abbrev pub switch_named : List ℕ → List ℕ → Word → Option Bool
+switch_named off on word =
+    if bytes_eq word off then Some false
+    else if bytes_eq word on then Some true
     else None
+
+-- the lines of the longest path: a counter block, and a node on each of six levels
+abbrev pub longest_path : ℕ
+longest_path = 7
 
 -- ---- options
 
@@ -93,18 +97,13 @@ choose_tree c name value =
     else if bytes_eq name (codes "sets") then once c.sets (number_where (is_up_to 64) value) (λ n. record c { sets = Some n })
     else choose_suite c name value
 
--- on or off
-abbrev pub switch_named : Word → Option Bool
-switch_named word =
-    if bytes_eq word (codes "on") then Some true
-    else if bytes_eq word (codes "off") then Some false
-    else None
-
 -- and the persistence policy
 abbrev pub choose_policy : Choices → Word → Word → Option Choices
 choose_policy c name value =
-    if bytes_eq name (codes "persist") then once c.persist (number_where (λ n. nat_le n 7) value) (λ n. record c { persist = Some n })
-    else if bytes_eq name (codes "shadow") then once c.shadow (switch_named value) (λ on. record c { shadow = Some on })
+    if bytes_eq name (codes "persist")
+    then once c.persist (number_where (λ n. nat_le n longest_path) value) (λ n. record c { persist = Some n })
+    else if bytes_eq name (codes "shadow")
+    then once c.shadow (switch_named (codes "off") (codes "on") value) (λ b. record c { shadow = Some b })
     else choose_tree c name value
 
 -- and of a run's
@@ -125,9 +124,9 @@ choose_wear c name value =
 abbrev pub choose_queues : Choices → Word → Word → Option Choices
 choose_queues c name value =
     if bytes_eq name (codes "queue")
-    then once c.durable (is_second (codes "volatile") (codes "durable") value) (λ b. record c { durable = Some b })
+    then once c.durable (switch_named (codes "volatile") (codes "durable") value) (λ b. record c { durable = Some b })
     else if bytes_eq name (codes "combine")
-    then once c.combines (switch_named value) (λ b. record c { combines = Some b })
+    then once c.combines (switch_named (codes "off") (codes "on") value) (λ b. record c { combines = Some b })
     else choose_run c name value
 
 -- that the log is printed
@@ -234,7 +233,7 @@ abbrev pub AreTaken : Choices → Type 0
 AreTaken c =
     IfSome c.levels HasLevels × IfSome c.sets HasSets × IfSome c.ways HasWays
     × IfSome c.loss (λ n. IsTrue (is_loss n)) × IfSome c.tag_key (λ key. IsPartLine key.0 key.1)
-    × IfSome c.every (λ n. (1 ≤ n) × (n ≤ 1_000_000)) × IfSome c.persist (λ n. n ≤ 7)
+    × IfSome c.every (λ n. (1 ≤ n) × (n ≤ 1_000_000)) × IfSome c.persist (λ n. n ≤ longest_path)
 
 -- all that is chosen is, and at most all lines of a path stand in each group
 abbrev pub AreChosen : Choices → Type 0

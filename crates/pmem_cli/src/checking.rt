@@ -6,6 +6,7 @@ ghost use Rattle.collision_witness.specs.Exhibits.{IsExhibit};
 ghost use Rattle.pmem_cli.specs.Causes.{CountsFault};
 ghost use Rattle.pmem_cli.specs.Pulling.{IsInTime, PullsInTime, PullsUndecided};
 ghost use Rattle.pmem_cli.specs.declared.ending.Ending.TheVariants.{Stopped};
+ghost use Rattle.pmem_cli.specs.Wholes.{ForEachWhole, HasGiven, left_in, left_before_in};
 ghost use Rattle.pmem_cli.specs.Words.{AreChosen};
 ghost use Rattle.pmem_cli.specs.Keys.{formulas_of};
 ghost use Rattle.pmem_cli.specs.Checked.{is_skipped, found_with, ChecksLine, ChecksNext, HasCheckedLines, HasLookedFirst, IsChecked};
@@ -71,11 +72,13 @@ fn check_next<S: Source>(
     trace: &mut S,
 ) -> Option<Stop>
     requires { served < 1000000 }
-    ensures turn { ChecksNext result (prepend_known reader.old (S.left trace.old)) (prepend_known reader.new (S.left trace.new))
-        (S.left trace.new) found.old found.new served }
+    ensures turn { ForEachWhole (S.known trace.new) (λ whole. ChecksNext result (prepend_known reader.old (left_in S.known whole trace.old))
+        (prepend_known reader.new (left_in S.known whole trace.new)) (left_in S.known whole trace.new) found.old found.new served) }
     ensures reads { CountsFault (result ≡ Some Stop.ReadFault) (S.faults trace.old) (S.faults trace.new) }
+    ensures gave { HasGiven (S.known trace.old) (S.known trace.new) }
     ensures pulls { PullsInTime result (S.pulls trace.old) (S.pulls trace.new) }
-    ensures last_pull { (trace.new ≡ trace.old) ⊎ PullsUndecided served (prepend_known reader.old (S.left trace.old)) (S.left_before trace.new) }
+    ensures last_pull { ForEachWhole (S.known trace.new) (λ whole. (trace.new ≡ trace.old)
+        ⊎ PullsUndecided served (prepend_known reader.old (left_in S.known whole trace.old)) (left_before_in S.known whole trace.new)) }
 {
     let number = served + 1;
     match reader.next_line(trace, line) {
@@ -95,10 +98,13 @@ fn check_next<S: Source>(
 
 /// Looks at all lines for the one exhibit, and says why that stops.
 fn look<S: Source>(found: &mut Option<Exhibit>, trace: &mut S) -> Stop
-    ensures looked { HasCheckedLines result (S.left trace.old) (S.left trace.new) found.old found.new 0 }
+    ensures looked { ForEachWhole (S.known trace.new) (λ whole.
+        HasCheckedLines result (left_in S.known whole trace.old) (left_in S.known whole trace.new) found.old found.new 0) }
     ensures reads { CountsFault (result ≡ Stop.ReadFault) (S.faults trace.old) (S.faults trace.new) }
+    ensures gave { HasGiven (S.known trace.old) (S.known trace.new) }
     ensures in_time { IsInTime (S.pulls trace.old) (S.pulls trace.new) }
-    ensures looked_first { (trace.new ≡ trace.old) ⊎ HasLookedFirst found.old 0 (S.left trace.old) (S.left_before trace.new) }
+    ensures looked_first { ForEachWhole (S.known trace.new) (λ whole. (trace.new ≡ trace.old)
+        ⊎ HasLookedFirst found.old 0 (left_in S.known whole trace.old) (left_before_in S.known whole trace.new)) }
 {
     let mut reader = LineReader::new();
     let mut line = ArrayVec::new();
@@ -129,12 +135,15 @@ fn holds_under(choices: &Choices, shown: &Exhibit) -> bool
 /// Reads the one exhibit of a source, and says whether it holds, or why the check stops.
 pub(crate) fn check<S: Source>(choices: &Choices, trace: &mut S) -> Ending
     requires { AreChosen choices.now }
-    ensures checked { IfSome (S.left trace.old) (λ bytes. IsChecked (formulas_of choices.now) result bytes (S.left trace.new)) }
+    ensures checked { ForEachWhole (S.known trace.new) (λ whole.
+        IfSome (left_in S.known whole trace.old) (λ bytes. IsChecked (formulas_of choices.now) result bytes (left_in S.known whole trace.new))) }
     ensures words { result ≢ Stopped Stop.Words }
     ensures write { result ≢ Stopped Stop.WriteFault }
     ensures reads { CountsFault (result ≡ Stopped Stop.ReadFault) (S.faults trace.old) (S.faults trace.new) }
+    ensures gave { HasGiven (S.known trace.old) (S.known trace.new) }
     ensures in_time { IsInTime (S.pulls trace.old) (S.pulls trace.new) }
-    ensures looked_first { (trace.new ≡ trace.old) ⊎ HasLookedFirst None 0 (S.left trace.old) (S.left_before trace.new) }
+    ensures looked_first { ForEachWhole (S.known trace.new) (λ whole. (trace.new ≡ trace.old)
+        ⊎ HasLookedFirst None 0 (left_in S.known whole trace.old) (left_before_in S.known whole trace.new)) }
 {
     let mut found = None;
     match look(&mut found, trace) {

@@ -1,5 +1,5 @@
 //! That the contract of a run leaves nothing open.
-ghost use Rattle.pmem_cli.specs.Determined.{RunIsDetermined, DisturbedRunIsFront};
+ghost use Rattle.pmem_cli.specs.Determined.{RunIsDetermined, DisturbedRunIsFront, HasWhole, ExposesWhole, ToldIsLeft};
 
 /// A law: for the same arguments and the same trace, the clauses `call` and `machine` of `run` allow one text and one
 /// status, whatever the arguments ask for. It holds for calls over a source and a sink that expose their bytes, in
@@ -14,4 +14,13 @@ pub fn run_is_determined()
 /// status 3, or of running out of memory, with status 1. If a push failed too, that line may be cut, with status 4.
 pub fn disturbed_run_is_a_prefix()
     ensures { DisturbedRunIsFront }
+{}
+
+/// A law: there always is a list that may be all bytes of a source. If the source exposes what it has left, that is what
+/// is left of one such list. So the clauses of a call, among them `call` and `machine` of `run`, hold of what the source
+/// exposed before the call and exposes after it.
+pub fn told_is_left()
+    ensures some { HasWhole }
+    ensures whole { ExposesWhole }
+    ensures told { ToldIsLeft }
 {}

@@ -25,7 +25,7 @@ mod txn;
 mod wear;
 
 pub use bytes::GhostBytes;
-pub use determined::{disturbed_run_is_a_prefix, run_is_determined};
+pub use determined::{disturbed_run_is_a_prefix, run_is_determined, told_is_left};
 pub use options::{Choices, SuiteName, Task, read_task};
 pub use printer::{push_access, push_work};
 pub use program::run;

@@ -5,6 +5,7 @@ ghost use Rattle.std.specs.Io.KnownBytes.{Keeps, IsAtEnd, prepend_known};
 ghost use Rattle.plain_model.specs.Lines.{is_line_end};
 ghost use Rattle.pmem_cli.specs.Causes.{HasCause};
 ghost use Rattle.pmem_cli.specs.Pulling.{is_last, pulls_after, StaysOpen, IsInTime, RemembersLeft, PullsWithinLine};
+ghost use Rattle.pmem_cli.specs.Wholes.{ForEachWhole, HasGiven, left_in, left_before_in};
 
 use crate::source::{Failed, Source};
 use arrayvec::ArrayVec;
@@ -139,13 +140,16 @@ impl LineReader {
     /// Pulls a chunk, and answers its length.
     fn refill<S: Source>(&mut self, source: &mut S) -> Result<usize, Failed>
         requires { self.old ≡ [] }
-        ensures ahead { Keeps (S.left source.old) (prepend_known self.new (S.left source.new)) }
+        ensures gave { HasGiven (S.known source.old) (S.known source.new) }
+        ensures ahead { ForEachWhole (S.known source.new) (λ whole.
+            Keeps (left_in S.known whole source.old) (prepend_known self.new (left_in S.known whole source.new))) }
         ensures count { IfOk result (λ count. length self.new ≡ count) }
-        ensures end { IfOk result (λ count. count ≡ 0 → IsAtEnd (S.left source.new)) }
+        ensures end { IfOk result (λ count. count ≡ 0 → ForEachWhole (S.known source.new) (λ whole.
+            IsAtEnd (left_in S.known whole source.new))) }
         ensures err { OnErr result (self.new ≡ []) }
         ensures cause { HasCause (S.faults source.old) (S.faults source.new) result }
         ensures pulls { S.pulls source.new ≡ pulls_after (S.pulls source.old) (is_last result 16384) }
-        ensures remembers { RemembersLeft (S.left_before source.new) (S.left source.old) }
+        ensures remembers { (S.known source.new).given_before ≡ (S.known source.old).given }
     {
         self.at = 0;
         self.end = 0;
@@ -156,16 +160,21 @@ impl LineReader {
 
     /// Whether no byte is ahead. If one is, it is at hand then. Errors: `Failed` if the pull fails.
     pub fn is_ended<S: Source>(&mut self, source: &mut S) -> Result<bool, Failed>
-        ensures ahead { Keeps (prepend_known self.old (S.left source.old)) (prepend_known self.new (S.left source.new)) }
+        ensures gave { HasGiven (S.known source.old) (S.known source.new) }
+        ensures ahead { ForEachWhole (S.known source.new) (λ whole. Keeps (prepend_known self.old (left_in S.known whole source.old))
+            (prepend_known self.new (left_in S.known whole source.new))) }
         ensures at_hand { 0 < length self.old → self.new ≡ self.old }
         ensures unpulled { 0 < length self.old → source.new ≡ source.old }
-        ensures end { IfOk result (λ ended. IsTrue ended → IsAtEnd (prepend_known self.new (S.left source.new))) }
+        ensures end { IfOk result (λ ended. IsTrue ended → ForEachWhole (S.known source.new) (λ whole.
+            IsAtEnd (prepend_known self.new (left_in S.known whole source.new)))) }
         ensures more { IfOk result (λ ended. ended ≡ false → 0 < length self.new) }
-        ensures fault { OnErr result (Keeps (prepend_known self.old (S.left source.old)) (S.left source.new)) }
+        ensures fault { OnErr result (ForEachWhole (S.known source.new) (λ whole.
+            Keeps (prepend_known self.old (left_in S.known whole source.old)) (left_in S.known whole source.new))) }
         ensures cause { HasCause (S.faults source.old) (S.faults source.new) result }
         ensures may_pull { IfOk result (λ ended. ended ≡ false → StaysOpen (S.pulls source.old) (S.pulls source.new)) }
         ensures in_time { IsInTime (S.pulls source.old) (S.pulls source.new) }
-        ensures last_pull { (source.new ≡ source.old) ⊎ ((self.old ≡ []) × RemembersLeft (S.left_before source.new) (S.left source.old)) }
+        ensures last_pull { ForEachWhole (S.known source.new) (λ whole. (source.new ≡ source.old)
+            ⊎ ((self.old ≡ []) × RemembersLeft (left_before_in S.known whole source.new) (left_in S.known whole source.old))) }
     {
         if !self.is_empty() {
             return Ok(false);
@@ -199,15 +208,18 @@ impl LineReader {
         source: &mut S,
         line: &mut ArrayVec<u8, LINE_BYTES>,
     ) -> Result<Found, Failed>
-        ensures found { IfOk result (λ found. Finds found (prepend_known self.old (S.left source.old))
-            (prepend_known self.new (S.left source.new)) line.new.items) }
-        ensures fault { OnErr result (IsUnfinished (prepend_known self.old (S.left source.old)) (S.left source.new) line.new.items) }
+        ensures gave { HasGiven (S.known source.old) (S.known source.new) }
+        ensures found { IfOk result (λ found. ForEachWhole (S.known source.new) (λ whole.
+            Finds found (prepend_known self.old (left_in S.known whole source.old))
+            (prepend_known self.new (left_in S.known whole source.new)) line.new.items)) }
+        ensures fault { OnErr result (ForEachWhole (S.known source.new) (λ whole.
+            IsUnfinished (prepend_known self.old (left_in S.known whole source.old)) (left_in S.known whole source.new) line.new.items)) }
         ensures unpulled { Contains self.old 10 → source.new ≡ source.old }
         ensures cause { HasCause (S.faults source.old) (S.faults source.new) result }
         ensures may_pull { IfOk result (λ found. found ≡ Line → StaysOpen (S.pulls source.old) (S.pulls source.new)) }
         ensures in_time { IsInTime (S.pulls source.old) (S.pulls source.new) }
-        ensures last_pull { (source.new ≡ source.old)
-            ⊎ PullsWithinLine (prepend_known self.old (S.left source.old)) (S.left_before source.new) }
+        ensures last_pull { ForEachWhole (S.known source.new) (λ whole. (source.new ≡ source.old)
+            ⊎ PullsWithinLine (prepend_known self.old (left_in S.known whole source.old)) (left_before_in S.known whole source.new)) }
     {
         line.clear();
         'pieces: loop {

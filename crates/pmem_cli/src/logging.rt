@@ -11,6 +11,7 @@ ghost use Rattle.pmem_cli.specs.Printed.{with_waiting, HasPrinted, HasPrintedFro
 ghost use Rattle.pmem_cli.specs.Pulling.{IsInTime};
 ghost use Rattle.pmem_cli.specs.Turns.{StopsByCause};
 ghost use Rattle.pmem_cli.specs.Words.{AreChosen};
+ghost use Rattle.pmem_cli.specs.Wholes.{HasGiven};
 
 use crate::options::{Choices, SuiteName};
 use crate::printer::{Printer, print_accesses};
@@ -154,11 +155,12 @@ fn log_with<U: Counted + Drop, S: Source, K: Sink>(
 ) -> Stop
     requires { (U.tags suite ≡ 0) × (U.digests suite ≡ 0) }
     ensures run { Across (HasReplayedLogged (setup_made geo U.formulas_of U.keys suite) result)
-        S.left trace.old trace.new K.put out.old out.new printer.old printer.new }
+        S.known trace.old trace.new K.put out.old out.new printer.old printer.new }
     ensures cause { StopsByCause (Some result) (S.faults trace.old) (S.faults trace.new) (K.faults out.old) (K.faults out.new) }
+    ensures gave { HasGiven (S.known trace.old) (S.known trace.new) }
     ensures in_time { IsInTime (S.pulls trace.old) (S.pulls trace.new) }
     ensures replies_first { IfPulled (HasRepliedLoggedFromStart (setup_made geo U.formulas_of U.keys suite))
-        S.left S.left_before trace.old trace.new K.put out.old out.new printer.old }
+        S.known trace.old trace.new K.put out.old out.new printer.old }
 {
     match World::new(alloc, geo, suite) {
         Ok(world) => serve_all(alloc, LoggedWorld { world }, trace, printer, out),
@@ -176,11 +178,12 @@ pub(crate) fn log_trace<S: Source, K: Sink>(
 ) -> Stop
     requires { AreChosen choices.now }
     ensures run { Across (HasReplayedLogged (setup_chosen choices.now) result)
-        S.left trace.old trace.new K.put out.old out.new printer.old printer.new }
+        S.known trace.old trace.new K.put out.old out.new printer.old printer.new }
     ensures cause { StopsByCause (Some result) (S.faults trace.old) (S.faults trace.new) (K.faults out.old) (K.faults out.new) }
+    ensures gave { HasGiven (S.known trace.old) (S.known trace.new) }
     ensures in_time { IsInTime (S.pulls trace.old) (S.pulls trace.new) }
     ensures replies_first { IfPulled (HasRepliedLoggedFromStart (setup_chosen choices.now))
-        S.left S.left_before trace.old trace.new K.put out.old out.new printer.old }
+        S.known trace.old trace.new K.put out.old out.new printer.old }
 {
     let geo = choices.geometry();
     match choices.suite_name() {

@@ -6,7 +6,7 @@ ghost use Rattle.pmem_base.specs.Geo.{shape_of};
 ghost use Rattle.suite.specs.Suites.{aes_counts, aes_keys, weak_counts, weak_keys};
 ghost use Rattle.suite.specs.Weak.{blur_flag};
 ghost use Rattle.pmem_cli.specs.Keys.{chosen_key, chosen_tag_key, shape_chosen, every_chosen};
-ghost use Rattle.pmem_cli.specs.Words.{suite_named, is_second, number_where, value_of, is_up_to, choose_log, is_flag, choose_suite, choose_tree, choose_policy, choose_run, switch_named, choose_wear, choose_queues, choose, no_choices, is_equals, option_parts, next_value, take_options, options_of, seed_and_count, run_asked, session_asked, task_of, AreTaken, AreChosen, HasChosen, map_some};
+ghost use Rattle.pmem_cli.specs.Words.{suite_named, switch_named, longest_path, number_where, value_of, is_up_to, choose_log, is_flag, choose_suite, choose_tree, choose_policy, choose_run, choose_wear, choose_queues, choose, no_choices, is_equals, option_parts, next_value, take_options, options_of, seed_and_count, run_asked, session_asked, task_of, AreTaken, AreChosen, HasChosen, map_some};
 
 use collision_witness::{read_number, read_number_up_to, read_tag};
 use pmem_base::{Geo, Line};
@@ -22,6 +22,9 @@ const DEFAULT_TAG_KEY: [u8; 64] = [
     40, 41, 42, 43, 44, 45, 46, 47, 0, 0, 0, 0, 0, 0, 0, 0, 0, 0, 0, 0, 0, 0, 0, 0, 0, 0, 0, 0, 0,
     0, 0, 0, 0, 0, 0, 0, 0, 0, 0, 0,
 ];
+
+/// The lines of the longest path: a counter block, and a node on each of six levels.
+const LONGEST_PATH: u8 = 7;
 
 /// Which suite is used.
 #[derive(Clone, Copy)]
@@ -101,13 +104,13 @@ fn read_suite(word: &[u8]) -> Option<SuiteName>
     }
 }
 
-/// Whether queues outlive power, by the name of their kind.
-fn read_queue(word: &[u8]) -> Option<bool>
-    ensures { result ≡ is_second (codes "volatile") (codes "durable") word.now }
+/// A switch, by the names of its two states.
+fn read_switch(off: &[u8], on: &[u8], word: &[u8]) -> Option<bool>
+    ensures { result ≡ switch_named off.now on.now word.now }
 {
-    if word == b"volatile".as_slice() {
+    if word == off {
         Some(false)
-    } else if word == b"durable".as_slice() {
+    } else if word == on {
         Some(true)
     } else {
         None
@@ -142,27 +145,14 @@ fn read_loss(word: &[u8]) -> Option<u8>
     }
 }
 
-/// How many lines of a path stand in each group: at most 7, the lines of the longest path.
+/// How many lines of a path stand in each group: at most those of the longest path.
 fn read_persist(word: &[u8]) -> Option<u8>
-    ensures number { result ≡ number_where (λ n. nat_le n 7) word.now }
-    ensures range { IfSome result (λ n. n ≤ 7) }
+    ensures number { result ≡ number_where (λ n. nat_le n longest_path) word.now }
+    ensures range { IfSome result (λ n. n ≤ longest_path) }
 {
     match read_number(word) {
-        Ok(number) if number <= 7 => Some(number as u8),
+        Ok(number) if number <= u64::from(LONGEST_PATH) => Some(number as u8),
         _ => None,
-    }
-}
-
-/// On or off.
-fn read_switch(word: &[u8]) -> Option<bool>
-    ensures { result ≡ switch_named word.now }
-{
-    if word == b"on".as_slice() {
-        Some(true)
-    } else if word == b"off".as_slice() {
-        Some(false)
-    } else {
-        None
     }
 }
 
@@ -362,7 +352,7 @@ impl Choices {
             if self.shadow.is_some() {
                 return None;
             }
-            more.shadow = Some(read_switch(value)?);
+            more.shadow = Some(read_switch(b"off".as_slice(), b"on".as_slice(), value)?);
         } else {
             return self.with_tree(name, value);
         }
@@ -397,12 +387,12 @@ impl Choices {
             if self.durable.is_some() {
                 return None;
             }
-            more.durable = Some(read_queue(value)?);
+            more.durable = Some(read_switch(b"volatile".as_slice(), b"durable".as_slice(), value)?);
         } else if name == b"combine".as_slice() {
             if self.combines.is_some() {
                 return None;
             }
-            more.combines = Some(read_switch(value)?);
+            more.combines = Some(read_switch(b"off".as_slice(), b"on".as_slice(), value)?);
         } else {
             return self.with_run(name, value);
         }

@@ -11,6 +11,7 @@ ghost use Rattle.pmem_cli.specs.Printed.{Across, IfPulled};
 ghost use Rattle.pmem_cli.specs.RepliesFirst.{HasRepliedFromStart, MachineRepliesBeforePull, RepliesBeforePull};
 ghost use Rattle.pmem_cli.specs.Turns.{StopsByCause};
 ghost use Rattle.pmem_cli.specs.HasRun.{HasEnded, HasReplayed, GoesThrough};
+ghost use Rattle.pmem_cli.specs.Wholes.{ForEachWhole, HasGiven, left_in};
 
 use crate::checking::check;
 use crate::ending::{Ending, finish};
@@ -42,11 +43,12 @@ fn run_with<U: Counted + Drop, S: Source, K: Sink>(
 ) -> Stop
     requires { (U.tags suite ≡ 0) × (U.digests suite ≡ 0) }
     ensures run { Across (HasReplayed (setup_made geo U.formulas_of U.keys suite) result)
-        S.left trace.old trace.new K.put out.old out.new printer.old printer.new }
+        S.known trace.old trace.new K.put out.old out.new printer.old printer.new }
     ensures cause { StopsByCause (Some result) (S.faults trace.old) (S.faults trace.new) (K.faults out.old) (K.faults out.new) }
+    ensures gave { HasGiven (S.known trace.old) (S.known trace.new) }
     ensures in_time { IsInTime (S.pulls trace.old) (S.pulls trace.new) }
     ensures replies_first { IfPulled (HasRepliedFromStart (setup_made geo U.formulas_of U.keys suite))
-        S.left S.left_before trace.old trace.new K.put out.old out.new printer.old }
+        S.known trace.old trace.new K.put out.old out.new printer.old }
 {
     match World::new(alloc, geo, suite) {
         Ok(world) => serve_all(alloc, world, trace, printer, out),
@@ -64,11 +66,12 @@ fn run_trace<S: Source, K: Sink>(
 ) -> Stop
     requires { AreChosen choices.now }
     ensures run { Across (HasReplayed (setup_chosen choices.now) result)
-        S.left trace.old trace.new K.put out.old out.new printer.old printer.new }
+        S.known trace.old trace.new K.put out.old out.new printer.old printer.new }
     ensures cause { StopsByCause (Some result) (S.faults trace.old) (S.faults trace.new) (K.faults out.old) (K.faults out.new) }
+    ensures gave { HasGiven (S.known trace.old) (S.known trace.new) }
     ensures in_time { IsInTime (S.pulls trace.old) (S.pulls trace.new) }
     ensures replies_first { IfPulled (HasRepliedFromStart (setup_chosen choices.now))
-        S.left S.left_before trace.old trace.new K.put out.old out.new printer.old }
+        S.known trace.old trace.new K.put out.old out.new printer.old }
 {
     let geo = choices.geometry();
     match choices.suite_name() {
@@ -87,12 +90,13 @@ fn do_task<S: Source, K: Sink>(
     out: &mut K,
 ) -> Ending
     requires { HasChosen task }
-    ensures ended { Across (HasEnded task result) S.left trace.old trace.new K.put out.old out.new printer.old printer.new }
+    ensures ended { Across (HasEnded task result) S.known trace.old trace.new K.put out.old out.new printer.old printer.new }
     ensures words { result ≢ Stopped Stop.Words }
     ensures reads { CountsFault (result ≡ Stopped Stop.ReadFault) (S.faults trace.old) (S.faults trace.new) }
     ensures writes { CountsFault (result ≡ Stopped Stop.WriteFault) (K.faults out.old) (K.faults out.new) }
+    ensures gave { HasGiven (S.known trace.old) (S.known trace.new) }
     ensures in_time { IsInTime (S.pulls trace.old) (S.pulls trace.new) }
-    ensures replies_first { MachineRepliesBeforePull task S.left S.left_before trace.old trace.new K.put out.old out.new printer.old }
+    ensures replies_first { MachineRepliesBeforePull task S.known trace.old trace.new K.put out.old out.new printer.old }
     ensures unread { PullsNothing task → trace.new ≡ trace.old }
 {
     match task {
@@ -119,15 +123,16 @@ fn do_words<S: Source, K: Sink>(
 ) -> Ending
     ensures words { (result ≡ Stopped Stop.Words) ↔ IsNone (task_of (map string_bytes words.now)) }
     ensures ended { IfSome (task_of (map string_bytes words.now)) (λ task.
-        Across (HasEnded task result) S.left trace.old trace.new K.put out.old out.new printer.old printer.new) }
+        Across (HasEnded task result) S.known trace.old trace.new K.put out.old out.new printer.old printer.new) }
     ensures untouched { result ≡ Stopped Stop.Words → trace.new ≡ trace.old }
     ensures kept { result ≡ Stopped Stop.Words → out.new ≡ out.old }
     ensures empty { result ≡ Stopped Stop.Words → printer.new ≡ printer.old }
     ensures reads { CountsFault (result ≡ Stopped Stop.ReadFault) (S.faults trace.old) (S.faults trace.new) }
     ensures writes { CountsFault (result ≡ Stopped Stop.WriteFault) (K.faults out.old) (K.faults out.new) }
+    ensures gave { HasGiven (S.known trace.old) (S.known trace.new) }
     ensures in_time { IsInTime (S.pulls trace.old) (S.pulls trace.new) }
     ensures replies_first { IfSome (task_of (map string_bytes words.now)) (λ task.
-        MachineRepliesBeforePull task S.left S.left_before trace.old trace.new K.put out.old out.new printer.old) }
+        MachineRepliesBeforePull task S.known trace.old trace.new K.put out.old out.new printer.old) }
     ensures unread { IfSome (task_of (map string_bytes words.now)) (λ task. PullsNothing task → trace.new ≡ trace.old) }
 {
     match read_task(words) {
@@ -142,19 +147,19 @@ pub fn run<S: Source, K: Sink>(alloc: Global, words: &[String], trace: &mut S, o
     // Faulty words decide before all else. What was put is what the task asks for, as the status says: the replies to
     // the trace's commands and the last line, a sample trace, or whether the exhibit holds. The statuses for faults come
     // only if source or sink failed.
-    ensures call { IsCallWith (map string_bytes words.now)
-        (call_over result S.left S.faults trace.old trace.new K.put K.faults out.old out.new) }
+    ensures call { ForEachWhole (S.known trace.new) (λ whole. IsCallWith (map string_bytes words.now)
+        (call_over result (left_in S.known whole) S.faults trace.old trace.new K.put K.faults out.old out.new)) }
 
     // Which machine the replies are from: a world, or a session, that formatting made.
-    ensures machine { IsByMachine (map string_bytes words.now)
-        (call_over result S.left S.faults trace.old trace.new K.put K.faults out.old out.new) }
+    ensures machine { ForEachWhole (S.known trace.new) (λ whole. IsByMachine (map string_bytes words.now)
+        (call_over result (left_in S.known whole) S.faults trace.old trace.new K.put K.faults out.old out.new)) }
 
     // At faulty words the trace isn't read.
     ensures untouched { result ≡ 2 → trace.new ≡ trace.old }
 
     // A run of a trace in the grammar and within the limits goes through, unless source or sink fails.
-    ensures complete { IfSome (task_of (map string_bytes words.now)) (λ task.
-        GoesThrough task result S.left S.faults trace.old trace.new K.faults out.old out.new) }
+    ensures complete { ForEachWhole (S.known trace.new) (λ whole. IfSome (task_of (map string_bytes words.now)) (λ task.
+        GoesThrough task result (left_in S.known whole) S.faults trace.old trace.new K.faults out.old out.new)) }
 
     // A push that fails gives 4 instead of every status but 2, a pull that fails gives 3 or 4, and
     // neither is made again.
@@ -165,15 +170,16 @@ pub fn run<S: Source, K: Sink>(alloc: Global, words: &[String], trace: &mut S, o
 
     // No pull follows one that failed or gave the end, and if no trace is asked for, nothing is
     // pulled.
+    ensures gave { HasGiven (S.known trace.old) (S.known trace.new) }
     ensures in_time { IsInTime (S.pulls trace.old) (S.pulls trace.new) }
     ensures unread { IfSome (task_of (map string_bytes words.now)) (λ task. PullsNothing task → trace.new ≡ trace.old) }
 
     // No reply waits while a pull is made: the replies to all whole lines that the source had given
     // before its last pull were put, also if a push failed since. A sink may fail at any push.
     ensures replies_first { IfSome (task_of (map string_bytes words.now)) (λ task.
-        RepliesBeforePull task S.left S.left_before trace.old trace.new K.put out.old out.new []) }
+        RepliesBeforePull task S.known trace.old trace.new K.put out.old out.new []) }
     ensures machine_first { IfSome (task_of (map string_bytes words.now)) (λ task.
-        MachineRepliesBeforePull task S.left S.left_before trace.old trace.new K.put out.old out.new []) }
+        MachineRepliesBeforePull task S.known trace.old trace.new K.put out.old out.new []) }
 {
     let mut printer = Printer::new();
     let ending = do_words(alloc, words, trace, &mut printer, out);

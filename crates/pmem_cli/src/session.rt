@@ -6,6 +6,7 @@ ghost use Rattle.pmem_cli.specs.Causes.{HasCause};
 ghost use Rattle.pmem_cli.specs.Pulling.{IsInTime, PullsInTime, PullsUndecided};
 ghost use Rattle.pmem_cli.specs.Printed.{with_waiting, HasPrinted, HasPrintedFront, Across, IfPulled};
 ghost use Rattle.pmem_cli.specs.Talked.{HasToldFirst};
+ghost use Rattle.pmem_cli.specs.Wholes.{ForEachWhole, HasGiven, left_in, left_before_in};
 ghost use Rattle.pmem_cli.specs.Turns.{StopsByCause, TurnsFound, TurnsRead, PutsBeforePull, HasAnswered};
 
 use crate::lines::{Found, LINE_BYTES, LineReader};
@@ -70,11 +71,12 @@ fn answer_next<W: Serve, S: Source, K: Sink>(
     requires within { served ≤ 1000000 }
     requires running { W.protocol.runs server.old }
     ensures turn { Across (TurnsRead W.protocol result served server.old server.new reader.old reader.new)
-        S.left trace.old trace.new K.put out.old out.new printer.old printer.new }
+        S.known trace.old trace.new K.put out.old out.new printer.old printer.new }
     ensures cause { StopsByCause result (S.faults trace.old) (S.faults trace.new) (K.faults out.old) (K.faults out.new) }
+    ensures gave { HasGiven (S.known trace.old) (S.known trace.new) }
     ensures pulls { PullsInTime result (S.pulls trace.old) (S.pulls trace.new) }
-    ensures last_pull { (trace.new ≡ trace.old) ⊎ ((printer.old ≡ [])
-        × PullsUndecided served (prepend_known reader.old (S.left trace.old)) (S.left_before trace.new)) }
+    ensures last_pull { ForEachWhole (S.known trace.new) (λ whole. (trace.new ≡ trace.old) ⊎ ((printer.old ≡ [])
+        × PullsUndecided served (prepend_known reader.old (left_in S.known whole trace.old)) (left_before_in S.known whole trace.new))) }
     ensures within_limit { result ≡ None → served < 1000000 }
 {
     if served == LINE_LIMIT {
@@ -121,11 +123,12 @@ fn serve_next<W: Serve, S: Source, K: Sink>(
     requires within { served ≤ 1000000 }
     requires running { W.protocol.runs server.old }
     ensures turn { Across (TurnsRead W.protocol result served server.old server.new reader.old reader.new)
-        S.left trace.old trace.new K.put out.old out.new printer.old printer.new }
+        S.known trace.old trace.new K.put out.old out.new printer.old printer.new }
     ensures cause { StopsByCause result (S.faults trace.old) (S.faults trace.new) (K.faults out.old) (K.faults out.new) }
+    ensures gave { HasGiven (S.known trace.old) (S.known trace.new) }
     ensures pulls { PullsInTime result (S.pulls trace.old) (S.pulls trace.new) }
     ensures last_pull { IfPulled (PutsBeforePull served reader.old)
-        S.left S.left_before trace.old trace.new K.put out.old out.new printer.old }
+        S.known trace.old trace.new K.put out.old out.new printer.old }
     ensures within_limit { result ≡ None → served < 1000000 }
 {
     match flush_before_pull(reader, printer, out) {
@@ -144,11 +147,12 @@ pub(crate) fn serve_all<W: Serve + Drop, S: Source, K: Sink>(
 ) -> Stop
     requires running { W.protocol.runs server }
     ensures stopped { Across (HasAnswered W.protocol result server)
-        S.left trace.old trace.new K.put out.old out.new printer.old printer.new }
+        S.known trace.old trace.new K.put out.old out.new printer.old printer.new }
     ensures cause { StopsByCause (Some result) (S.faults trace.old) (S.faults trace.new) (K.faults out.old) (K.faults out.new) }
+    ensures gave { HasGiven (S.known trace.old) (S.known trace.new) }
     ensures in_time { IsInTime (S.pulls trace.old) (S.pulls trace.new) }
     ensures replies_first { IfPulled (HasToldFirst W.protocol server)
-        S.left S.left_before trace.old trace.new K.put out.old out.new printer.old }
+        S.known trace.old trace.new K.put out.old out.new printer.old }
 {
     let mut server = server;
     let mut reader = LineReader::new();

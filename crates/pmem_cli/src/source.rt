@@ -1,13 +1,14 @@
 //! The source of a trace.
-ghost use Rattle.std.specs.Prelude.{◌≡◌, ◌≤◌, ◌↔◌, ◌++◌, ℕ, List, [], Option, Some, None, length, min, take, drop, vec_len, IsTrue, IsErr, is_err, IfOk, Contains, if◌then◌else◌};
+ghost use Rattle.std.specs.Prelude.{◌≡◌, ◌≤◌, ◌<◌, ◌↔◌, ◌++◌, ℕ, List, [], Some, length, min, take, drop, vec_len, IsTrue, IsErr, is_err, IfOk, Contains, false, if◌then◌else◌};
 ghost use Rattle.std.specs.Io.{ReadsAtMost};
-ghost use Rattle.std.specs.Io.KnownBytes.{ReadConsumes};
 ghost use Rattle.pmem_base.specs.Counts.{risen};
 ghost use Rattle.pmem_cli.specs.Causes.{HasCause};
 ghost use Rattle.pmem_cli.specs.declared.pulls.Pulls.{Pulls};
 ghost use Rattle.pmem_cli.specs.declared.pulls.Pulls.TheVariants.{Open};
-ghost use Rattle.pmem_cli.specs.Pulling.{is_last, pulls_after, RemembersLeft};
+ghost use Rattle.pmem_cli.specs.Pulling.{is_last, pulls_after};
+ghost use Rattle.pmem_cli.specs.Wholes.{Known, Gives, left_or_end};
 
+use crate::bytes::GhostBytes;
 use crate::pulls::{Pulls, next_pulls};
 use std::io::Read;
 use std::marker::Model;
@@ -17,11 +18,12 @@ use std::snapshot::Snapshot;
 #[derive(Clone, Copy, Debug, PartialEq, Eq)]
 pub struct Failed;
 
-/// Gives bytes in order, at most as many as a buffer has room for. If it has room, 0 bytes are the end. The count of
-/// faults rises by one at each pull that fails, up to 2^64 - 1, and stays at each other.
+/// Gives bytes in order, at most as many as a buffer has room for. If it has room, 0 bytes are the end, behind which
+/// no byte is given. The count of faults rises by one at each pull that fails, up to 2^64 - 1, and stays at each other.
 pub trait Source {
-    /// The bytes that are left, if the source exposes them.
-    ghost left: { Self → Option (List ℕ) };
+    /// The bytes that it gave, those that it had given before the last pull, and those that are left, if these are
+    /// known: the source exposes them, or it gave its end.
+    ghost known: { Self → Known };
 
     /// How often a pull failed.
     ghost faults: { Self → ℕ };
@@ -29,16 +31,14 @@ pub trait Source {
     /// Whether a pull failed or gave the end, and whether another was made after it.
     ghost pulls: { Self → Pulls };
 
-    /// The bytes that were left before the last pull, if the source remembers them.
-    ghost left_before: { Self → Option (List ℕ) } = { λ source. None };
-
     /// Puts the next bytes at the beginning of a buffer, and answers how many. Errors: `Failed`.
     fn pull(&mut self, buf: &mut [u8]) -> Result<usize, Failed>
         ensures bound { ReadsAtMost result buf.new }
-        ensures bytes { ReadConsumes (left self.old) (left self.new) result buf.new }
+        ensures gives { Gives (known self.old) (known self.new) result buf.new }
+        ensures end { IfOk result (λ count. count ≡ 0 → 0 < length buf.old → (known self.new).left ≡ Some []) }
+        ensures remembers { (known self.new).given_before ≡ (known self.old).given }
         ensures cause { HasCause (faults self.old) (faults self.new) result }
-        ensures pulls { pulls self.new ≡ pulls_after (pulls self.old) (is_last result (length buf.old)) }
-        ensures remembers { RemembersLeft (left_before self.new) (left self.old) };
+        ensures pulls { pulls self.new ≡ pulls_after (pulls self.old) (is_last result (length buf.old)) };
 }
 
 /// Copies as many bytes as fit, and answers how many.
@@ -73,14 +73,15 @@ pub struct MemSource {
 }
 
 impl Model for MemSource {
-    ghost use Rattle.std.specs.Prelude.{◌≤◌, drop, vec_len};
+    ghost use Rattle.std.specs.Prelude.{◌≤◌, take, drop, vec_len};
     ghost use Rattle.pmem_cli.specs.Memory.{MemoryInput};
 
     ghost Value = { MemoryInput };
 
     ghost view = { λ source. record {
       left = drop source.at source.bytes.items;
-      left_before = drop source.before source.bytes.items;
+      given = take source.at source.bytes.items;
+      given_before = take source.before source.bytes.items;
       failing = source.failing.items;
       calls = source.calls;
       faults = source.faults;
@@ -95,7 +96,8 @@ impl MemSource {
     pub fn new(bytes: Vec<u8>, failing: Vec<u64>) -> Self
         ensures { result ≡ record {
           left = bytes.items;
-          left_before = bytes.items;
+          given = [];
+          given_before = [];
           failing = failing.items;
           calls = 0;
           faults = 0;
@@ -115,21 +117,27 @@ impl MemSource {
 }
 
 impl Source for MemSource {
-    ghost left = { λ source. Some source.left };
+    ghost known = { λ source. record {
+      given = source.given;
+      given_before = source.given_before;
+      left = Some source.left;
+    } };
 
     ghost faults = { λ source. source.faults };
 
     ghost pulls = { λ source. source.pulls };
 
-    ghost left_before = { λ source. Some source.left_before };
-
     /// Gives as many bytes as there are and as the buffer has room for.
     fn pull(&mut self, buf: &mut [u8]) -> Result<usize, Failed>
         ensures bound { ReadsAtMost result buf.new }
-        ensures bytes { ReadConsumes (Some self.old.left) (Some self.new.left) result buf.new }
+        ensures gives { Gives
+            (record { given = self.old.given; given_before = self.old.given_before; left = Some self.old.left })
+            (record { given = self.new.given; given_before = self.new.given_before; left = Some self.new.left })
+            result buf.new }
+        ensures end { IfOk result (λ count. count ≡ 0 → 0 < length buf.old → Some self.new.left ≡ Some []) }
+        ensures remembers { self.new.given_before ≡ self.old.given }
         ensures cause { HasCause self.old.faults self.new.faults result }
         ensures pulls { self.new.pulls ≡ pulls_after self.old.pulls (is_last result (length buf.old)) }
-        ensures remembers { RemembersLeft (Some self.new.left_before) (Some self.old.left) }
 
         ensures failed { IsErr result ↔ Contains self.old.failing self.old.calls }
         ensures count { IfOk result (λ count. count ≡ min (length self.old.left) (length buf.old)) }
@@ -152,30 +160,37 @@ impl Source for MemSource {
     }
 }
 
-/// Any reader. It tells what the reader tells, and remembers what that was before the last pull: a snapshot
-/// has no bytes, and clauses alone read it.
+/// Any reader. The source keeps what the reader gave, in order, and what it had given before the last pull. Clauses
+/// alone read these bytes: they take no memory. After the reader gave its end it isn't asked again.
 #[derive(Drop)]
 pub struct StdSource<R> {
     inner: R,
-    before: Snapshot<R>,
+    given: GhostBytes,
+    before: Snapshot<GhostBytes>,
+    ended: bool,
     faults: u64,
     pulls: Pulls,
 }
 
 impl<R: Read> StdSource<R> {
-    ghost use Rattle.pmem_cli.specs.StdParts.{reader_of, reader_before, pull_faults, pulls_made};
+    ghost use Rattle.pmem_cli.specs.StdParts.{reader_of, bytes_given, bytes_given_before, has_ended, pull_faults, pulls_made};
 
-    /// A source of what the reader gives. No pull has failed yet.
+    /// A source of what the reader gives. Nothing was given yet, and no pull has failed.
     pub fn new(inner: R) -> Self
         ensures reader { reader_of result ≡ inner }
-        ensures before { reader_before result ≡ inner }
+        ensures given { bytes_given result ≡ [] }
+        ensures before { bytes_given_before result ≡ [] }
+        ensures ended { has_ended result ≡ false }
         ensures faults { pull_faults result ≡ 0 }
         ensures pulls { pulls_made result ≡ Open }
     {
-        let before = Snapshot::of(&inner);
+        let given = GhostBytes::none();
+        let before = Snapshot::of(&given);
         StdSource {
             inner,
+            given,
             before,
+            ended: false,
             faults: 0,
             pulls: Pulls::Open,
         }
@@ -183,21 +198,29 @@ impl<R: Read> StdSource<R> {
 }
 
 impl<R: Read> Source for StdSource<R> {
-    ghost use Rattle.pmem_cli.specs.StdParts.{reader_of, reader_before, pull_faults, pulls_made};
+    ghost use Rattle.pmem_cli.specs.StdParts.{reader_of, bytes_given, bytes_given_before, has_ended, pull_faults, pulls_made};
 
-    ghost left = { λ source. R.remaining (reader_of source) };
+    ghost known = { λ source. record {
+      given = bytes_given source;
+      given_before = bytes_given_before source;
+      left = left_or_end (has_ended source) (R.remaining (reader_of source));
+    } };
 
     ghost faults = { pull_faults };
 
     ghost pulls = { pulls_made };
 
-    ghost left_before = { λ source. R.remaining (reader_before source) };
-
     fn pull(&mut self, buf: &mut [u8]) -> Result<usize, Failed> {
-        self.before = Snapshot::of(&self.inner);
+        self.before = Snapshot::of(&self.given);
+        if self.ended {
+            self.pulls = next_pulls(self.pulls, !buf.is_empty());
+            return Ok(0);
+        }
         match self.inner.read(buf) {
             Ok(count) => {
-                self.pulls = next_pulls(self.pulls, count == 0 && !buf.is_empty());
+                self.given.note(buf.split_at(count).0);
+                self.ended = count == 0 && !buf.is_empty();
+                self.pulls = next_pulls(self.pulls, self.ended);
                 Ok(count)
             }
             Err(_) => {

@@ -7,6 +7,7 @@ ghost use Rattle.pmem_cli.specs.Printed.{Across, IfPulled};
 ghost use Rattle.pmem_cli.specs.Pulling.{IsInTime};
 ghost use Rattle.pmem_cli.specs.Talked.{HasTalked, IsTalkComplete, HasToldFirst, talk_of};
 ghost use Rattle.pmem_cli.specs.Turns.{StopsByCause, HasAnswered};
+ghost use Rattle.pmem_cli.specs.Wholes.{ForEachWhole, HasGiven, left_in};
 
 use crate::ending::{Ending, finish};
 use crate::printer::Printer;
@@ -74,11 +75,12 @@ pub(crate) fn talk_trace<T: Talk + Drop, S: Source, K: Sink>(
     out: &mut K,
 ) -> Stop
     ensures stopped { Across (HasAnswered (talk_of T.Talk) result session)
-        S.left trace.old trace.new K.put out.old out.new printer.old printer.new }
+        S.known trace.old trace.new K.put out.old out.new printer.old printer.new }
     ensures cause { StopsByCause (Some result) (S.faults trace.old) (S.faults trace.new) (K.faults out.old) (K.faults out.new) }
+    ensures gave { HasGiven (S.known trace.old) (S.known trace.new) }
     ensures in_time { IsInTime (S.pulls trace.old) (S.pulls trace.new) }
     ensures replies_first { IfPulled (HasToldFirst (talk_of T.Talk) session)
-        S.left S.left_before trace.old trace.new K.put out.old out.new printer.old }
+        S.known trace.old trace.new K.put out.old out.new printer.old }
 {
     serve_all(alloc, Talker { session }, trace, printer, out)
 }
@@ -92,13 +94,14 @@ pub fn talk_all<T: Talk + Drop, S: Source, K: Sink>(
 ) -> u8
     // What was put is the texts of the answers to the trace's lines, each in the state that those before it left,
     // and the last line, as the status says.
-    ensures told { HasTalked (talk_of T.Talk) session result (Rose (S.faults trace.old) (S.faults trace.new))
-        (S.left trace.old) (S.left trace.new) (K.put out.old) (K.put out.new) }
+    ensures told { ForEachWhole (S.known trace.new) (λ whole.
+        HasTalked (talk_of T.Talk) session result (Rose (S.faults trace.old) (S.faults trace.new))
+        (left_in S.known whole trace.old) (left_in S.known whole trace.new) (K.put out.old) (K.put out.new)) }
     ensures words { result ≢ 2 }
 
     // A trace in the session's grammar and within the limits goes through, unless source or sink fails.
-    ensures complete { IsTalkComplete (talk_of T.Talk) result (S.left trace.old)
-        (AnyRose S.faults trace.old trace.new K.faults out.old out.new) }
+    ensures complete { ForEachWhole (S.known trace.new) (λ whole. IsTalkComplete (talk_of T.Talk) result (left_in S.known whole trace.old)
+        (AnyRose S.faults trace.old trace.new K.faults out.old out.new)) }
 
     // The statuses for faults come only if source or sink failed. A push that fails gives 4, a pull
     // that fails gives 3 or 4, and neither is made again.
@@ -110,13 +113,14 @@ pub fn talk_all<T: Talk + Drop, S: Source, K: Sink>(
     ensures one_failed_push { K.faults out.new ≤ K.faults out.old + 1 }
 
     // No pull follows one that failed or gave the end.
+    ensures gave { HasGiven (S.known trace.old) (S.known trace.new) }
     ensures in_time { IsInTime (S.pulls trace.old) (S.pulls trace.new) }
 
     // No answer waits while a pull is made: the answers to all whole lines that the source had
     // given before its last pull were put, also if a push failed since. A sink may fail at any
     // push.
     ensures replies_first { IfPulled (HasToldFirst (talk_of T.Talk) session)
-        S.left S.left_before trace.old trace.new K.put out.old out.new [] }
+        S.known trace.old trace.new K.put out.old out.new [] }
 {
     let mut printer = Printer::new();
     let stop = talk_trace(alloc, session, trace, &mut printer, out);

@@ -9,6 +9,7 @@ ghost use Rattle.pmem_cli.specs.Pulling.{IsInTime};
 ghost use Rattle.pmem_cli.specs.Talked.{HasToldFirst};
 ghost use Rattle.pmem_cli.specs.Telling.{told_protocol, TellsWork, voice_of};
 ghost use Rattle.pmem_cli.specs.Turns.{StopsByCause, HasAnswered};
+ghost use Rattle.pmem_cli.specs.Wholes.{HasGiven};
 
 use crate::logging::print_log;
 use crate::printer::Printer;
@@ -131,11 +132,12 @@ pub(crate) fn converse<T: Talk + Drop, S: Source, K: Sink>(
     out: &mut K,
 ) -> Stop
     ensures stopped { Across (HasAnswered (voice_of T.Talk logged) result session)
-        S.left trace.old trace.new K.put out.old out.new printer.old printer.new }
+        S.known trace.old trace.new K.put out.old out.new printer.old printer.new }
     ensures cause { StopsByCause (Some result) (S.faults trace.old) (S.faults trace.new) (K.faults out.old) (K.faults out.new) }
+    ensures gave { HasGiven (S.known trace.old) (S.known trace.new) }
     ensures in_time { IsInTime (S.pulls trace.old) (S.pulls trace.new) }
     ensures replies_first { IfPulled (HasToldFirst (voice_of T.Talk logged) session)
-        S.left S.left_before trace.old trace.new K.put out.old out.new printer.old }
+        S.known trace.old trace.new K.put out.old out.new printer.old }
 {
     if logged {
         serve_all(alloc, Teller { session }, trace, printer, out)

@@ -6,6 +6,7 @@ ghost use Rattle.pmem_cli.specs.Sessions.{HasConversed, HasSaidFirst};
 ghost use Rattle.pmem_cli.specs.Turns.{StopsByCause};
 ghost use Rattle.pmem_cli.specs.Txn.{txn_made, txn_chosen};
 ghost use Rattle.pmem_cli.specs.Words.{AreChosen};
+ghost use Rattle.pmem_cli.specs.Wholes.{HasGiven};
 
 use crate::options::{Choices, SuiteName};
 use crate::printer::Printer;
@@ -31,11 +32,12 @@ fn txn_with<U: Counted + Drop, S: Source, K: Sink>(
 ) -> Stop
     requires { (U.tags suite ≡ 0) × (U.digests suite ≡ 0) }
     ensures talked { Across (HasConversed (txn_made geo U.formulas_of U.keys suite) logged result)
-        S.left trace.old trace.new K.put out.old out.new printer.old printer.new }
+        S.known trace.old trace.new K.put out.old out.new printer.old printer.new }
     ensures cause { StopsByCause (Some result) (S.faults trace.old) (S.faults trace.new) (K.faults out.old) (K.faults out.new) }
+    ensures gave { HasGiven (S.known trace.old) (S.known trace.new) }
     ensures in_time { IsInTime (S.pulls trace.old) (S.pulls trace.new) }
     ensures replies_first { IfPulled (HasSaidFirst (txn_made geo U.formulas_of U.keys suite) logged)
-        S.left S.left_before trace.old trace.new K.put out.old out.new printer.old }
+        S.known trace.old trace.new K.put out.old out.new printer.old }
 {
     sessions_keep_transactions(&geo, &suite);
     match TxnWorld::new(alloc, geo, suite) {
@@ -54,11 +56,12 @@ pub(crate) fn txn_trace<S: Source, K: Sink>(
 ) -> Stop
     requires { AreChosen choices.now }
     ensures talked { Across (HasConversed (txn_chosen choices.now) choices.now.log result)
-        S.left trace.old trace.new K.put out.old out.new printer.old printer.new }
+        S.known trace.old trace.new K.put out.old out.new printer.old printer.new }
     ensures cause { StopsByCause (Some result) (S.faults trace.old) (S.faults trace.new) (K.faults out.old) (K.faults out.new) }
+    ensures gave { HasGiven (S.known trace.old) (S.known trace.new) }
     ensures in_time { IsInTime (S.pulls trace.old) (S.pulls trace.new) }
     ensures replies_first { IfPulled (HasSaidFirst (txn_chosen choices.now) choices.now.log)
-        S.left S.left_before trace.old trace.new K.put out.old out.new printer.old }
+        S.known trace.old trace.new K.put out.old out.new printer.old }
 {
     let geo = choices.geometry();
     match choices.suite_name() {

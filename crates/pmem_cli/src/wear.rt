@@ -6,6 +6,7 @@ ghost use Rattle.pmem_cli.specs.Sessions.{HasConversed, HasSaidFirst};
 ghost use Rattle.pmem_cli.specs.Turns.{StopsByCause};
 ghost use Rattle.pmem_cli.specs.Wear.{wear_made, wear_chosen};
 ghost use Rattle.pmem_cli.specs.Words.{AreChosen};
+ghost use Rattle.pmem_cli.specs.Wholes.{HasGiven};
 
 use crate::options::{Choices, SuiteName};
 use crate::printer::Printer;
@@ -33,11 +34,12 @@ fn wear_with<U: Counted + Drop, S: Source, K: Sink>(
     requires some { 1 ≤ every }
     requires unused { (U.tags suite ≡ 0) × (U.digests suite ≡ 0) }
     ensures talked { Across (HasConversed (wear_made geo U.formulas_of U.keys suite every) logged result)
-        S.left trace.old trace.new K.put out.old out.new printer.old printer.new }
+        S.known trace.old trace.new K.put out.old out.new printer.old printer.new }
     ensures cause { StopsByCause (Some result) (S.faults trace.old) (S.faults trace.new) (K.faults out.old) (K.faults out.new) }
+    ensures gave { HasGiven (S.known trace.old) (S.known trace.new) }
     ensures in_time { IsInTime (S.pulls trace.old) (S.pulls trace.new) }
     ensures replies_first { IfPulled (HasSaidFirst (wear_made geo U.formulas_of U.keys suite every) logged)
-        S.left S.left_before trace.old trace.new K.put out.old out.new printer.old }
+        S.known trace.old trace.new K.put out.old out.new printer.old }
 {
     sessions_keep_lines(&geo, &suite);
     match WearWorld::new(alloc, geo, suite, every) {
@@ -56,11 +58,12 @@ pub(crate) fn wear_trace<S: Source, K: Sink>(
 ) -> Stop
     requires { AreChosen choices.now }
     ensures talked { Across (HasConversed (wear_chosen choices.now) choices.now.log result)
-        S.left trace.old trace.new K.put out.old out.new printer.old printer.new }
+        S.known trace.old trace.new K.put out.old out.new printer.old printer.new }
     ensures cause { StopsByCause (Some result) (S.faults trace.old) (S.faults trace.new) (K.faults out.old) (K.faults out.new) }
+    ensures gave { HasGiven (S.known trace.old) (S.known trace.new) }
     ensures in_time { IsInTime (S.pulls trace.old) (S.pulls trace.new) }
     ensures replies_first { IfPulled (HasSaidFirst (wear_chosen choices.now) choices.now.log)
-        S.left S.left_before trace.old trace.new K.put out.old out.new printer.old }
+        S.known trace.old trace.new K.put out.old out.new printer.old }
 {
     let geo = choices.geometry();
     let every = choices.every();

@@ -1,5 +1,5 @@
 //! Sources and sinks that give and take a byte a call, and runs in which each of their calls fails in turn.
-ghost use Rattle.std.specs.Prelude.{None};
+ghost use Rattle.std.specs.Prelude.{Some, None};
 
 use crate::rows::{Row, row_of};
 use crate::runs::{NEVER, PLACES, check_end};
@@ -15,7 +15,11 @@ pub struct ByteSource {
 }
 
 impl Source for ByteSource {
-    ghost left = { λ source. None };
+    ghost known = { λ source. record {
+      given = source.inner.given;
+      given_before = source.inner.given_before;
+      left = Some source.inner.left;
+    } };
 
     ghost faults = { λ source. source.inner.faults };
 

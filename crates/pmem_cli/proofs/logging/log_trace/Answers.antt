@@ -28,31 +28,31 @@ same_replied first last c shape formulas trace told p put its_shape its_formulas
     subst (λ (setup : Setup). (last ≡ first) ⊎ HasRepliedLoggedFirst setup (start setup) trace told p put) (setup_same c shape formulas its_shape its_formulas)
 
 pub returns-in-Aes-clause-run : goal.returns-in-Aes-clause-run
-returns-in-Aes-clause-run g c =
+returns-in-Aes-clause-run g c = λ whole may.
     same_setup c.args.choices.now _ _ c.log_with.result _ _ _ _ c.geometry-geo.ensures
-    (formulas_aes c.args.choices.now _ (sym c.suite_name.ensures ∙ c.in-Aes.is) c.aes_suite.ensures.keys) c.log_with.ensures.run
+    (formulas_aes c.args.choices.now _ (sym c.suite_name.ensures ∙ c.in-Aes.is) c.aes_suite.ensures.keys) (c.log_with.ensures.run whole may)
 
 pub returns-in-Weak-clause-run : goal.returns-in-Weak-clause-run
-returns-in-Weak-clause-run g c =
+returns-in-Weak-clause-run g c = λ whole may.
     same_setup c.args.choices.now _ _ c.log_with-in-Weak.result _ _ _ _ c.geometry-geo.ensures
-    (formulas_weak c.args.choices.now _ (sym c.suite_name.ensures ∙ c.in-Weak.is) c.weak_suite.ensures.keys) c.log_with-in-Weak.ensures.run
+    (formulas_weak c.args.choices.now _ (sym c.suite_name.ensures ∙ c.in-Weak.is) c.weak_suite.ensures.keys) (c.log_with-in-Weak.ensures.run whole may)
 
 pub returns-in-Blur-clause-run : goal.returns-in-Blur-clause-run
-returns-in-Blur-clause-run g c =
+returns-in-Blur-clause-run g c = λ whole may.
     same_setup c.args.choices.now _ _ c.log_with-in-Blur.result _ _ _ _ c.geometry-geo.ensures
-    (formulas_blur c.args.choices.now _ (sym c.suite_name.ensures ∙ c.in-Blur.is) c.weak_suite-in-Blur.ensures.keys) c.log_with-in-Blur.ensures.run
+    (formulas_blur c.args.choices.now _ (sym c.suite_name.ensures ∙ c.in-Blur.is) c.weak_suite-in-Blur.ensures.keys) (c.log_with-in-Blur.ensures.run whole may)
 
 pub returns-in-Aes-clause-replies_first : goal.returns-in-Aes-clause-replies_first
-returns-in-Aes-clause-replies_first g c =
+returns-in-Aes-clause-replies_first g c = λ whole may.
     same_replied _ _ c.args.choices.now _ _ _ _ _ _ c.geometry-geo.ensures
-    (formulas_aes c.args.choices.now _ (sym c.suite_name.ensures ∙ c.in-Aes.is) c.aes_suite.ensures.keys) c.log_with.ensures.replies_first
+    (formulas_aes c.args.choices.now _ (sym c.suite_name.ensures ∙ c.in-Aes.is) c.aes_suite.ensures.keys) (c.log_with.ensures.replies_first whole may)
 
 pub returns-in-Weak-clause-replies_first : goal.returns-in-Weak-clause-replies_first
-returns-in-Weak-clause-replies_first g c =
+returns-in-Weak-clause-replies_first g c = λ whole may.
     same_replied _ _ c.args.choices.now _ _ _ _ _ _ c.geometry-geo.ensures
-    (formulas_weak c.args.choices.now _ (sym c.suite_name.ensures ∙ c.in-Weak.is) c.weak_suite.ensures.keys) c.log_with-in-Weak.ensures.replies_first
+    (formulas_weak c.args.choices.now _ (sym c.suite_name.ensures ∙ c.in-Weak.is) c.weak_suite.ensures.keys) (c.log_with-in-Weak.ensures.replies_first whole may)
 
 pub returns-in-Blur-clause-replies_first : goal.returns-in-Blur-clause-replies_first
-returns-in-Blur-clause-replies_first g c =
+returns-in-Blur-clause-replies_first g c = λ whole may.
     same_replied _ _ c.args.choices.now _ _ _ _ _ _ c.geometry-geo.ensures
-    (formulas_blur c.args.choices.now _ (sym c.suite_name.ensures ∙ c.in-Blur.is) c.weak_suite-in-Blur.ensures.keys) c.log_with-in-Blur.ensures.replies_first
+    (formulas_blur c.args.choices.now _ (sym c.suite_name.ensures ∙ c.in-Blur.is) c.weak_suite-in-Blur.ensures.keys) (c.log_with-in-Blur.ensures.replies_first whole may)

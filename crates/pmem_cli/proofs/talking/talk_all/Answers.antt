@@ -12,9 +12,9 @@ pub returns-clause-words : goal.returns-clause-words
 returns-clause-words g c = λ two. c.talk_trace-stop.ensures.cause.words (cc (c.finish.ensures.words.0 two))
 
 pub returns-clause-told : goal.returns-clause-told
-returns-clause-told g c =
+returns-clause-told g c = λ whole may.
     talk_done (talk_protocol g.T.Talk.sort_of g.T.Talk.answers g.T.Talk.shows g.T.Talk.wants_memory) c.args.session c.talk_trace-stop.result c.finish.result _ _ _ _ _ _
-    (rw c.new-printer.ensures at c.talk_trace-stop.ensures.stopped)
+    ((rw c.new-printer.ensures at c.talk_trace-stop.ensures.stopped) whole may)
     (λ same. c.talk_trace-stop.ensures.cause.reads.failed (cc same))
     (record {
       good = returns-clause-words g c;
@@ -45,15 +45,15 @@ pub returns-clause-write : goal.returns-clause-write
 returns-clause-write g c = search rules
 
 pub returns-clause-complete : goal.returns-clause-complete
-returns-clause-complete g c =
-    talk_complete (talk_protocol g.T.Talk.sort_of g.T.Talk.answers g.T.Talk.shows g.T.Talk.wants_memory) c.args.session c.finish.result _ _ _ _ _ _ (returns-clause-told g c)
+returns-clause-complete g c = λ whole may.
+    talk_complete (talk_protocol g.T.Talk.sort_of g.T.Talk.answers g.T.Talk.shows g.T.Talk.wants_memory) c.args.session c.finish.result _ _ _ _ _ _ (returns-clause-told g c whole may)
     (returns-clause-read g c) (returns-clause-write g c)
 
 pub returns-clause-replies_first : goal.returns-clause-replies_first
-returns-clause-replies_first g c =
+returns-clause-replies_first g c = λ whole may.
     let put = g.K.Sink.put c.talk_trace-stop.new.out in
     let after = g.K.Sink.put c.finish.new.out in
     let grown = ending_appends (Stopped c.talk_trace-stop.result) (with_waiting put c.talk_trace-stop.new.printer) after
     (λ same. ap (g.K.Sink.put) (c.finish.ensures.kept same)) c.finish.ensures.front in
     told_more_since (talk_protocol g.T.Talk.sort_of g.T.Talk.answers g.T.Talk.shows g.T.Talk.wants_memory) _ _ _ _ _ _ _ _ grown.0
-    (rw c.new-printer.ensures at c.talk_trace-stop.ensures.replies_first) grown.1
+    ((rw c.new-printer.ensures at c.talk_trace-stop.ensures.replies_first) whole may) grown.1
