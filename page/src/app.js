@@ -9,8 +9,9 @@ import {blankState, isAsGiven, lessonNamed, seedIn, showLesson, stateOf} from '.
 import {goalOf, missing} from './goal.js';
 import {device} from './map.js';
 import {faultText, Model} from './model.js';
-import {clash, defaults, OPTIONS, quoted, wordsFor} from './options.js';
+import {clash, defaults, quoted, wordsFor} from './options.js';
 import {referencePanel} from './reference.js';
+import {OPTIONS} from './table.js';
 import {abbreviated, commandsOf, isComment, isStop, spelledOut} from './trace.js';
 import * as view from './view.js';
 

@@ -2,7 +2,8 @@
 
 import {byId, element} from './dom.js';
 import {MACHINES, Model} from './model.js';
-import {choicesOf, clash, defaults, OPTIONS, rangeOf, valueOf, wordsFor} from './options.js';
+import {choicesOf, clash, defaults, rangeOf, valueOf, wordsFor} from './options.js';
+import {OPTIONS} from './table.js';
 import {isCut, short} from './trace.js';
 import {classOf} from './view.js';
 

@@ -46,8 +46,8 @@ export class Layout {
     if (part === TAGS) return `tag line of ${4 * (line - this.firstTag)} to ${4 * (line - this.firstTag) + 3}`;
     if (part === NODES) return line === this.firstMeta ? 'node 0, the top' : `node ${line - this.firstMeta}`;
     if (part === COUNTERS) return `counter block of page ${line - this.firstMeta - this.nodes}`;
-    if (line < this.firstNodeShadow) return `shadow of counter blocks, line ${line - this.firstShadow}`;
-    return `shadow of tree nodes, line ${line - this.firstNodeShadow}`;
+    if (line < this.firstNodeShadow) return `line ${line - this.firstShadow} of the shadow table of counter blocks`;
+    return `line ${line - this.firstNodeShadow} of the shadow table of tree nodes`;
   }
 
   // The data lines that share a counter block.

@@ -1,46 +1,38 @@
-// The options of each machine: their defaults, the values that the page takes, and how they are written as arguments.
+// The options of each machine: the values that the page takes, and how they are written as arguments. Their defaults and the values
+// that the program takes are in the table.
 
-const isAmong = values => text => values.map(String).includes(text);
-const isFrom = (low, high) => text => /^[0-9]{1,7}$/.test(text) && Number(text) >= low && Number(text) <= high;
-const isHex = (least, most) => text => /^([0-9a-fA-F]{2})*$/.test(text) && text.length >= least && text.length <= most;
-const isLong = text => /^[0-9]{1,20}$/.test(text) && BigInt(text) < 2n ** 64n;
+import {OPTION, OPTIONS} from './table.js';
 
-// For each option: its default; the values to choose from, or how a value is checked; and which values are allowed, in words.
-const OPTION = {
-  levels: {is: 2, values: [1, 2, 3]},
-  sets: {is: 4, check: isFrom(1, 64), says: 'a number from 1 to 64'},
-  ways: {is: 2, check: isFrom(1, 8), says: 'a number from 1 to 8'},
-  loss: {is: 4, values: [1, 2, 4, 8, 16]},
-  major: {is: '0', check: isLong, says: 'a number below 2^64'},
-  suite: {is: 'aes', values: ['aes', 'weak', 'blur']},
-  key: {is: '', check: isHex(32, 32), says: '32 hex digits'},
-  'tag-key': {is: '', check: isHex(2, 128), says: '2 to 128 hex digits, an even number'},
-  every: {is: 100, check: isFrom(1, 1000000), says: 'a number from 1 to 1000000'},
-  persist: {is: 0, values: [0, 1, 2, 3, 4]},
-  shadow: {is: 'on', values: ['on', 'off']},
-  queue: {is: 'volatile', values: ['volatile', 'durable']},
-  combine: {is: 'off', values: ['off', 'on']},
-};
-const OF_ALL = ['levels', 'sets', 'ways', 'loss', 'major', 'suite', 'key', 'tag-key'];
-const POLICY = ['persist', 'shadow'];
-
-export const OPTIONS = {run: [...OF_ALL, ...POLICY, 'queue', 'combine'], wear: [...OF_ALL, 'every', ...POLICY], txn: [...OF_ALL, ...POLICY],
-  tree: ['levels', 'sets', 'suite', 'key', 'tag-key']};
+// The page takes fewer values of these, for memories of up to 4,096 lines.
+const LEVELS_HERE = [1, 2, 3];
+const FEWER = {levels: LEVELS_HERE, persist: [0, ...LEVELS_HERE, LEVELS_HERE.length + 1]};
 
 export const defaults = () => Object.fromEntries(Object.entries(OPTION).map(([name, {is}]) => [name, is]));
 
 // The values to choose an option from, or null if it is typed.
-export const choicesOf = name => OPTION[name].values ?? null;
+export const choicesOf = name => FEWER[name] ?? OPTION[name].values ?? null;
 
-export const rangeOf = name => OPTION[name].says ?? OPTION[name].values.join(', ');
+export function rangeOf(name) {
+  const {from, most, digits} = OPTION[name];
+  if (choicesOf(name)) return choicesOf(name).join(', ');
+  if (digits) return digits[0] === digits[1] ? `${digits[0]} hex digits` : `${digits[0]} to ${digits[1]} hex digits, an even number`;
+  return `a number from ${from} to ${most}`;
+}
+
+function isValue(name, text) {
+  const {from, most, digits} = OPTION[name];
+  if (choicesOf(name)) return choicesOf(name).map(String).includes(text);
+  if (digits) return /^([0-9a-fA-F]{2})*$/.test(text) && text.length >= digits[0] && text.length <= digits[1];
+  return /^[0-9]{1,20}$/.test(text) && BigInt(text) >= BigInt(from) && BigInt(text) <= BigInt(most);
+}
 
 // A text as a value of an option, or undefined if the page doesn't take it.
 export function valueOf(name, text) {
-  const {is, values, check} = OPTION[name];
+  const {is, from} = OPTION[name];
   if (text === '' && is === '') return '';
-  if (!(check ?? isAmong(values))(text)) return undefined;
+  if (!isValue(name, text)) return undefined;
   if (typeof is === 'number') return Number(text);
-  return name === 'major' ? String(BigInt(text)) : text.toLowerCase();
+  return from === undefined ? text.toLowerCase() : String(BigInt(text));
 }
 
 // Why options don't go together, or null if they do: a path has a line on each level, and one more.

@@ -16,17 +16,18 @@ The library in this process or the program `pmem` as a child process answers (`w
 it is tested, not proved.
 """
 from .answers import (
-    LINE_BYTES, Access, AccessKind, Answer, Begin, Clash, Counter, Cut, Done, Exhibit, Fenced, Flushed, Forged, Held, Line, Log, LogOpened,
+    Access, AccessKind, Answer, Begin, Clash, Counter, Cut, Done, Exhibit, Fenced, Flushed, Forged, Held, Line, Log, LogOpened,
     Mark, Ok, Place, Raw, Recovered, Refusal, RefusedCounter, RefusedData, RefusedMetadata, RefusedNode, RefusedRoot, RefusedShadow, Seal,
     Spent, Stat, Stepped, Stuck, TreeRecovered, Turned, Twin, Unfit, WearOpened, read_answer, read_log, read_mark,
 )
 from .cuts import Trial, each_cut, persist_steps
-from .device import Device, Layout
+from .device import Device
 from .errors import (
     BadWords, BreakShown, CounterSpent, LineFault, LogStuck, NoMemory, NoSnapshot, NotDone, NotFound, NothingDirty, NothingToTurn,
     NoTransaction, OutOfRange, PmemError, PowerCut, PowerIsOff, PowerIsOn, ProgramFailed, QueueEmpty, QueueFull, Refused, SessionClosed,
     SessionOver, TooManyLines, TransactionOpen, Unsuited,
 )
+from .layout import LINE_BYTES, Layout
 from .sessions import Controller, LevelledMemory, Session, TransactionMemory, TreeController
 from .traces import Command, Output, Status, Trace, answer, check
 from .ways import Library, Program, Way, way_of

@@ -8,8 +8,8 @@ from html import escape
 from typing import Callable, Dict, List, Optional, Sequence, Tuple, Type, Union
 
 from .errors import ProgramFailed
+from .layout import LINE_BYTES
 
-LINE_BYTES = 64
 TAG_BYTES = 16
 
 

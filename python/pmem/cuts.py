@@ -4,8 +4,8 @@ from typing import Callable, Generic, Iterator, Optional, Type, TypeVar
 
 from .answers import Cut, Done, Unfit
 from .errors import PowerCut
-from .grammar import MOST_NUMBER
 from .sessions import Session, raise_not_done
+from .settings import MOST_NUMBER
 
 S = TypeVar("S", bound=Session)
 

@@ -1,60 +1,11 @@
-"""The device of `Controller`: what lies where, and its lines."""
+"""The device of `Controller`: its lines."""
 from dataclasses import dataclass, field
-from typing import Dict, List, Tuple
+from typing import List, Tuple
 
+from .layout import Layout
 from .traces import code, table
 
 SHOWN_LINES = 4
-
-
-@dataclass(frozen=True)
-class Layout:
-    """The parts of the device of a geometry (docs/MACHINE.md, The geometry)."""
-
-    levels: int = 2
-    sets: int = 4
-    ways: int = 2
-    shadow: bool = True
-
-    @property
-    def pages(self) -> int:
-        """How many pages of 64 data lines there are."""
-        return int(4**self.levels)
-
-    @property
-    def parts(self) -> Dict[str, range]:
-        """The device lines of each part. Without shadow tables those have none."""
-        nodes = (4**(self.levels + 1) - 1) // 3
-        slots = self.sets * self.ways if self.shadow else 0
-        sizes = {
-            "data lines": 64 * self.pages, "tag lines": 16 * self.pages, "tree nodes": nodes - self.pages, "counter blocks": self.pages,
-            "shadow lines of counter blocks": -(-slots // 16), "shadow lines of tree nodes": -(-self.levels * slots // 16),
-        }
-        found, start = {}, 0
-        for name, size in sizes.items():
-            found[name] = range(start, start + size)
-            start += size
-        return found
-
-    @property
-    def lines(self) -> int:
-        """How many lines the device has."""
-        return sum(map(len, self.parts.values()))
-
-    def part_of(self, place: int) -> str:
-        """The part that a device line is of.
-
-        Raises:
-            IndexError: there is no such line.
-        """
-        for name, places in self.parts.items():
-            if place in places:
-                return name
-        raise IndexError(f"the device has no line {place}")
-
-    def tag_line_of(self, line: int) -> int:
-        """The device line that has the tag of a data line, in its bytes from 16 * (line % 4) on."""
-        return 64 * self.pages + line // 4
 
 
 @dataclass(frozen=True)

@@ -1,9 +1,10 @@
 """The commands of each session: which line is one, by the program's own rules (docs/FORMATS.md). The program has the last word."""
 from typing import Dict, List, Optional
 
+from .settings import MOST_NUMBER
+
 LONGEST_LINE = 1024
-MOST_NUMBER = 2**64 - 1
-MOST_PORT = 7
+PORTS = 8
 
 # What each word behind a command's name has to be: a port, a number, a line, or a part of one.
 GRAMMAR: Dict[str, Dict[str, str]] = {
@@ -42,7 +43,7 @@ def _fault_of_word(rule: str, word: bytes) -> Optional[int]:
     if rule in ("port", "number"):
         if len(word) > 20 or not _DIGITS.issuperset(word) or int(word) > MOST_NUMBER:
             return NUMBER
-        return PORT if rule == "port" and int(word) > MOST_PORT else None
+        return PORT if rule == "port" and int(word) >= PORTS else None
     is_fit = len(word) == 128 if rule == "line" else len(word) % 2 == 0 and len(word) <= 128
     return None if is_fit and _HEX.issuperset(word) else HEX
 

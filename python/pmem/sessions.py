@@ -3,29 +3,29 @@ import contextlib
 import operator
 import threading
 from collections import deque
+from dataclasses import replace
 from html import escape
 from types import TracebackType
-from typing import ClassVar, Deque, Dict, Iterator, List, NoReturn, Optional, Sequence, Tuple, Type, TypeVar, Union
+from typing import Any, ClassVar, Deque, Dict, Iterator, List, NoReturn, Optional, Sequence, Tuple, Type, TypeVar, Union
 
 from .answers import (
-    LINE_BYTES, Access, Answer, Cut, Done, Exhibit, Fenced, Flushed, Held, Line, LogOpened, Mark, Ok, Place, Raw, Recovered, Refusal, Spent,
+    Access, Answer, Cut, Done, Exhibit, Fenced, Flushed, Held, Line, LogOpened, Mark, Ok, Place, Raw, Recovered, Refusal, Spent,
     Stat, Stepped, Stuck, TreeRecovered, Turned, Unfit, WearOpened, read_reply,
 )
-from .device import Device, Layout
+from .device import Device
 from .errors import (
     UNSUITED, BadWords, BreakShown, CounterSpent, LineFault, LogStuck, NoMemory, NotDone, PowerCut, ProgramFailed, Refused, SessionClosed,
     SessionOver, TooManyLines,
 )
-from .grammar import MOST_NUMBER, MOST_PORT, WORD, fault_of, is_skipped, words_of
-from .traces import Trace, check, code, suite_words, table
+from .grammar import PORTS, WORD, fault_of, is_skipped, words_of
+from .layout import LINE_BYTES, Layout
+from .settings import MOST_NUMBER, OPTIONS, Option, default_number, most_persisted
+from .traces import Trace, check, code, table
 from .ways import BAD_WORDS, FAULT, NO_MEMORY, OK, REPLY_LOST, SHOWN, TOO_MANY_LINES, Channel, Through, way_of
 
 Bytes = Union[bytes, bytearray, memoryview]
 A = TypeVar("A", bound=Answer)
 S = TypeVar("S", bound="Session")
-SUITES = ("aes", "weak", "blur")
-QUEUES = ("volatile", "durable")
-DEFAULT_LEVELS = 2
 
 
 def raise_not_done(answer: Answer) -> NoReturn:
@@ -242,46 +242,40 @@ class Session:
         return self._done(Ok, "off")
 
 
-def _options(numbers: Dict[str, Tuple[Optional[int], int, int]], loss: Optional[int] = None) -> List[str]:
-    """The words of the options that are given, each with its least and greatest number."""
+def _or_default(name: str, value: Optional[int]) -> int:
+    return default_number(name) if value is None else operator.index(value)
+
+
+def _options(**given: Any) -> List[str]:
+    """The words of the options that aren't None, in this order. Errors: TypeError, ValueError."""
     words: List[str] = []
-    for name, (value, least, most) in numbers.items():
+    for name, value in given.items():
         if value is not None:
-            words += [f"--{name}", _number(name, value, most, least)]
-    if loss is not None:
-        word = _number("loss", loss)
-        if word not in ("1", "2", "4", "8", "16"):
-            raise ValueError(f"loss must be 1, 2, 4, 8 or 16, not {word}")
-        words += ["--loss", word]
+            option = OPTIONS[name.replace("_", "-")]
+            if name == "persist":
+                option = replace(option, numbers=range(most_persisted(_or_default("levels", given["levels"])) + 1))
+            words += [f"--{option.name}", _value(name, option, value)]
     return words
 
 
-def _policy(levels: Optional[int], persist: Optional[int], shadow: Optional[bool]) -> List[str]:
-    """The words of a persistence policy: at most one line of a path for each level, and one more, is persisted with a write."""
-    most = (DEFAULT_LEVELS if levels is None else levels) + 1
-    words = [] if persist is None else ["--persist", _number("persist", persist, most)]
-    return words if shadow is None else [*words, "--shadow", _switch("shadow", shadow)]
+def _value(name: str, option: Option, value: Any) -> str:
+    """The word of an option's value. Errors: TypeError, ValueError."""
+    if option.sizes is not None:
+        return _bytes(name, value, option.sizes[0], option.sizes[-1]).hex()
+    if option.numbers is not None:
+        return _number(name, value, option.numbers.stop - 1, option.numbers.start)
+    if set(option.choices) == {"on", "off"}:
+        return _switch(name, value)
+    word = str(value) if isinstance(option.default, str) else _number(name, value)
+    if word not in map(str, option.choices):
+        raise ValueError(f"{name} must be {option.text}, not {value!r}")
+    return word
 
 
-def _queues(queue: Optional[str], combine: Optional[bool]) -> List[str]:
-    """The words of the write queues."""
-    if queue is not None and queue not in QUEUES:
-        raise ValueError(f"queue must be volatile or durable, not {queue!r}")
-    words = [] if queue is None else ["--queue", queue]
-    return words if combine is None else [*words, "--combine", _switch("combine", combine)]
-
-
-def _switch(name: str, value: bool) -> str:
+def _switch(name: str, value: object) -> str:
     if not isinstance(value, bool):
         raise TypeError(f"{name} must be True or False, not {value!r}")
     return "on" if value else "off"
-
-
-def _suite(suite: Optional[str], key: Optional[Bytes], tag_key: Optional[Bytes]) -> List[str]:
-    if suite is not None and suite not in SUITES:
-        raise ValueError(f"suite must be aes, weak or blur, not {suite!r}")
-    return suite_words(suite, None if key is None else _bytes("key", key, 16, 16),
-                       None if tag_key is None else _bytes("tag_key", tag_key, 1, 64))
 
 
 class Controller(Session):
@@ -310,11 +304,10 @@ class Controller(Session):
                  major: Optional[int] = None, suite: Optional[str] = None, key: Optional[Bytes] = None, tag_key: Optional[Bytes] = None,
                  persist: Optional[int] = None, shadow: Optional[bool] = None, queue: Optional[str] = None, combine: Optional[bool] = None,
                  log: bool = False, through: Through = None) -> None:
-        options = _options({"levels": (levels, 1, 6), "sets": (sets, 1, 64), "ways": (ways, 1, 8), "major": (major, 0, MOST_NUMBER)}, loss)
-        options += [*_policy(levels, persist, shadow), *_queues(queue, combine)]
-        numbers = [given if given is not None else default for given, default in ((levels, DEFAULT_LEVELS), (sets, 4), (ways, 2))]
-        self._layout = Layout(numbers[0], numbers[1], numbers[2], shadow is not False)
-        super().__init__(options, _suite(suite, key, tag_key), log, through)
+        options = _options(levels=levels, sets=sets, ways=ways, major=major, loss=loss, persist=persist, shadow=shadow, queue=queue,
+                           combine=combine)
+        self._layout = Layout(_or_default("levels", levels), _or_default("sets", sets), _or_default("ways", ways), shadow is not False)
+        super().__init__(options, _options(suite=suite, key=key, tag_key=tag_key), log, through)
 
     @property
     def layout(self) -> Layout:
@@ -323,7 +316,7 @@ class Controller(Session):
 
     @staticmethod
     def _port(port: int) -> str:
-        return _number("port", port, MOST_PORT)
+        return _number("port", port, PORTS - 1)
 
     def post(self, port: int, line: int, data: Bytes) -> Ok:
         """A write of a data line, 64 bytes, waits at a port, 0 to 7. It isn't in memory before it is drained."""
@@ -422,9 +415,8 @@ class LevelledMemory(Session):
                  major: Optional[int] = None, suite: Optional[str] = None, key: Optional[Bytes] = None, tag_key: Optional[Bytes] = None,
                  every: Optional[int] = None, persist: Optional[int] = None, shadow: Optional[bool] = None, log: bool = False,
                  through: Through = None) -> None:
-        options = _options({"levels": (levels, 1, 6), "sets": (sets, 1, 64), "ways": (ways, 1, 8), "major": (major, 0, MOST_NUMBER),
-                            "every": (every, 1, 1_000_000)}, loss) + _policy(levels, persist, shadow)
-        super().__init__(options, _suite(suite, key, tag_key), log, through)
+        options = _options(levels=levels, sets=sets, ways=ways, major=major, every=every, loss=loss, persist=persist, shadow=shadow)
+        super().__init__(options, _options(suite=suite, key=key, tag_key=tag_key), log, through)
 
     def write(self, line: int, data: Bytes) -> Union[Stepped, Held]:
         """A line of 64 bytes is written. `Held`: it is, and the move after it couldn't be."""
@@ -465,9 +457,8 @@ class TransactionMemory(Session):
     def __init__(self, *, levels: Optional[int] = None, sets: Optional[int] = None, ways: Optional[int] = None, loss: Optional[int] = None,
                  major: Optional[int] = None, suite: Optional[str] = None, key: Optional[Bytes] = None, tag_key: Optional[Bytes] = None,
                  persist: Optional[int] = None, shadow: Optional[bool] = None, log: bool = False, through: Through = None) -> None:
-        options = _options({"levels": (levels, 1, 6), "sets": (sets, 1, 64), "ways": (ways, 1, 8), "major": (major, 0, MOST_NUMBER)}, loss)
-        options += _policy(levels, persist, shadow)
-        super().__init__(options, _suite(suite, key, tag_key), log, through)
+        options = _options(levels=levels, sets=sets, ways=ways, major=major, loss=loss, persist=persist, shadow=shadow)
+        super().__init__(options, _options(suite=suite, key=key, tag_key=tag_key), log, through)
 
     def begin(self) -> Ok:
         """A transaction is opened."""
@@ -513,7 +504,7 @@ class TreeController(Session):
 
     def __init__(self, *, levels: Optional[int] = None, sets: Optional[int] = None, suite: Optional[str] = None, key: Optional[Bytes] = None,
                  tag_key: Optional[Bytes] = None, log: bool = False, through: Through = None) -> None:
-        super().__init__(_options({"levels": (levels, 1, 6), "sets": (sets, 1, 64)}), _suite(suite, key, tag_key), log, through)
+        super().__init__(_options(levels=levels, sets=sets), _options(suite=suite, key=key, tag_key=tag_key), log, through)
 
     def write(self, line: int, data: Bytes) -> Stepped:
         """A data line of 64 bytes is written."""

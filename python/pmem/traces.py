@@ -8,6 +8,7 @@ from typing import Iterable, List, Optional, Sequence, Tuple, Union
 from .answers import FORMS, Answer, Exhibit, ReplyLines, read_reply, short_text
 from .errors import BadWords, NoMemory, ProgramFailed
 from .grammar import is_skipped, words_of
+from .settings import OPTIONS
 from .ways import Through, way_of
 
 SHOWN_ROWS = 200
@@ -206,7 +207,7 @@ def check(exhibit: Exhibit, *, suite: Optional[str] = None, key: Optional[bytes]
     """
     status, _ = way_of(through).run(["check", *suite_words(suite, key, tag_key)], f"{exhibit}\n".encode())
     if status == Status.BAD_WORDS:
-        raise BadWords("the suite is aes, weak or blur, its key 16 bytes, its tag key 1 to 64")
+        raise BadWords(f"the suite is {OPTIONS['suite'].text}, its key {OPTIONS['key'].text} bytes, its tag key {OPTIONS['tag-key'].text}")
     if status == Status.NO_MEMORY:
         raise NoMemory("no memory to check an exhibit")
     if status not in (Status.OK, Status.HOLDS_NOT):

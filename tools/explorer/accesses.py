@@ -2,7 +2,7 @@
 tags and digests made. docs/FORMATS.md has its lines."""
 from collections import deque
 from dataclasses import dataclass
-from typing import Dict, Iterator, List, Optional, Tuple
+from typing import Dict, Iterator, List, Tuple
 
 from .errors import ExploreError
 from .layout import Place, layout_of
@@ -72,7 +72,7 @@ class Teller:
                 command = self.recording.commands[index]
                 raise ExploreError(f"{self.recording.trace.name}, line {command.number}: the answer tells {told} steps, "
                                    f"and the log {len(steps)}")
-            found.append(Traced(self.recording.commands[index], self.recording.replies[index], steps, (),
+            found.append(Traced(self.recording.commands[index], self.recording.replies[index], steps,
                                 self.work(log, number - 1) if self.with_work else None))
             number += len(steps)
         return found
@@ -113,16 +113,13 @@ class Teller:
         return self.places[line]
 
 
-def told_steps(recording: Recording, with_work: bool) -> Optional[List[Traced]]:
-    """All commands that were answered, with their steps, by one run with `--log`; None if the program lacks that option."""
-    data = recording.program.logged(recording.script, recording.settings)
-    return None if data is None else Teller(recording, with_work).traced(data)
+def told_steps(recording: Recording, with_work: bool) -> List[Traced]:
+    """All commands that were answered, with their steps, by one run with `--log`."""
+    return Teller(recording, with_work).traced(recording.program.logged(recording.script, recording.settings))
 
 
-def told_last(recording: Recording) -> Optional[int]:
-    """The steps of the last command that was answered, by one run with `--log`; None if the program lacks that option."""
+def told_last(recording: Recording) -> int:
+    """The steps of the last command that was answered, by one run with `--log`."""
     data = recording.program.logged(recording.script, recording.settings)
-    if data is None:
-        return None
     (log,) = deque(logs_of(recording, data), 1)
     return sum(word != LOOK for word, _ in log.accesses)

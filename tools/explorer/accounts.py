@@ -5,8 +5,9 @@ from dataclasses import dataclass, field
 from typing import Dict, List, Sequence
 
 from .accesses import LINE, LOOK
-from .layout import COUNTERS, DATA, NODES, PARTS, SHADOWS, TAGS, Parts, layout_of
+from .layout import PARTS, SHADOWS, Parts, layout_of
 from .logged import Entry
+from .package import COUNTERS, DATA, NODES, TAGS
 from .settings import Settings
 
 DATA_PART, TAG_PART, COUNTER_PART, NODE_PART, SHADOW_PART = map(PARTS.index, (DATA, TAGS, COUNTERS, NODES, SHADOWS))

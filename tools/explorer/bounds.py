@@ -12,8 +12,8 @@ from .chip import chip_bytes, group_lines, position_bytes
 from .costs import Costs
 from .designs import machine_of, policy_words, with_design
 from .errors import WRONG_WORDS, ExploreError
-from .machines import POLICY
 from .output import csv_text, json_text, table_text
+from .package import POLICY
 from .settings import LEVELS, Settings
 
 LINE = 64

@@ -2,10 +2,11 @@
 masks), keys and the ciphers' own circuits aren't in it. docs/COSTS.md has the sums."""
 from typing import Dict
 
+from .layout import Layout
+from .package import LINE_BYTES, PORTS
 from .settings import Settings
-from .waiting import PORTS
 
-LINE, POSITION, DIGEST, COUNTER = 64, 4, 16, 8
+POSITION, DIGEST, COUNTER = 4, 16, 8
 QUEUE, TRANSACTION, PAGES_OPEN = 16, 15, 4
 CHIP_PARTS = ("cache", "shadow", "registers", "waiting")
 
@@ -13,16 +14,16 @@ CHIP_PARTS = ("cache", "shadow", "registers", "waiting")
 def chip_bytes(settings: Settings) -> Dict[str, int]:
     """The bytes of the metadata cache, of the copy of the shadow, of the registers, and of what waits to be written."""
     levels, position = settings.levels, position_bytes(settings)
-    entry = LINE + position
+    entry = LINE_BYTES + position
     if settings.machine_name == "tree":
         slots = 1 + levels * settings.sets
         height = 1
         while 4 ** height < slots:
             height += 1
-        return {"cache": slots * (4 * COUNTER + position), "shadow": (4 ** (height + 1) - 1) // 3 * LINE,
+        return {"cache": slots * (4 * COUNTER + position), "shadow": (4 ** (height + 1) - 1) // 3 * LINE_BYTES,
                 "registers": DIGEST + (levels + 3) * entry, "waiting": 0}
     slots = settings.sets * settings.ways
-    tables = ((slots + 15) // 16 + (levels * slots + 15) // 16) * LINE if settings.has_tables else 0
+    tables = len(Layout(settings).shadow_lines()) * LINE_BYTES
     waiting = {"run": PORTS * QUEUE * entry, "wear": 2 * position, "txn": TRANSACTION * entry}
     return {"cache": (levels + 1) * slots * entry, "shadow": tables,
             "registers": DIGEST + group_lines(settings) * entry + PAGES_OPEN * (entry + COUNTER) + 1,

@@ -17,14 +17,14 @@ from typing import Any, Callable, Deque, Dict, Iterable, Iterator, List, Optiona
 
 from .errors import FAILURES, WRONG_WORDS, ExploreError, reason_of
 from .logged import LoggedProgram
+from .package import PYTHON
 from .program import Output, Program, Question, Recording, Run
 from .remote import PROGRAM, bytes_of_text, text_of_bytes
 from .together import Progress, Together
 from .trace import printable, read_bytes, shown_path
 
-PACKAGE = Path(__file__).resolve().parent
-PACKAGE_NAME = PACKAGE.name
-SOURCES = ("*.py", "*.c", "*.txt")
+# What a worker runs: the explorer, and the Python package in python/.
+SOURCES = ((Path(__file__).resolve().parent, ("*.py", "*.c", "*.txt")), (PYTHON, ("pmem/*.py",)))
 BATCHES_OF_SLOT = 8
 LARGEST_BATCH = 2048
 LEAST_RUNS, LEAST_QUESTIONS = 4, 64
@@ -154,7 +154,8 @@ class Cluster:
             data = Path(program).read_bytes()
         except OSError as error:
             raise ExploreError(f"cannot run the program {program}: {reason_of(error)}") from error
-        files = {f"{PACKAGE_NAME}/{path.name}": path.read_bytes() for kind in SOURCES for path in sorted(PACKAGE.glob(kind))}
+        files = {path.relative_to(folder.parent).as_posix(): path.read_bytes() for folder, kinds in SOURCES for kind in kinds
+                 for path in sorted(folder.glob(kind))}
         self.folder = "pmem-" + digest_of(data + b"".join(name.encode() + text for name, text in sorted(files.items())))
         self.there: Dict[str, None] = {}
         self.client = self.asked(self.connected)

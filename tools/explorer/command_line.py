@@ -15,9 +15,10 @@ from .errors import CHECK_BROKEN, CHECK_FAILED, DONE, FAILURE, INTERRUPTED, WRON
 from .finding import REPOSITORY, default_program, found_program
 from .fork_server import remove_temporary
 from .logged import LoggedProgram, LoggedRecording
-from .machines import MACHINE_NAMES, MACHINES, POLICY
+from .machines import MACHINE_NAMES, MACHINES
 from .orders import Orders, Tried, orders_text
 from .output import check_writable, json_text, put, write_file
+from .package import POLICY
 from .processes import INTERRUPTS, TOLD, end_all
 from .program import Program, Recording
 from .sampling import Plan

@@ -15,13 +15,13 @@ from .errors import WRONG_WORDS, ExploreError
 from .layout import layout_of
 from .logged import LoggedProgram, LoggedRecording, entries_of
 from .output import csv_text, json_text, latex_text, table_text
+from .package import LINE_BYTES
 from .program import Question, Run, first_word, text_of
 from .settings import LATER, Settings
 from .together import Together
 from .trace import Trace, trace_of
 
 CUTS = 200
-LINE_BYTES = 64
 COLUMNS = 6
 NUMBERS = ("levels", "sets", "ways", "loss", "every")
 # What varies: these numbers, and the options of the policy and of the queues, which rows have only if one of them isn't the default.

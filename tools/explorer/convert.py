@@ -13,10 +13,9 @@ from typing import Callable, Dict, List, Optional, Sequence, Tuple
 
 from .errors import WRONG_WORDS, ExploreError
 from .machines import MACHINES
+from .package import LINE_BYTES, PORTS
 from .settings import LEVELS
-from .symbols import LINE_BYTES
 from .trace import Command, Trace, number_of, shown_line
-from .waiting import PORTS
 
 QUEUE = 16
 LINES_OF_TRANSACTION = 15

@@ -7,9 +7,10 @@ from functools import cached_property
 from typing import Any, Callable, Dict, FrozenSet, Iterable, Iterator, List, Optional, Sequence, Tuple, TypeVar
 
 from .errors import ExploreError
-from .layout import DATA, TAGS, Layout
+from .layout import Layout
 from .moments import Moment
 from .output import csv_text, plural, table_text
+from .package import DATA, PORTS, TAGS
 from .program import MARKS, Question, Recording, text_of
 from .rows import Event, Rows
 from .second_cuts import Seconds
@@ -17,7 +18,7 @@ from .shared import Shared
 from .steps import Totals, mentioned_lines, stepping_indexes, tampered_lines
 from .together import Together
 from .trace import TAMPERING_WORDS, Command, short_text
-from .waiting import PORTS, Waiting, Write, port_of
+from .waiting import Waiting, Write, port_of
 
 NO_CUT = b"cut 18446744073709551615"
 MOST_NAMED = 8
@@ -140,7 +141,7 @@ class CutFinder:
         self.machine = recording.settings.machine
         self.rows = Rows(recording.trace)
         self.recovery = Recovery("", self.machine.recovery)
-        self.totals = Totals(recording, together)
+        self.totals = Totals(recording)
         self.drains = drains_of(recording)
         self.lines = list(range(recording.settings.data_lines)) if every_line else self.lines_to_read()
         self.places = {line: place for place, line in enumerate(self.lines)}
@@ -244,11 +245,10 @@ class CutFinder:
         if not self.drains and sum(moment.kind == "cut" for moment in moments) >= len(self.recording.commands) \
                 and self.together.library_for(self.recording, len(moments)):
             log = self.recording.program.logged(self.recording.script, self.recording.settings)
-            if log is not None:
-                self.shared = Shared(self.recording, self.together, log, self, self.is_twice)
-                self.behind = self.shared.behind
-                yield from self.shared.answers(moments, what)
-                return
+            self.shared = Shared(self.recording, self.together, log, self, self.is_twice)
+            self.behind = self.shared.behind
+            yield from self.shared.answers(moments, what)
+            return
         found = self.together.answers(self.recording, map(self.question, moments), len(moments), what)
         for moment, (_, data) in zip(moments, found):
             yield moment, data

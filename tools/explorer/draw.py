@@ -7,12 +7,13 @@ from typing import Any, Dict, List, Optional, Sequence, Tuple
 
 from .errors import WRONG_WORDS, ExploreError
 from .labels import add_labels
-from .layout import CHIP, COUNTERS, DATA, NODES, SHADOWS, TAGS, AnyLayout, Place, layout_of
+from .layout import CHIP, SHADOWS, AnyLayout, Place, layout_of
+from .package import COUNTERS, DATA, NODES, TAGS
 from .program import first_word
 from .settings import DEFAULTS, LATER, Settings
 from .sweep import NUMBERS, VARIED
 from .trace import TAMPERING_WORDS, number_of
-from .traced import ARMS, EMPTIES, KEPT, LATCH, LOST, SETS, UNSEEN, UNTOLD, Step, Traced
+from .traced import ARMS, EMPTIES, LATCH, SETS, Step, Traced
 
 # Colours that differ without red and green (Okabe and Ito).
 BLUE, SKY, GREEN, ORANGE, VERMILION, PURPLE, BLACK = (
@@ -32,16 +33,7 @@ LATCHES: Dict[str, Tuple[str, str, str]] = {
     ARMS: ("D", BLACK, "latch that arms the group"),
     EMPTIES: ("D", "white", "latch that empties the group"),
     SETS: ("p", BLACK, "latch of the stop-loss number"),
-    "": ("D", BLACK, "latch of the registers"),
 }
-
-# If the device lines aren't known: what a cut just before a step does to the command's write.
-FATES: Dict[str, Tuple[str, str, str, str]] = {
-    LOST: ("o", VERMILION, "write lost", "a cut just before this step loses the write"),
-    KEPT: ("s", BLUE, "write kept", "a cut just before this step keeps the write"),
-    "": ("^", BLACK, "no write", "a step of a read or a recovery"),
-}
-ATTACKER = "attacker"
 
 MOST_ROWS = 8
 MOST_LINES = 80
@@ -180,7 +172,6 @@ class Lanes:
     def __init__(self) -> None:
         self.rows: Dict[int, float] = {}
         self.lines: List[float] = []
-        self.fates: Dict[str, float] = {}
         self.labels: List[Tuple[float, str]] = []
         self.bounds: List[Tuple[str, float, float]] = []
         self.bottom = 0.0
@@ -192,13 +183,6 @@ class Lanes:
         for part in parts:
             self.add_lane(part, sorted({place.line: place for place in places if place.part == part}.values(),
                                        key=lambda place: place.line))
-
-    def add_fates(self, has_attacker: bool) -> None:
-        """The lanes if device lines aren't known: one for each thing that a cut before a step does."""
-        for fate, (_, _, name, _) in FATES.items():
-            self.fates[fate] = self.add_lane(name, [])
-        if has_attacker:
-            self.fates[ATTACKER] = self.add_lane(ATTACKER, [])
 
     def add_lane(self, part: str, places: Sequence[Place]) -> float:
         """Adds a lane below the others, and answers the height of its first row."""
@@ -304,35 +288,13 @@ def draw_marks(axes: Any, spans: Sequence[Span], lanes: Lanes, size: float) -> L
                 axes.scatter(*zip(*points), marker=marker, s=size, facecolor="white" if again else colour,
                              edgecolor=colour if again else "white", linewidth=1.2 if again else 0.4, zorder=3)
                 drawn.append("again" if again else part)
-    unseen = [span.step_at(number) for span in spans for number, step in enumerate(span.traced.steps)
-              if step.kind == UNSEEN]
-    if unseen:
-        axes.scatter(unseen, [lanes.chip] * len(unseen), marker="$?$", s=size, color=DARK_GREY, zorder=3)
-        drawn.append(UNSEEN)
     return drawn
 
 
-def draw_fates(axes: Any, spans: Sequence[Span], lanes: Lanes, size: float) -> List[str]:
-    """A mark for each persist step whose device line isn't told; answers which kinds there are."""
-    drawn = []
-    for fate, (marker, colour, _, _) in FATES.items():
-        points = [(span.step_at(number), lanes.fates[fate]) for span in spans
-                  for number, step in enumerate(span.traced.steps) if step.kind == UNTOLD and step.fate == fate]
-        if points:
-            axes.scatter(*zip(*points), marker=marker, s=size, facecolor=colour, edgecolor="white", linewidth=0.4,
-                         zorder=3)
-            drawn.append(f"fate {fate}")
-    return drawn
-
-
-def draw_tampering(axes: Any, spans: Sequence[Span], lanes: Lanes, layout: Optional[AnyLayout], size: float) -> bool:
+def draw_tampering(axes: Any, spans: Sequence[Span], lanes: Lanes, layout: AnyLayout, size: float) -> bool:
     """A cross at each change of a device line by the attacker."""
     points = []
     for span in spans:
-        if layout is None:
-            if is_tampering(span.traced):
-                points.append((span.middle, lanes.fates[ATTACKER]))
-            continue
         place = tampered_place(span.traced, layout)
         if place is not None:
             points.append((span.middle, lanes.rows[place.line]))
@@ -407,14 +369,9 @@ def legend_handles(drawn: Sequence[str], tampered: bool) -> List[Any]:
     for part, (marker, colour, text) in MARKS.items():
         if part in drawn:
             handles.append(Line2D([], [], marker=marker, color=colour, linestyle="", label=text))
-    for fate, (marker, colour, _, text) in FATES.items():
-        if f"fate {fate}" in drawn:
-            handles.append(Line2D([], [], marker=marker, color=colour, linestyle="", label=text))
     if "again" in drawn:
         handles.append(Line2D([], [], marker="o", markerfacecolor="white", markeredgecolor=BLACK, linestyle="",
                               label="the same bytes written again"))
-    if UNSEEN in drawn:
-        handles.append(Line2D([], [], marker="$?$", color=DARK_GREY, linestyle="", label="cannot be seen"))
     if tampered:
         handles.append(Line2D([], [], marker="x", color=VERMILION, linestyle="", markeredgewidth=2,
                               label="the attacker changes the line"))
@@ -439,12 +396,9 @@ def timeline(traced: Sequence[Traced], settings: Settings, title: str, kind: str
     pyplot = load_matplotlib()
     spans = spans_of(traced)
     end = spans[-1].end if spans else 1.0
-    layout = None if any(entry.fates for entry in traced) else layout_of(settings)
+    layout = layout_of(settings)
     lanes = Lanes()
-    if layout is not None:
-        lanes.add_device(layout.parts, changed_places(spans, layout))
-    else:
-        lanes.add_fates(any(is_tampering(entry) for entry in traced))
+    lanes.add_device(layout.parts, changed_places(spans, layout))
     width = min(WIDEST, max(NARROWEST, LEFT + RIGHT + UNIT * end))
     unit = (width - LEFT - RIGHT) / (end + 1)
     labels = labels_of(spans, unit)
@@ -454,7 +408,7 @@ def timeline(traced: Sequence[Traced], settings: Settings, title: str, kind: str
     size = min(42.0, max(9.0, 42.0 * unit / UNIT))
     draw_lanes(axes, lanes, end, (LEFT - 0.15) / (width - LEFT - RIGHT))
     drawn = draw_power(axes, spans, 0.0, lanes.bottom)
-    drawn += draw_marks(axes, spans, lanes, size) if layout is not None else draw_fates(axes, spans, lanes, size)
+    drawn += draw_marks(axes, spans, lanes, size)
     tampered = draw_tampering(axes, spans, lanes, layout, size)
     draw_commands(axes, spans, labels, 0.0)
     draw_axis(axes, spans, width)

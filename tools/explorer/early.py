@@ -8,11 +8,11 @@ from dataclasses import dataclass, field, replace
 from typing import Dict, Generic, Iterator, List, Optional, Sequence, Set, Tuple, TypeVar
 
 from .errors import ExploreError
+from .package import LINE_BYTES, PORTS
 from .program import Recording, Reply
 from .rows import FENCES, FLUSHES, STORES, Event, Rows
-from .symbols import LINE_BYTES
 from .trace import TAMPERING_WORDS, Command
-from .waiting import PORTS, port_of, write_of
+from .waiting import port_of, write_of
 
 WORD_BYTES = 8
 

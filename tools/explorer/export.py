@@ -5,8 +5,7 @@ from typing import Callable, Dict, Iterator, Tuple
 from .accesses import LINE, LOOK
 from .errors import WRONG_WORDS, ExploreError
 from .logged import LoggedRecording
-
-LINE_BYTES = 64
+from .package import LINE_BYTES
 
 # A line of each simulator's trace, of whether it writes, its address, and the cycle from which on it may begin.
 FORMATS: Dict[str, Callable[[bool, int, int], str]] = {

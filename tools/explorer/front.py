@@ -2,7 +2,7 @@
 from collections import OrderedDict
 from typing import Callable, Dict, Iterator, List, Optional, Tuple
 
-from .symbols import LINE_BYTES
+from .package import LINE_BYTES
 
 # What reaches memory: a line, and of a write its first byte and its bytes; of a read no bytes.
 Reaching = Tuple[int, int, Optional[bytes]]

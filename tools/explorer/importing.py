@@ -11,11 +11,12 @@ from .convert import converted
 from .errors import ExploreError, reason_of
 from .front import Combining, Front, Reaching, Straight, WriteBackCache
 from .output import plural, table_text
+from .package import LINE_BYTES
 from .readers import (CHANGED, CHUNK_BYTES, FENCE, FLUSH, INSTRUCTION, KINDS, LOAD, MARK, NTSTORE, STORE, WRITES, Access, Chunks, Wanted,
                       check_lackey_file, lackey_head, lackey_pages)
 from .rows import clean, row_text
 from .settings import LEVELS
-from .symbols import LINE_BYTES, lines_at
+from .symbols import lines_at
 from .together import Progress
 from .trace import commands_of, read_whole, shown_name
 

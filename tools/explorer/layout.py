@@ -3,14 +3,11 @@ from bisect import bisect_right
 from dataclasses import dataclass
 from typing import Dict, List, Sequence, Tuple, Union
 
-from .machines import LINES_OF_PAGE
+from . import package
+from .package import COUNTER_SHADOW, COUNTERS, DATA, LINES_OF_PAGE, NODE_SHADOW, NODES, SLOTS, TAGS, TAGS_OF_LINE
 from .settings import Settings
 
 CHIP = "chip"
-DATA = "data lines"
-TAGS = "tag lines"
-COUNTERS = "counter blocks"
-NODES = "tree nodes"
 SHADOWS = "shadow tables"
 PARTS = (DATA, TAGS, COUNTERS, NODES, SHADOWS)
 
@@ -32,31 +29,32 @@ class Place:
 
 
 class Layout:
-    """The place of each part of the device of `run`, `wear` and `txn`. Without shadow tables there is nothing behind the counter blocks."""
+    """The names of the lines of the device of `run`, `wear` and `txn`. Without shadow tables there is nothing behind the counter blocks."""
 
     def __init__(self, settings: Settings) -> None:
         self.parts = PARTS if settings.has_tables else PARTS[:-1]
         self.machine_name = settings.machine_name
         self.own_lines = settings.data_lines
         self.levels = settings.levels
-        self.pages = 1 << 2 * self.levels
-        self.data_lines = LINES_OF_PAGE * self.pages
-        self.first_tag = self.data_lines
-        self.first_meta = 80 * self.pages
-        self.nodes = (self.pages - 1) // 3
-        self.meta_lines = self.nodes + self.pages
-        slots = settings.sets * settings.ways if settings.has_tables else 0
-        self.first_counter_shadow = self.first_meta + self.meta_lines
-        self.first_node_shadow = self.first_counter_shadow + (slots + 15) // 16
-        self.size = self.first_node_shadow + (self.levels * slots + 15) // 16
+        layout = package.Layout(settings.levels, settings.sets, settings.ways, settings.has_tables)
+        places = layout.parts
+        self.pages = layout.pages
+        self.data_lines = len(places[DATA])
+        self.first_tag = places[TAGS].start
+        self.first_meta = places[NODES].start
+        self.nodes = len(places[NODES])
+        self.meta_lines = self.nodes + len(places[COUNTERS])
+        self.first_counter_shadow = places[COUNTER_SHADOW].start
+        self.first_node_shadow = places[NODE_SHADOW].start
+        self.size = places[NODE_SHADOW].stop
 
     def place(self, line: int) -> Place:
         """What device line `line` is."""
         if line < self.first_tag:
             return Place(line, DATA, self.data_name(line))
         if line < self.first_meta:
-            first = 4 * (line - self.first_tag)
-            return Place(line, TAGS, f"tag line of {first} to {first + 3}")
+            first = TAGS_OF_LINE * (line - self.first_tag)
+            return Place(line, TAGS, f"tag line of {first} to {first + TAGS_OF_LINE - 1}")
         if line < self.first_meta + self.nodes:
             return Place(line, NODES, f"node {line - self.first_meta}")
         if line < self.first_counter_shadow:
@@ -78,7 +76,7 @@ class Layout:
 
     def tag_line(self, data_line: int) -> int:
         """The device line that has the tag of a data line."""
-        return self.first_tag + data_line // 4
+        return self.first_tag + data_line // TAGS_OF_LINE
 
     def path(self, page: int) -> List[int]:
         """The device lines of a page's counter block and of the nodes above it."""
@@ -93,7 +91,7 @@ class Layout:
         """The data lines of a page and their tag lines."""
         first = LINES_OF_PAGE * page
         data = range(first, first + LINES_OF_PAGE)
-        return [*data, *range(self.tag_line(first), self.tag_line(first) + LINES_OF_PAGE // 4)]
+        return [*data, *range(self.tag_line(first), self.tag_line(first) + LINES_OF_PAGE // TAGS_OF_LINE)]
 
     def shadow_lines(self) -> List[int]:
         """The device lines of both shadow tables."""
@@ -108,17 +106,18 @@ class Layout:
 
 
 class TreeLayout:
-    """The place of each part of the device of `tree`. Its counters are those of its nodes."""
+    """The names of the lines of the device of `tree`. Its counters are those of its nodes."""
 
     parts = (DATA, TAGS, NODES, SHADOWS)
 
     def __init__(self, settings: Settings) -> None:
-        self.data_lines = settings.data_lines
-        self.first_node = 2 * self.data_lines
-        self.nodes = (self.data_lines - 1) // 3
-        self.first_slot = self.first_node + self.nodes
-        self.slots = 1 + settings.levels * settings.sets
-        self.size = self.first_slot + self.slots
+        places = package.TreeLayout(settings.levels, settings.sets).parts
+        self.data_lines = len(places[DATA])
+        self.first_node = places[NODES].start
+        self.nodes = len(places[NODES])
+        self.first_slot = places[SLOTS].start
+        self.slots = len(places[SLOTS])
+        self.size = places[SLOTS].stop
 
     def place(self, line: int) -> Place:
         """What device line `line` is."""

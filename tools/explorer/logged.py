@@ -8,7 +8,7 @@ from typing import Dict, List, Optional, Sequence, Tuple
 
 from .accesses import LATCHED, LINE, LOOK
 from .errors import ExploreError
-from .program import MARKS, REFUSED, Output, Program, Recording, Reply, ends_of
+from .program import LOG, MARKS, Output, Program, Recording, Reply, ends_of
 from .settings import Settings
 from .trace import Trace
 
@@ -36,13 +36,10 @@ class LoggedProgram(Program):
 
     def start(self, settings: Settings, environment: Optional[Dict[str, str]] = None,
               *more: str) -> "subprocess.Popen[bytes]":
-        return super().start(settings, environment, *more, "--log")
+        return super().start(settings, environment, *more, LOG)
 
     def check(self, output: Output, settings: Settings) -> None:
-        if (output.status, output.data) == REFUSED:
-            raise ExploreError(f"{self.path} does not tell what the commands of {settings.machine_name} do to the device: it "
-                               f"refuses {' '.join([*settings.words(), '--log'])}")
-        super().check(output, settings)
+        self.check_logged(output, settings)
 
 
 def entries_of(data: bytes, path: str) -> List[Entry]:

@@ -3,7 +3,7 @@ TREE_MACHINE.md have their commands."""
 from dataclasses import dataclass
 from typing import Dict, FrozenSet, List, Tuple
 
-LINES_OF_PAGE = 64
+from .package import LINES_OF_PAGE, TAKEN
 
 
 @dataclass(frozen=True)
@@ -12,7 +12,7 @@ class Machine:
 
     `stepping`: the commands that may take persist steps. `writes`: those that put lines into memory, when they are done.
     `names`: which word of a command names a line of memory. `tampers`: which word names the device line that is changed.
-    `recovery`: what `on` prints after a successful recovery. `options`: those that it takes.
+    `recovery`: what `on` prints after a successful recovery.
     """
 
     name: str
@@ -21,7 +21,11 @@ class Machine:
     names: Dict[str, int]
     tampers: Dict[str, int]
     recovery: Tuple[str, ...]
-    options: Tuple[str, ...]
+
+    @property
+    def options(self) -> Tuple[str, ...]:
+        """The options that it takes, as fields of `Settings`."""
+        return OPTIONS_OF[self.name]
 
     @property
     def has_counts(self) -> bool:
@@ -44,20 +48,17 @@ class Machine:
         return b"read %d %d" % (port, line) if self.has_ports else b"read %d" % line
 
 
-# The options of a persistence policy, and those of the write queues. They are passed on only if they aren't the defaults.
-POLICY = ("persist", "shadow")
-QUEUES = ("queue", "combine")
-HASH_TREE = ("levels", "sets", "ways", "loss", "major", "suite", "key", "tag_key", *POLICY)
+OPTIONS_OF: Dict[str, Tuple[str, ...]] = {name: tuple(option.replace("-", "_") for option in options) for name, options in TAKEN.items()}
 
 RUN = Machine("run", frozenset(("drain", "fence", "read", "turn", "flush", "on", "loss")), frozenset(("drain", "fence")),
               {"post": 2, "part": 2, "read": 2}, {"poke": 1, "flip": 1, "move": 2, "back": 1},
-              ("trials", "digests", "steps"), (*HASH_TREE, *QUEUES))
+              ("trials", "digests", "steps"))
 WEAR = Machine("wear", frozenset(("write", "read", "on")), frozenset(("write",)), {"write": 1, "read": 1}, {},
-               ("start", "gap", "steps"), (*HASH_TREE, "every"))
+               ("start", "gap", "steps"))
 TXN = Machine("txn", frozenset(("commit", "read", "on")), frozenset(("commit",)), {"put": 1, "read": 1}, {},
-              ("redone", "steps"), HASH_TREE)
+              ("redone", "steps"))
 TREE = Machine("tree", frozenset(("write", "read", "on")), frozenset(("write",)), {"write": 1, "read": 1},
-               {"poke": 1, "back": 1}, ("digests", "steps"), ("levels", "sets", "suite", "key", "tag_key"))
+               {"poke": 1, "back": 1}, ("digests", "steps"))
 
 MACHINES: Dict[str, Machine] = {machine.name: machine for machine in (RUN, WEAR, TXN, TREE)}
 MACHINE_NAMES: List[str] = list(MACHINES)

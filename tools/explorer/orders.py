@@ -12,10 +12,11 @@ from .early import Chain, Moments, Part
 from .early import Moment as StoreMoment
 from .errors import WRONG_WORDS, ExploreError
 from .output import table_text
+from .package import PORTS
 from .program import Question, Recording
 from .rows import Event
 from .trace import TAMPERING_WORDS
-from .waiting import PORTS, Write, port_of, write_of
+from .waiting import Write, port_of, write_of
 
 Item = TypeVar("Item")
 NOT_MODELLED = ("not modelled: the order of several processors' stores, and whether a store of more than 8 bytes reaches memory whole "

@@ -7,9 +7,10 @@ from typing import Any, Dict, List, Optional, Sequence, Tuple
 from .cuts import Cut, Readings, Stored, all_cuts, cut_record, flat_record, heads_of, row_of
 from .checks import reasons
 from .output import csv_text, plural, table_text
+from .package import LINE_BYTES
 from .program import Recording
 from .rows import Event
-from .symbols import LINE_BYTES, Names
+from .symbols import Names
 from .trace import short_text, shown_path, told_line
 from .verdicts import ERROR, WRONG, Outcome, Verdict
 

@@ -17,6 +17,7 @@ WITHOUT_STEPS = ("off", "range", "empty", "idle", "clean", "already", "closed")
 STATUS_EXHIBIT = 6
 MOST_LINES = 1_000_000
 REFUSED = (2, b"stop words\n")
+LOG = "--log"
 
 
 @dataclass(frozen=True)
@@ -162,7 +163,6 @@ class Program:
 
     def __init__(self, path: str) -> None:
         self.path = path
-        self.has_log: Dict[str, bool] = {}
 
     def start(self, settings: Settings, environment: Optional[Dict[str, str]] = None,
               *more: str) -> "subprocess.Popen[bytes]":
@@ -186,20 +186,21 @@ class Program:
         self.check(output, settings)
         return output
 
-    def logged(self, script: bytes, settings: Settings) -> Optional[bytes]:
-        """What the program prints on this trace with the log of each command; None if it refuses that option of this
-        machine, as older programs do."""
-        name = settings.machine_name
-        if self.has_log.get(name, True):
-            output = Output(*talk(self.start(settings, None, "--log"), script))
-            self.has_log[name] = (output.status, output.data) != REFUSED
-            if self.has_log[name]:
-                self.check(output, settings)
-                return output.data
-        return None
+    def logged(self, script: bytes, settings: Settings) -> bytes:
+        """What the program prints on this trace with the log of each command."""
+        output = Output(*talk(self.start(settings, None, LOG), script))
+        self.check_logged(output, settings)
+        return output.data
+
+    def check_logged(self, output: Output, settings: Settings) -> None:
+        """Reports what is wrong if a run with the log didn't answer to its end."""
+        if (output.status, output.data) == REFUSED:
+            raise ExploreError(f"{self.path} does not tell what the commands of {settings.machine_name} do to the device: it "
+                               f"refuses {' '.join([*settings.words(), LOG])}")
+        Program.check(self, output, settings)
 
     def check(self, output: Output, settings: Settings) -> None:
-        """Tells what is wrong if a run didn't answer to its end."""
+        """Reports what is wrong if a run didn't answer to its end."""
         status, data = output.status, output.data
         if status in (0, STATUS_EXHIBIT):
             return

@@ -77,9 +77,9 @@ def ranges_of(cuts: Sequence[Cut], recording: Recording, verdict_of: Optional[Ca
     return [Range(tuple(group), since(group[0], told), verdict_of(group[0]) if verdict_of else "") for group in groups]
 
 
-def since(cut: Cut, told: Optional[Sequence[Traced]]) -> str:
-    """The step that comes just before a cut; nothing if the program doesn't report it."""
-    if told is None or cut.command is None:
+def since(cut: Cut, told: Sequence[Traced]) -> str:
+    """The step that comes just before a cut; nothing at the end of the trace."""
+    if cut.command is None:
         return ""
     return step_text(told[cut.index].steps, cut.number - 1) if cut.number else START
 

@@ -4,7 +4,8 @@ import re
 from dataclasses import dataclass, replace
 from typing import Dict, List, Optional, Set
 
-from .symbols import LINE_BYTES, Names
+from .package import LINE_BYTES
+from .symbols import Names
 from .trace import Trace, printable
 
 STORES = ("store", "ntstore", "changed")

@@ -1,21 +1,27 @@
 """The machine and its options, as they are passed on to the program."""
 from dataclasses import dataclass, fields, replace
-from typing import Any, Dict, List
+from typing import Any, Dict, List, Tuple
 
 from .errors import WRONG_WORDS, ExploreError
-from .machines import MACHINES, POLICY, QUEUES, Machine
+from .machines import MACHINES, Machine
+from .package import OPTIONS, POLICY, QUEUES, default_number, default_text, most_persisted
 
-LEVELS = range(1, 7)
-SETS = range(1, 65)
-WAYS = range(1, 9)
-LOSSES = (1, 2, 4, 8, 16)
-SUITES = ("aes", "weak", "blur")
-EVERY = range(1, 1_000_001)
-# A line of a hash tree of k levels has a path of k + 1 lines: its counter block and k nodes.
-PERSISTED = range(0, LEVELS[-1] + 2)
-SHADOWS = ("on", "off")
-QUEUE_KINDS = ("volatile", "durable")
-COMBINING = ("off", "on")
+
+def numbers_of(name: str) -> range:
+    """The numbers that an option takes."""
+    numbers = OPTIONS[name].numbers
+    assert numbers is not None
+    return numbers
+
+
+def words_of(name: str) -> Tuple[str, ...]:
+    """The words that an option takes."""
+    return tuple(map(str, OPTIONS[name].choices))
+
+
+LEVELS, SETS, WAYS, EVERY, PERSISTED = map(numbers_of, ("levels", "sets", "ways", "every", "persist"))
+SUITES, SHADOWS, QUEUE_KINDS, COMBINING = map(words_of, ("suite", "shadow", "queue", "combine"))
+LOSSES = tuple(map(int, words_of("loss")))
 # The options that are passed on only if they aren't the defaults.
 LATER = (*POLICY, *QUEUES)
 
@@ -25,20 +31,20 @@ class Settings:
     """What a run is set up with. The defaults are the program's. `design` is the name that a comparison gives these settings, if it isn't
     the machine's."""
 
-    levels: int = 2
-    sets: int = 4
-    ways: int = 2
-    loss: int = 4
-    major: int = 0
-    suite: str = "aes"
-    key: str = ""
-    tag_key: str = ""
-    every: int = 100
+    levels: int = default_number("levels")
+    sets: int = default_number("sets")
+    ways: int = default_number("ways")
+    loss: int = default_number("loss")
+    major: int = default_number("major")
+    suite: str = default_text("suite")
+    key: str = default_text("key")
+    tag_key: str = default_text("tag-key")
+    every: int = default_number("every")
     machine_name: str = "run"
-    persist: int = 0
-    shadow: str = "on"
-    queue: str = "volatile"
-    combine: str = "off"
+    persist: int = default_number("persist")
+    shadow: str = default_text("shadow")
+    queue: str = default_text("queue")
+    combine: str = default_text("combine")
     design: str = ""
 
     @property
@@ -66,8 +72,9 @@ class Settings:
             if field.name not in (*self.machine.options, "machine_name", "design") and getattr(self, field.name) != field.default:
                 raise ExploreError(f"pmem {self.machine_name} has no option --{field.name.replace('_', '-')}",
                                    WRONG_WORDS)
-        if self.persist > self.levels + 1:
-            raise ExploreError(f"--persist {self.persist} is more than the {self.levels + 1} lines of a path with {self.levels} levels: "
+        most = most_persisted(self.levels)
+        if self.persist > most:
+            raise ExploreError(f"--persist {self.persist} is more than the {most} lines of a path with {self.levels} levels: "
                                "its counter block and a node for each level", WRONG_WORDS)
 
     @property
@@ -83,7 +90,7 @@ class Settings:
     @property
     def lazy_levels(self) -> int:
         """How many levels of a path are persisted later than the write that changes them: the highest ones."""
-        return self.levels + 1 - self.persist
+        return most_persisted(self.levels) - self.persist
 
     def policy(self) -> Dict[str, Any]:
         """The options of the persistence policy and of the queues that aren't the defaults."""

@@ -120,12 +120,8 @@ class Session:
         if not self.with_steps:
             return
         for number, step in enumerate(traced.steps, 1):
-            if traced.fates:
-                break
             mark = "   <- break: `cut here` cuts power before it" if number - 1 == stopped else ""
             self.say(f"      step {number}  {step.text}{mark}")
-        for fate in traced.fates:
-            self.say(f"      a cut after {fate.text}")
 
     def cut_here(self, words: List[str]) -> None:
         """The last command again, with a cut."""
@@ -176,9 +172,6 @@ class Session:
 
     def set_break(self, words: List[str]) -> None:
         """Sets a break, takes them all away, or lists them."""
-        program = self.together.program
-        if not self.settings.machine.has_counts and program.logged(b"", self.settings) is None:
-            raise ExploreError(f"{program.path} has no option --log of {self.settings.machine_name}, so there are no breaks")
         if words == ["off"]:
             self.breaks.clear()
         elif words:

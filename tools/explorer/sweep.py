@@ -6,9 +6,10 @@ from typing import Any, Dict, List, Optional, Sequence, Tuple
 from .accesses import LINE, LOOK
 from .cuts import Recovery
 from .errors import ExploreError
-from .layout import COUNTERS, NODES, PARTS, Parts, layout_of
+from .layout import PARTS, Parts, layout_of
 from .logged import Entry, entries_of
 from .output import csv_text, json_text, latex_text, table_text
+from .package import COUNTERS, NODES
 from .program import MOST_LINES, Counts, Output, Recording, Reply, Run, check_length, counts_of, first_word, replies_of, text_of
 from .settings import LATER, Settings
 from .together import Together
@@ -56,11 +57,9 @@ class Cost:
     recovery: Optional[Recovery]
     end: str
     commands: int
-    has_counts: bool = True
 
     def record(self, with_policy: bool = False) -> Dict[str, Any]:
-        """The numbers by name, in the order of `FIELDS` and `MORE_FIELDS`, and with the policy of `LATER`. What a machine lacks, or doesn't
-        show, is None."""
+        """The numbers by name, in the order of `FIELDS` and `MORE_FIELDS`, and with the policy of `LATER`. What a machine lacks is None."""
         writes, reads = self.writes, self.reads
         recovery = {}
         if self.recovery is not None and self.recovery.numbers is not None:
@@ -69,7 +68,7 @@ class Cost:
         values: List[Any] = [
             *(geometry.get(name) for name in NUMBERS), writes.done, reads.done, self.out_of_range,
             rounded(writes.mean(writes.steps)),
-            *(rounded(value) if self.has_counts else None for value in (
+            *(rounded(value) for value in (
                 writes.mean(self.line_writes), writes.mean(writes.metadata_reads), writes.mean(writes.digests),
                 reads.mean(reads.metadata_reads), reads.mean(reads.digests))),
             self.recovery.answer if self.recovery else None,
@@ -130,13 +129,12 @@ def cost_of(settings: Settings, commands: Sequence[Command], replies: Sequence[R
     return Cost(settings, writes, reads, line_writes, 0, None, "", len(commands))
 
 
-def cost_by_replies(settings: Settings, commands: Sequence[Command], replies: Sequence[Reply],
-                    log: Optional[Sequence[Entry]] = None) -> Cost:
-    """The costs of a run of a machine that doesn't show its counts, with those from its log, if it has one. A transaction's
-    costs are those of all its lines."""
+def cost_by_log(settings: Settings, commands: Sequence[Command], log: Sequence[Entry]) -> Cost:
+    """The costs of a run of a machine that doesn't show its counts, from its log. A transaction's costs are those of all its lines."""
     writes, reads, waiting, line_writes = Tally(), Tally(), Waiting(), 0
     parts = Parts(layout_of(settings))
-    for number, (command, reply) in enumerate(zip(commands, replies)):
+    for command, entry in zip(commands, log):
+        reply = entry.reply
         word = first_word(reply.answer)
         tally: Optional[Tally] = None
         if command.word in settings.machine.writes and word in ("ok", "held"):
@@ -147,15 +145,12 @@ def cost_by_replies(settings: Settings, commands: Sequence[Command], replies: Se
             tally = reads
         if tally is not None:
             tally.steps += reply.steps or 0
-        if log is not None:
-            accesses = log[number].accesses
-            if tally is not None:
-                tally.digests += log[number].digests
-                tally.metadata_reads += sum(word == LOOK and parts.of(line) in METADATA for word, line in accesses)
-            if command.word != "on" and not reply.is_cut:
-                line_writes += sum(word == LINE for word, _ in accesses)
+            tally.digests += entry.digests
+            tally.metadata_reads += sum(word == LOOK and parts.of(line) in METADATA for word, line in entry.accesses)
+        if command.word != "on" and not reply.is_cut:
+            line_writes += sum(word == LINE for word, _ in entry.accesses)
         waiting.go_on(command, reply)
-    return Cost(settings, writes, reads, line_writes, 0, None, "", len(commands), log is not None)
+    return Cost(settings, writes, reads, line_writes, 0, None, "", len(commands))
 
 
 def script_of(settings: Settings, commands: Sequence[Command]) -> List[bytes]:
@@ -166,17 +161,18 @@ def script_of(settings: Settings, commands: Sequence[Command]) -> List[bytes]:
     return [*script, b"off", b"on"]
 
 
-def cost_in(output: Output, settings: Settings, commands: Sequence[Command], logged_by: Optional[str] = None) -> Cost:
-    """What a trace costs, as the output of its script shows; `logged_by`: the program that printed its log in it."""
-    log = entries_of(output.data, logged_by) if logged_by is not None else None
-    replies = replies_of(output.lines) if log is None else [entry.reply for entry in log]
+def cost_in(output: Output, settings: Settings, commands: Sequence[Command], path: str) -> Cost:
+    """What a trace costs, as the output of its script shows: with the log of a machine that doesn't show its counts."""
     count = len(script_of(settings, commands)) - 2
     if settings.machine.has_counts:
+        replies = replies_of(output.lines)
         answered = replies[1:count:2]
         cost = cost_of(settings, commands, answered, [counts_of(reply.answer) for reply in replies[:count:2]])
     else:
+        log = entries_of(output.data, path)
+        replies = [entry.reply for entry in log]
         answered = replies[:count]
-        cost = cost_by_replies(settings, commands, answered, log)
+        cost = cost_by_log(settings, commands, log[:count])
     out_of_range = sum(reply.answer == "range" for reply in answered)
     recovery = Recovery(replies[-1].answer, settings.machine.recovery) if len(replies) == count + 2 else None
     end = first_word(replies[-1].answer) if replies and replies[-1].is_exhibit else "end"
@@ -200,10 +196,9 @@ def trace_sweep(trace: Trace, settings: Sequence[Settings], together: Together) 
                            f"a trace has at most {MOST_LINES:,}")
     commands = Recording(together.program, settings[0], trace).commands
     runs = [Run(text_of(script_of(each, commands)), each) for each in settings]
-    logged_by: Optional[str] = None
-    if not settings[0].machine.has_counts and together.program.logged(b"", settings[0]) is not None:
-        together, logged_by = together.with_log(), together.program.path
-    return [cost_in(output, each, commands, logged_by) for output, each in zip(together.runs(runs, "settings"), settings)]
+    if not settings[0].machine.has_counts:
+        together = together.with_log()
+    return [cost_in(output, each, commands, together.program.path) for output, each in zip(together.runs(runs, "settings"), settings)]
 
 
 def cell(value: Any) -> str:

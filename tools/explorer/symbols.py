@@ -6,9 +6,9 @@ from dataclasses import dataclass
 from typing import List, Optional, Sequence, Tuple
 
 from .errors import ExploreError
+from .package import LINE_BYTES
 from .trace import Trace, read_bytes, shown_name
 
-LINE_BYTES = 64
 LINES_AT = re.compile(rb"# lines? ([0-9]{1,9})(?: to ([0-9]{1,9}))? (?:is|are) at (0x[0-9a-f]{1,16})")
 
 # Names of C++ are longer than those of C.

@@ -294,7 +294,6 @@ class Together:
         self.why_from_start = "it is so chosen" if from_start else ""
         self.library: Optional[str] = None
         self.is_told = from_start
-        self.is_log_missed = False
 
     def with_log(self) -> "Together":
         """The same, of the program that prints its log in all runs."""

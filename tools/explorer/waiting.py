@@ -2,11 +2,9 @@
 from dataclasses import dataclass, field
 from typing import Dict, List, Sequence, Set, Tuple
 
+from .package import LINE_BYTES, PORTS
 from .program import Reply
-from .symbols import LINE_BYTES
 from .trace import Command, number_of
-
-PORTS = 8
 
 # A write that waits: its port, the line of memory, and the line of the trace that posted it.
 Write = Tuple[int, int, int]

@@ -81,9 +81,11 @@ def _make(words: argparse.Namespace) -> None:
         _note_other_sources()
     words.out.mkdir(parents=True, exist_ok=True)
     if is_native or not portable.is_made(compiler, words.out):
+        # Before anything is read: if a file changes while the libraries are made, they are made again next time.
+        key = "native" if is_native else portable.key(compiler)
         with tempfile.TemporaryDirectory(prefix="pmem-library-") as folder:
             (native if is_native else portable).link(compiler, Path(folder))
-            (Path(folder) / portable.KEY).write_text("native" if is_native else portable.key(compiler), encoding="ascii")
+            (Path(folder) / portable.KEY).write_text(key, encoding="ascii")
             for name in (*names, portable.KEY):
                 shutil.copyfile(Path(folder) / name, words.out / f"{name}.new")
                 os.replace(words.out / f"{name}.new", words.out / name)

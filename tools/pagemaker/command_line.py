@@ -14,6 +14,7 @@ from portablemaker.wasm import WasmError
 from .assemble import PageError, assembled, element_of, kept, packed, unpacked
 from .site import write_site
 from .sources import PAGE, TOP
+from .table import TABLE, table_differs, table_text
 
 MOST_BYTES = 1_500_000
 # What the page calls of the module.
@@ -23,14 +24,19 @@ HELP = """\
 Makes page/pmem.html, one file that runs the proved program in a browser, of page/src, the lessons, the examples and module/pmem.wasm."""
 
 
+def write_file(path: str, text: str) -> None:
+    """Writes a file, whole or not at all."""
+    with open(f"{path}.new", "w", encoding="utf-8") as file:
+        file.write(text)
+    os.replace(f"{path}.new", path)
+
+
 def write(page: str) -> None:
     """Writes the page."""
     size = len(page.encode())
     if size > MOST_BYTES:
         raise PageError(f"the page has {size} bytes, more than {MOST_BYTES}")
-    with open(f"{PAGE}.new", "w", encoding="utf-8") as file:
-        file.write(page)
-    os.replace(f"{PAGE}.new", PAGE)
+    write_file(PAGE, page)
     print(f"page/pmem.html: {size} bytes")
 
 
@@ -77,7 +83,7 @@ def module_differs() -> List[str]:
 def work(options: argparse.Namespace) -> int:
     """Does what the words say."""
     if options.check:
-        found = page_differs() + module_differs()
+        found = table_differs() + page_differs() + module_differs()
         print("\n".join(found) if found else "page/pmem.html is what its sources and module/pmem.wasm make")
         return 1 if found else 0
     if options.site:
@@ -86,6 +92,7 @@ def work(options: argparse.Namespace) -> int:
         return 0
     if options.without_answers:
         raise PageError("--without-answers needs --site FOLDER: page/pmem.html has the answers")
+    write_file(TABLE, table_text())
     write(made_page())
     return 0
 

@@ -4,16 +4,17 @@ import os
 import re
 from typing import Any, Dict, List, Optional
 
+from explorer.package import OPTIONS
+
 from .markdown import How, html_of
 
 TOP = os.path.dirname(os.path.dirname(os.path.dirname(os.path.realpath(__file__))))
 PAGE = f"{TOP}/page/pmem.html"
 SOURCES = f"{TOP}/page/src"
 
-MODULES = ("dom", "trace", "options", "layout", "address", "variants", "goal", "engine", "bounded", "program", "device", "model", "reference",
-           "lanes", "view", "chip", "map", "compare", "lessons", "files", "app", "main")
-DEFAULTS = {"--levels": "2", "--sets": "4", "--ways": "2", "--loss": "4", "--major": "0", "--suite": "aes", "--key": "", "--tag-key": "",
-            "--every": "100", "--persist": "0", "--shadow": "on", "--queue": "volatile", "--combine": "off"}
+MODULES = ("dom", "trace", "table", "options", "layout", "address", "variants", "goal", "engine", "bounded", "program", "device", "model",
+           "reference", "lanes", "view", "chip", "map", "compare", "lessons", "files", "app", "main")
+DEFAULTS = {f"--{name}": str(option.default) for name, option in OPTIONS.items()}
 # The folders of lessons, and what the ids of their lessons begin with.
 PREFIXES = {"first/": "first-", "": "", "exercises/": "exercise-"}
 EXAMPLES = (("first", "run", "A write waits until it is drained"), ("power_cut", "run", "Power cuts"), ("attack", "run", "An attack"),

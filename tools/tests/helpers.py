@@ -2,6 +2,7 @@
 import ctypes
 import json
 import os
+import shutil
 import subprocess
 import sys
 import tempfile
@@ -103,18 +104,26 @@ class ExploreTest(unittest.TestCase):
         os.chmod(path, 0o755)
         return path
 
-    def need_logs(self) -> None:
-        """Skips a test if the program has no log of the machines other than `run`."""
-        need_log("wear", "txn", "tree")
-
-    def older_program(self) -> str:
-        """The program as it was before it had `--log`."""
-        path = self.file("older", f"""#!/bin/sh
+    def program_without_log(self) -> str:
+        """A program that refuses `--log`, and otherwise answers as the one that the tests ask."""
+        path = self.file("without_log", f"""#!/bin/sh
 for word in "$@"; do if [ "$word" = --log ]; then echo "stop words"; exit 2; fi; done
 exec '{os.path.abspath(program_path())}' "$@"
 """)
         os.chmod(path, 0o755)
         return path
+
+    def by_node(self, script: str, given: str, value: Any) -> Any:
+        """What a script answers, in JSON, that has the page's modules in `src` and a file of JSON with this value. Its argument is the program."""
+        node = shutil.which("node")
+        if node is None:
+            self.skipTest("node isn't there")
+        shutil.copytree(TOOLS.parent / "page" / "src", self.path("src"))
+        self.file("package.json", '{"type": "module"}')
+        self.file("script.mjs", script)
+        self.file(given, json.dumps(value))
+        said = subprocess.run([node, "script.mjs", os.path.abspath(program_path())], cwd=self.directory, stdout=subprocess.PIPE, check=True)
+        return json.loads(said.stdout)
 
     def explore(self, *words: str, text: Optional[str] = None, **variables: str) -> "subprocess.CompletedProcess[str]":
         """Runs `explore` on these words, with text on its standard input. If variables are given, Python is started with them."""
@@ -141,21 +150,6 @@ exec '{os.path.abspath(program_path())}' "$@"
         self.assertNotIn("Traceback", result.stderr)
         for text in texts:
             self.assertIn(text, result.stderr)
-
-
-@lru_cache(maxsize=None)
-def has_log(machine: str) -> bool:
-    """Whether the program that the tests ask prints the log of a machine."""
-    ran = subprocess.run([program_path(), machine, "--log"], stdin=subprocess.DEVNULL, stdout=subprocess.PIPE, stderr=subprocess.DEVNULL,
-                         check=False)
-    return ran.returncode == 0
-
-
-def need_log(*machines: str) -> None:
-    """Skips a test if the program has no log of these machines."""
-    missing = [machine for machine in machines if not has_log(machine)]
-    if missing:
-        raise unittest.SkipTest(f"the program has no --log of {', '.join(missing)}")
 
 
 def lesson_words(folder: Path) -> List[str]:

@@ -77,6 +77,7 @@ class BundleTest(unittest.TestCase):
         for name in ("bundle", "explorer"):
             (top / "tools").mkdir(exist_ok=True)
             shutil.copytree(TOOLS / name, top / "tools" / name) if name == "explorer" else shutil.copy(TOOLS / name, top / "tools" / name)
+        shutil.copytree(TOOLS.parent / "python" / "pmem", top / "python" / "pmem")
         for name, text in (("VERSION", "1.2.3\n"), ("README.md", "read\n"), ("docs/one.md", "one\n"), ("lib/libpmem.a", "a"),
                            ("lib/libpmem.so", "s")):
             (top / name).parent.mkdir(exist_ok=True)

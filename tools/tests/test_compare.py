@@ -7,7 +7,7 @@ import re
 from pathlib import Path
 from typing import Any, Dict, List
 
-from .helpers import EXAMPLES, ONES, QUICK, TOOLS, ExploreTest, need_log, program_path, words_of
+from .helpers import EXAMPLES, ONES, QUICK, TOOLS, ExploreTest, program_path, words_of
 
 import explorer
 from explorer import compare
@@ -89,7 +89,6 @@ class CountsTest(CompareCase):
         self.assertEqual(row["recovery_steps_mean"], round(sum(steps) / 12, 3))
 
     def test_wear(self) -> None:
-        need_log("wear")
         (row,) = self.rows(ONE, "--designs", "wear", "--every", "1", "--cuts", "0")
         # The line, the copy and the record are sealed, and the source is read. Page 15 is cached since the record was read.
         self.assert_counts(row, "total", steps=7 + 6 + 4, line_writes=11, writes_data=3, writes_tags=3, writes_shadow=3 + 2, latches=6,
@@ -98,7 +97,6 @@ class CountsTest(CompareCase):
         self.assertEqual((row["memory_lines"], row["recoveries"]), (1022, 18))
 
     def test_txn(self) -> None:
-        need_log("txn")
         (row,) = self.rows(ONE, "--designs", "txn", "--cuts", "0")
         # A body, the header, the line and the zero header.
         self.assert_counts(row, "total", steps=7 + 4 + 6 + 4, line_writes=13, writes_data=4, writes_tags=4, writes_shadow=3 + 2, latches=8,
@@ -107,7 +105,6 @@ class CountsTest(CompareCase):
         self.assertEqual((row["memory_lines"], row["recoveries"]), (1008, 22))
 
     def test_tree(self) -> None:
-        need_log("tree")
         (row,) = self.rows(SMALL, "--designs", "tree", "--cuts", "0")
         # Four nodes below the top are fetched; a write has a cipher, a tag line and five slot lines. The shadow tree has 4 levels.
         self.assert_counts(row, "total", steps=9 + 9, line_writes=14, writes_data=2, writes_tags=2, writes_shadow=10, latches=4,
@@ -202,16 +199,11 @@ class WorkloadTest(CompareCase):
         self.assertIn("persist steps & 5.50 \\\\\n", latex)
         self.assertIn("line writes & 3.50 \\\\\nof them data & 1.00 \\\\\n", latex)
 
-    def test_a_program_that_has_no_log(self) -> None:
-        result = self.explore("compare", "-", "--designs", "run", "--program", self.older_program(), text=ONE)
-        self.assert_fails(result, 1, "does not tell what the commands of run do to the device")
-
     def test_forks_and_runs_from_the_start_agree(self) -> None:
         words = ("compare", "-", "--designs", "run", "--cuts", "0")
         self.assertEqual(self.output(*words, text=SMALL), self.output(*words, "--from-start", text=SMALL))
 
     def test_one_database_on_all(self) -> None:
-        need_log("wear", "txn", "tree")
         trace = str(EXAMPLES / "database.trace")
         result = self.explore("compare", trace, "--json", "--cuts", "2", *words_of(QUICK))
         self.assertEqual(result.returncode, 0, result.stderr)

@@ -41,16 +41,11 @@ class PictureTest(ExploreTest):
             self.draw(f"{name}.svg", "--title", "$ a title $", text=(EXAMPLES / f"{name}.trace").read_text())
 
     def test_latches_by_what_they_do(self) -> None:
-        words = ("that arms the group", "that empties the group", "of the stop-loss number", "of the registers")
+        words = ("that arms the group", "that empties the group", "of the stop-loss number")
         for text, told in (("post 0 0 " + ONES + "\ncut 4\ndrain 0\n", words[:1]), (WRITE, words[:2]),
                            (WRITE + "loss 2\n", words[:3]), ("loss 2\n", words[2:3]), ("", ())):
             drawn = self.draw("latches.svg", "--suite", "weak", text=text).decode()
             self.assertEqual([each for each in words if f"<!-- latch {each} -->" in drawn], list(told))
-        result = self.explore("draw", "-", "-o", self.path("older.svg"), "--suite", "weak", "--program", self.older_program(), text=WRITE)
-        self.assertEqual(result.returncode, 0, result.stderr)
-        drawn = (self.directory / "older.svg").read_text()
-        self.assertIn("<!-- latch of the registers -->", drawn)
-        self.assertNotIn("<!-- latch that", drawn)
 
     def test_empty_trace_exhibit_and_some_lines(self) -> None:
         self.draw("empty.svg", text="")
@@ -79,20 +74,12 @@ class PictureTest(ExploreTest):
         self.assertIn(b"levels 1 (hollow): 2 of 5 commands name a place", self.draw("dropped.svg", text=sweep))
 
     def test_the_other_machines(self) -> None:
-        self.need_logs()
         for name, words, labels in (("wear", ("--every", "1"), ("record", "1022")), ("txn", (), ("header", "body 0")),
                                     ("tree", (), ("slot 0", "of 5"))):
             drawn = self.draw(f"{name}.svg", "--as", name, *words, text=(EXAMPLES / f"{name}.trace").read_text()).decode()
             for text in (*labels, "latch that arms the group"):
                 self.assertIn(f"<!-- {text} -->", drawn)
             self.assertEqual("<!-- counter blocks -->" in drawn, name != "tree")
-
-    def test_the_other_machines_by_a_program_without_a_log(self) -> None:
-        for name, words in (("wear", ("--every", "1")), ("txn", ()), ("tree", ())):
-            trace, picture = str(EXAMPLES / f"{name}.trace"), self.path(f"{name}.svg")
-            result = self.explore("draw", trace, "-o", picture, "--as", name, *words, "--program", self.older_program())
-            self.assertEqual(result.returncode, 0, result.stderr)
-            self.assertIn("<!-- a cut just before this step keeps the write -->", (self.directory / f"{name}.svg").read_text())
 
     def test_json_that_is_no_sweep(self) -> None:
         for text in ('{"settings": []}', '{"settings": [1]}', "{", '{"settings": [{"levels": 1}]}'):

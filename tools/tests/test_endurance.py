@@ -4,7 +4,7 @@ import io
 import json
 from typing import Any, Dict, List
 
-from .helpers import ONES, WRITE, ExploreTest, need_log
+from .helpers import ONES, WRITE, ExploreTest
 
 from explorer import endurance
 from explorer.settings import Settings
@@ -48,7 +48,6 @@ class EnduranceTest(ExploreTest):
         self.assert_fails(result, 2, "200000 times over, has 1,600,000 commands for run: a trace has at most 1,000,000 lines")
 
     def test_start_gap_under_an_attack_on_one_line(self) -> None:
-        need_log("wear")
         words = ("--levels", "1", "--every", "1")
         parts = self.parts(ATTACK, "--designs", "wear", *words)
         # Three moves copy places 253, 252 and 251 into the next ones; the record, line 255, is written with each of them.
@@ -59,7 +58,6 @@ class EnduranceTest(ExploreTest):
                          [("tag line of 252 to 255", 6), ("place 0", 3), ("the record", 3)])
 
     def test_slots_of_the_tree(self) -> None:
-        need_log("tree")
         parts = self.parts(FOUR, "--designs", "tree")
         self.assertEqual({part: (row["lines"], row["writes"], row["greatest"]) for part, row in parts.items()},
                          {"data": (1024, 4, 3), "tags": (1024, 4, 3), "tree": (341, 0, 0), "shadow": (17, 20, 4)})
@@ -123,7 +121,6 @@ class ExportTest(ExploreTest):
                                         "1 tags, 6 digests\n")
 
     def test_other_machines(self) -> None:
-        need_log("tree")
         lines = self.exported(f"write 5 {ONES}\n", "--to", "ramulator", "--as", "tree")
         self.assertEqual(lines[:3], ["0x2040 R", "0x2180 R", "0x140 W"])
 

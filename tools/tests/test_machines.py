@@ -1,5 +1,4 @@
 """`explore --as`: the machines other than `run`, and the documents' tables of what a cut leaves in them."""
-import json
 import re
 import subprocess
 import sys
@@ -26,7 +25,6 @@ class PagesTest(ExploreTest):
     """The tables of what a cut leaves are those that the commands above them print."""
 
     def test_tables_of_the_pages(self) -> None:
-        self.need_logs()
         for name in ("WEAR.md", "TXN.md", "TREE_MACHINE.md"):
             ((command, table),) = tables_in(DOCS / name)
             with self.subTest(name):
@@ -107,20 +105,14 @@ class MachinesTest(ExploreTest):
             for second in cut.get("cuts_of_recovery", []):
                 self.assertEqual(second["read_otherwise"], cut["read_otherwise"])
 
-    def test_steps_by_a_program_without_a_log_tell_what_cuts_leave(self) -> None:
-        words, text = ("--as", "txn", "--program", self.older_program()), TXN[0].format(*ONES_TWOS_THREES)
-        result = self.explore("steps", "-", *words, text=text)
-        self.assertIn("4  commit\n   > ok 30\n     cut after 0 to 11 of its steps: cut lost, then on 0\n"
-                      "     cut after 12 to 26 of its steps: cut kept, then on 2\n"
-                      "     cut after 27 to 29 of its steps: cut kept, then on 0\n4 commands, 30 persist steps\n", result.stdout)
-        self.assertIn("which device line a step writes is not known", result.stdout)
-        self.assertEqual((result.returncode, result.stderr.count("\n")), (0, 1))
-        self.assertIn("has no option --log of txn, so which device line a step writes is not known\n", result.stderr)
-        commands = json.loads(self.explore("steps", "-", *words, "--json", text=text).stdout)
-        self.assertEqual([step["cut_before"] for step in commands[3]["steps"]], ["lost"] * 12 + ["kept"] * 18)
+    def test_cuts_of_a_commit(self) -> None:
+        cuts = self.json("cuts", "-", "--as", "txn", "--lines", "4", text=TXN[0].format(*ONES_TWOS_THREES))
+        self.assertEqual([(cut["answer"], cut["recovery"].split(" ")[:2]) for cut in cuts if cut["command"] == "commit"],
+                         [*((f"cut lost {number}", ["on", "0"]) for number in range(12)),
+                          *((f"cut kept {number}", ["on", "2"]) for number in range(12, 27)),
+                          *((f"cut kept {number}", ["on", "0"]) for number in range(27, 30))])
 
     def test_steps_by_the_log(self) -> None:
-        self.need_logs()
         text = self.output("steps", "-", "--as", "txn", text=TXN[0].format(*ONES_TWOS_THREES))
         self.assertIn("     step 12  latch: arms a group of 2 lines\n     step 13  line 1008: the header\n"
                       "     step 14  line 1276: tag line of 1008 to 1011\n     step 15  latch: empties the group\n", text)
@@ -139,7 +131,6 @@ class MachinesTest(ExploreTest):
         self.assertEqual(write["answer"], "ok 7")
 
     def test_the_log_has_the_steps_of_each_answer(self) -> None:
-        self.need_logs()
         for name, words in (("wear", ("--every", "1")), ("txn", ()), ("tree", ())):
             commands = self.json("steps", "-", "--as", name, *words, "--reads", text=self.example(name))
             self.assertTrue(any(command["reads"] for command in commands))
@@ -160,7 +151,6 @@ class MachinesTest(ExploreTest):
         self.assertEqual(len(text.splitlines()), 3)
 
     def test_sweeps_count_in_the_log(self) -> None:
-        self.need_logs()
         for machine, (trace, words, _, _) in (("wear", WEAR), ("txn", TXN), ("tree", TREE)):
             with self.subTest(machine):
                 text = trace.format(*ONES_TWOS_THREES) + "read 5\nread 60\n"
@@ -177,9 +167,6 @@ class MachinesTest(ExploreTest):
                                      round(sum(command["digests"] for command in asked) / done, 3))
                 lines = sum(step["kind"] == "write" for command in commands for step in command["steps"])
                 self.assertEqual(record["write_amplification"], round(lines / record["writes"], 3))
-        words = ("sweep", "-", "--as", "txn", "--json", "--program", self.older_program())
-        (record,) = json.loads(self.explore(*words, text=TXN[0].format(*ONES_TWOS_THREES)).stdout)["settings"]
-        self.assertEqual((record["writes"], record["steps_per_write"], record["write_amplification"]), (2, 15, None))
 
     def test_options_that_a_machine_has_not(self) -> None:
         for words in (("--as", "tree", "--ways", "4"), ("--as", "tree", "--loss", "1"), ("--every", "5"),

@@ -2,9 +2,7 @@
 rules does (agreed.txt). The ways are the program itself, the script, the explorer, the Python package, the library, and the page's model in
 node. What each tool keeps of the queues is what the program still has in them."""
 import hashlib
-import json
 import os
-import shutil
 import subprocess
 import sys
 import unittest
@@ -175,18 +173,6 @@ class PathsTest(ExploreTest):
             with opened(each.trace.words, through) as session:
                 told = [session.tell(line) for line in each.trace.commands[:len(output.replies)]]
             self.is_answered(each, 6 if session.is_over else 0, "".join(answer.reply for answer in told if answer).encode())
-
-    def by_node(self, script: str, given: str, value: Any) -> Any:
-        """What a script answers, in JSON, that has the page's modules and a file of JSON."""
-        node = shutil.which("node")
-        if node is None:
-            self.skipTest("node isn't there")
-        shutil.copytree(TOP / "page" / "src", self.path("src"))
-        self.file("package.json", '{"type": "module"}')
-        self.file("script.mjs", script)
-        self.file(given, json.dumps(value))
-        said = subprocess.run([node, "script.mjs", os.path.abspath(program_path())], cwd=self.directory, stdout=subprocess.PIPE, check=True)
-        return json.loads(said.stdout)
 
     def test_the_options_of_the_page(self) -> None:
         """Arguments that the program takes are taken; a path has a line for each level, and one more."""

@@ -64,7 +64,6 @@ class SecondCutsTest(ExploreTest):
         return CutFinder(recording, together, False).find(None, True, 0)
 
     def test_rows_are_those_of_a_question_each(self) -> None:
-        self.need_logs()
         cases: List[Tuple[str, bytes, Dict[str, Any]]] = [("run", (text + WRITES).encode(), {"suite": "weak"}) for text in (
             TWICE, WRITES + AGAIN, WRITES + "read 3 64\nflush\n" + AGAIN, WRITES + "flip 1285 3\n" + AGAIN, WRITES + "off\non\nloss 2\n" + AGAIN)]
         for machine in ("wear", "txn", "tree"):
@@ -76,7 +75,6 @@ class SecondCutsTest(ExploreTest):
             self.assertEqual(found, self.rows(name, text, Together(noting.program, None, True), **settings), (name, text))
 
     def test_questions_asked(self) -> None:
-        self.need_logs()
         noting = Noting()
         found = self.rows("run", (WRITES + AGAIN).encode(), noting, suite="weak")
         asked = [is_logged for is_logged, script in noting.asked if len(script) == 5]
@@ -84,7 +82,6 @@ class SecondCutsTest(ExploreTest):
         self.assertEqual((sum(len(cut.again) for cut in found), sum(asked), len(asked) - sum(asked)), (86, 3 * 8, 4))
 
     def test_questions_grow_as_the_rows(self) -> None:
-        self.need_logs()
         counts: List[Tuple[int, int]] = []
         for times in (1, 2, 3, 4):
             noting = Noting()
@@ -95,7 +92,6 @@ class SecondCutsTest(ExploreTest):
         self.assertGreaterEqual(min(rows), 4 * 8, counts)
 
     def test_rows_compared_with_runs_from_the_start(self) -> None:
-        self.need_logs()
         noting = Noting()
         recording = Recording(noting.program, Settings(suite="weak"), trace_of("the trace", (WRITES + AGAIN).encode()))
         finder = CutFinder(recording, noting, False)

@@ -138,7 +138,6 @@ class SharedTest(ExploreTest):
         return CutFinder(recording, together, False).find(None, False, 0)
 
     def test_rows_are_those_of_a_recovery_each(self) -> None:
-        self.need_logs()
         cases: List[Tuple[str, bytes, Dict[str, Any]]] = [("run", TWICE.encode(), {"suite": "weak"})]
         cases.append(("run", (EXAMPLES / "power_cut.trace").read_bytes(), QUICK))
         cases.append(("wear", small_example("wear").encode(), {**SMALL, "every": 1}))
@@ -152,7 +151,6 @@ class SharedTest(ExploreTest):
             self.assertGreater(len(noting.asked), noting.recoveries(True) + noting.recoveries(False), name)
 
     def test_rows_behind_a_group_are_those_of_a_recovery_each(self) -> None:
-        self.need_logs()
         between = {"nothing": "", "reads": "read 3 0\nread 3 64\nread 3 128\n", "flush": "flush\n", "flip": "flip 0 3\n",
                    "tag": "flip 1024 3\n", "block": "flip 1285 3\n", "moved": "move 4 0\n", "put back": "snap\nback 0\n", "off": "off\non\n",
                    "stop-loss": "loss 2\n", "dirty": f"post 1 192 {ONES}\ndrain 1\nread 3 0\n", "again": f"post 1 0 {ONES}\nfence 1\n"}
@@ -164,7 +162,6 @@ class SharedTest(ExploreTest):
                 self.assertEqual(found, self.rows("run", trace, Together(noting.program, None, True), suite="weak", sets=sets, ways=1), name)
 
     def test_recoveries_asked_for(self) -> None:
-        self.need_logs()
         # A write here: three shadow lines if its page isn't named yet, then the latch that arms two lines, they, and the latch
         # that empties the group. So four cuts come before the first group is armed, each group takes one recovery, and the end one.
         cases = [(WRITES, 5, 2), (WRITES + AGAIN, 5, 3), (WRITES + "stat\npeek 0\n" + AGAIN, 5, 3), (WRITES + "flip 900 1\n" + AGAIN, 6, 3)]
@@ -177,7 +174,6 @@ class SharedTest(ExploreTest):
             self.assertEqual((noting.recoveries(False), noting.recoveries(True)), (own, shared), text)
 
     def test_recoveries_where_memory_is_looked_at_with_power_off_and_on(self) -> None:
-        self.need_logs()
         ports = "".join(f"post {port} {line} {ONES}\ndrain {port}\n" for port, line in zip(range(8), (0, 4, 0, 1, 64, 0, 4, 4)))
         for between, own in (("", 1), ("flip 900 1\n", 2), ("flip 0 1\n", 2)):
             trace = (ports + between + AGAIN).encode()
@@ -189,7 +185,6 @@ class SharedTest(ExploreTest):
             self.assertEqual([len(befores), sum(script[-1] == b"on" for script in befores)], [10, own + 1], between)
 
     def test_rows_compared_with_runs_from_the_start(self) -> None:
-        self.need_logs()
         noting = Noting()
         recording = Recording(noting.program, Settings(suite="weak"), trace_of("the trace", (WRITES + AGAIN).encode()))
         finder = CutFinder(recording, noting, False)

@@ -101,13 +101,7 @@ class PipesTest(ExploreTest):
         result = self.explore("shell", "--as", "tree", text="show 1\n")
         self.assertEqual(result.stderr.count("does not show its device"), 1)
 
-    def test_the_other_machines_by_a_program_without_a_log(self) -> None:
-        result = self.explore("shell", "--as", "tree", "--program", self.older_program(), text=f"write 0 {ONES}\nbreak 1\n")
-        self.assertIn("a cut after 0", result.stdout)
-        self.assertIn("has no option --log of tree, so there are no breaks\n", result.stderr)
-
     def test_breaks_of_the_other_machines(self) -> None:
-        self.need_logs()
         told = self.session(f"break slot 0\nwrite 5 {ONES}\ncut here\nbreak data 4\n", "--as", "tree")
         self.assertIn("a break at line 149: slot line 0", told)
         self.assertIn("      step 4  line 149: slot line 0   <- break: `cut here` cuts power before it", told)

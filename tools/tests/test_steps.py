@@ -1,17 +1,63 @@
 """`explore steps`: each persist step with the line that it writes."""
-import json
 import os
 import subprocess
 import sys
-from typing import Any, Dict, List, Optional, Sequence
+from dataclasses import dataclass, replace
+from typing import Any, Dict, Iterator, List, NamedTuple, Optional, Sequence, Tuple
 
 from .helpers import EXAMPLES, EXPLORE, FORGED, ONES, QUICK, TOOLS, TWIN, TWO_WRITES, WRITE, ExploreTest, lesson_words, program_path, words_of
-from explorer.trace import TAMPERING_WORDS
+from explorer.layout import Layout
+from explorer.program import Program, Question, Recording, counts_of, text_of
+from explorer.same_bytes import peeks
+from explorer.settings import Settings
+from explorer.together import Together
+from explorer.trace import TAMPERING_WORDS, trace_of
 
 TWO_PAGES = f"post 0 324 {'f0' * 64}\npost 1 372 {'eb' * 64}\ndrain 1\ndrain 0\n"
 SAME_BYTES = TWO_PAGES + "read 0 0\nread 0 256\nread 0 512\nread 0 768\n"
 COUNTS = ("reads", "writes", "latches", "tags", "digests")
-NO_LOG = "has no option --log of run, so each step is found by a cut, and what a latch does is not known\n"
+
+
+@dataclass(frozen=True)
+class Moment:
+    """After `number` of the steps of a command, before which a bit of a device line may be flipped."""
+
+    index: int
+    number: int
+    flipped: Optional[int] = None
+
+    @property
+    def next(self) -> "Moment":
+        """The moment one step later."""
+        return replace(self, number=self.number + 1)
+
+
+class State(NamedTuple):
+    """The line writes and latches by the counts, and all device lines."""
+
+    writes: int
+    latches: int
+    lines: List[bytes]
+
+    def changed(self, later: "State") -> List[int]:
+        """The device lines that differ later."""
+        return [line for line, (old, new) in enumerate(zip(self.lines, later.lines)) if old != new]
+
+
+def states_at(recording: Recording, moments: Sequence[Moment]) -> Iterator[State]:
+    """The states at these moments, as cuts show them: the log isn't asked."""
+    size = Layout(recording.settings).size
+    asked = text_of([b"stat", *peeks(range(size))])
+    questions = []
+    for at in moments:
+        text = recording.commands[at.index].text
+        is_whole = at.number == recording.replies[at.index].steps
+        script = [] if at.number == 0 else [text] if is_whole else [b"cut %d" % at.number, text]
+        questions.append(Question(at.index, (*([] if at.flipped is None else [b"flip %d 0" % at.flipped]), *script), asked))
+    for _, data in Together(recording.program).answers(recording, questions, len(questions), "states"):
+        stat, *lines = data.split(b"\n")[-2 - size:-1]
+        counts = counts_of(stat.decode())
+        yield State(counts.writes, counts.latches, lines)
 
 
 def lines_of(command: Dict[str, Any]) -> List[Optional[int]]:
@@ -157,20 +203,31 @@ class LogTest(ExploreTest):
                          [[None, None, None, "arms"], [], [None], [None, None, "empties", *[None] * 5]])
 
     def same_steps(self, words: Sequence[str], text: str) -> List[List[Dict[str, Any]]]:
-        """The steps of each command. They are those that cuts find, except what a latch does, and the last one before an
-        exhibit, which cuts don't see."""
+        """The steps of each command. They are those that cuts show, one after each step, except the last one before an exhibit, after
+        which nothing can be asked: the counts tell a line write from a latch, and the device which line has other bytes. If a
+        line is written with the bytes that it had, a bit of it that was flipped before the command is right again."""
         told = self.json("steps", "-", *words, text=text)
-        result = self.explore("steps", "-", *words, "--json", "--program", self.older_program(), text=text)
-        self.assertEqual(result.returncode, 0, result.stderr)
-        found = json.loads(result.stdout)
-        for step in (step for command in told for step in command["steps"] if step["kind"] == "latch"):
-            self.assertIn(step.pop("latch"), ("arms", "empties", "sets"))
-            del step["group_lines"]
-        for each, other in zip(told, found):
-            if other["steps"] and other["steps"][-1]["kind"] == "unseen":
-                self.assertEqual(other["steps"].pop()["step"], each["steps"].pop()["step"])
-        self.assertEqual(told, found)
+        settings: Dict[str, Any] = {name[2:]: int(value) if value.isdigit() else value for name, value in zip(words[::2], words[1::2])}
+        recording = Recording(Program(program_path()), Settings(**settings), trace_of("the trace", text.encode()))
+        plain: List[Tuple[Moment, Dict[str, Any]]] = []
+        for index, command in enumerate(told):
+            steps = command["steps"][:-1] if recording.replies[index].is_exhibit else command["steps"]
+            plain += [(Moment(index, number), step) for number, step in enumerate(steps)]
+        self.check_steps(recording, plain)
+        self.check_steps(recording, [(replace(at, flipped=step["device_line"]), step) for at, step in plain if step["same_bytes"]])
         return [command["steps"] for command in told]
+
+    def check_steps(self, recording: Recording, steps: Sequence[Tuple[Moment, Dict[str, Any]]]) -> None:
+        """Checks that each of these steps, one just after each moment, is what the states before and after it show."""
+        moments = list(dict.fromkeys(moment for at, _ in steps for moment in (at, at.next)))
+        states = zip(moments, states_at(recording, moments))
+        known: Dict[Moment, State] = {}
+        for at, step in steps:
+            known = {moment: known[moment] if moment in known else next(states)[1] for moment in (at, at.next)}
+            old, new = known.values()
+            is_write = step["kind"] == "write"
+            changed = [step["device_line"]] if is_write and (not step["same_bytes"] or at.flipped is not None) else []
+            self.assertEqual((new.writes - old.writes, new.latches - old.latches, old.changed(new)), (is_write, not is_write, changed), (at, step))
 
     def quick(self, words: Sequence[str], text: str) -> List[str]:
         """The words with the quick ciphers, if nobody tampers: then the ciphers don't change which steps there are."""
@@ -233,25 +290,15 @@ class LogTest(ExploreTest):
         self.assertEqual(drain["reads"][3]["name"], "tag line of 0 to 3")
         self.assertEqual([each["steps_before"] for each in read["reads"]], [7, 7])
 
-    def test_reads_that_are_not_told(self) -> None:
-        for name, text in (("run", WRITE), ("txn", "begin\n")):
-            result = self.explore("steps", "-", "--reads", "--as", name, "--program", self.older_program(), text=text)
-            self.assert_fails(result, 1, f"older does not tell what its commands read: its {name} has no option --log")
-
-    def test_an_older_program(self) -> None:
-        result = self.explore("steps", "-", "--program", self.older_program(), text=TWO_WRITES)
-        self.assertEqual((result.returncode, result.stderr.count("\n")), (0, 1))
-        self.assertTrue(result.stderr.startswith("explore: ") and result.stderr.endswith(NO_LOG), result.stderr)
-        plain = self.output("steps", "-", text=TWO_WRITES)
-        for does in (": arms a group of 2 lines", ": empties the group"):
-            plain = plain.replace(does, "")
-        self.assertEqual(result.stdout, plain)
-
-    def test_steps_before_an_exhibit_by_an_older_program(self) -> None:
-        result = self.explore("steps", "-", "--json", "--suite", "blur", "--loss", "2", "--program", self.older_program(), text=TWIN)
-        (*_, command) = json.loads(result.stdout)
-        self.assertEqual([step["kind"] for step in command["steps"]], ["write", "write", "unseen"])
-        self.assertEqual(lines_of(command), [0, 1024, None])
+    def test_a_program_that_refuses_the_option(self) -> None:
+        """Another program may lack --log: then it is named, with the words that it refuses."""
+        program = self.program_without_log()
+        for words, text in ((("steps", "-"), WRITE), (("steps", "-", "--reads", "--as", "txn"), "begin\n"),
+                            (("sweep", "-", "--as", "tree"), "read 0\n"), (("compare", "-", "--designs", "run"), WRITE)):
+            name = words[words.index("--as") + 1] if "--as" in words else "run"
+            result = self.explore(*words, "--program", program, text=text)
+            told = f"{program} does not tell what the commands of {name} do to the device: it refuses {name} --levels=2"
+            self.assert_fails(result, 1, told, "--log\n")
 
     def test_steps_before_an_exhibit_are_counted_by_the_log(self) -> None:
         """One run reports them; by cuts there are as many as steps, and more."""

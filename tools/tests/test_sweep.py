@@ -52,8 +52,8 @@ class SweepTest(ExploreTest):
         self.assertEqual((lines[0], lines[-1]), (r"\begin{tabular}{rrrrrrrrrrrr}", r"\end{tabular}"))
         self.assertIn(r"2 & 4 & 2 & 4 & 1 & 7.00 & 5.00 & 3.00 & 6.00 & 256 & 9 & 5 \\", lines)
         self.assertEqual(text.count("\\hline"), 3)
-        tree = self.explore("sweep", "-", "--as", "tree", "--latex", "--program", self.older_program(), text=f"write 1 {ONES}\n")
-        self.assertIn("levels & sets & writes & steps/write & digests & steps", tree.stdout)
+        tree = self.output("sweep", "-", "--as", "tree", "--latex", text=f"write 1 {ONES}\n")
+        self.assertIn("levels & sets & writes & steps/write & lines/write & meta reads/write & digests/write & digests & steps \\\\\n", tree)
         noted = self.output("sweep", "-", "--latex", "--levels", "1", text=f"post 0 300 {ONES}\n")
         self.assertTrue(noted.splitlines()[-1].startswith("% levels 1, "))
         found = subprocess.run([sys.executable, "-c", "from explorer.output import latex_text; print(latex_text(['a_b'], [['50% \\\\ ~']]))"],

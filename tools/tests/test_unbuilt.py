@@ -16,7 +16,7 @@ class UnbuiltTest(unittest.TestCase):
         directory = tempfile.TemporaryDirectory()
         self.addCleanup(directory.cleanup)
         self.root = Path(directory.name)
-        for name in ("tools/explorer", "lessons", "examples", "crates/pmem/src"):
+        for name in ("tools/explorer", "python/pmem", "lessons", "examples", "crates/pmem/src"):
             shutil.copytree(ROOT / name, self.root / name)
         for name in ("pmem", "crates.txt", "tools/explore"):
             shutil.copy(ROOT / name, self.root / name)
